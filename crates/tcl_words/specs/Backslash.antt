@@ -1,0 +1,65 @@
+-- What a backslash stands for: a byte, and how many bytes behind the backslash belong to it.
+-- As in Tcl(n), but without `\u` and `\U`, which are letters here.
+use Rattle.std.specs.Prelude.{ℕ, zero, suc, ◌+◌, ◌-◌, ◌*◌, ◌&&◌, ◌||◌, List, [], ◌∷◌, Option, Some, None, nat_lt, nat_le, ◌==◌, if◌then◌else◌}
+use Rattle.std.specs.List.{prefix_len}
+
+-- \a \b \f \n \r \t \v; another byte is itself
+abbrev pub escaped : ℕ → ℕ
+escaped b =
+    if b == 97 then 7
+    else (if b == 98 then 8
+    else (if b == 102 then 12
+    else (if b == 110 then 10
+    else (if b == 114 then 13
+    else (if b == 116 then 9
+    else (if b == 118 then 11 else b))))))
+
+-- the value of a digit in base 16
+abbrev pub hex_digit : ℕ → Option ℕ
+hex_digit b =
+    if nat_le 48 b && nat_lt b 58 then Some (b - 48)
+    else (if nat_le 97 b && nat_lt b 103 then Some (b - 87)
+    else (if nat_le 65 b && nat_lt b 71 then Some (b - 55) else None))
+
+-- the value of a digit in a base, at most 16
+abbrev pub below : ℕ → Option ℕ → Option ℕ
+below base None = None
+below base (Some d) = if nat_lt d base then Some d else None
+
+unfoldable pub digit : ℕ → ℕ → Option ℕ
+digit base b = below base (hex_digit b)
+
+-- a value and a count, with one more byte counted
+abbrev pub one_more : ℕ × ℕ → ℕ × ℕ
+one_more p = (p.0, suc p.1)
+
+abbrev pub digit_step : (ℕ → ℕ × ℕ) → ℕ → ℕ → Option ℕ → ℕ × ℕ
+digit_step more base value None = (value, 0)
+digit_step more base value (Some d) = if nat_lt (base * value + d) 256 then one_more (more (base * value + d)) else (value, 0)
+
+-- A number after at most `most` further digits, and how many there were. A digit that leads above 255 isn't read.
+unfoldable pub digits : ℕ → ℕ → ℕ → List ℕ → ℕ × ℕ
+digits base zero value bytes = (value, 0)
+digits base (suc most) value [] = (value, 0)
+digits base (suc most) value (b ∷ bytes) = digit_step (λ v. digits base most v bytes) base value (digit base b)
+
+-- how many blanks and tabs a text begins with
+unfoldable pub blanks : List ℕ → ℕ
+blanks bytes = prefix_len (λ b. b == 32 || b == 9) bytes
+
+-- behind `\x`: one or two hexadecimal digits, or none, and then it is `x`
+abbrev pub hex_escape : ℕ × ℕ → ℕ × ℕ
+hex_escape (value, zero) = (120, 1)
+hex_escape (value, suc n) = (value, suc (suc n))
+
+abbrev pub octal_escape : ℕ → List ℕ → Option ℕ → ℕ × ℕ
+octal_escape b bytes None = (escaped b, 1)
+octal_escape b bytes (Some d) = one_more (digits 8 2 d bytes)
+
+-- the byte that a backslash gives with these bytes behind it, and how many of them belong to it
+unfoldable pub backslash : List ℕ → ℕ × ℕ
+backslash [] = (92, 0)
+backslash (b ∷ bytes) =
+    if b == 10 then (32, suc (blanks bytes))
+    else (if b == 120 then hex_escape (digits 16 2 0 bytes)
+    else octal_escape b bytes (digit 8 b))

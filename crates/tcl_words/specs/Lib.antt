@@ -1,0 +1,9 @@
+pub mod Course
+pub mod Backslash
+pub mod Lists
+pub mod Pieces
+pub mod Commands
+pub mod Operands
+pub mod Tokens
+pub mod ListRules
+pub mod ListCommand

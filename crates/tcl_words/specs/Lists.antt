@@ -1,0 +1,167 @@
+-- Lists as text. They are read as Tcl's list commands read them (list(n), lindex(n)); how they are written is this language's own rule.
+use Rattle.std.specs.Prelude.{◌≡◌, ℕ, suc, ◌+◌, ◌-◌, Bool, true, false, not, ◌&&◌, ◌||◌, List, [], ◌∷◌, ◌++◌, take, drop, Option, Some, None, option_map, ◌==◌, if◌then◌else◌}
+use Rattle.std.specs.List.{list_any}
+use Rattle.std.specs.Prelude.{Result, Ok, Err}
+use Rattle.tcl_words.specs.declared.faults.ListFault.{ListFault}
+use Rattle.tcl_words.specs.declared.faults.ListFault.TheVariants as faults
+use Rattle.tcl_words.specs.Course.{reading}
+use Rattle.tcl_words.specs.Backslash.{backslash}
+
+-- What a function returned, seen by view, is what the definition says: a value, or None where there is a bad list.
+-- Want of memory says nothing.
+abbrev pub FailsOption : {Y : Type 0} → ListFault → Option Y → Type 0
+FailsOption faults.BadList read = read ≡ None
+FailsOption faults.Memory read = Unit {0}
+
+abbrev pub GivesOption : {X Y : Type 0} → (X → Y) → Result X ListFault → Option Y → Type 0
+GivesOption view (Ok x) read = read ≡ Some (view x)
+GivesOption view (Err e) read = FailsOption e read
+
+-- whether a text begins with the byte c
+abbrev pub begins_with : ℕ → List ℕ → Bool
+begins_with c [] = false
+begins_with c (b ∷ bytes) = b == c
+
+-- 09 0A 0B 0C 0D 20
+abbrev pub is_white : ℕ → Bool
+is_white b = b == 32 || b == 9 || b == 10 || b == 11 || b == 12 || b == 13
+
+-- what may stand behind an element that is in braces or quotes
+abbrev pub begins_white : List ℕ → Bool
+begins_white [] = true
+begins_white (b ∷ bytes) = is_white b
+
+-- a value that a byte more is at the front of, and n bytes more were read for
+abbrev pub with_byte : ℕ → ℕ → Option (List ℕ × ℕ) → Option (List ℕ × ℕ)
+with_byte b n None = None
+with_byte b n (Some p) = Some (b ∷ p.0, n + p.1)
+
+-- what ends an element, in quotes or not
+abbrev pub stops_element : Bool → ℕ → Bool
+stops_element true b = b == 34
+stops_element false b = is_white b
+
+-- at the text's end
+abbrev pub element_end : Bool → Option (List ℕ × ℕ)
+element_end true = None
+element_end false = Some ([], 0)
+
+-- The bytes up to the first that ends the element and that no backslash quotes, with the backslashes replaced, and how many they are.
+abbrev pub content_step : Bool → (ℕ → Option (List ℕ × ℕ)) → ℕ → List ℕ → Option (List ℕ × ℕ)
+content_step quoted on b bytes =
+    if stops_element quoted b then Some ([], 0)
+    else (if b == 92 then with_byte (backslash bytes).0 (suc (backslash bytes).1) (on (backslash bytes).1)
+    else with_byte b 1 (on 0))
+
+unfoldable pub content : Bool → List ℕ → Option (List ℕ × ℕ)
+content quoted = reading (element_end quoted) (content_step quoted)
+
+-- a place, n bytes further on
+abbrev pub plus : ℕ → Option ℕ → Option ℕ
+plus n None = None
+plus n (Some k) = Some (n + k)
+
+-- How many bytes stand before the brace that closes, where n more are open. A byte behind a backslash isn't counted as a brace.
+abbrev pub closing_step : (ℕ → ℕ → Option ℕ) → ℕ → List ℕ → ℕ → Option ℕ
+closing_step on b bytes n =
+    if b == 125 then (if n == 0 then Some 0 else plus 1 (on 0 (n - 1)))
+    else (if b == 123 then plus 1 (on 0 (n + 1))
+    else (if b == 92 then plus 2 (on 1 n)
+    else plus 1 (on 0 n)))
+
+unfoldable pub closing : List ℕ → ℕ → Option ℕ
+closing = reading (λ n. None) closing_step
+
+-- an element in braces: the bytes behind the opening brace, and how many stand before the closing one
+abbrev pub in_braces : List ℕ → Option ℕ → Option (List ℕ × ℕ)
+in_braces bytes None = None
+in_braces bytes (Some n) = if begins_white (drop (n + 1) bytes) then Some (take n bytes, n + 2) else None
+
+-- an element in quotes: the bytes behind the opening quote, and what stands before the closing one
+abbrev pub in_quotes : List ℕ → Option (List ℕ × ℕ) → Option (List ℕ × ℕ)
+in_quotes bytes None = None
+in_quotes bytes (Some p) = if begins_white (drop (p.1 + 1) bytes) then Some (p.0, p.1 + 2) else None
+
+-- the element at the front of a text that doesn't begin with white space, and how many bytes it takes
+unfoldable pub element : List ℕ → Option (List ℕ × ℕ)
+element [] = Some ([], 0)
+element (b ∷ bytes) =
+    if b == 123 then in_braces bytes (closing bytes 0)
+    else (if b == 34 then in_quotes bytes (content true bytes)
+    else content false (b ∷ bytes))
+
+-- an element, and then the elements behind it
+abbrev pub elements_behind : (ℕ → Option (List (List ℕ))) → Option (List ℕ × ℕ) → Option (List (List ℕ))
+elements_behind on None = None
+elements_behind on (Some e) = option_map (λ es. e.0 ∷ es) (on (e.1 - 1))
+
+abbrev pub elements_step : (ℕ → Option (List (List ℕ))) → ℕ → List ℕ → Option (List (List ℕ))
+elements_step on b bytes = if is_white b then on 0 else elements_behind on (element (b ∷ bytes))
+
+-- the elements of a text, where it is a list
+unfoldable pub elements : List ℕ → Option (List (List ℕ))
+elements = reading (Some []) elements_step
+
+-- the text reads as the list
+abbrev pub ReadsAs : List ℕ → List (List ℕ) → Type 0
+ReadsAs text l = elements text ≡ Some l
+
+-- writing
+
+-- 09 0A 0B 0C 0D 20 " { } [ ] $ ; \
+abbrev pub is_special : ℕ → Bool
+is_special b = is_white b || b == 34 || b == 123 || b == 125 || b == 91 || b == 93 || b == 36 || b == 59 || b == 92
+
+abbrev pub is_empty : List ℕ → Bool
+is_empty [] = true
+is_empty (b ∷ bytes) = false
+
+-- whether an element can't be written as it is
+abbrev pub needs_quoting : Bool → List ℕ → Bool
+needs_quoting first e = is_empty e || list_any is_special e || (first && begins_with 35 e)
+
+-- as many braces are opened as closed, and none is closed before it is opened, where n are open
+unfoldable pub balances : ℕ → List ℕ → Bool
+balances n [] = n == 0
+balances n (b ∷ bytes) =
+    if b == 125 then (if n == 0 then false else balances (n - 1) bytes)
+    else (if b == 123 then balances (n + 1) bytes else balances n bytes)
+
+-- whether an element can be written in braces
+abbrev pub fits_braces : List ℕ → Bool
+fits_braces e = not (list_any (λ b. b == 92) e) && balances 0 e
+
+-- the letter that stands behind the backslash
+abbrev pub letter : ℕ → ℕ
+letter b =
+    if b == 9 then 116
+    else (if b == 10 then 110
+    else (if b == 11 then 118
+    else (if b == 12 then 102
+    else (if b == 13 then 114 else b))))
+
+-- each special byte behind a backslash
+abbrev pub escape : List ℕ → List ℕ
+escape [] = []
+escape (b ∷ bytes) = if is_special b then 92 ∷ letter b ∷ escape bytes else b ∷ escape bytes
+
+-- the same, where a `#` at the start of the first element is special too
+abbrev pub escape_first : Bool → List ℕ → List ℕ
+escape_first first e = if first && begins_with 35 e then 92 ∷ escape e else escape e
+
+-- an element as it is, in braces, or with backslashes
+abbrev pub written_element : Bool → List ℕ → List ℕ
+written_element first e =
+    if not (needs_quoting first e) then e
+    else (if fits_braces e then (123 ∷ e) ++ 125 ∷ []
+    else escape_first first e)
+
+-- behind the first element: a space before each
+abbrev pub written_rest : List (List ℕ) → List ℕ
+written_rest [] = []
+written_rest (e ∷ es) = (32 ∷ written_element false e) ++ written_rest es
+
+-- the one written text of a list
+abbrev pub written : List (List ℕ) → List ℕ
+written [] = []
+written (e ∷ es) = written_element true e ++ written_rest es

@@ -1,0 +1,147 @@
+//! Texts: bytes that need not be UTF-8, and lists of texts.
+
+ghost use Rattle.std.specs.Prelude.{◌≡◌, ◌++◌, ◌∷◌, [], length, IfOk, OnOk, OnErr};
+
+use std::alloc::{AllocError, Global};
+use std::marker::Model;
+
+/// A text: bytes of any value. A contract sees it as the list of its bytes.
+#[derive(Debug, Drop)]
+pub struct Text {
+    /// The bytes, in order.
+    pub bytes: Vec<u8>,
+}
+
+impl Model for Text {
+    ghost use Rattle.std.specs.Prelude.{List, ℕ};
+
+    ghost Value = { List ℕ };
+
+    ghost view = { λ t. t.bytes.items };
+}
+
+impl Text {
+    /// The text without bytes. It allocates nothing.
+    pub fn new(alloc: Global) -> Text
+        ensures { result ≡ [] }
+    {
+        Text {
+            bytes: Vec::new(alloc),
+        }
+    }
+
+    /// A text of these bytes, copied.
+    pub fn from_slice(alloc: Global, bytes: &[u8]) -> Result<Text, AllocError>
+        ensures { IfOk result (λ t. t ≡ bytes.now) }
+    {
+        Ok(Text {
+            bytes: Vec::from_slice(alloc, bytes)?,
+        })
+    }
+
+    /// The bytes, in order.
+    pub fn as_slice(&self) -> &[u8]
+        ensures { result.now ≡ self.now }
+    {
+        self.bytes.as_slice()
+    }
+
+    /// How many bytes the text has.
+    pub fn len(&self) -> usize
+        ensures { result ≡ length self.now }
+    {
+        self.bytes.len()
+    }
+
+    /// Puts a byte behind the text. A refused one leaves the text as it was.
+    pub fn push(&mut self, byte: u8) -> Result<(), AllocError>
+        ensures pushed { OnOk result (self.new ≡ self.old ++ byte ∷ []) }
+        ensures kept { OnErr result (self.new ≡ self.old) }
+    {
+        self.bytes.push(byte)?;
+        Ok(())
+    }
+
+    /// Puts bytes behind the text. Refused ones leave the text as it was.
+    pub fn extend(&mut self, bytes: &[u8]) -> Result<(), AllocError>
+        ensures extended { OnOk result (self.new ≡ self.old ++ bytes.now) }
+        ensures kept { OnErr result (self.new ≡ self.old) }
+    {
+        self.bytes.extend_from_slice(bytes)?;
+        Ok(())
+    }
+
+    /// An equal text.
+    pub fn copied(&self, alloc: Global) -> Result<Text, AllocError>
+        ensures { IfOk result (λ t. t ≡ self.now) }
+    {
+        Text::from_slice(alloc, self.as_slice())
+    }
+}
+
+/// Texts in order. A contract sees them as a list of byte lists.
+#[derive(Debug, Drop)]
+pub struct Texts {
+    /// The texts, in order.
+    pub list: Vec<Text>,
+}
+
+impl Model for Texts {
+    ghost use Rattle.std.specs.Prelude.{List, ℕ};
+
+    ghost Value = { List (List ℕ) };
+
+    ghost view = { λ t. t.list.items };
+}
+
+impl Texts {
+    /// No texts. It allocates nothing.
+    pub fn new(alloc: Global) -> Texts
+        ensures { result ≡ [] }
+    {
+        Texts {
+            list: Vec::new(alloc),
+        }
+    }
+
+    /// The texts, in order.
+    pub fn as_slice(&self) -> &[Text]
+        ensures { result.now ≡ self.now }
+    {
+        self.list.as_slice()
+    }
+
+    /// How many texts there are.
+    pub fn len(&self) -> usize
+        ensures { result ≡ length self.now }
+    {
+        self.list.len()
+    }
+
+    /// Puts a text behind the others. A refused one leaves the list as it was.
+    pub fn push(&mut self, text: Text) -> Result<(), AllocError>
+        ensures pushed { OnOk result (self.new ≡ self.old ++ text ∷ []) }
+        ensures kept { OnErr result (self.new ≡ self.old) }
+    {
+        self.list.push(text)?;
+        Ok(())
+    }
+
+    /// Equal texts in the same order.
+    pub fn copied(&self, alloc: Global) -> Result<Texts, AllocError>
+        ensures { IfOk result (λ t. t ≡ self.now) }
+    {
+        copied_texts(alloc, self.list.as_slice())
+    }
+}
+
+/// Equal texts in the same order.
+pub fn copied_texts(alloc: Global, texts: &[Text]) -> Result<Texts, AllocError>
+    ensures { IfOk result (λ t. t ≡ texts.now) }
+{
+    let mut made = Texts::new(alloc);
+    for text in texts {
+        made.push(text.copied(alloc)?)?;
+    }
+    Ok(made)
+}

@@ -1,0 +1,32 @@
+//! The syntax of a Tcl subset: commands with their words and parts, operands of expressions, backslashes and lists.
+//!
+//! Texts are bytes. What is read is defined in `specs/`: `Commands`, `Operands`, `Backslash` and `Lists`, with the rules of lists beside it in `ListRules`.
+#![tactic(auto)]
+
+mod bytes;
+mod commands;
+mod escapes;
+mod faults;
+mod lists;
+mod operands;
+mod places;
+mod reading;
+mod scan;
+mod shapes;
+mod skip;
+mod stop;
+mod token;
+mod writing;
+
+pub use bytes::{Text, Texts, copied_texts};
+pub use commands::next_command;
+pub use escapes::{backslash, blanks};
+pub use faults::{ListFault, WordFault};
+pub use lists::{is_white, read_list};
+pub use operands::operand;
+pub use scan::{ends_command, is_blank, is_continued};
+pub use shapes::{Command, Part, Word, copied_part, copied_parts};
+pub use writing::{list_is_command, list_rules, one_list, write_list};
+
+#[cfg(test)]
+mod tests;

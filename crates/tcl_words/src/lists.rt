@@ -1,0 +1,146 @@
+//! Lists as text.
+
+ghost use Rattle.std.specs.Prelude.{◌≡◌, ℕ, List, Err, ◌<◌, ◌≤◌, length, IfOk, IfSome, IsTrue};
+ghost use Rattle.tcl_words.specs.Lists.{GivesOption, stops_element, is_white, begins_white, content, closing, element, elements, ReadsAs};
+
+use crate::bytes::Text;
+use crate::escapes::backslash;
+use crate::faults::ListFault;
+use crate::places::{after, before};
+use crate::scan::is_blank;
+use std::alloc::{AllocError, Global};
+
+/// White space between the elements of a list: the bytes 09 to 0D and 20.
+pub fn is_white(b: u8) -> bool
+    ensures { result ≡ is_white b }
+{
+    is_blank(b) || b == b'\n'
+}
+
+/// Whether an element in braces or quotes may end before these bytes.
+fn begins_white(bytes: &[u8]) -> bool
+    ensures { result ≡ begins_white bytes.now }
+{
+    match bytes {
+        [] => true,
+        [b, ..] => is_white(*b),
+    }
+}
+
+/// Whether a byte ends an element, in quotes or not.
+fn stops_element(quoted: bool, b: u8) -> bool
+    ensures { result ≡ stops_element quoted b }
+{
+    if quoted { b == b'"' } else { is_white(b) }
+}
+
+/// The bytes up to the end of an element, backslashes replaced, and how many they are.
+fn content(alloc: Global, bytes: &[u8], quoted: bool) -> Result<(Text, usize), ListFault>
+    ensures value { GivesOption (λ x. (x.0, x.1)) result (content quoted bytes.now) }
+    ensures within { IfOk result (λ x. x.1 ≤ length bytes.now) }
+    ensures quote { IsTrue quoted → IfOk result (λ x. x.1 < length bytes.now) }
+{
+    let mut text = Vec::new(alloc);
+    let mut at = 0;
+    while at < bytes.len() {
+        let b = bytes[at];
+        if stops_element(quoted, b) {
+            return Ok((Text { bytes: text }, at));
+        }
+        if b == b'\\' {
+            let (value, count) = backslash(after(bytes, at + 1));
+            text.push(value)?;
+            at += 1 + count;
+        } else {
+            text.push(b)?;
+            at += 1;
+        }
+    }
+    if quoted {
+        return Err(ListFault::BadList);
+    }
+    Ok((Text { bytes: text }, at))
+}
+
+/// How many bytes stand before the brace that closes.
+pub(crate) fn closing(bytes: &[u8]) -> Option<usize>
+    ensures value { result ≡ closing bytes.now 0 }
+    ensures within { IfSome result (λ n. n < length bytes.now) }
+{
+    let mut open: usize = 0;
+    let mut at = 0;
+    while at < bytes.len() {
+        let b = bytes[at];
+        if b == b'}' {
+            if open == 0 {
+                return Some(at);
+            }
+            open -= 1;
+            at += 1;
+        } else if b == b'{' {
+            open += 1;
+            at += 1;
+        } else if b == b'\\' {
+            at += 2;
+        } else {
+            at += 1;
+        }
+    }
+    None
+}
+
+/// The element at the front of a text, and how many bytes it takes.
+#[tactic(auto, unfolding(crate::specs::Lists::element))]
+fn element(alloc: Global, bytes: &[u8]) -> Result<(Text, usize), ListFault>
+    ensures value { GivesOption (λ x. (x.0, x.1)) result (element bytes.now) }
+    ensures within { IfOk result (λ x. x.1 ≤ length bytes.now) }
+{
+    match bytes {
+        [] => Ok((Text::from_slice(alloc, bytes)?, 0)),
+        [b'{', rest @ ..] => {
+            let Some(n) = closing(rest) else {
+                return Err(ListFault::BadList);
+            };
+            if !begins_white(after(rest, n + 1)) {
+                return Err(ListFault::BadList);
+            }
+            Ok((Text::from_slice(alloc, before(rest, n))?, n + 2))
+        }
+        [b'"', rest @ ..] => {
+            let (text, n) = content(alloc, rest, true)?;
+            if !begins_white(after(rest, n + 1)) {
+                return Err(ListFault::BadList);
+            }
+            Ok((text, n + 2))
+        }
+        [_, ..] => content(alloc, bytes, false),
+    }
+}
+
+/// The elements of a text in order, where it is a list.
+///
+/// `BadList` exactly where the text reads as no list.
+pub fn read_list(alloc: Global, text: &[u8]) -> Result<Vec<Text>, ListFault>
+    ensures found { IfOk result (λ v. ReadsAs text.now v.items) }
+    ensures bad { result ≡ Err ListFault.BadList → (l : List (List ℕ)) → ¬ ReadsAs text.now l }
+{
+    split(alloc, text)
+}
+
+/// The elements of a text, by the definition that the crate's laws are about.
+fn split(alloc: Global, text: &[u8]) -> Result<Vec<Text>, ListFault>
+    ensures { GivesOption (λ v. v.items) result (elements text.now) }
+{
+    let mut list = Vec::new(alloc);
+    let mut at = 0;
+    while at < text.len() {
+        if is_white(text[at]) {
+            at += 1;
+        } else {
+            let (e, n) = element(alloc, after(text, at))?;
+            list.push(e)?;
+            at += n;
+        }
+    }
+    Ok(list)
+}

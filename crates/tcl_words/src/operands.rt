@@ -1,0 +1,65 @@
+//! Operands of an expression that are read as words and their parts are.
+
+ghost use Rattle.std.specs.Prelude.{◌≡◌, ◌≤◌, ◌<◌, false, IfOk, IfSome, length, option_map};
+ghost use Rattle.tcl_words.specs.Commands.{Gives};
+ghost use Rattle.tcl_words.specs.Operands.{operand};
+ghost use Rattle.tcl_words.specs.Pieces.{part_view, piece, no_pieces, word_view};
+
+use crate::faults::WordFault;
+use crate::lists::closing;
+use crate::places::before;
+use crate::reading::{DEEPEST, braced, parts, token_at};
+use crate::shapes::{Part, Word};
+use crate::stop::Stop;
+use crate::token::Token;
+use std::alloc::{AllocError, Global};
+
+/// A word that is one part.
+fn word_of(alloc: Global, part: Part) -> Result<Word, AllocError>
+    ensures { IfOk result (λ w. word_view w ≡ record { expand = false; pieces = piece (part_view part) no_pieces }) }
+{
+    let mut parts = Vec::new(alloc);
+    parts.push(part)?;
+    Ok(Word {
+        expand: false,
+        parts,
+    })
+}
+
+/// The operand at the front of an expression's text, and how many bytes it takes: a `$`-part, a script in brackets,
+/// or what stands in quotes or braces. `None` where the text begins with none of these, as with a `$` that stands for itself.
+/// What follows the operand is not looked at.
+#[tactic(auto, unfolding(crate::specs::Operands::operand))]
+pub fn operand(alloc: Global, bytes: &[u8]) -> Result<Option<(Word, usize)>, WordFault>
+    ensures value { Gives (λ found. option_map (λ x. (word_view x.0, x.1)) found) result (operand bytes.now) }
+    ensures within { IfOk result (λ found. IfSome found (λ x. (0 < x.1) × (x.1 ≤ length bytes.now))) }
+{
+    match bytes {
+        [b'"', rest @ ..] => {
+            let (parts, n) = parts(alloc, rest, Stop::Quote, DEEPEST)?;
+            let word = Word {
+                expand: false,
+                parts,
+            };
+            Ok(Some((word, 1 + n)))
+        }
+        [b'{', rest @ ..] => {
+            let Some(n) = closing(rest) else {
+                return Err(WordFault::MissingBrace);
+            };
+            let word = Word {
+                expand: false,
+                parts: braced(alloc, before(rest, n))?,
+            };
+            Ok(Some((word, 2 + n)))
+        }
+        [b @ (b'$' | b'['), rest @ ..] => {
+            let (token, n) = token_at(alloc, *b, rest, DEEPEST)?;
+            match token {
+                Token::Byte(_) => Ok(None),
+                Token::Substitution(part) => Ok(Some((word_of(alloc, part)?, 1 + n))),
+            }
+        }
+        _ => Ok(None),
+    }
+}

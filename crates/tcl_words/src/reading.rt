@@ -1,0 +1,174 @@
+//! The parts of a word.
+//!
+//! `depth` is how many more brackets and indexes may open in one another.
+
+ghost use Rattle.std.specs.Prelude.{◌≡◌, ◌≤◌, IfOk, OnOk, length};
+ghost use Rattle.tcl_words.specs.Tokens.{token_view};
+ghost use Rattle.tcl_words.specs.Pieces.{parts_view, append, literal_of, literal, piece, no_pieces};
+ghost use Rattle.tcl_words.specs.Commands.{Gives, token_at, dollar, name_len, parts, inside_of, joined};
+
+use crate::bytes::Text;
+use crate::escapes::{backslash, blanks};
+use crate::faults::WordFault;
+use crate::places::{after, before};
+use crate::scan::{begins_with, brace_at, is_continued, name_len, stop_len, stops, unclosed};
+use crate::shapes::Part;
+use crate::skip::bracket;
+use crate::stop::Stop;
+use crate::token::Token;
+use std::alloc::{AllocError, Global};
+
+/// Brackets and indexes may stand in one another so deep.
+pub(crate) const DEEPEST: u8 = 200;
+
+/// What stands at a byte, and how many bytes behind it belong to it.
+#[cycle(read)]
+#[tactic(auto, unfolding(crate::specs::Commands::token_at))]
+pub(crate) fn token_at(
+    alloc: Global,
+    b: u8,
+    rest: &[u8],
+    depth: u8,
+) -> Result<(Token, usize), WordFault>
+    ensures value { Gives (λ x. (token_view x.0, x.1)) result (token_at (inside_of depth) b rest.now) }
+    ensures within { IfOk result (λ x. x.1 ≤ length rest.now) }
+{
+    match b {
+        b'\\' => {
+            let (value, n) = backslash(rest);
+            Ok((Token::Byte(value), n))
+        }
+        b'[' => {
+            let n = bracket(rest, depth)?;
+            let text = Text::from_slice(alloc, before(rest, n - 1))?;
+            Ok((Token::Substitution(Part::Script(text)), n))
+        }
+        b'$' => variable(alloc, rest, depth),
+        _ => Ok((Token::Byte(b), 0)),
+    }
+}
+
+/// What a `$` gives with these bytes behind it.
+#[cycle(read)]
+fn variable(alloc: Global, rest: &[u8], depth: u8) -> Result<(Token, usize), WordFault>
+    ensures value { Gives (λ x. (token_view x.0, x.1)) result (dollar (inside_of depth) (name_len rest.now) rest.now) }
+    ensures within { IfOk result (λ x. x.1 ≤ length rest.now) }
+{
+    if begins_with(b'{', rest) {
+        let inner = after(rest, 1);
+        let Some(n) = brace_at(inner) else {
+            return Err(WordFault::MissingBrace);
+        };
+        let name = Text::from_slice(alloc, before(inner, n))?;
+        return Ok((Token::Substitution(Part::Var(name, None)), 2 + n));
+    }
+    let n = name_len(rest);
+    if begins_with(b'(', after(rest, n)) {
+        let (index, k) = index(alloc, after(rest, 1 + n), depth)?;
+        let name = Text::from_slice(alloc, before(rest, n))?;
+        return Ok((Token::Substitution(Part::Var(name, Some(index))), 1 + n + k));
+    }
+    if n == 0 {
+        return Ok((Token::Byte(b'$'), 0));
+    }
+    let name = Text::from_slice(alloc, before(rest, n))?;
+    Ok((Token::Substitution(Part::Var(name, None)), n))
+}
+
+/// The parts of an index, up to the `)`.
+#[cycle(read)]
+#[tactic(auto, unfolding(crate::specs::Commands::inside_of))]
+fn index(alloc: Global, rest: &[u8], depth: u8) -> Result<(Vec<Part>, usize), WordFault>
+    ensures value { Gives (λ x. (parts_view x.0.items, x.1)) result ((inside_of depth).index rest.now) }
+    ensures within { IfOk result (λ x. x.1 ≤ length rest.now) }
+{
+    if depth == 0 {
+        return Err(WordFault::TooDeep);
+    }
+    parts(alloc, rest, Stop::Paren, depth - 1)
+}
+
+/// Puts the bytes at the end of the parts, as a literal.
+fn flush(list: &mut Vec<Part>, text: Vec<u8>) -> Result<(), AllocError>
+    ensures { OnOk result (parts_view list.new.items ≡ append (parts_view list.old.items) (literal_of text.items)) }
+{
+    if !text.is_empty() {
+        list.push(Part::Lit(Text { bytes: text }))?;
+    }
+    Ok(())
+}
+
+/// The parts up to where a run ends, and how many bytes it takes.
+#[cycle(read)]
+pub(crate) fn parts(
+    alloc: Global,
+    bytes: &[u8],
+    stop: Stop,
+    depth: u8,
+) -> Result<(Vec<Part>, usize), WordFault>
+    ensures value { Gives (λ x. (parts_view x.0.items, x.1)) result (parts (inside_of depth) stop bytes.now) }
+    ensures within { IfOk result (λ x. x.1 ≤ length bytes.now) }
+{
+    let mut list = Vec::new(alloc);
+    let mut text = Vec::new(alloc);
+    let mut at = 0;
+    while at < bytes.len() {
+        let b = bytes[at];
+        let rest = after(bytes, at + 1);
+        if stops(stop, b, rest) {
+            flush(&mut list, text)?;
+            return Ok((list, at + stop_len(stop)));
+        }
+        let (token, n) = token_at(alloc, b, rest, depth)?;
+        match token {
+            Token::Byte(value) => text.push(value)?,
+            Token::Substitution(part) => {
+                flush(&mut list, text)?;
+                text = Vec::new(alloc);
+                list.push(part)?;
+            }
+        }
+        at += 1 + n;
+    }
+    match unclosed(stop) {
+        Some(fault) => Err(fault),
+        None => {
+            flush(&mut list, text)?;
+            Ok((list, at))
+        }
+    }
+}
+
+/// The text of a word in braces.
+fn joined(alloc: Global, bytes: &[u8]) -> Result<Vec<u8>, AllocError>
+    ensures { IfOk result (λ v. v.items ≡ joined bytes.now) }
+{
+    let mut text = Vec::new(alloc);
+    let mut at = 0;
+    while at < bytes.len() {
+        let b = bytes[at];
+        let rest = after(bytes, at + 1);
+        if is_continued(b, rest) {
+            text.push(b' ')?;
+            at += 2 + blanks(after(rest, 1));
+        } else if b == b'\\' && at + 1 < bytes.len() {
+            text.push(b)?;
+            text.push(bytes[at + 1])?;
+            at += 2;
+        } else {
+            text.push(b)?;
+            at += 1;
+        }
+    }
+    Ok(text)
+}
+
+/// The parts of a word in braces: a literal, which may be empty.
+pub(crate) fn braced(alloc: Global, bytes: &[u8]) -> Result<Vec<Part>, AllocError>
+    ensures { IfOk result (λ list. parts_view list.items ≡ piece (literal (joined bytes.now)) no_pieces) }
+{
+    let text = joined(alloc, bytes)?;
+    let mut list = Vec::new(alloc);
+    list.push(Part::Lit(Text { bytes: text }))?;
+    Ok(list)
+}

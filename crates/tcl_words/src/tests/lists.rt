@@ -1,0 +1,78 @@
+//! Texts, each with its elements: `|` behind each. `!BadList` where the text is no list.
+//! All but the last row of `LISTS` are as tclsh 8.6 reads them.
+
+/// Elements bare, in braces, in quotes and with backslashes, in this order, and at the end `\u`, which is no escape here.
+pub(super) static LISTS: [(&[u8], &[u8]); 35] = [
+    (b"", b""),
+    (b" \t\n ", b""),
+    (b"a b c", b"a|b|c|"),
+    (b"  a  b ", b"a|b|"),
+    (b"a\x0bb\x0cc\rd\te\nf", b"a|b|c|d|e|f|"),
+    (b"$a [b c] ;d #e", b"$a|[b|c]|;d|#e|"),
+    (b"a\"b a{b a}b }", b"a\"b|a{b|a}b|}|"),
+    (b"a]b {*}", b"a]b|*|"),
+    (b"{a b} c", b"a b|c|"),
+    (b"{}", b"|"),
+    (b"{a {b c}} d", b"a {b c}|d|"),
+    (b"{a\\{b} c", b"a\\{b|c|"),
+    (b"{a\\\n b}", b"a\\\n b|"),
+    (b"{\\\\}", b"\\\\|"),
+    (b"{{}} {}", b"{}||"),
+    (b"{a\nb}\n{c}", b"a\nb|c|"),
+    (b"{\"a} b\"", b"\"a|b\"|"),
+    (b"{$a [b]}", b"$a [b]|"),
+    (b"\"\"", b"|"),
+    (b"\"a b\" c", b"a b|c|"),
+    (b"\"a\\\"b\"", b"a\"b|"),
+    (b"\"a\\\n  b\"", b"a b|"),
+    (b"\"{\" \"}\"", b"{|}|"),
+    (b"\"a{b\" {c\"d}", b"a{b|c\"d|"),
+    (b"\"\\x41\\n\"", b"A\n|"),
+    (b"a\\ b", b"a b|"),
+    (b"a\\nb", b"a\nb|"),
+    (b"\\x41 \\101", b"A|A|"),
+    (b"a\\\n  b", b"a b|"),
+    (b" \\\n a", b" a|"),
+    (b"a\\", b"a\\|"),
+    (b"\\{ \\} \\\"", b"{|}|\"|"),
+    (b"\\400 \\xg", b" 0|xg|"),
+    (b"a\\tb\\ ", b"a\tb |"),
+    (b"\\u0041", b"u0041|"),
+];
+
+/// Texts that are no list.
+pub(super) static BAD_LISTS: [(&[u8], &[u8]); 11] = [
+    (b"{a}b", b"!BadList"),
+    (b"\"a\"b", b"!BadList"),
+    (b"{a", b"!BadList"),
+    (b"\"a", b"!BadList"),
+    (b"{\\}", b"!BadList"),
+    (b"\"\\\"", b"!BadList"),
+    (b"a \"b c\"d", b"!BadList"),
+    (b"{*}a", b"!BadList"),
+    (b"a {b}\\\n c", b"!BadList"),
+    (b"{a}{b}", b"!BadList"),
+    (b"a {b {c} d", b"!BadList"),
+];
+
+/// Written lists. That they are written so is a rule of this language; tclsh reads them back.
+pub(super) static WRITTEN: [(&[u8], &[u8]); 18] = [
+    (b"", b""),
+    (b"a", b"a|"),
+    (b"{}", b"|"),
+    (b"{a b}", b"a b|"),
+    (b"{#a}", b"#a|"),
+    (b"x #a", b"x|#a|"),
+    (b"a\\{b", b"a{b|"),
+    (b"a\\}b\\{c", b"a}b{c|"),
+    (b"a\\\\b", b"a\\b|"),
+    (b"{\n}", b"\n|"),
+    (b"\\\\\\n\\t\\v\\f\\r\\ ", b"\\\n\t\x0b\x0c\r |"),
+    (b"\\#\\\\", b"#\\|"),
+    (b"{$a} {[b]} {;} {\"}", b"$a|[b]|;|\"|"),
+    (b"{{}} {a{b}c}", b"{}|a{b}c|"),
+    (b"{]}", b"]|"),
+    (b"x {b c} {} a\\{b", b"x|b c||a{b|"),
+    (b"a\\\"\\$\\[\\]\\;\\\\", b"a\"$[];\\|"),
+    (b"\\#\\{ # \\{#", b"#{|#|{#|"),
+];
