@@ -1,0 +1,4 @@
+pub mod Script
+pub mod Reading
+pub mod Turns
+pub mod Command
