@@ -1,0 +1,10 @@
+pub mod Parts
+pub mod Numbers
+pub mod Lines
+pub mod Decimals
+pub mod Hexes
+pub mod Plain
+pub mod Said
+pub mod Meant
+pub mod Whole
+pub mod Worlds

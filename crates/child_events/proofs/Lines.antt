@@ -1,0 +1,129 @@
+-- The lines of a log.
+use Rattle.std.proofs.Common.{◌≡◌, ℕ, ◌+◌, ◌<◌, List, [], ◌∷◌, ◌++◌, length, Bool, true, false, Option, Some, None, Result, Ok, Err, refl, sym, ap, ◌∙◌, append_assoc, arith}
+use Rattle.std.specs.Prelude.{◌==◌, ◌||◌, codes, if◌then◌else◌}
+use Rattle.std.specs.Str.{bytes_eq}
+use Rattle.std.proofs.lemmas.Bool.Decides.{nat_tests}
+use Rattle.child_events.specs.declared.event.Cause.{Cause}
+use Rattle.child_events.specs.declared.event.Answer.TheVariants as answer
+use Rattle.child_events.specs.declared.event.What.{What}
+use Rattle.child_events.specs.declared.event.What.TheVariants as what
+use Rattle.child_events.specs.declared.event.HallEvent.{HallEvent}
+use Rattle.child_events.specs.declared.faults.LogFault.{LogFault}
+use Rattle.child_events.specs.declared.faults.LogFault.TheVariants as fault
+use Rattle.child_events.specs.Reading.{in_front, parts, line_event, last_part, with_first, lines_events, ◌>>=◌, fields_event, any_empty, failed_event, stamp_of, stamped, or_fault, what_failed, cause_of, piece_of, number_within, Reads}
+
+-- events that were read, in front of what the others give
+abbrev pub front_of : List HallEvent → Result (List HallEvent) LogFault → Result (List HallEvent) LogFault
+front_of front (Ok es) = Ok (front ++ es)
+front_of front (Err f) = Err f
+
+pub front_none : (rest : Result (List HallEvent) LogFault) → front_of [] rest ≡ rest
+front_none (Ok es) = refl
+front_none (Err f) = refl
+
+pub front_more : (front : List HallEvent) (e : HallEvent) (rest : Result (List HallEvent) LogFault) → front_of front (with_first (Ok e) rest) ≡ front_of (front ++ e ∷ []) rest
+front_more front e (Ok es) = ap Ok (sym (append_assoc front (e ∷ []) es))
+front_more front e (Err f) = refl
+
+-- there is always a first part
+pub parts_some : (sep : ℕ) (bs : List ℕ) → 0 < length (parts sep bs)
+parts_some sep [] = omega arith
+parts_some sep (b ∷ bs) = by_test (b == sep)
+  where
+    front_some : (vs : List (List ℕ)) → 0 < length (in_front b vs)
+    front_some [] = omega arith
+    front_some (v ∷ vs) = omega arith
+
+    by_test : (t : Bool) → 0 < length (if t then [] ∷ parts sep bs else in_front b (parts sep bs))
+    by_test true = omega arith
+    by_test false = front_some (parts sep bs)
+
+-- a part with others behind it is a line
+pub lines_more : (n : ℕ) (w : List ℕ) (vs : List (List ℕ)) → 0 < length vs → lines_events n (w ∷ vs) ≡ with_first (line_event n w) (lines_events (n + 1) vs)
+lines_more n w [] some = absurd (omega arith)
+lines_more n w (v ∷ vs) some = refl
+
+-- one line on
+pub line_read : (front : List HallEvent) (n : ℕ) (rest line behind : List ℕ) (e : HallEvent) (all : Result (List HallEvent) LogFault) →
+    parts 10 rest ≡ line ∷ parts 10 behind → line_event n line ≡ Ok e →
+    front_of front (lines_events n (parts 10 rest)) ≡ all → front_of (front ++ e ∷ []) (lines_events (n + 1) (parts 10 behind)) ≡ all
+line_read front n rest line behind e all split read same =
+    sym (front_more front e (lines_events (n + 1) (parts 10 behind)))
+    ∙ ap (front_of front) (
+    sym (
+    ap (lines_events n) split ∙ lines_more n line (parts 10 behind) (parts_some 10 behind)
+    ∙ ap (λ (r : Result HallEvent LogFault). with_first r (lines_events (n + 1) (parts 10 behind))) read
+    )
+    )
+    ∙ same
+
+-- the first bad line
+pub line_bad : (front : List HallEvent) (n : ℕ) (rest line behind : List ℕ) (f : LogFault) (all : Result (List HallEvent) LogFault) →
+    parts 10 rest ≡ line ∷ parts 10 behind → line_event n line ≡ Err f →
+    front_of front (lines_events n (parts 10 rest)) ≡ all → all ≡ Err f
+line_bad front n rest line behind f all split read same =
+    sym same
+    ∙ ap (front_of front) (
+    ap (lines_events n) split ∙ lines_more n line (parts 10 behind) (parts_some 10 behind)
+    ∙ ap (λ (r : Result HallEvent LogFault). with_first r (lines_events (n + 1) (parts 10 behind))) read
+    )
+
+-- what stands behind the last newline
+pub end_read : (front : List HallEvent) (n : ℕ) (rest : List ℕ) (all : Result (List HallEvent) LogFault) → parts 10 rest ≡ rest ∷ [] → front_of front (lines_events n (parts 10 rest)) ≡ all → all ≡ front_of front (last_part n rest)
+end_read front n rest all split same = sym same ∙ ap (λ (vs : List (List ℕ)). front_of front (lines_events n vs)) split
+
+either_way : (t : Bool) (r : Result HallEvent LogFault) → (if t then r else r) ≡ r
+either_way true r = refl
+either_way false r = refl
+
+-- a sixth field
+pub crowded : (n : ℕ) (line k s c m x r₁ r₂ r₃ r₄ r₅ : List ℕ) →
+    parts 32 line ≡ k ∷ parts 32 r₁ → parts 32 r₁ ≡ s ∷ parts 32 r₂ → parts 32 r₂ ≡ c ∷ parts 32 r₃ → parts 32 r₃ ≡ m ∷ parts 32 r₄ → parts 32 r₄ ≡ x ∷ parts 32 r₅ →
+    fields_event n (parts 32 line) ≡ Err (fault.Shape n)
+crowded n line k s c m x r₁ r₂ r₃ r₄ r₅ e₁ e₂ e₃ e₄ e₅ =
+    ap (fields_event n) (
+    e₁
+    ∙ ap (λ (vs : List (List ℕ)). k ∷ vs) (
+    e₂ ∙ ap (λ (vs : List (List ℕ)). s ∷ vs) (e₃ ∙ ap (λ (vs : List (List ℕ)). c ∷ vs) (e₄ ∙ ap (λ (vs : List (List ℕ)). m ∷ vs) e₅))
+    )
+    )
+    ∙ more (parts 32 r₅) (parts_some 32 r₅)
+  where
+    more : (vs : List (List ℕ)) → 0 < length vs → fields_event n (k ∷ s ∷ c ∷ m ∷ x ∷ vs) ≡ Err (fault.Shape n)
+    more [] some = absurd (omega arith)
+    more (v ∷ vs) some = either_way (any_empty (k ∷ s ∷ c ∷ m ∷ x ∷ v ∷ vs)) (Err (fault.Shape n))
+
+-- a reading that no want of memory can end
+pub reads_exact : {A : Type 0} (r m : Result A LogFault) → r ≡ m → Reads r m
+reads_exact (Ok x) m same = sym same
+reads_exact (Err f) m same = λ other. sym same
+
+-- a first word that is empty says nothing
+no_kind : (o : Option Cause) → what_failed [] o ≡ None
+no_kind None = refl
+no_kind (Some c) = refl
+
+pub some_kind : (b : ℕ) (k : List ℕ) → (length (b ∷ k) == 0) ≡ false
+some_kind b k = grind (arith, nat_tests)
+
+-- of five fields, neither a piece nor a status
+pub fields_failed : (n : ℕ) (k s c m x : List ℕ) → any_empty (s ∷ c ∷ m ∷ []) ≡ false → (length x == 0) ≡ false → bytes_eq k (codes "out") ≡ false → bytes_eq k (codes "exit") ≡ false →
+    fields_event n (k ∷ s ∷ c ∷ m ∷ x ∷ []) ≡ failed_event n k x (stamp_of n s c m)
+fields_failed n [] s c m x full held out exit = sym (ap (λ (o : Option What). or_fault (fault.Shape n) o >>= λ w. stamped (stamp_of n s c m) (Ok w)) (no_kind (cause_of x)))
+fields_failed n (b ∷ k) s c m x full held out exit =
+    by_tests (length (b ∷ k) == 0) (length s == 0) (length c == 0) (length m == 0) (length x == 0) (bytes_eq (b ∷ k) (codes "out")) (bytes_eq (b ∷ k) (codes "exit")) (some_kind b k) full held out exit
+  where
+    by_tests : (z p q r t o e : Bool) → z ≡ false → (p || (q || (r || false))) ≡ false → t ≡ false → o ≡ false → e ≡ false →
+        (if z || (p || (q || (r || (t || false)))) then Err (fault.Shape n)
+        else if o then stamped (stamp_of n s c m) (piece_of n x >>= λ piece. Ok (what.Out piece))
+        else if e then stamped (stamp_of n s c m) (number_within n x 0 255 (fault.Number n) >>= λ status. Ok (what.Answer (answer.Exit status)))
+        else failed_event n (b ∷ k) x (stamp_of n s c m))
+        ≡ failed_event n (b ∷ k) x (stamp_of n s c m)
+    by_tests true p q r t o e y f h i j = absurd (cc)
+    by_tests false true q r t o e y f h i j = absurd (cc)
+    by_tests false false true r t o e y f h i j = absurd (cc)
+    by_tests false false false true t o e y f h i j = absurd (cc)
+    by_tests false false false false true o e y f h i j = absurd (cc)
+    by_tests false false false false false true e y f h i j = absurd (cc)
+    by_tests false false false false false false true y f h i j = absurd (cc)
+    by_tests false false false false false false false y f h i j = refl

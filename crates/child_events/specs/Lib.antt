@@ -1,0 +1,4 @@
+pub mod World
+pub mod Log
+pub mod Reading
+pub mod Counting

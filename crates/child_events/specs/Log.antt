@@ -1,0 +1,93 @@
+-- The text of a list of events: a line for each, ended by a newline.
+use Rattle.std.specs.Prelude.{◌≡◌, ℕ, ◌<◌, nat_le, List, [], ◌∷◌, ◌++◌, length, codes, Bool, ◌&&◌, IsTrue}
+use Rattle.std.specs.List.{flat_map, AllByRecursion}
+use Rattle.std.specs.Fmt.{decimal}
+use Rattle.hex.specs.Hex.{encode_lower, IsBytes}
+use Rattle.child_events.specs.declared.event.Cause.{Cause}
+use Rattle.child_events.specs.declared.event.Cause.TheVariants as cause
+use Rattle.child_events.specs.declared.event.Answer.TheVariants as answer
+use Rattle.child_events.specs.declared.event.What.{What}
+use Rattle.child_events.specs.declared.event.What.TheVariants as what
+use Rattle.child_events.specs.declared.event.HallEvent.{HallEvent}
+use Rattle.child_events.specs.declared.event.HallEvent.TheVariants as hall
+
+abbrev pub cause_text : Cause → List ℕ
+cause_text cause.NotFound = codes "notfound"
+cause_text cause.Denied = codes "denied"
+cause_text cause.Broken = codes "broken"
+cause_text cause.Memory = codes "memory"
+cause_text cause.Other = codes "other"
+
+-- a piece in lower-case hexadecimal, or a dash for none
+abbrev pub hex_text : List ℕ → List ℕ
+hex_text [] = codes "-"
+hex_text (b ∷ bs) = encode_lower (b ∷ bs)
+
+-- the first word of an event's line
+abbrev pub kind_text : What → List ℕ
+kind_text (what.Out piece) = codes "out"
+kind_text what.Eof = codes "end"
+kind_text (what.ReadFail c) = codes "fail"
+kind_text (what.Answer answer.Ok) = codes "ok"
+kind_text (what.Answer (answer.Fail c)) = codes "bad"
+kind_text (what.Answer (answer.Exit n)) = codes "exit"
+kind_text (what.Answer answer.Killed) = codes "killed"
+
+-- the last word, where the event holds something
+abbrev pub held_text : What → List (List ℕ)
+held_text (what.Out piece) = hex_text piece ∷ []
+held_text what.Eof = []
+held_text (what.ReadFail c) = cause_text c ∷ []
+held_text (what.Answer answer.Ok) = []
+held_text (what.Answer (answer.Fail c)) = cause_text c ∷ []
+held_text (what.Answer (answer.Exit n)) = decimal n ∷ []
+held_text (what.Answer answer.Killed) = []
+
+abbrev pub fields_of : HallEvent → List (List ℕ)
+fields_of (hall.Child s c m w) = kind_text w ∷ decimal s ∷ decimal c ∷ decimal m ∷ held_text w
+fields_of (hall.Tick m) = codes "tick" ∷ decimal m ∷ []
+
+-- texts with a separator between
+abbrev pub joined : ℕ → List (List ℕ) → List ℕ
+joined sep [] = []
+joined sep (w ∷ ws) = w ++ flat_map (λ v. sep ∷ v) ws
+
+-- the words have one space between
+abbrev pub line_of : HallEvent → List ℕ
+line_of e = joined 32 (fields_of e)
+
+-- the one text of a list of events
+abbrev pub log_text : List HallEvent → List ℕ
+log_text es = flat_map (λ e. line_of e ++ 10 ∷ []) es
+
+abbrev pub piece_len : What → ℕ
+piece_len (what.Out piece) = length piece
+piece_len what.Eof = 0
+piece_len (what.ReadFail c) = 0
+piece_len (what.Answer a) = 0
+
+-- an event within the limits: scripts 1 to 64, children 1 to 16
+abbrev pub fits : HallEvent → Bool
+fits (hall.Child s c m w) = nat_le 1 s && nat_le s 64 && nat_le 1 c && nat_le c 16 && nat_le m 9000000000000000 && nat_le (piece_len w) 4096
+fits (hall.Tick m) = nat_le m 9000000000000000
+
+abbrev pub AllFit : List HallEvent → Type 0
+AllFit es = AllByRecursion (λ e. IsTrue (fits e)) es
+
+-- a piece is of bytes, and a status is one byte
+abbrev pub HoldsBytes : What → Type 0
+HoldsBytes (what.Out piece) = IsBytes piece
+HoldsBytes what.Eof = Unit {0}
+HoldsBytes (what.ReadFail c) = Unit {0}
+HoldsBytes (what.Answer answer.Ok) = Unit {0}
+HoldsBytes (what.Answer (answer.Fail c)) = Unit {0}
+HoldsBytes (what.Answer (answer.Exit n)) = n < 256
+HoldsBytes (what.Answer answer.Killed) = Unit {0}
+
+abbrev pub IsOfBytes : HallEvent → Type 0
+IsOfBytes (hall.Child s c m w) = HoldsBytes w
+IsOfBytes (hall.Tick m) = Unit {0}
+
+-- The bytes are the log of these events, which are within the limits.
+abbrev pub LogText : List ℕ → List HallEvent → Type 0
+LogText bytes es = (bytes ≡ log_text es) × AllFit es × AllByRecursion IsOfBytes es

@@ -1,0 +1,194 @@
+-- What the lines of a log say, or the first fault. Lines count from 1; the first bad line decides, and
+-- in a line the faults have one order: its length, its shape, then the fields from the left.
+use Rattle.std.specs.Prelude.{◌≡◌, ◌≢◌, ◌<◌, ℕ, ◌+◌, ◌%◌, nat_le, nat_lt, ◌==◌, List, [], ◌∷◌, length, codes, Bool, true, false, not, ◌&&◌, ◌||◌, if◌then◌else◌, Option, Some, None, Result, Ok, Err}
+use Rattle.std.specs.Borrow.{Bor}
+use Rattle.std.specs.Str.{bytes_eq, all_ascii_digits}
+use Rattle.std.specs.Str.Parse.{digits_value}
+use Rattle.hex.specs.Hex.{decode_of}
+use Rattle.hex.specs.declared.error.FromHexError.{FromHexError}
+use Rattle.child_events.specs.declared.event.Cause.{Cause}
+use Rattle.child_events.specs.declared.event.Cause.TheVariants as cause
+use Rattle.child_events.specs.declared.event.Answer.TheVariants as answer
+use Rattle.child_events.specs.declared.event.What.{What}
+use Rattle.child_events.specs.declared.event.What.TheVariants as what
+use Rattle.child_events.specs.declared.event.HallEvent.{HallEvent}
+use Rattle.child_events.specs.declared.event.HallEvent.TheVariants as hall
+use Rattle.child_events.specs.declared.fields.Stamp.{Stamp}
+use Rattle.child_events.specs.declared.faults.LogFault.{LogFault}
+use Rattle.child_events.specs.declared.faults.LogFault.TheVariants as fault
+use Rattle.child_events.specs.Log.{LogText}
+
+-- one reading and then another, which the first fault stops
+infixl 10 ◌>>=◌
+abbrev pub ◌>>=◌ : {A B : Type 0} → Result A LogFault → (A → Result B LogFault) → Result B LogFault
+Ok x >>= f = f x
+Err e >>= f = Err e
+
+abbrev pub or_fault : {A : Type 0} → LogFault → Option A → Result A LogFault
+or_fault f None = Err f
+or_fault f (Some x) = Ok x
+
+-- a byte in front of the first part
+abbrev pub in_front : ℕ → List (List ℕ) → List (List ℕ)
+in_front b [] = (b ∷ []) ∷ []
+in_front b (w ∷ ws) = (b ∷ w) ∷ ws
+
+-- the parts of a text round a separator, of which there is always one
+abbrev pub parts : ℕ → List ℕ → List (List ℕ)
+parts sep [] = [] ∷ []
+parts sep (b ∷ bs) = if b == sep then [] ∷ parts sep bs else in_front b (parts sep bs)
+
+-- 0 alone, or digits of which the first is not 0
+abbrev pub starts_number : List ℕ → Bool
+starts_number [] = false
+starts_number (d ∷ []) = true
+starts_number (d ∷ e ∷ ds) = not (d == 48)
+
+abbrev pub digits_number : List ℕ → Option ℕ
+digits_number w = if all_ascii_digits w then Some (digits_value 10 w) else None
+
+-- the number that at most sixteen decimal digits write
+abbrev pub number_of : List ℕ → Option ℕ
+number_of w = if starts_number w && nat_le (length w) 16 then digits_number w else None
+
+-- a number between two bounds, or the fault of one outside
+abbrev pub number_within : ℕ → List ℕ → ℕ → ℕ → LogFault → Result ℕ LogFault
+number_within n w low high outside = do
+  k ← or_fault (fault.Number n) (number_of w)
+  if nat_le low k && nat_le k high then Ok k else Err outside
+
+abbrev pub is_lower_hex_digit : ℕ → Bool
+is_lower_hex_digit d = (nat_le 48 d && nat_le d 57) || (nat_le 97 d && nat_le d 102)
+
+abbrev pub all_lower_hex : List ℕ → Bool
+all_lower_hex [] = true
+all_lower_hex (d ∷ ds) = is_lower_hex_digit d && all_lower_hex ds
+
+abbrev pub decoded : ℕ → Result (List ℕ) FromHexError → Result (List ℕ) LogFault
+decoded n (Ok bytes) = Ok bytes
+decoded n (Err e) = Err (fault.Hex n)
+
+-- the bytes of lower-case pairs, or none for a dash
+abbrev pub piece_of : ℕ → List ℕ → Result (List ℕ) LogFault
+piece_of n w =
+    if bytes_eq w (codes "-") then Ok []
+    else if not (length w % 2 == 0 && all_lower_hex w) then Err (fault.Hex n)
+    else if nat_lt 8192 (length w) then Err (fault.TooLong n)
+    else decoded n (decode_of w)
+
+abbrev pub cause_of : List ℕ → Option Cause
+cause_of w =
+    if bytes_eq w (codes "notfound") then Some cause.NotFound
+    else if bytes_eq w (codes "denied") then Some cause.Denied
+    else if bytes_eq w (codes "broken") then Some cause.Broken
+    else if bytes_eq w (codes "memory") then Some cause.Memory
+    else if bytes_eq w (codes "other") then Some cause.Other
+    else None
+
+-- what an event holds of which the line has no more than its first word
+abbrev pub what_alone : List ℕ → Option What
+what_alone k =
+    if bytes_eq k (codes "ok") then Some (what.Answer answer.Ok)
+    else if bytes_eq k (codes "end") then Some what.Eof
+    else if bytes_eq k (codes "killed") then Some (what.Answer answer.Killed)
+    else None
+
+abbrev pub failed : List ℕ → Cause → Option What
+failed k c =
+    if bytes_eq k (codes "fail") then Some (what.ReadFail c)
+    else if bytes_eq k (codes "bad") then Some (what.Answer (answer.Fail c))
+    else None
+
+-- what an event holds of which the line ends with a cause
+abbrev pub what_failed : List ℕ → Option Cause → Option What
+what_failed k None = None
+what_failed k (Some c) = failed k c
+
+abbrev pub moment_of : ℕ → List ℕ → Result ℕ LogFault
+moment_of n m = number_within n m 0 9000000000000000 (fault.Number n)
+
+-- the script, the child and the moment
+abbrev pub stamp_of : ℕ → List ℕ → List ℕ → List ℕ → Result Stamp LogFault
+stamp_of n s c m = do
+  script ← number_within n s 1 64 (fault.NoSuchScript n)
+  child ← number_within n c 1 16 (fault.NoSuchChild n)
+  moment ← moment_of n m
+  Ok (record { script = script; child = child; moment = moment })
+
+abbrev pub stamped : Result Stamp LogFault → Result What LogFault → Result HallEvent LogFault
+stamped stamp held = do
+  at ← stamp
+  w ← held
+  Ok (hall.Child at.script at.child at.moment w)
+
+-- where the last word is a cause, it is looked at first
+abbrev pub failed_event : ℕ → List ℕ → List ℕ → Result Stamp LogFault → Result HallEvent LogFault
+failed_event n k x stamp = or_fault (fault.Shape n) (what_failed k (cause_of x)) >>= λ w. stamped stamp (Ok w)
+
+-- and where it is a number or hexadecimal, it comes behind the others
+abbrev pub held_event : ℕ → List ℕ → List ℕ → Result Stamp LogFault → Result HallEvent LogFault
+held_event n k x stamp =
+    if bytes_eq k (codes "out") then stamped stamp (piece_of n x >>= λ piece. Ok (what.Out piece))
+    else if bytes_eq k (codes "exit") then stamped stamp (number_within n x 0 255 (fault.Number n) >>= λ status. Ok (what.Answer (answer.Exit status)))
+    else failed_event n k x stamp
+
+abbrev pub event_of : ℕ → List (List ℕ) → Result HallEvent LogFault
+event_of n [] = Err (fault.Shape n)
+event_of n (k ∷ []) = Err (fault.Shape n)
+event_of n (k ∷ m ∷ []) = if bytes_eq k (codes "tick") then (moment_of n m >>= λ moment. Ok (hall.Tick moment)) else Err (fault.Shape n)
+event_of n (k ∷ s ∷ m ∷ []) = Err (fault.Shape n)
+event_of n (k ∷ s ∷ c ∷ m ∷ []) = or_fault (fault.Shape n) (what_alone k) >>= λ w. stamped (stamp_of n s c m) (Ok w)
+event_of n (k ∷ s ∷ c ∷ m ∷ x ∷ []) = held_event n k x (stamp_of n s c m)
+event_of n (k ∷ s ∷ c ∷ m ∷ x ∷ y ∷ more) = Err (fault.Shape n)
+
+abbrev pub any_empty : List (List ℕ) → Bool
+any_empty [] = false
+any_empty (w ∷ ws) = length w == 0 || any_empty ws
+
+-- the event that the fields of a line are
+abbrev pub fields_event : ℕ → List (List ℕ) → Result HallEvent LogFault
+fields_event n fields = if any_empty fields then Err (fault.Shape n) else event_of n fields
+
+abbrev pub line_event : ℕ → List ℕ → Result HallEvent LogFault
+line_event n line = if nat_lt 8219 (length line) then Err (fault.TooLong n) else fields_event n (parts 32 line)
+
+-- behind the last newline there is nothing
+abbrev pub last_part : ℕ → List ℕ → Result (List HallEvent) LogFault
+last_part n w =
+    if length w == 0 then Ok []
+    else if nat_lt 8219 (length w) then Err (fault.TooLong n)
+    else Err (fault.Shape n)
+
+abbrev pub with_first : Result HallEvent LogFault → Result (List HallEvent) LogFault → Result (List HallEvent) LogFault
+with_first first others = first >>= λ e. others >>= λ es. Ok (e ∷ es)
+
+-- the events of the parts round the newlines, the first of them line n
+abbrev pub lines_events : ℕ → List (List ℕ) → Result (List HallEvent) LogFault
+lines_events n [] = Ok []
+lines_events n (w ∷ []) = last_part n w
+lines_events n (w ∷ v ∷ ws) = with_first (line_event n w) (lines_events (n + 1) (v ∷ ws))
+
+abbrev pub log_events : List ℕ → Result (List HallEvent) LogFault
+log_events bytes = lines_events 1 (parts 10 bytes)
+
+abbrev pub fault_in : {A : Type 0} → Result A LogFault → Option LogFault
+fault_in (Ok x) = None
+fault_in (Err f) = Some f
+
+-- the first fault of bytes that are no log
+abbrev pub first_fault : List ℕ → Option LogFault
+first_fault bytes = fault_in (log_events bytes)
+
+-- what a reading answers that may end for want of memory
+abbrev pub Reads : {A : Type 0} → Result A LogFault → Result A LogFault → Type 0
+Reads (Ok x) meant = meant ≡ Ok x
+Reads (Err f) meant = f ≢ fault.Memory → meant ≡ Err f
+
+-- this is the fault, and the bytes are the log of no list of events
+abbrev pub Refused : List ℕ → LogFault → Type 0
+Refused bytes f = (first_fault bytes ≡ Some f) × ((es : List HallEvent) → LogText bytes es → ⊥)
+
+-- what stands in front of the first separator, and what stands behind it
+abbrev pub SplitsAt : ℕ → List ℕ → Option (Bor (List ℕ) × Bor (List ℕ)) → Type 0
+SplitsAt sep bs None = parts sep bs ≡ bs ∷ []
+SplitsAt sep bs (Some found) = (parts sep bs ≡ found.0.now ∷ parts sep found.1.now) × (length found.1.now < length bs)

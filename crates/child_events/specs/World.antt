@@ -1,0 +1,124 @@
+-- What a script can know of its children: for each, what came from it and what its requests came to,
+-- each with its moment, and how late it is.
+use Rattle.std.specs.Prelude.{◌≡◌, ℕ, ◌-◌, max, List, [], ◌∷◌, ◌++◌, replicate, Bool, true, false, ◌==◌, if◌then◌else◌, Option, Some, None, slice_index_or, slice_set}
+use Rattle.std.specs.Borrow.{Bor}
+use Rattle.child_events.specs.declared.event.Answer.{Answer}
+use Rattle.child_events.specs.declared.event.What.{What}
+use Rattle.child_events.specs.declared.event.What.TheVariants as what
+use Rattle.child_events.specs.declared.event.Item.{Item}
+use Rattle.child_events.specs.declared.event.Item.TheVariants as item
+use Rattle.child_events.specs.declared.event.Event.{Event}
+use Rattle.child_events.specs.declared.event.Event.TheVariants as event
+use Rattle.child_events.specs.declared.event.HallEvent.{HallEvent}
+use Rattle.child_events.specs.declared.event.HallEvent.TheVariants as hall
+use Rattle.child_events.specs.declared.lane.Lane.{Lane}
+use Rattle.child_events.specs.declared.world.World.{World}
+
+-- what a script sees of an event: its own children's events, and all ticks
+abbrev pub own_of : ℕ → HallEvent → Option Event
+own_of script (hall.Child s c m w) = if s == script then Some (event.Child c m w) else None
+own_of script (hall.Tick m) = Some (event.Tick m)
+
+abbrev pub after_own : Option Event → List Event → List Event
+after_own None es = es
+after_own (Some e) es = e ∷ es
+
+-- the events that a script sees, in order
+abbrev pub own : ℕ → List HallEvent → List Event
+own script [] = []
+own script (e ∷ es) = after_own (own_of script e) (own script es)
+
+-- a child of which nothing is known
+abbrev pub blank : Lane
+blank = record { items = []; answers = []; over = false }
+
+-- An item more. Behind an end or a read failure nothing is kept.
+abbrev pub with_item : ℕ → Item → Bool → Lane → Lane
+with_item m i ends lane = if lane.over then lane else record lane { items = lane.items ++ (m, i) ∷ []; over = ends }
+
+-- what an event of a child adds to what is known of it
+abbrev pub lane_with : ℕ → What → Lane → Lane
+lane_with m (what.Out piece) lane = with_item m (item.Out piece) false lane
+lane_with m what.Eof lane = with_item m item.Eof true lane
+lane_with m (what.ReadFail cause) lane = with_item m (item.ReadFail cause) true lane
+lane_with m (what.Answer a) lane = record lane { answers = lane.answers ++ (m, a) ∷ [] }
+
+-- child c, from 1, has the lane at c - 1; a number with no lane is as a child of which nothing is known
+abbrev pub lane_at : ℕ → List Lane → Lane
+lane_at c lanes = if c == 0 then blank else slice_index_or lanes (c - 1) blank
+
+abbrev pub lanes_with : ℕ → ℕ → What → List Lane → List Lane
+lanes_with c m w lanes = if c == 0 then lanes else slice_set lanes (c - 1) (lane_with m w (lane_at c lanes))
+
+abbrev pub lane_of : ℕ → World → Lane
+lane_of c w = lane_at c w.lanes
+
+-- One event more. Its moment is raised to the horizon, the greatest moment so far, and the horizon to it.
+abbrev pub grown : World → Event → World
+grown w (event.Child c m x) = record { lanes = lanes_with c (max w.horizon m) x w.lanes; horizon = max w.horizon m }
+grown w (event.Tick m) = record { lanes = w.lanes; horizon = max w.horizon m }
+
+abbrev pub grown_all : World → List Event → World
+grown_all w [] = w
+grown_all w (e ∷ es) = grown_all (grown w e) es
+
+-- children 1 to 16, of which nothing is known
+unfoldable pub blank_lanes : List Lane
+blank_lanes = replicate 16 blank
+
+abbrev pub fresh : World
+fresh = record { lanes = blank_lanes; horizon = 0 }
+
+-- an item without where it lies in memory
+abbrev pub item_view : Option (ℕ × Bor Item) → Option (ℕ × Item)
+item_view None = None
+item_view (Some found) = Some (found.0, found.1.now)
+
+-- What a world holds, in terms of the events alone.
+
+abbrev pub moment_of : Event → ℕ
+moment_of (event.Child c m w) = m
+moment_of (event.Tick m) = m
+
+abbrev pub raised_event : ℕ → Event → Event
+raised_event least (event.Child c m w) = event.Child c (max least m) w
+raised_event least (event.Tick m) = event.Tick (max least m)
+
+-- each moment raised to the greatest one before it
+abbrev pub raised_from : ℕ → List Event → List Event
+raised_from least [] = []
+raised_from least (e ∷ es) = raised_event least e ∷ raised_from (max least (moment_of e)) es
+
+abbrev pub raised : List Event → List Event
+raised es = raised_from 0 es
+
+-- the greatest moment, or 0
+abbrev pub horizon_from : ℕ → List Event → ℕ
+horizon_from least [] = least
+horizon_from least (e ∷ es) = horizon_from (max least (moment_of e)) es
+
+abbrev pub horizon_of : List Event → ℕ
+horizon_of es = horizon_from 0 es
+
+-- what comes from a child, with its moments, up to its end or read failure
+abbrev pub items_of : ℕ → List Event → List (ℕ × Item)
+items_of child [] = []
+items_of child (event.Tick m ∷ es) = items_of child es
+items_of child (event.Child c m (what.Answer a) ∷ es) = items_of child es
+items_of child (event.Child c m (what.Out piece) ∷ es) = if c == child then (m, item.Out piece) ∷ items_of child es else items_of child es
+items_of child (event.Child c m what.Eof ∷ es) = if c == child then (m, item.Eof) ∷ [] else items_of child es
+items_of child (event.Child c m (what.ReadFail cause) ∷ es) = if c == child then (m, item.ReadFail cause) ∷ [] else items_of child es
+
+-- what a child's requests came to, with the moments
+abbrev pub answers_of : ℕ → List Event → List (ℕ × Answer)
+answers_of child [] = []
+answers_of child (event.Tick m ∷ es) = answers_of child es
+answers_of child (event.Child c m (what.Answer a) ∷ es) = if c == child then (m, a) ∷ answers_of child es else answers_of child es
+answers_of child (event.Child c m (what.Out piece) ∷ es) = answers_of child es
+answers_of child (event.Child c m what.Eof ∷ es) = answers_of child es
+answers_of child (event.Child c m (what.ReadFail cause) ∷ es) = answers_of child es
+
+-- what a world knows of a child is what the events say of it
+pub record Knows (w : World) (child : ℕ) (es : List Event) : Type 0 where
+  pub items : (lane_of child w).items ≡ items_of child (raised es)
+  pub answers : (lane_of child w).answers ≡ answers_of child (raised es)

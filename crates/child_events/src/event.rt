@@ -1,0 +1,135 @@
+//! Events of children and of time.
+
+ghost use Rattle.std.specs.Prelude.{◌≡◌, IfOk};
+ghost use Rattle.child_events.specs.World.{own_of};
+
+use std::alloc::{AllocError, Global};
+use tcl_words::Text;
+
+/// Why a request to a child, or reading from it, failed.
+#[derive(Clone, Copy, Debug, PartialEq, Eq)]
+pub enum Cause {
+    NotFound,
+    Denied,
+    Broken,
+    Memory,
+    Other,
+}
+
+/// What a request to a child came to.
+#[derive(Clone, Copy, Debug, PartialEq, Eq)]
+pub enum Answer {
+    /// It was carried out.
+    Ok,
+    /// It failed.
+    Fail(Cause),
+    /// The child had ended, with this status.
+    Exit(u8),
+    /// The child had been ended by a signal.
+    Killed,
+}
+
+/// What an event of a child brings.
+#[derive(Debug, Drop)]
+pub enum What {
+    /// Bytes that the child wrote.
+    Out(Text),
+    /// The end of the child's output.
+    Eof,
+    /// Reading the child's output failed, and is not tried again.
+    ReadFail(Cause),
+    /// What a request to the child came to.
+    Answer(Answer),
+}
+
+impl What {
+    /// An equal one.
+    pub fn copied(&self, alloc: Global) -> Result<What, AllocError>
+        ensures { IfOk result (λ w. w ≡ self.now) }
+    {
+        match self {
+            What::Out(piece) => Ok(What::Out(piece.copied(alloc)?)),
+            What::Eof => Ok(What::Eof),
+            What::ReadFail(cause) => Ok(What::ReadFail(*cause)),
+            What::Answer(answer) => Ok(What::Answer(*answer)),
+        }
+    }
+}
+
+/// What comes from a child, in the order in which it came.
+#[derive(Debug, Drop)]
+pub enum Item {
+    /// Bytes that the child wrote.
+    Out(Text),
+    /// The end of its output.
+    Eof,
+    /// Reading its output failed; nothing comes behind.
+    ReadFail(Cause),
+}
+
+/// An event of one script: of one of its children, or of time alone. Moments are milliseconds.
+#[derive(Debug, Drop)]
+pub enum Event {
+    Child { child: u8, moment: u64, what: What },
+    Tick { moment: u64 },
+}
+
+/// An event of any script.
+#[derive(Debug, Drop)]
+pub enum HallEvent {
+    Child {
+        script: u8,
+        child: u8,
+        moment: u64,
+        what: What,
+    },
+    Tick {
+        moment: u64,
+    },
+}
+
+impl HallEvent {
+    /// An equal one.
+    pub fn copied(&self, alloc: Global) -> Result<HallEvent, AllocError>
+        ensures { IfOk result (λ e. e ≡ self.now) }
+    {
+        match self {
+            HallEvent::Child {
+                script,
+                child,
+                moment,
+                what,
+            } => Ok(HallEvent::Child {
+                script: *script,
+                child: *child,
+                moment: *moment,
+                what: what.copied(alloc)?,
+            }),
+            HallEvent::Tick { moment } => Ok(HallEvent::Tick { moment: *moment }),
+        }
+    }
+}
+
+/// The event that a script sees of one: none where it is of another script's child.
+pub fn own_event(alloc: Global, script: u8, event: &HallEvent) -> Result<Option<Event>, AllocError>
+    ensures { IfOk result (λ e. e ≡ own_of script event.now) }
+{
+    match event {
+        HallEvent::Child {
+            script: of,
+            child,
+            moment,
+            what,
+        } => {
+            if *of != script {
+                return Ok(None);
+            }
+            Ok(Some(Event::Child {
+                child: *child,
+                moment: *moment,
+                what: what.copied(alloc)?,
+            }))
+        }
+        HallEvent::Tick { moment } => Ok(Some(Event::Tick { moment: *moment })),
+    }
+}

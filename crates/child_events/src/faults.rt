@@ -1,0 +1,44 @@
+//! Why bytes are no log.
+
+use std::alloc::{AllocError, AllocFailed};
+
+/// The first fault of bytes that are no log, with the number of its line, counted from 1.
+#[derive(Clone, Copy, Debug, PartialEq, Eq)]
+pub enum LogFault {
+    /// No newline, an unknown first word, a wrong number of fields, an empty field or an unknown cause.
+    Shape(usize),
+    /// A moment or a status that is no number or above its limit, or a script or child that is none.
+    Number(usize),
+    /// A piece that is not of pairs of lower-case hexadecimal digits.
+    Hex(usize),
+    /// A script's number outside 1 to 64.
+    NoSuchScript(usize),
+    /// A child's number outside 1 to 16.
+    NoSuchChild(usize),
+    /// A line of more than 8,219 bytes, or a piece of more than 4,096.
+    TooLong(usize),
+    /// Memory was refused.
+    Memory,
+}
+
+impl From<AllocError> for LogFault {
+    ghost use Rattle.std.specs.Prelude.{◌≡◌};
+    ghost use Rattle.child_events.specs.declared.faults.LogFault.TheVariants.{Memory};
+
+    ghost from_gives = { λ _ e. e ≡ Memory };
+
+    fn from(_e: AllocError) -> LogFault {
+        LogFault::Memory
+    }
+}
+
+impl<T: Drop> From<AllocFailed<T>> for LogFault {
+    ghost use Rattle.std.specs.Prelude.{◌≡◌};
+    ghost use Rattle.child_events.specs.declared.faults.LogFault.TheVariants.{Memory};
+
+    ghost from_gives = { λ _ e. e ≡ Memory };
+
+    fn from(_e: AllocFailed<T>) -> LogFault {
+        LogFault::Memory
+    }
+}

@@ -1,0 +1,245 @@
+//! The fields of a log's line, read one by one.
+
+ghost use Rattle.std.specs.Prelude.{◌≡◌, ◌≤◌, ◌+◌, ◌<◌, ◌∷◌, [], length, IfOk};
+ghost use Rattle.std.specs.Str.{bytes_eq};
+ghost use Rattle.child_events.specs.Reading.{SplitsAt, starts_number as starts, digits_number as digits_number_of, number_of, number_within as within, is_lower_hex_digit as is_digit, all_lower_hex, piece_of, cause_of, what_alone as alone_of, failed as failed_of, what_failed as failed_with, moment_of, stamp_of, any_empty as any_empty_of, Reads};
+
+use crate::event::{Answer, Cause, HallEvent, What};
+use crate::faults::LogFault;
+use std::alloc::Global;
+use tcl_words::Text;
+
+/// The greatest moment of a log, in milliseconds.
+const MOST_MOMENT: u64 = 9_000_000_000_000_000;
+
+/// The most hexadecimal digits of a piece.
+const MOST_DIGITS: usize = 8192;
+
+/// The words of a child's line that say whose event it is, and when.
+#[derive(Clone, Copy)]
+pub struct StampWords<'a> {
+    pub script: &'a [u8],
+    pub child: &'a [u8],
+    pub moment: &'a [u8],
+}
+
+impl StampWords<'_> {
+    pub fn any_empty(&self) -> bool
+        ensures { result ≡ any_empty_of (self.now.script.now ∷ self.now.child.now ∷ self.now.moment.now ∷ []) }
+    {
+        self.script.is_empty() || self.child.is_empty() || self.moment.is_empty()
+    }
+}
+
+/// What stands in front of the first separator, and what stands behind it.
+pub fn split_first(bytes: &[u8], separator: u8) -> Option<(&[u8], &[u8])>
+    ensures { SplitsAt separator bytes.now result }
+{
+    for (i, b) in bytes.iter().enumerate() {
+        if *b == separator {
+            return Some((&bytes[..i], &bytes[i + 1..]));
+        }
+    }
+    None
+}
+
+pub fn is(word: &[u8], name: &[u8]) -> bool
+    ensures { result ≡ bytes_eq word.now name.now }
+{
+    word == name
+}
+
+/// 0 alone, or anything of which the first is not 0.
+fn starts_number(word: &[u8]) -> bool
+    ensures { result ≡ starts word.now }
+{
+    match word {
+        [] => false,
+        [_] => true,
+        [first, ..] => *first != b'0',
+    }
+}
+
+/// The number that digits write.
+#[tactic(auto, using(crate::proofs::Numbers::number_stops, crate::proofs::Numbers::number_ends))]
+fn digits_number(word: &[u8]) -> Option<u64>
+    requires { length word.now ≤ 16 }
+    ensures { result ≡ digits_number_of word.now }
+{
+    let mut n: u64 = 0;
+    for b in word {
+        if !b.is_ascii_digit() {
+            return None;
+        }
+        n = n * 10 + u64::from(*b - b'0');
+    }
+    Some(n)
+}
+
+/// The number that at most sixteen decimal digits write, without a leading zero.
+fn number(word: &[u8]) -> Option<u64>
+    ensures { result ≡ number_of word.now }
+{
+    if starts_number(word) && word.len() <= 16 {
+        digits_number(word)
+    } else {
+        None
+    }
+}
+
+/// A number between two bounds, in a line.
+fn number_within(
+    line: usize,
+    word: &[u8],
+    low: u64,
+    high: u64,
+    outside: LogFault,
+) -> Result<u64, LogFault>
+    ensures value { result ≡ within line word.now low high outside }
+    ensures bound { IfOk result (λ n. n ≤ high) }
+{
+    let Some(n) = number(word) else {
+        return Err(LogFault::Number(line));
+    };
+    if low <= n && n <= high {
+        Ok(n)
+    } else {
+        Err(outside)
+    }
+}
+
+/// A moment, in milliseconds.
+pub fn moment(line: usize, word: &[u8]) -> Result<u64, LogFault>
+    ensures { result ≡ moment_of line word.now }
+{
+    number_within(line, word, 0, MOST_MOMENT, LogFault::Number(line))
+}
+
+/// Whose event it is, and when.
+#[derive(Clone, Copy, Debug)]
+pub struct Stamp {
+    pub script: u8,
+    pub child: u8,
+    pub moment: u64,
+}
+
+impl Stamp {
+    /// The event that brings this.
+    pub fn bring(self, what: What) -> HallEvent
+        ensures { result ≡ HallEvent.Child self.script self.child self.moment what }
+    {
+        HallEvent::Child {
+            script: self.script,
+            child: self.child,
+            moment: self.moment,
+            what,
+        }
+    }
+}
+
+/// The script, the child and the moment of a line.
+pub fn read_stamp(line: usize, words: &StampWords) -> Result<Stamp, LogFault>
+    ensures { result ≡ stamp_of line words.now.script.now words.now.child.now words.now.moment.now }
+{
+    let script = number_within(line, words.script, 1, 64, LogFault::NoSuchScript(line))?;
+    let child = number_within(line, words.child, 1, 16, LogFault::NoSuchChild(line))?;
+    let moment = moment(line, words.moment)?;
+    Ok(Stamp {
+        script: script as u8,
+        child: child as u8,
+        moment,
+    })
+}
+
+/// The status of a child that ended.
+pub fn status(line: usize, word: &[u8]) -> Result<u8, LogFault>
+    ensures { result ≡ within line word.now 0 255 (LogFault.Number line) }
+{
+    let n = number_within(line, word, 0, 255, LogFault::Number(line))?;
+    Ok(n as u8)
+}
+
+fn is_lower_hex_digit(digit: u8) -> bool
+    ensures { result ≡ is_digit digit }
+{
+    (b'0' <= digit && digit <= b'9') || (b'a' <= digit && digit <= b'f')
+}
+
+fn is_lower_hex(word: &[u8]) -> bool
+    ensures { result ≡ all_lower_hex word.now }
+{
+    for digit in word {
+        if !is_lower_hex_digit(*digit) {
+            return false;
+        }
+    }
+    true
+}
+
+/// The bytes of lower-case pairs of hexadecimal digits, or none for a dash.
+pub fn piece(alloc: Global, line: usize, word: &[u8]) -> Result<Text, LogFault>
+    ensures { Reads result (piece_of line word.now) }
+{
+    if is(word, b"-") {
+        return Ok(Text::new(alloc));
+    }
+    if word.len() % 2 != 0 || !is_lower_hex(word) {
+        return Err(LogFault::Hex(line));
+    }
+    if word.len() > MOST_DIGITS {
+        return Err(LogFault::TooLong(line));
+    }
+    match hex::decode(alloc, word) {
+        Ok(bytes) => Ok(Text { bytes }),
+        Err(hex::FromHexError::OutOfMemory) => Err(LogFault::Memory),
+        Err(_) => Err(LogFault::Hex(line)),
+    }
+}
+
+/// The cause that a word names.
+pub fn cause(word: &[u8]) -> Option<Cause>
+    ensures { result ≡ cause_of word.now }
+{
+    if is(word, b"notfound") {
+        Some(Cause::NotFound)
+    } else if is(word, b"denied") {
+        Some(Cause::Denied)
+    } else if is(word, b"broken") {
+        Some(Cause::Broken)
+    } else if is(word, b"memory") {
+        Some(Cause::Memory)
+    } else if is(word, b"other") {
+        Some(Cause::Other)
+    } else {
+        None
+    }
+}
+
+/// What a line brings whose first word says all of it.
+pub fn what_alone(kind: &[u8]) -> Option<What>
+    ensures { result ≡ alone_of kind.now }
+{
+    if is(kind, b"ok") {
+        Some(What::Answer(Answer::Ok))
+    } else if is(kind, b"end") {
+        Some(What::Eof)
+    } else if is(kind, b"killed") {
+        Some(What::Answer(Answer::Killed))
+    } else {
+        None
+    }
+}
+
+/// What a line brings that ends with a cause.
+pub fn what_failed(kind: &[u8], word: &[u8]) -> Option<What>
+    ensures { result ≡ failed_with kind.now (cause_of word.now) }
+{
+    let cause = cause(word)?;
+    if is(kind, b"fail") {
+        Some(What::ReadFail(cause))
+    } else if is(kind, b"bad") {
+        Some(What::Answer(Answer::Fail(cause)))
+    } else {
+        None
+    }
+}

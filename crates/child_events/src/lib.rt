@@ -1,0 +1,24 @@
+//! What happens to the children of scripts: events, the world that they make, and the log of them.
+#![tactic(auto)]
+
+mod counted;
+mod event;
+mod faults;
+mod fields;
+mod hall_events;
+mod lane;
+mod reading;
+mod world;
+mod writing;
+
+pub use counted::Counted;
+pub use event::{Answer, Cause, Event, HallEvent, Item, What, own_event};
+pub use faults::LogFault;
+pub use hall_events::HallEvents;
+pub use lane::{Answers, Items, Lane, Lanes};
+pub use reading::{log_laws, read_log};
+pub use world::{World, later, world_law};
+pub use writing::{cause_name, write_log};
+
+#[cfg(test)]
+mod tests;

@@ -1,0 +1,148 @@
+//! The log of events, written.
+
+ghost use Rattle.std.specs.Prelude.{◌≡◌, ◌<◌, ◌++◌, ◌∷◌, [], IfOk, OnOk};
+ghost use Rattle.std.specs.List.{flat_map};
+ghost use Rattle.std.specs.Fmt.{decimal};
+ghost use Rattle.hex.specs.Hex.{IsBytes};
+ghost use Rattle.child_events.specs.Log.{cause_text, hex_text, kind_text, held_text, line_of, log_text, AllFit, LogText, HoldsBytes, IsOfBytes};
+
+use crate::event::{Answer, Cause, HallEvent, What};
+use std::alloc::{AllocError, Global};
+use tcl_words::Text;
+
+/// The first word of an event's line.
+fn kind_name(what: &What) -> &'static [u8]
+    ensures { result.now ≡ kind_text what.now }
+{
+    match what {
+        What::Out(_) => b"out",
+        What::Eof => b"end",
+        What::ReadFail(_) => b"fail",
+        What::Answer(Answer::Ok) => b"ok",
+        What::Answer(Answer::Fail(_)) => b"bad",
+        What::Answer(Answer::Exit(_)) => b"exit",
+        What::Answer(Answer::Killed) => b"killed",
+    }
+}
+
+/// A cause in one word.
+pub fn cause_name(cause: Cause) -> &'static [u8]
+    ensures { result.now ≡ cause_text cause }
+{
+    match cause {
+        Cause::NotFound => b"notfound",
+        Cause::Denied => b"denied",
+        Cause::Broken => b"broken",
+        Cause::Memory => b"memory",
+        Cause::Other => b"other",
+    }
+}
+
+/// Puts a space and a word behind the text.
+fn push_word(text: &mut Text, word: &[u8]) -> Result<(), AllocError>
+    ensures { OnOk result (text.new ≡ text.old ++ 32 ∷ word.now) }
+{
+    text.push(b' ')?;
+    text.extend(word)
+}
+
+/// Puts a space and a number behind the text.
+fn push_number(alloc: Global, text: &mut Text, number: u64) -> Result<(), AllocError>
+    ensures { OnOk result (text.new ≡ text.old ++ 32 ∷ decimal number) }
+{
+    let digits = number.to_string(alloc)?;
+    push_word(text, digits.as_bytes())
+}
+
+/// Puts a space and a piece in hexadecimal behind the text.
+fn push_piece(alloc: Global, text: &mut Text, piece: &[u8]) -> Result<(), AllocError>
+    ensures { OnOk result (text.new ≡ text.old ++ 32 ∷ hex_text piece.now) }
+{
+    if piece.is_empty() {
+        return push_word(text, b"-");
+    }
+    let digits = hex::encode(alloc, piece)?;
+    push_word(text, digits.as_bytes())
+}
+
+/// Puts the last word of an event's line behind the text, where it has one.
+fn push_held(alloc: Global, text: &mut Text, what: &What) -> Result<(), AllocError>
+    ensures { OnOk result (text.new ≡ text.old ++ flat_map (λ v. 32 ∷ v) (held_text what.now)) }
+{
+    match what {
+        What::Out(piece) => push_piece(alloc, text, piece.as_slice()),
+        What::ReadFail(cause) => push_word(text, cause_name(*cause)),
+        What::Answer(Answer::Fail(cause)) => push_word(text, cause_name(*cause)),
+        What::Answer(Answer::Exit(status)) => push_number(alloc, text, u64::from(*status)),
+        What::Eof => Ok(()),
+        What::Answer(Answer::Ok) => Ok(()),
+        What::Answer(Answer::Killed) => Ok(()),
+    }
+}
+
+/// Puts an event's line behind the text, with its newline.
+fn push_line(alloc: Global, text: &mut Text, event: &HallEvent) -> Result<(), AllocError>
+    ensures { OnOk result (text.new ≡ text.old ++ (line_of event.now ++ 10 ∷ [])) }
+{
+    match event {
+        HallEvent::Child {
+            script,
+            child,
+            moment,
+            what,
+        } => {
+            text.extend(kind_name(what))?;
+            push_number(alloc, text, u64::from(*script))?;
+            push_number(alloc, text, u64::from(*child))?;
+            push_number(alloc, text, *moment)?;
+            push_held(alloc, text, what)?;
+        }
+        HallEvent::Tick { moment } => {
+            text.extend(b"tick")?;
+            push_number(alloc, text, *moment)?;
+        }
+    }
+    text.push(b'\n')
+}
+
+/// Says that a slice is of bytes. It does nothing when it runs, as the next two.
+fn tell_slice_bytes(bytes: &[u8])
+    ensures { IsBytes bytes.now }
+{}
+
+/// Says that what an event brings is of bytes.
+fn tell_bytes(what: &What)
+    ensures { HoldsBytes what.now }
+{
+    match what {
+        What::Out(piece) => tell_slice_bytes(piece.as_slice()),
+        What::Answer(Answer::Exit(status)) => {
+            let _status = *status;
+        }
+        What::Eof | What::ReadFail(_) | What::Answer(_) => {}
+    }
+}
+
+/// Says that an event is of bytes.
+fn tell_event_bytes(event: &HallEvent)
+    ensures { IsOfBytes event.now }
+{
+    match event {
+        HallEvent::Child { what, .. } => tell_bytes(what),
+        HallEvent::Tick { .. } => {}
+    }
+}
+
+/// The log of a list of events, of which each has a script from 1 to 64, a child from 1 to 16, a moment
+/// of at most 9,000,000,000,000,000 and a piece of at most 4,096 bytes.
+pub fn write_log(alloc: Global, events: &[HallEvent]) -> Result<Text, AllocError>
+    requires { AllFit events.now }
+    ensures { IfOk result (λ t. LogText t events.now) }
+{
+    let mut text = Text::new(alloc);
+    'events: for event in events {
+        tell_event_bytes(event);
+        push_line(alloc, &mut text, event)?;
+    }
+    Ok(text)
+}
