@@ -1,0 +1,16 @@
+pub mod Child
+pub mod Scene
+pub mod Wait
+pub mod Texts
+pub mod Args
+pub mod ArgViews
+pub mod Number
+pub mod Plan
+pub mod PlanViews
+pub mod Expect
+pub mod Command
+pub mod Meaning
+pub mod Counting
+pub mod Left
+pub mod Sound
+pub mod Growth

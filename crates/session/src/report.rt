@@ -1,0 +1,107 @@
+//! How a script ends, and what came of it.
+
+ghost use Rattle.std.specs.Prelude.{◌≡◌, [], IfOk};
+
+use crate::request::Requests;
+use crate::settings::Pairs;
+use std::alloc::{AllocError, Global};
+use std::marker::Model;
+use tcl_words::Text;
+
+/// How a script ended, or that it waits.
+#[derive(Clone, Copy, Debug, PartialEq, Eq)]
+pub enum Ending {
+    /// At its end or by `exit`, with this status.
+    Exit(u8),
+    /// By an error that nothing caught.
+    Error,
+    /// A step more was begun than the settings allow.
+    StepLimit,
+    /// The last moment of the settings has passed.
+    TimeLimit,
+    /// It was refused memory.
+    Memory,
+    /// It has not ended: it waits for an event.
+    Waiting,
+}
+
+/// Numbers in order, seen as a list.
+#[derive(Debug, Drop)]
+pub struct Counts {
+    pub list: Vec<u64>,
+}
+
+impl Model for Counts {
+    ghost use Rattle.std.specs.Prelude.{List, ℕ};
+
+    ghost Value = { List ℕ };
+
+    ghost view = { λ t. t.list.items };
+}
+
+impl Counts {
+    pub fn as_slice(&self) -> &[u64]
+        ensures { result.now ≡ self.now }
+    {
+        self.list.as_slice()
+    }
+
+    pub fn copied(&self, alloc: Global) -> Result<Counts, AllocError>
+        ensures { IfOk result (λ c. c ≡ self.now) }
+    {
+        Ok(Counts {
+            list: self.list.as_slice().to_vec(alloc)?,
+        })
+    }
+}
+
+/// What came of a script so far.
+#[derive(Debug, Drop)]
+pub struct Report {
+    pub ending: Ending,
+    /// The text of the error that ended it; empty at any other ending.
+    pub fault: Text,
+    /// What it wrote, and the output of its children that it took.
+    pub transcript: Text,
+    /// The global variables that have a value, in byte order of names. There are none yet.
+    pub vars: Pairs,
+    /// What it asked of its children, in order.
+    pub requests: Requests,
+    /// For each child the bytes of its writes that were accepted.
+    pub sent: Counts,
+    /// How many steps were begun.
+    pub steps: u64,
+}
+
+impl Report {
+    /// The report of a script that was refused memory: its ending, and nothing else.
+    pub fn of_memory(alloc: Global) -> Report
+        ensures { result.ending ≡ Ending.Memory }
+    {
+        Report {
+            ending: Ending::Memory,
+            fault: Text::new(alloc),
+            transcript: Text::new(alloc),
+            vars: Pairs::new(alloc),
+            requests: Requests::new(alloc),
+            sent: Counts {
+                list: Vec::new(alloc),
+            },
+            steps: 0,
+        }
+    }
+
+    pub fn copied(&self, alloc: Global) -> Result<Report, AllocError>
+        ensures { IfOk result (λ r. r ≡ self.now) }
+    {
+        Ok(Report {
+            ending: self.ending,
+            fault: self.fault.copied(alloc)?,
+            transcript: self.transcript.copied(alloc)?,
+            vars: self.vars.copied(alloc)?,
+            requests: self.requests.copied(alloc)?,
+            sent: self.sent.copied(alloc)?,
+            steps: self.steps,
+        })
+    }
+}
