@@ -1,0 +1,68 @@
+-- What a hall's calls say.
+use Rattle.std.specs.Prelude.{◌≡◌, ℕ, ◌+◌, ◌-◌, nat_lt, length, List, [], ◌∷◌, slice_get, slice_set, false, IsTrue, Option, Some, None, Result, Ok, Err, MatchOption, if◌then◌else◌}
+use Rattle.child_events.specs.declared.event.Event.{Event}
+use Rattle.session.specs.declared.report.Ending.TheVariants.{Memory}
+use Rattle.session.specs.declared.report.Report.{Report}
+use Rattle.session.specs.declared.request.Request.{Request}
+use Rattle.session.specs.Meaning.{meaning}
+use Rattle.session.specs.Left.{Kept, left, HandsOut}
+use Rattle.dialogue_sched.specs.declared.script.Script.{Script}
+use Rattle.dialogue_sched.specs.declared.hall.HallFault.{HallFault}
+use Rattle.dialogue_sched.specs.declared.hall.HallFault.TheVariants as halls
+use Rattle.dialogue_sched.specs.declared.hall.ReportFault.{ReportFault}
+use Rattle.dialogue_sched.specs.declared.hall.ReportFault.TheVariants as reports
+use Rattle.dialogue_sched.specs.declared.refusal.HallRefusal.{HallRefusal}
+use Rattle.child_events.specs.declared.event.HallEvent.{HallEvent}
+use Rattle.dialogue_sched.specs.Refusal.{refusal_of}
+use Rattle.dialogue_sched.specs.Took.{AllTook}
+use Rattle.dialogue_sched.specs.Pairs.{Paired}
+
+-- a session that no event has reached
+pub record Begins (script : Script) (k : Kept) : Type 0 where
+  pub handed : k.handed ≡ 0
+  pub says : IsTrue k.lives → (later : List Event) → left k later ≡ meaning script.source script.settings later
+
+abbrev pub AllBegin : List Script → List Kept → Type 0
+AllBegin scripts ks = Paired Begins scripts ks
+
+-- a session's report
+pub record Reports (k : Kept) (r : Report) : Type 0 where
+  pub lives : IsTrue k.lives → r ≡ left k []
+  pub spent : k.lives ≡ false → r.ending ≡ Memory
+
+-- the session of a number, counted from 1
+abbrev pub session_at : ℕ → List Kept → Option Kept
+session_at n ks = if nat_lt 0 n then slice_get ks (n - 1) else None
+
+-- the script of this number hands out its next request, and no other is touched
+abbrev pub Requested : ℕ → List Kept → Option Request → List Kept → Type 0
+Requested n old request new = MatchOption (session_at n old)
+    ((request ≡ None) × (new ≡ old))
+    (λ k. (k' : Kept) × HandsOut k request k' × (new ≡ slice_set old (n - 1) k'))
+
+-- the number of the first source that is too long
+abbrev pub too_long : ℕ → List Script → Option HallFault
+too_long n [] = None
+too_long n (s ∷ ss) = if nat_lt 1048576 (length s.source) then Some (halls.SourceTooLong n) else too_long (n + 1) ss
+
+-- why scripts can't be run
+abbrev pub opening_fault : List Script → Option HallFault
+opening_fault scripts = if nat_lt 64 (length scripts) then Some halls.TooManyScripts else too_long 1 scripts
+
+-- what opening a hall answers
+abbrev pub Opens : List Script → Result (List Kept) HallFault → Type 0
+Opens scripts (Ok ks) = (opening_fault scripts ≡ None) × AllBegin scripts ks
+Opens scripts (Err halls.TooManyScripts) = opening_fault scripts ≡ Some halls.TooManyScripts
+Opens scripts (Err (halls.SourceTooLong n)) = opening_fault scripts ≡ Some (halls.SourceTooLong n)
+Opens scripts (Err halls.Memory) = Unit {0}
+
+-- what a step answers and leaves
+abbrev pub Stepped : HallEvent → List Kept → List Kept → Result (Unit {0}) HallRefusal → Type 0
+Stepped e old new (Ok done) = (refusal_of (length old) e ≡ None) × AllTook 1 (e ∷ []) old new
+Stepped e old new (Err r) = (refusal_of (length old) e ≡ Some r) × (new ≡ old)
+
+-- a report of the script of a number
+abbrev pub Reported : ℕ → List Kept → Result Report ReportFault → Type 0
+Reported n ks (Ok r) = MatchOption (session_at n ks) ⊥ (λ k. Reports k r)
+Reported n ks (Err reports.NoSuchScript) = session_at n ks ≡ None
+Reported n ks (Err reports.Memory) = Unit {0}

@@ -1,0 +1,40 @@
+-- Which events a hall refuses.
+use Rattle.std.specs.Prelude.{ℕ, nat_lt, nat_le, List, [], ◌∷◌, length, Bool, ◌&&◌, if◌then◌else◌, Option, Some, None, ◌+◌}
+use Rattle.child_events.specs.declared.event.What.{What}
+use Rattle.child_events.specs.declared.event.What.TheVariants as what
+use Rattle.child_events.specs.declared.event.HallEvent.{HallEvent}
+use Rattle.child_events.specs.declared.event.HallEvent.TheVariants as hall
+use Rattle.dialogue_sched.specs.declared.refusal.HallRefusal.{HallRefusal}
+use Rattle.dialogue_sched.specs.declared.refusal.HallRefusal.TheVariants.{NoSuchScript, NoSuchChild, MomentTooLarge, PieceTooLong}
+
+-- how long the piece of an output is
+abbrev pub piece_len : What → ℕ
+piece_len (what.Out piece) = length piece
+piece_len what.Eof = 0
+piece_len (what.ReadFail c) = 0
+piece_len (what.Answer a) = 0
+
+-- from 1 to the last
+abbrev pub is_number : ℕ → ℕ → Bool
+is_number n last = nat_lt 0 n && nat_le n last
+
+-- why an event is refused by so many scripts: the first reason
+abbrev pub refusal_of : ℕ → HallEvent → Option HallRefusal
+refusal_of scripts (hall.Child s c m w) =
+    if is_number s scripts
+    then (if is_number c 16
+    then (if nat_le m 9000000000000000
+    then (if nat_le (piece_len w) 4096 then None else Some PieceTooLong)
+    else Some MomentTooLarge)
+    else Some NoSuchChild)
+    else Some NoSuchScript
+refusal_of scripts (hall.Tick m) = if nat_le m 9000000000000000 then None else Some MomentTooLarge
+
+abbrev pub refused_or : ℕ → Option HallRefusal → Option (ℕ × HallRefusal) → Option (ℕ × HallRefusal)
+refused_or at None others = others
+refused_or at (Some r) others = Some (at, r)
+
+-- the first refused event, counted from at
+abbrev pub first_refusal : ℕ → ℕ → List HallEvent → Option (ℕ × HallRefusal)
+first_refusal scripts at [] = None
+first_refusal scripts at (e ∷ es) = refused_or at (refusal_of scripts e) (first_refusal scripts (at + 1) es)

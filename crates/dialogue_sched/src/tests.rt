@@ -1,0 +1,126 @@
+use super::*;
+use child_events::{Answer, HallEvent, What};
+use session::{Act, Ending, Pairs, Settings};
+use std::alloc::Global;
+use std::test::Fail;
+use tcl_words::Text;
+
+fn script(alloc: Global, source: &[u8]) -> Result<Script, Fail> {
+    Ok(Script {
+        source: Text::from_slice(alloc, source)?,
+        settings: Settings {
+            steps: 1_000_000,
+            limit_ms: None,
+            env: Pairs::new(alloc),
+        },
+    })
+}
+
+fn hall(alloc: Global, sources: &[&[u8]]) -> Result<Hall, Fail> {
+    let mut scripts = Vec::new(alloc);
+    for source in sources {
+        scripts.push(script(alloc, source)?)?;
+    }
+    let opened = Hall::new(alloc, scripts);
+    Ok(opened.ok().ok_or("no hall")?)
+}
+
+fn answered(script: u8, child: u8, moment: u64) -> HallEvent {
+    HallEvent::Child {
+        script,
+        child,
+        moment,
+        what: What::Answer(Answer::Ok),
+    }
+}
+
+fn output(alloc: Global, len: usize) -> Result<HallEvent, Fail> {
+    let mut piece = Text::new(alloc);
+    for _ in 0..len {
+        piece.push(b'b')?;
+    }
+    Ok(HallEvent::Child {
+        script: 1,
+        child: 1,
+        moment: 3,
+        what: What::Out(piece),
+    })
+}
+
+const DIALOGUE: &[u8] = b"spawn p; send \"a\\n\"; expect -ex b; puts done";
+
+// An event of no script, of no child, too late and too long: the first reason counts, and the hall is as it was.
+#[test]
+fn refusals(rt: HostRuntime) -> Result<(), Fail> {
+    let alloc = rt.alloc();
+    let mut hall = hall(alloc, &[DIALOGUE])?;
+    let no_script = hall
+        .step(answered(65, 17, 1))
+        .is_err_and(|r| r == HallRefusal::NoSuchScript);
+    let no_child = hall
+        .step(answered(1, 17, 9_000_000_000_000_001))
+        .is_err_and(|r| r == HallRefusal::NoSuchChild);
+    let too_late = hall
+        .step(answered(1, 1, 9_000_000_000_000_001))
+        .is_err_and(|r| r == HallRefusal::MomentTooLarge);
+    let too_long = hall
+        .step(output(alloc, 4097)?)
+        .is_err_and(|r| r == HallRefusal::PieceTooLong);
+    assert!(rt; no_script && no_child && too_late && too_long);
+    let report = hall.report(1).ok().ok_or("no report")?;
+    assert!(rt; matches!(report.ending, Ending::Waiting));
+    assert_eq!(rt; report.requests.len(), 1);
+    assert!(rt; hall.report(2).is_err() && hall.report(0).is_err());
+    Ok(())
+}
+
+// Each request goes out once, as soon as the events decide it.
+#[test]
+fn requests_once(rt: HostRuntime) -> Result<(), Fail> {
+    let alloc = rt.alloc();
+    let mut hall = hall(alloc, &[DIALOGUE, b"puts x"])?;
+    let spawned = hall.request(1).ok_or("no spawn")?;
+    assert!(rt; matches!(spawned.act, Act::Spawn(_)) && spawned.child == 1);
+    assert!(rt;
+        hall.request(1).is_none() && hall.request(2).is_none() && hall.request(3).is_none()
+    );
+    hall.step(answered(1, 1, 1)).ok().ok_or("refused")?;
+    let written = hall.request(1).ok_or("no write")?;
+    assert!(rt; matches!(written.act, Act::Write(_)) && hall.request(1).is_none());
+    hall.step(answered(1, 1, 2)).ok().ok_or("refused")?;
+    hall.step(output(alloc, 1)?).ok().ok_or("refused")?;
+    hall.step(HallEvent::Tick { moment: 9 })
+        .ok()
+        .ok_or("refused")?;
+    let report = hall.report(1).ok().ok_or("no report")?;
+    assert!(rt; matches!(report.ending, Ending::Exit(0)) && hall.request(1).is_none());
+    assert_eq!(rt;
+        report.transcript.as_slice(),
+        b"spawn p\r\nbdone\n".as_slice()
+    );
+    assert_eq!(rt; report.sent.as_slice(), [2].as_slice());
+    Ok(())
+}
+
+// None is a hall too; the 65th script is one too many, and is told before a source that is too long.
+#[test]
+fn opening(rt: HostRuntime) -> Result<(), Fail> {
+    let alloc = rt.alloc();
+    assert_eq!(rt; hall(alloc, &[])?.len(), 0);
+    let mut scripts = Vec::new(alloc);
+    let mut long = Text::new(alloc);
+    for _ in 0..1_048_577 {
+        long.push(b' ')?;
+    }
+    scripts.push(script(alloc, long.as_slice())?)?;
+    for _ in 0..64 {
+        scripts.push(script(alloc, b"puts x")?)?;
+    }
+    let too_many = Hall::new(alloc, scripts).is_err_and(|f| f == HallFault::TooManyScripts);
+    let mut second = Vec::new(alloc);
+    second.push(script(alloc, b"puts x")?)?;
+    second.push(script(alloc, long.as_slice())?)?;
+    let too_long = Hall::new(alloc, second).is_err_and(|f| f == HallFault::SourceTooLong(2));
+    assert!(rt; too_many && too_long);
+    Ok(())
+}
