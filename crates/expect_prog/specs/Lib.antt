@@ -1,0 +1,4 @@
+pub mod Report
+pub mod Devices
+pub mod Replay
+pub mod Complaint

@@ -1,0 +1,69 @@
+-- The text of reports.
+use Rattle.std.specs.Prelude.{ℕ, ◌+◌, List, [], ◌∷◌, ◌++◌, length, sum, codes, Bool, true, false, ◌&&◌, ◌==◌, if◌then◌else◌}
+use Rattle.std.specs.Fmt.{decimal}
+use Rattle.child_events.specs.Log.{hex_text}
+use Rattle.session.specs.declared.report.Ending.{Ending}
+use Rattle.session.specs.declared.report.Ending.TheVariants.{Exit, Error, StepLimit, TimeLimit, Memory, Waiting}
+use Rattle.session.specs.declared.report.Report.{Report}
+
+-- a label and a number behind it; closed, so that the text of a line stays in pieces
+unfoldable pub labelled : List ℕ → ℕ → List ℕ
+labelled label n = label ++ decimal n
+
+abbrev pub ending_text : Ending → List ℕ
+ending_text (Exit n) = labelled (codes "exit:") n
+ending_text Error = codes "error"
+ending_text StepLimit = codes "steplimit"
+ending_text TimeLimit = codes "timelimit"
+ending_text Memory = codes "memory"
+ending_text Waiting = codes "waiting"
+
+unfoldable pub ended_text : Ending → List ℕ
+ended_text e = codes " end=" ++ ending_text e
+
+-- the first line of the report of script n
+unfoldable pub head_line : ℕ → Report → List ℕ
+head_line n r =
+    labelled (codes "script ") n ++ ended_text r.ending ++ labelled (codes " steps=") r.steps
+    ++ labelled (codes " sent=") (sum r.sent) ++ labelled (codes " transcript=") (length r.transcript) ++ 10 ∷ []
+
+-- for an error alone, its text
+abbrev pub fault_part : Ending → List ℕ → List ℕ
+fault_part Error fault = labelled (codes "error ") (length fault) ++ 10 ∷ [] ++ fault ++ 10 ∷ []
+fault_part (Exit n) fault = []
+fault_part StepLimit fault = []
+fault_part TimeLimit fault = []
+fault_part Memory fault = []
+fault_part Waiting fault = []
+
+-- a name and its value, each in lower-case hexadecimal, or a dash where it is empty
+unfoldable pub var_line : List ℕ × List ℕ → List ℕ
+var_line (name, value) = codes "var " ++ hex_text name ++ 32 ∷ [] ++ hex_text value ++ 10 ∷ []
+
+abbrev pub vars_lines : List (List ℕ × List ℕ) → List ℕ
+vars_lines [] = []
+vars_lines (v ∷ vs) = var_line v ++ vars_lines vs
+
+abbrev pub vars_part : Bool → List (List ℕ × List ℕ) → List ℕ
+vars_part shown vars = if shown then vars_lines vars else []
+
+abbrev pub report_bytes : Bool → ℕ → Report → List ℕ
+report_bytes vars n r = head_line n r ++ r.transcript ++ 10 ∷ [] ++ fault_part r.ending r.fault ++ vars_part vars r.vars
+
+-- all reports in order, where the first is of script n
+abbrev pub reports_bytes : Bool → ℕ → List Report → List ℕ
+reports_bytes vars n [] = []
+reports_bytes vars n (r ∷ rs) = report_bytes vars n r ++ reports_bytes vars (n + 1) rs
+
+abbrev pub is_done : Ending → Bool
+is_done (Exit n) = n == 0
+is_done Error = false
+is_done StepLimit = false
+is_done TimeLimit = false
+is_done Memory = false
+is_done Waiting = false
+
+-- each script ended with status 0
+abbrev pub all_done : List Report → Bool
+all_done [] = true
+all_done (r ∷ rs) = is_done r.ending && all_done rs

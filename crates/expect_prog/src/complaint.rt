@@ -1,0 +1,103 @@
+//! Faults as lines on standard error.
+
+ghost use Rattle.std.specs.Prelude.{◌≡◌};
+ghost use Rattle.expect_prog.specs.Complaint.{LogLine, RunLine, FaultLine, refusal_number as number_of};
+
+use crate::command_line::Order;
+use crate::fault::ReplayFault;
+use child_events::LogFault;
+use dialogue_sched::{HallFault, HallRefusal, RunFault};
+use std::alloc::{AllocError, AllocFailed};
+use thiserror::Error;
+
+/// Why the reports of an order are not all printed.
+#[derive(Debug, Drop, Error)]
+pub enum Complaint<'a> {
+    #[error("cannot read the command line")]
+    Words,
+    #[error("cannot read {0}")]
+    Unreadable(&'a str),
+    #[error("log fault {number} at line {line}")]
+    Log { number: u8, line: usize },
+    #[error("event {event} refused {number}")]
+    Event { event: u128, number: u8 },
+    #[error("too many scripts")]
+    TooManyScripts,
+    #[error("source too long: {0}")]
+    SourceTooLong(&'a str),
+    #[error("cannot write")]
+    Unwritten,
+    #[error("out of memory")]
+    Memory,
+}
+
+impl From<AllocError> for Complaint<'_> {
+    fn from(_e: AllocError) -> Self {
+        Complaint::Memory
+    }
+}
+
+impl<T: Drop> From<AllocFailed<T>> for Complaint<'_> {
+    fn from(_e: AllocFailed<T>) -> Self {
+        Complaint::Memory
+    }
+}
+
+/// The number of a refusal.
+fn refusal_number(refusal: HallRefusal) -> u8
+    ensures { result ≡ number_of refusal }
+{
+    match refusal {
+        HallRefusal::NoSuchScript => 1,
+        HallRefusal::NoSuchChild => 2,
+        HallRefusal::MomentTooLarge => 3,
+        HallRefusal::PieceTooLong => 4,
+    }
+}
+
+impl<'a> Complaint<'a> {
+    fn of_log(fault: LogFault) -> Complaint<'a>
+        ensures { LogLine fault result }
+    {
+        match fault {
+            LogFault::Shape(line) => Complaint::Log { number: 1, line },
+            LogFault::Number(line) => Complaint::Log { number: 2, line },
+            LogFault::Hex(line) => Complaint::Log { number: 3, line },
+            LogFault::NoSuchScript(line) => Complaint::Log { number: 4, line },
+            LogFault::NoSuchChild(line) => Complaint::Log { number: 5, line },
+            LogFault::TooLong(line) => Complaint::Log { number: 6, line },
+            LogFault::Memory => Complaint::Memory,
+        }
+    }
+
+    fn of_run(fault: RunFault, order: &Order<'a>) -> Complaint<'a>
+        ensures { RunLine fault result }
+    {
+        match fault {
+            RunFault::Refused { at, refusal } => Complaint::Event {
+                event: at as u128 + 1,
+                number: refusal_number(refusal),
+            },
+            RunFault::New(HallFault::TooManyScripts) => Complaint::TooManyScripts,
+            RunFault::New(HallFault::SourceTooLong(script)) => {
+                let path = order.sources.get(script.saturating_sub(1));
+                Complaint::SourceTooLong(path.copied().unwrap_or(""))
+            }
+            RunFault::New(HallFault::Memory) => Complaint::Memory,
+            RunFault::Memory => Complaint::Memory,
+        }
+    }
+
+    /// The complaint of a fault in an order's replay.
+    pub fn of(fault: ReplayFault, order: &Order<'a>) -> Complaint<'a>
+        ensures { FaultLine fault result }
+    {
+        match fault {
+            ReplayFault::Read => Complaint::Unreadable(order.log),
+            ReplayFault::Log(fault) => Complaint::of_log(fault),
+            ReplayFault::Run(fault) => Complaint::of_run(fault, order),
+            ReplayFault::Write => Complaint::Unwritten,
+            ReplayFault::Memory => Complaint::Memory,
+        }
+    }
+}

@@ -1,0 +1,73 @@
+//! Runs scripts over a log of events, and prints their reports.
+#![tactic(auto)]
+
+mod command_line;
+mod complaint;
+mod devices;
+mod fault;
+mod files;
+mod replaying;
+#[cfg(test)]
+mod rows;
+#[cfg(test)]
+mod tests;
+mod texts;
+
+use crate::command_line::read_words;
+use crate::complaint::Complaint;
+use crate::files::replay_files;
+use std::alloc::Global;
+use std::env;
+use std::env::Env;
+use std::io::ErrorKind;
+use std::process::ExitCode;
+
+/// The status of a run whose scripts did not all end with status 0.
+const ENDED_OTHERWISE: u8 = 1;
+
+/// The status of a fault.
+const FAULT: u8 = 2;
+
+fn complain(rt: &impl Eprint, complaint: &Complaint<'_>) -> ExitCode {
+    let _ = eprintln!(rt; "exprun: {complaint}");
+    ExitCode::from(FAULT)
+}
+
+fn words(rt: &(impl Env + AllocGlobal), alloc: Global) -> Result<Vec<String>, Complaint<'static>> {
+    match env::args(rt) {
+        Ok(words) => Ok(words.collect(alloc)?),
+        Err(e) => {
+            if e.kind() == ErrorKind::OutOfMemory {
+                return Err(Complaint::Memory);
+            }
+            Err(Complaint::Words)
+        }
+    }
+}
+
+/// Shows the help that was asked for, or a usage fault.
+fn show(rt: &(impl Print + Eprint), error: &clap::Error) -> ExitCode {
+    if error.kind() == clap::error::ErrorKind::OutOfMemory {
+        return complain(rt, &Complaint::Memory);
+    }
+    match error.print(rt) {
+        Ok(()) => ExitCode::from(u8::try_from(error.exit_code()).unwrap_or(FAULT)),
+        Err(_) => complain(rt, &Complaint::Unwritten),
+    }
+}
+
+fn main(rt: HostRuntime) -> ExitCode {
+    let words = match words(&rt, rt.alloc()) {
+        Ok(words) => words,
+        Err(complaint) => return complain(&rt, &complaint),
+    };
+    let order = match read_words(rt.alloc(), words.as_slice()) {
+        Ok(order) => order,
+        Err(error) => return show(&rt, &error),
+    };
+    match replay_files(&rt, rt.alloc(), &order) {
+        Ok(true) => ExitCode::SUCCESS,
+        Ok(false) => ExitCode::from(ENDED_OTHERWISE),
+        Err(complaint) => complain(&rt, &complaint),
+    }
+}

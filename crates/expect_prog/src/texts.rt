@@ -1,0 +1,199 @@
+//! The text of reports.
+
+ghost use Rattle.std.specs.Prelude.{◌≡◌, ◌++◌, ◌∷◌, [], sum, Bool, true, IfOk, OnOk};
+ghost use Rattle.std.specs.Fmt.{decimal};
+ghost use Rattle.child_events.specs.Log.{hex_text};
+ghost use Rattle.expect_prog.specs.Report.{labelled, ended_text, ending_text, head_line, fault_part, var_line, vars_lines, vars_part, report_bytes, reports_bytes, is_done as is_done_of, all_done as all_done_of};
+
+use session::{Ending, Report};
+use std::alloc::{AllocError, Global};
+use tcl_words::Text;
+
+/// Puts a label and a number behind a text.
+#[tactic(auto, unfolding(crate::specs::Report::labelled))]
+fn push_labelled(alloc: Global, text: &mut Text, label: &[u8], n: u128) -> Result<(), AllocError>
+    ensures { OnOk result (text.new ≡ text.old ++ labelled label.now n) }
+{
+    text.extend(label)?;
+    let digits = n.to_string(alloc)?;
+    text.extend(digits.as_bytes())
+}
+
+fn push_ending(alloc: Global, text: &mut Text, ending: Ending) -> Result<(), AllocError>
+    ensures { OnOk result (text.new ≡ text.old ++ ending_text ending) }
+{
+    match ending {
+        Ending::Exit(status) => push_labelled(alloc, text, b"exit:", u128::from(status)),
+        Ending::Error => text.extend(b"error"),
+        Ending::StepLimit => text.extend(b"steplimit"),
+        Ending::TimeLimit => text.extend(b"timelimit"),
+        Ending::Memory => text.extend(b"memory"),
+        Ending::Waiting => text.extend(b"waiting"),
+    }
+}
+
+#[tactic(auto, unfolding(crate::specs::Report::ended_text))]
+fn push_ended(alloc: Global, text: &mut Text, ending: Ending) -> Result<(), AllocError>
+    ensures { OnOk result (text.new ≡ text.old ++ ended_text ending) }
+{
+    text.extend(b" end=")?;
+    push_ending(alloc, text, ending)
+}
+
+/// The sum of counts. Even of the longest slice it is below the greatest `u128`.
+fn total(counts: &[u64]) -> u128
+    ensures { result ≡ sum counts.now }
+{
+    let mut total: u128 = 0;
+    for count in counts {
+        total += u128::from(*count);
+    }
+    total
+}
+
+/// Puts the first line of the report of script `number` behind a text.
+#[tactic(auto, unfolding(crate::specs::Report::head_line))]
+fn push_head(
+    alloc: Global,
+    text: &mut Text,
+    number: usize,
+    report: &Report,
+) -> Result<(), AllocError>
+    ensures { OnOk result (text.new ≡ text.old ++ head_line number report.now) }
+{
+    push_labelled(alloc, text, b"script ", number as u128)?;
+    push_ended(alloc, text, report.ending)?;
+    push_labelled(alloc, text, b" steps=", u128::from(report.steps))?;
+    push_labelled(alloc, text, b" sent=", total(report.sent.as_slice()))?;
+    push_labelled(
+        alloc,
+        text,
+        b" transcript=",
+        report.transcript.len() as u128,
+    )?;
+    text.push(b'\n')
+}
+
+/// Puts the text of an error behind a text, with its length before it.
+fn push_fault(
+    alloc: Global,
+    text: &mut Text,
+    ending: Ending,
+    fault: &Text,
+) -> Result<(), AllocError>
+    ensures { OnOk result (text.new ≡ text.old ++ fault_part ending fault.now) }
+{
+    match ending {
+        Ending::Error => {
+            push_labelled(alloc, text, b"error ", fault.len() as u128)?;
+            text.push(b'\n')?;
+            text.extend(fault.as_slice())?;
+            text.push(b'\n')
+        }
+        Ending::Exit(_) => Ok(()),
+        Ending::StepLimit => Ok(()),
+        Ending::TimeLimit => Ok(()),
+        Ending::Memory => Ok(()),
+        Ending::Waiting => Ok(()),
+    }
+}
+
+/// Puts bytes in hexadecimal behind a text, or a dash for none.
+fn push_hex(alloc: Global, text: &mut Text, bytes: &[u8]) -> Result<(), AllocError>
+    ensures { OnOk result (text.new ≡ text.old ++ hex_text bytes.now) }
+{
+    if bytes.is_empty() {
+        return text.push(b'-');
+    }
+    let digits = hex::encode(alloc, bytes)?;
+    text.extend(digits.as_bytes())
+}
+
+#[tactic(auto, unfolding(crate::specs::Report::var_line))]
+fn push_var(alloc: Global, text: &mut Text, name: &[u8], value: &[u8]) -> Result<(), AllocError>
+    ensures { OnOk result (text.new ≡ text.old ++ var_line (name.now, value.now)) }
+{
+    text.extend(b"var ")?;
+    push_hex(alloc, text, name)?;
+    text.push(b' ')?;
+    push_hex(alloc, text, value)?;
+    text.push(b'\n')
+}
+
+fn push_vars(alloc: Global, text: &mut Text, vars: &[(Text, Text)]) -> Result<(), AllocError>
+    ensures { OnOk result (text.new ≡ text.old ++ vars_lines vars.now) }
+{
+    for var in vars {
+        push_var(alloc, text, var.0.as_slice(), var.1.as_slice())?;
+    }
+    Ok(())
+}
+
+fn push_shown_vars(
+    alloc: Global,
+    text: &mut Text,
+    shown: bool,
+    vars: &[(Text, Text)],
+) -> Result<(), AllocError>
+    ensures { OnOk result (text.new ≡ text.old ++ vars_part shown vars.now) }
+{
+    if !shown {
+        return Ok(());
+    }
+    push_vars(alloc, text, vars)
+}
+
+/// Puts the report of script `number` behind a text.
+fn push_report(
+    alloc: Global,
+    text: &mut Text,
+    number: usize,
+    vars: bool,
+    report: &Report,
+) -> Result<(), AllocError>
+    ensures { OnOk result (text.new ≡ text.old ++ report_bytes vars number report.now) }
+{
+    push_head(alloc, text, number, report)?;
+    text.extend(report.transcript.as_slice())?;
+    text.push(b'\n')?;
+    push_fault(alloc, text, report.ending, &report.fault)?;
+    push_shown_vars(alloc, text, vars, report.vars.as_slice())
+}
+
+/// The text of reports in order, the first of which is of script 1, with their variables or without.
+pub fn report_text(alloc: Global, vars: bool, reports: &[Report]) -> Result<Text, AllocError>
+    ensures { IfOk result (λ t. t ≡ reports_bytes vars 1 reports.now) }
+{
+    let mut text = Text::new(alloc);
+    let mut number = 1;
+    for report in reports {
+        push_report(alloc, &mut text, number, vars, report)?;
+        number += 1;
+    }
+    Ok(text)
+}
+
+fn is_done(ending: Ending) -> bool
+    ensures { result ≡ is_done_of ending }
+{
+    match ending {
+        Ending::Exit(status) => status == 0,
+        Ending::Error => false,
+        Ending::StepLimit => false,
+        Ending::TimeLimit => false,
+        Ending::Memory => false,
+        Ending::Waiting => false,
+    }
+}
+
+/// Whether each script ended with status 0.
+pub fn all_done(reports: &[Report]) -> bool
+    ensures { result ≡ all_done_of reports.now }
+{
+    for report in reports {
+        if !is_done(report.ending) {
+            return false;
+        }
+    }
+    true
+}
