@@ -1,0 +1,5 @@
+use Rattle.std.proofs.Common.{◌≤◌, length}
+use Rattle.words_show.proofs.show.shown_commands.Given as goal
+
+abbrev pub invariant-commands : goal.invariant-commands
+invariant-commands l = l.at ≤ length l.src

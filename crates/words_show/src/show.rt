@@ -1,0 +1,67 @@
+//! What is read of a text, as text.
+
+ghost use Rattle.std.specs.Prelude.{◌≡◌, ◌++◌, ℕ, List, IfOk, OnOk};
+ghost use Rattle.tcl_words.specs.Lists.{ReadsAs};
+ghost use Rattle.words_show.specs.Shown.{hex_lines, list_shown, bad_list};
+
+use crate::spell::{fault_name, push_command, push_hex_line};
+use std::alloc::{AllocError, Global};
+use tcl_words::{ListFault, Text, next_command, one_list, read_list, write_list};
+
+/// The commands of a text, a line for each, and behind them the fault, where there is one.
+pub fn shown_commands(alloc: Global, src: &[u8]) -> Result<Text, AllocError> {
+    let mut text = Text::new(alloc);
+    let mut at = 0;
+    'commands: for _ in 0..=src.len() {
+        match next_command(alloc, src, at) {
+            Ok(Some((command, end))) => {
+                push_command(alloc, &mut text, &command)?;
+                at = end;
+            }
+            Ok(None) => return Ok(text),
+            Err(fault) => {
+                let Some(name) = fault_name(fault) else {
+                    return Err(AllocError);
+                };
+                text.extend(b"fault ")?;
+                text.extend(name)?;
+                text.push(b'\n')?;
+                return Ok(text);
+            }
+        }
+    }
+    Ok(text)
+}
+
+fn push_elements(alloc: Global, text: &mut Text, list: &[Text]) -> Result<(), AllocError>
+    ensures { OnOk result (text.new ≡ text.old ++ hex_lines list.now) }
+{
+    'elements: for element in list {
+        push_hex_line(alloc, text, element.as_slice())?;
+    }
+    Ok(())
+}
+
+/// The elements of a list, a line for each, and a line of the list written again.
+fn shown_elements(alloc: Global, list: &[Text]) -> Result<Text, AllocError>
+    ensures { IfOk result (λ t. t ≡ list_shown list.now) }
+{
+    let mut text = Text::new(alloc);
+    push_elements(alloc, &mut text, list)?;
+    let written = write_list(alloc, list)?;
+    push_hex_line(alloc, &mut text, written.as_slice())?;
+    Ok(text)
+}
+
+/// The elements of a text and the list written again, or `bad list` where the text is no list.
+pub fn shown_list(alloc: Global, src: &[u8]) -> Result<Text, AllocError>
+    ensures list { (l : List (List ℕ)) → ReadsAs src.now l → IfOk result (λ t. t ≡ list_shown l) }
+    ensures bad { ((l : List (List ℕ)) → ¬ ReadsAs src.now l) → IfOk result (λ t. t ≡ bad_list) }
+{
+    one_list();
+    match read_list(alloc, src) {
+        Ok(list) => shown_elements(alloc, list.as_slice()),
+        Err(ListFault::BadList) => Text::from_slice(alloc, b"bad list\n"),
+        Err(ListFault::Memory) => Err(AllocError),
+    }
+}

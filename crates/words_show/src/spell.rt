@@ -1,0 +1,82 @@
+//! Bytes, parts and words as text.
+
+ghost use Rattle.std.specs.Prelude.{◌≡◌, ◌↔◌, ◌++◌, None, OnOk};
+ghost use Rattle.words_show.specs.Shown.{hex_text, hex_line};
+
+use std::alloc::{AllocError, Global};
+use tcl_words::{Command, Part, Text, WordFault};
+
+/// Puts bytes in hexadecimal behind a text, or a dash for none.
+pub fn push_hex(alloc: Global, text: &mut Text, bytes: &[u8]) -> Result<(), AllocError>
+    ensures { OnOk result (text.new ≡ text.old ++ hex_text bytes.now) }
+{
+    if bytes.is_empty() {
+        return text.push(b'-');
+    }
+    let digits = hex::encode(alloc, bytes)?;
+    text.extend(digits.as_bytes())
+}
+
+/// Puts a line of bytes in hexadecimal behind a text.
+pub fn push_hex_line(alloc: Global, text: &mut Text, bytes: &[u8]) -> Result<(), AllocError>
+    ensures { OnOk result (text.new ≡ text.old ++ hex_line bytes.now) }
+{
+    push_hex(alloc, text, bytes)?;
+    text.push(b'\n')
+}
+
+fn push_labelled(
+    alloc: Global,
+    text: &mut Text,
+    label: &[u8],
+    bytes: &[u8],
+) -> Result<(), AllocError>
+    ensures { OnOk result (text.new ≡ text.old ++ label.now ++ hex_text bytes.now) }
+{
+    text.extend(label)?;
+    push_hex(alloc, text, bytes)
+}
+
+/// Puts parts behind a text, each behind a space. An array's element has its index in parentheses behind it.
+fn push_parts(alloc: Global, text: &mut Text, parts: &Vec<Part>) -> Result<(), AllocError> {
+    'parts: for part in parts {
+        match part {
+            Part::Lit(bytes) => push_labelled(alloc, text, b" lit:", bytes.as_slice())?,
+            Part::Var(name, None) => push_labelled(alloc, text, b" var:", name.as_slice())?,
+            Part::Var(name, Some(index)) => {
+                push_labelled(alloc, text, b" element:", name.as_slice())?;
+                text.extend(b" (")?;
+                push_parts(alloc, text, index)?;
+                text.extend(b" )")?;
+            }
+            Part::Script(bytes) => push_labelled(alloc, text, b" script:", bytes.as_slice())?,
+        }
+    }
+    Ok(())
+}
+
+/// Puts a command's line behind a text: `word` or `expand` before the parts of each word.
+pub fn push_command(alloc: Global, text: &mut Text, command: &Command) -> Result<(), AllocError> {
+    text.extend(b"command")?;
+    'words: for word in &command.words {
+        text.extend(if word.expand { b" expand" } else { b" word" })?;
+        push_parts(alloc, text, &word.parts)?;
+    }
+    text.push(b'\n')
+}
+
+/// A fault's name; `None` for want of memory, which is none of the text's.
+pub fn fault_name(fault: WordFault) -> Option<&'static [u8]>
+    ensures { result ≡ None ↔ (fault ≡ WordFault.Memory) }
+{
+    match fault {
+        WordFault::MissingBrace => Some(b"MissingBrace"),
+        WordFault::MissingBracket => Some(b"MissingBracket"),
+        WordFault::MissingQuote => Some(b"MissingQuote"),
+        WordFault::ExtraAfterQuote => Some(b"ExtraAfterQuote"),
+        WordFault::ExtraAfterBrace => Some(b"ExtraAfterBrace"),
+        WordFault::TooDeep => Some(b"TooDeep"),
+        WordFault::Memory => None,
+        WordFault::MissingParen => Some(b"MissingParen"),
+    }
+}
