@@ -32,12 +32,22 @@ pub enum Complaint<'a> {
 }
 
 impl From<AllocError> for Complaint<'_> {
+    ghost use Rattle.std.specs.Prelude.{◌≡◌};
+    ghost use Rattle.expect_prog.specs.declared.complaint.Complaint.TheVariants.{Memory};
+
+    ghost from_gives = { λ _ e. e ≡ Memory };
+
     fn from(_e: AllocError) -> Self {
         Complaint::Memory
     }
 }
 
 impl<T: Drop> From<AllocFailed<T>> for Complaint<'_> {
+    ghost use Rattle.std.specs.Prelude.{◌≡◌};
+    ghost use Rattle.expect_prog.specs.declared.complaint.Complaint.TheVariants.{Memory};
+
+    ghost from_gives = { λ _ e. e ≡ Memory };
+
     fn from(_e: AllocFailed<T>) -> Self {
         Complaint::Memory
     }
