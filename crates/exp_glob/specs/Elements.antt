@@ -1,0 +1,48 @@
+-- How a glob pattern is read, as `string match` of Tcl(n) reads it, with the `^` and `$` of expect(1).
+-- A `[` without a `]` behind it and a backslash at the end stand for themselves; a class ends at its first `]`.
+use Rattle.std.specs.Prelude.{ℕ, zero, suc, ◌+◌, true, false, ◌==◌, if◌then◌else◌, List, [], ◌∷◌, take, Option, Some, None, position}
+use Rattle.exp_glob.specs.declared.element.Element.{Element}
+use Rattle.exp_glob.specs.declared.element.Element.TheVariants.{Star, One, End}
+use Rattle.exp_glob.specs.declared.element.Single.TheVariants.{Any, Byte, Class}
+use Rattle.exp_glob.specs.declared.pattern.Glob.{Glob}
+
+-- what a `[` is with these bytes behind it, of which the first `]` stands at the place that is given
+abbrev pub class_or_bracket : List ℕ → Option ℕ → Element × ℕ
+class_or_bracket rest (Some n) = (One (Class (take n rest)), n + 1)
+class_or_bracket rest None = (One (Byte 91), 0)
+
+-- what a backslash is
+abbrev pub escaped : List ℕ → Element × ℕ
+escaped [] = (One (Byte 92), 0)
+escaped (b ∷ rest) = (One (Byte b), 1)
+
+-- what a `$` is
+abbrev pub dollar : List ℕ → Element × ℕ
+dollar [] = (End, 0)
+dollar (b ∷ rest) = (One (Byte 36), 0)
+
+-- the element that begins with a byte, and how many bytes behind it belong to it
+unfoldable pub element_at : ℕ → List ℕ → Element × ℕ
+element_at b rest =
+    if b == 42 then (Star, 0)
+    else (if b == 63 then (One Any, 0)
+    else (if b == 91 then class_or_bracket rest (position (λ c. c == 93) rest)
+    else (if b == 92 then escaped rest
+    else (if b == 36 then dollar rest
+    else (One (Byte b), 0)))))
+
+-- the elements that begin k bytes in or later
+abbrev pub elements_from : List ℕ → ℕ → List Element
+elements_from [] k = []
+elements_from (b ∷ bytes) zero = (element_at b bytes).0 ∷ elements_from bytes (element_at b bytes).1
+elements_from (b ∷ bytes) (suc k) = elements_from bytes k
+
+abbrev pub elements_of : List ℕ → List Element
+elements_of bytes = elements_from bytes 0
+
+-- a pattern, with `^` at its start taken off
+abbrev pub glob_of : List ℕ → Glob
+glob_of [] = record { anchored = false; elements = [] }
+glob_of (b ∷ bytes) =
+    if b == 94 then record { anchored = true; elements = elements_of bytes }
+    else record { anchored = false; elements = elements_of (b ∷ bytes) }

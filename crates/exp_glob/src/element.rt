@@ -1,0 +1,104 @@
+//! What a glob pattern is made of.
+
+ghost use Rattle.std.specs.Prelude.{◌≡◌, ◌++◌, ◌∷◌, [], IfOk, OnOk, OnErr};
+
+use std::alloc::{AllocError, Global};
+use std::marker::Model;
+
+/// The bytes between the brackets of a class. A contract sees a byte list.
+#[derive(Debug, Drop)]
+pub struct Members {
+    /// The bytes, in order.
+    pub bytes: Vec<u8>,
+}
+
+impl Model for Members {
+    ghost use Rattle.std.specs.Prelude.{List, ℕ};
+
+    ghost Value = { List ℕ };
+
+    ghost view = { λ m. m.bytes.items };
+}
+
+impl Members {
+    /// A class of these bytes, copied.
+    pub fn from_slice(alloc: Global, bytes: &[u8]) -> Result<Members, AllocError>
+        ensures { IfOk result (λ m. m ≡ bytes.now) }
+    {
+        Ok(Members {
+            bytes: Vec::from_slice(alloc, bytes)?,
+        })
+    }
+
+    /// The bytes, in order.
+    pub fn as_slice(&self) -> &[u8]
+        ensures { result.now ≡ self.now }
+    {
+        self.bytes.as_slice()
+    }
+}
+
+/// What matches one byte.
+#[derive(Debug, Drop)]
+pub enum Single {
+    /// `?`: each byte.
+    Any,
+    /// This byte.
+    Byte(u8),
+    /// `[..]`: a byte of a class.
+    Class(Members),
+}
+
+/// An element of a pattern.
+#[derive(Debug, Drop)]
+pub enum Element {
+    /// `*`: bytes, none or more.
+    Star,
+    /// One byte.
+    One(Single),
+    /// `$` at the pattern's end: the end of the data.
+    End,
+}
+
+/// Elements in order. A contract sees a list.
+#[derive(Debug, Drop)]
+pub struct Elements {
+    /// The elements, in order.
+    pub list: Vec<Element>,
+}
+
+impl Model for Elements {
+    ghost use Rattle.std.specs.Prelude.{List};
+    ghost use Rattle.exp_glob.specs.declared.element.Element.{Element};
+
+    ghost Value = { List Element };
+
+    ghost view = { λ e. e.list.items };
+}
+
+impl Elements {
+    /// No elements. It allocates nothing.
+    pub fn new(alloc: Global) -> Elements
+        ensures { result ≡ [] }
+    {
+        Elements {
+            list: Vec::new(alloc),
+        }
+    }
+
+    /// Puts an element behind the others. A refused one leaves the list as it was.
+    pub fn push(&mut self, element: Element) -> Result<(), AllocError>
+        ensures pushed { OnOk result (self.new ≡ self.old ++ element ∷ []) }
+        ensures kept { OnErr result (self.new ≡ self.old) }
+    {
+        self.list.push(element)?;
+        Ok(())
+    }
+
+    /// The elements, in order.
+    pub fn as_slice(&self) -> &[Element]
+        ensures { result.now ≡ self.now }
+    {
+        self.list.as_slice()
+    }
+}

@@ -1,0 +1,17 @@
+//! Glob patterns as expect(1) searches with them: `*`, `?`, `[..]`, `\x`, `^` at the start and `$` at the end.
+//!
+//! Texts are bytes. `specs/Elements.antt` says how a pattern is read, `specs/Spans.antt` what it matches and which match is found.
+#![tactic(auto)]
+
+mod element;
+mod matching;
+mod pattern;
+mod places;
+mod reading;
+mod runs;
+
+pub use element::{Element, Elements, Members, Single};
+pub use pattern::Glob;
+
+#[cfg(test)]
+mod tests;

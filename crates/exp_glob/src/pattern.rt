@@ -1,0 +1,77 @@
+//! A pattern and its search.
+
+ghost use Rattle.std.specs.Prelude.{◌≡◌, ◌≤◌, ◌+◌, true, false, length, IfOk, IfSome};
+ghost use Rattle.exp_glob.specs.Elements.{glob_of};
+ghost use Rattle.exp_glob.specs.Spans.{FindsFirst};
+
+use crate::element::Elements;
+use crate::places::after;
+use crate::reading::elements;
+use crate::runs::{least_run, longest, star_end};
+use std::alloc::{AllocError, Global};
+
+/// A glob pattern, read once.
+#[derive(Debug, Drop)]
+pub struct Glob {
+    /// It began with `^`: it matches at the start of the text alone.
+    pub anchored: bool,
+    /// Its elements, without that `^`.
+    pub elements: Elements,
+}
+
+impl Glob {
+    /// The pattern that a text writes. Each text writes one.
+    pub fn new(alloc: Global, pattern: &[u8]) -> Result<Glob, AllocError>
+        ensures { IfOk result (λ g. g ≡ glob_of pattern.now) }
+    {
+        match pattern {
+            [] => Ok(Glob {
+                anchored: false,
+                elements: Elements::new(alloc),
+            }),
+            [first, rest @ ..] => {
+                if *first == b'^' {
+                    let elements = elements(alloc, rest)?;
+                    return Ok(Glob {
+                        anchored: true,
+                        elements,
+                    });
+                }
+                let elements = elements(alloc, pattern)?;
+                Ok(Glob {
+                    anchored: false,
+                    elements,
+                })
+            }
+        }
+    }
+
+    /// The places where a match may start are those below this one.
+    fn starts(&self, text: &[u8]) -> usize
+        ensures anchored { self.now.anchored ≡ true → result ≡ 1 }
+        ensures free { self.now.anchored ≡ false → result ≡ length text.now + 1 }
+    {
+        if self.anchored { 1 } else { text.len() + 1 }
+    }
+
+    /// The match that starts first and is the longest from there: its start, and the place behind its last byte.
+    ///
+    /// Under `nocase` letters of ASCII are compared without case. It takes no memory, and time in the product of both lengths.
+    pub fn find(&self, text: &[u8], nocase: bool) -> Option<(usize, usize)>
+        ensures first { FindsFirst self.now nocase text.now result }
+        ensures within { IfSome result (λ r. (r.0 ≤ r.1) × (r.1 ≤ length text.now)) }
+    {
+        let elements = self.elements.as_slice();
+        let bound = self.starts(text);
+        let Some((start, end)) = least_run(elements, text, 0, bound, nocase) else {
+            return None;
+        };
+        let Some(n) = star_end(elements) else {
+            return Some((start, end));
+        };
+        let Some(end) = longest(after(elements, n), text, end, nocase) else {
+            return None;
+        };
+        Some((start, end))
+    }
+}
