@@ -1,0 +1,24 @@
+-- What a terminal echoes (POSIX.1-2017, XBD 11.2.5: ECHO, with ECHOE and ECHOK on).
+use Rattle.std.specs.Prelude.{ℕ, ◌==◌, List, [], ◌∷◌, ◌++◌, Bool, if◌then◌else◌}
+use Rattle.tty_output.specs.declared.modes.Modes.{Modes}
+use Rattle.tty_input.specs.Editing.{is_empty}
+use Rattle.tty_input.specs.Segments.{open_text}
+use Rattle.tty_input.specs.Handed.{received}
+
+-- what a byte echoes, where the line so far has no text, or has some
+abbrev pub echo_by : Bool → ℕ → List ℕ
+echo_by empty b =
+    if b == 127 then (if empty then [] else 8 ∷ 32 ∷ 8 ∷ [])
+    else (if b == 21 then 21 ∷ 10 ∷ []
+    else (if b == 4 then [] else b ∷ []))
+
+-- what bytes echo that come behind others
+abbrev pub echo_behind : List ℕ → List ℕ → List ℕ
+echo_behind before [] = []
+echo_behind before (b ∷ bs) = echo_by (is_empty (open_text before)) b ++ echo_behind (before ++ b ∷ []) bs
+
+-- what is echoed where the text w waits and x is sent
+abbrev pub echo_text : Modes → List ℕ → List ℕ → List ℕ
+echo_text m w x =
+    if m.echo then (if m.icanon then echo_behind w (received m x) else received m x)
+    else []

@@ -1,0 +1,41 @@
+-- A line and the bytes that edit it (POSIX.1-2017, XBD 11.1.9): ERASE is 7F, KILL 15, NL 0A, EOF 04 and CR 0D.
+use Rattle.std.specs.Prelude.{ℕ, zero, suc, ◌==◌, List, [], ◌∷◌, Bool, true, false, ◌||◌, if◌then◌else◌}
+use Rattle.std.specs.List.{list_any}
+
+abbrev pub is_empty : List ℕ → Bool
+is_empty [] = true
+is_empty (b ∷ bs) = false
+
+abbrev pub ends_line : ℕ → Bool
+ends_line b = b == 10 || b == 4
+
+-- a line up to its last KILL is dropped
+abbrev pub behind_kill : List ℕ → List ℕ
+behind_kill [] = []
+behind_kill (b ∷ bs) =
+    if list_any (λ c. c == 21) bs then behind_kill bs
+    else (if b == 21 then bs else b ∷ bs)
+
+-- without the first ERASE and the byte before it, if there is one
+abbrev pub without_first_erase : List ℕ → List ℕ
+without_first_erase [] = []
+without_first_erase (a ∷ []) = if a == 127 then [] else a ∷ []
+without_first_erase (a ∷ b ∷ bs) =
+    if a == 127 then b ∷ bs
+    else (if b == 127 then bs else a ∷ without_first_erase (b ∷ bs))
+
+abbrev pub erase_count : List ℕ → ℕ
+erase_count [] = 0
+erase_count (b ∷ bs) = if b == 127 then suc (erase_count bs) else erase_count bs
+
+abbrev pub times : ℕ → (List ℕ → List ℕ) → List ℕ → List ℕ
+times zero f t = t
+times (suc n) f t = times n f (f t)
+
+-- each ERASE takes the byte before it away, from the left
+abbrev pub erased : List ℕ → List ℕ
+erased t = times (erase_count t) without_first_erase t
+
+-- the text that the bytes of a line stand for
+abbrev pub edited : List ℕ → List ℕ
+edited t = erased (behind_kill t)

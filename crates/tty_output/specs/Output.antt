@@ -1,0 +1,22 @@
+-- What becomes of a program's output on its way through the terminal (POSIX.1-2017, XBD 11.2.3: OPOST, ONLCR).
+use Rattle.std.specs.Prelude.{ℕ, ◌==◌, List, [], ◌∷◌, Bool, not, ◌&&◌, if◌then◌else◌}
+use Rattle.std.specs.List.{filter}
+use Rattle.tty_output.specs.declared.modes.Modes.{Modes}
+
+-- each NL as CR NL
+abbrev pub with_returns : List ℕ → List ℕ
+with_returns [] = []
+with_returns (b ∷ bs) = if b == 10 then 13 ∷ 10 ∷ with_returns bs else b ∷ with_returns bs
+
+abbrev pub maps_newlines : Modes → Bool
+maps_newlines m = m.opost && m.onlcr
+
+abbrev pub mapped : Modes → List ℕ → List ℕ
+mapped m s = if maps_newlines m then with_returns s else s
+
+abbrev pub without_nul : List ℕ → List ℕ
+without_nul s = filter (λ b. not (b == 0)) s
+
+-- what is seen of a program's output
+abbrev pub shown : Modes → List ℕ → List ℕ
+shown m s = mapped m (without_nul s)
