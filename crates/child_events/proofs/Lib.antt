@@ -8,3 +8,4 @@ pub mod Said
 pub mod Meant
 pub mod Whole
 pub mod Worlds
+pub mod Queued

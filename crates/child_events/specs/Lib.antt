@@ -2,3 +2,4 @@ pub mod World
 pub mod Log
 pub mod Reading
 pub mod Counting
+pub mod Queue

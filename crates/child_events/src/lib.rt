@@ -7,7 +7,9 @@ mod faults;
 mod fields;
 mod hall_events;
 mod lane;
+mod queue;
 mod reading;
+mod slot;
 mod world;
 mod writing;
 
@@ -16,6 +18,7 @@ pub use event::{Answer, Cause, Event, HallEvent, Item, What, own_event};
 pub use faults::LogFault;
 pub use hall_events::HallEvents;
 pub use lane::{Answers, Items, Lane, Lanes};
+pub use queue::Queue;
 pub use reading::{log_laws, read_log};
 pub use world::{World, later, world_law};
 pub use writing::{cause_name, write_log};

@@ -1,5 +1,7 @@
 //! Logs and worlds with values from outside, and a device that fails.
 
+mod queue;
+
 ghost use Rattle.std.specs.Prelude.{◌≡◌, IfOk};
 
 use crate::{

@@ -1,2 +1,3 @@
 pub mod ReadOn
 pub mod Greedy
+pub mod Starts

@@ -3,6 +3,7 @@ use Rattle.std.specs.Prelude.{◌≡◌, ℕ, ◌+◌, ◌<◌, ◌≤◌, nat_l
 use Rattle.exp_glob.specs.declared.element.Element.{Element}
 use Rattle.exp_glob.specs.declared.element.Element.TheVariants.{Star, One, End}
 use Rattle.exp_glob.specs.declared.element.Single.{Single}
+use Rattle.exp_glob.specs.declared.element.Single.TheVariants.{Any, Byte, Class}
 use Rattle.exp_glob.specs.Spans.{takes, Spans}
 
 abbrev pub is_star : Element → Bool
@@ -20,6 +21,16 @@ run_end nocase [] s a = Some a
 run_end nocase (Star ∷ es) s a = Some a
 run_end nocase (One single ∷ es) s a = if takes_at nocase single s a then run_end nocase es s (a + 1) else None
 run_end nocase (End ∷ es) s a = if a == length s then run_end nocase es s a else None
+
+-- the byte with which each match of the elements begins, where there is only one
+abbrev pub first_byte : Bool → List Element → Option ℕ
+first_byte nocase [] = None
+first_byte nocase (Star ∷ es) = None
+first_byte nocase (End ∷ es) = None
+first_byte true (One single ∷ es) = None
+first_byte false (One Any ∷ es) = None
+first_byte false (One (Byte b) ∷ es) = Some b
+first_byte false (One (Class members) ∷ es) = None
 
 -- the elements behind the first star
 abbrev pub behind_star : List Element → Option (List Element)

@@ -1,11 +1,12 @@
 //! Runs: the elements between stars. All but the last run are sought at their least place, the last one at its greatest.
 
 ghost use Rattle.std.specs.Prelude.{◌≡◌, ◌≤◌, ◌+◌, ◌<◌, ℕ, ◌==◌, None, Some, drop, length, MatchOption};
-ghost use Rattle.exp_glob.specs.Runs.{is_star as is_star_of, takes_at as takes_at_of, run_end as run_end_of, behind_star, IsLeastRun, IsGreatestRun, FindsLongest};
+ghost use Rattle.exp_glob.specs.Runs.{is_star as is_star_of, takes_at as takes_at_of, run_end as run_end_of, first_byte as first_byte_of, behind_star, IsLeastRun, IsGreatestRun, FindsLongest};
 
 use crate::element::{Element, Single};
 use crate::matching::takes;
 use crate::places::after;
+use memchr::memchr;
 
 fn is_star(element: &Element) -> bool
     ensures { result ≡ is_star_of element.now }
@@ -60,6 +61,36 @@ fn run_end(elements: &[Element], text: &[u8], from: usize, nocase: bool) -> Opti
     Some(at)
 }
 
+/// The byte with which each match of the elements begins, where there is only one.
+fn first_byte(elements: &[Element], nocase: bool) -> Option<u8>
+    ensures { result ≡ first_byte_of nocase elements.now }
+{
+    if nocase {
+        return None;
+    }
+    match elements {
+        [Element::One(Single::Byte(b)), ..] => Some(*b),
+        _ => None,
+    }
+}
+
+/// The least place from `from` on where the first run can begin, by the byte with which it begins.
+fn next_start(elements: &[Element], text: &[u8], from: usize, nocase: bool) -> usize
+    ensures forward { from ≤ result }
+    ensures nowhere { (k : ℕ) → from ≤ k → k < result → run_end_of nocase elements.now text.now k ≡ None }
+{
+    let Some(byte) = first_byte(elements, nocase) else {
+        return from;
+    };
+    if text.len() <= from {
+        return from;
+    }
+    match memchr(byte, after(text, from)) {
+        Some(n) => from + n,
+        None => text.len(),
+    }
+}
+
 /// The least place from `from` on and below `bound` where the first run matches, and the run's end.
 pub(crate) fn least_run(
     elements: &[Element],
@@ -71,10 +102,12 @@ pub(crate) fn least_run(
     requires { bound ≤ length text.now + 1 }
     ensures { IsLeastRun nocase elements.now text.now from bound result }
 {
-    for at in from..bound {
+    let mut at = next_start(elements, text, from, nocase);
+    'places: while at < bound {
         if let Some(end) = run_end(elements, text, at, nocase) {
             return Some((at, end));
         }
+        at = next_start(elements, text, at + 1, nocase);
     }
     None
 }

@@ -74,6 +74,51 @@ const CLASSES: [Row; 16] = [
     (b"[*?]b", b"ab?b", Some((2, 4))),
 ];
 
+/// What consoles print, with spans from tclsh's `string match`: the least start, and the greatest end from there.
+const CONSOLES: [Row; 17] = [
+    (b"login:", b"Debian 12 tty1\nlogin: ", Some((15, 21))),
+    (b"log*:", b"login: x password: ", Some((0, 18))),
+    (b"*ssword:", b"Your password:", Some((0, 14))),
+    (b"[Pp]assword*", b"Enter Password for root:", Some((6, 24))),
+    (b"?assword", b"password", Some((0, 8))),
+    (b"??", b"a", None),
+    (b"??", b"abc", Some((0, 2))),
+    (b"a?c", b"abbabcabd", Some((3, 6))),
+    (b"a??d", b"abcabcd", Some((3, 7))),
+    (b"[0-9]", b"abc7x9", Some((3, 4))),
+    (b"[0-9][0-9]", b"a1b23", Some((3, 5))),
+    (b"[0-9]*[0-9]", b"a1b23c", Some((1, 5))),
+    (b"*[0-9]", b"ab12cd", Some((0, 4))),
+    (b"[a-z]*", b"ABCdEF", Some((3, 6))),
+    (b"[A-Za-z]?", b"12x4", Some((2, 4))),
+    (b"[xyz]*[xyz]", b"axbyczd", Some((1, 6))),
+    (b"*\\?", b"what? no", Some((0, 5))),
+];
+
+/// More of the same.
+const STARS: [Row; 16] = [
+    (b"\\[ok\\]*", b"test [ok] done", Some((5, 14))),
+    (b"[$#>] ", b"host# ", Some((4, 6))),
+    (b"*$ ", b"user@host:~$ ls", Some((0, 13))),
+    (b"a*b*a", b"xaabbaabbay", Some((1, 10))),
+    (b"ab*ab", b"abab", Some((0, 4))),
+    (b"ab*ab", b"abaab", Some((0, 5))),
+    (b"abc*abc", b"abcabcabc", Some((0, 9))),
+    (b"ab?ab", b"ababab", None),
+    (b"*a*", b"bab", Some((0, 3))),
+    (b"**", b"xy", Some((0, 2))),
+    (b"a***", b"bab", Some((1, 3))),
+    (b"?*?", b"a", None),
+    (b"?*?", b"abc", Some((0, 3))),
+    (
+        b"error*line [0-9]",
+        b"an error on line 7, error on line 9x",
+        Some((3, 35)),
+    ),
+    (b"y/n", b"continue (y/n)? ", Some((10, 13))),
+    (b"(yes/no)\\?", b"sure (yes/no)? ", Some((5, 14))),
+];
+
 const NOCASE: [Row; 7] = [
     (b"LOGIN", b"x login", Some((2, 7))),
     (b"login", b"x LOGIN", Some((2, 7))),
@@ -97,6 +142,16 @@ fn anchors(rt: HostRuntime) -> Result<(), Fail> {
 #[test]
 fn classes(rt: HostRuntime) -> Result<(), Fail> {
     check(&rt, &CLASSES, false)
+}
+
+#[test]
+fn consoles(rt: HostRuntime) -> Result<(), Fail> {
+    check(&rt, &CONSOLES, false)
+}
+
+#[test]
+fn stars(rt: HostRuntime) -> Result<(), Fail> {
+    check(&rt, &STARS, false)
 }
 
 #[test]

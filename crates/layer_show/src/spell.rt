@@ -1,7 +1,7 @@
 //! Bytes, parts and words as text.
 
 ghost use Rattle.std.specs.Prelude.{◌≡◌, ◌↔◌, ◌++◌, None, OnOk};
-ghost use Rattle.words_show.specs.Shown.{hex_text, hex_line};
+ghost use Rattle.layer_show.specs.Shown.{hex_text, hex_line};
 
 use std::alloc::{AllocError, Global};
 use tcl_words::{Command, Part, Text, WordFault};
@@ -25,7 +25,8 @@ pub fn push_hex_line(alloc: Global, text: &mut Text, bytes: &[u8]) -> Result<(),
     text.push(b'\n')
 }
 
-fn push_labelled(
+/// Puts a label and bytes in hexadecimal behind a text.
+pub fn push_labelled(
     alloc: Global,
     text: &mut Text,
     label: &[u8],

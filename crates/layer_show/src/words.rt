@@ -2,7 +2,7 @@
 
 ghost use Rattle.std.specs.Prelude.{◌≡◌, ◌++◌, ℕ, List, IfOk, OnOk};
 ghost use Rattle.tcl_words.specs.Lists.{ReadsAs};
-ghost use Rattle.words_show.specs.Shown.{hex_lines, list_shown, bad_list};
+ghost use Rattle.layer_show.specs.Shown.{hex_lines, list_shown, bad_list};
 
 use crate::spell::{fault_name, push_command, push_hex_line};
 use std::alloc::{AllocError, Global};

@@ -1,0 +1,104 @@
+//! Shows what a layer of exprun makes of standard input.
+#![tactic(auto)]
+
+mod buffers;
+mod calls;
+mod complaint;
+mod globs;
+mod queues;
+mod scans;
+mod spell;
+mod terminal;
+mod words;
+
+use crate::buffers::shown_buffer;
+use crate::calls::calls;
+use crate::complaint::Complaint;
+use crate::globs::shown_globs;
+use crate::queues::shown_queue;
+use crate::scans::shown_scan;
+use crate::terminal::shown_terminal;
+use crate::words::{shown_commands, shown_list};
+use std::alloc::Global;
+use std::env;
+use std::env::Env;
+use std::io::{self, Read, Write};
+use std::process::ExitCode;
+use tcl_words::Text;
+
+/// The status of a fault.
+const FAULT: u8 = 2;
+
+/// What standard input is read as.
+#[derive(Clone, Copy, Debug, PartialEq, Eq)]
+enum Layer {
+    /// A script, as its commands.
+    Commands,
+    /// A list.
+    List,
+    /// The modes of a terminal, and texts that are sent to it.
+    Terminal,
+    /// Globs, each with a text.
+    Glob,
+    /// Calls of a match buffer.
+    Buffer,
+    /// Calls of a child's queue.
+    Queue,
+    /// A glob, and data that it is sought in.
+    Scan,
+}
+
+fn layer_of(name: &str) -> Option<Layer> {
+    match name {
+        "commands" => Some(Layer::Commands),
+        "list" => Some(Layer::List),
+        "terminal" => Some(Layer::Terminal),
+        "glob" => Some(Layer::Glob),
+        "buffer" => Some(Layer::Buffer),
+        "queue" => Some(Layer::Queue),
+        "scan" => Some(Layer::Scan),
+        _ => None,
+    }
+}
+
+fn asked(rt: &(impl Env + AllocGlobal), alloc: Global) -> Result<Layer, Complaint> {
+    let words: Vec<String> = env::args(rt)?.collect(alloc)?;
+    match words.as_slice() {
+        [_, word] => layer_of(word.as_str()).ok_or(Complaint::Usage),
+        _ => Err(Complaint::Usage),
+    }
+}
+
+fn shown<R: Read>(alloc: Global, layer: Layer, input: &mut R) -> Result<Text, Complaint> {
+    let mut src = Vec::new(alloc);
+    input.read_to_end(&mut src)?;
+    match layer {
+        Layer::Commands => Ok(shown_commands(alloc, &src)?),
+        Layer::List => Ok(shown_list(alloc, &src)?),
+        Layer::Terminal => shown_terminal(alloc, &calls(alloc, &src)?),
+        Layer::Glob => shown_globs(alloc, &calls(alloc, &src)?),
+        Layer::Buffer => shown_buffer(alloc, &calls(alloc, &src)?),
+        Layer::Queue => shown_queue(alloc, &calls(alloc, &src)?),
+        Layer::Scan => shown_scan(alloc, &src),
+    }
+}
+
+fn run(rt: &HostRuntime) -> Result<(), Complaint> {
+    let alloc = rt.alloc();
+    let layer = asked(rt, alloc)?;
+    let text = shown(alloc, layer, &mut rt.stdin())?;
+    io::writer(rt).write_all(text.as_slice())?;
+    Ok(())
+}
+
+fn main(rt: HostRuntime) -> ExitCode {
+    let complaint = match run(&rt) {
+        Ok(()) => return ExitCode::SUCCESS,
+        Err(Complaint::Usage) => "usage: layer_show commands|list|terminal|glob|buffer|queue|scan",
+        Err(Complaint::Device) => "cannot read or write",
+        Err(Complaint::Call) => "no call of this layer",
+        Err(Complaint::Memory) => "out of memory",
+    };
+    let _ = eprintln!(rt; "layer_show: {complaint}");
+    ExitCode::from(FAULT)
+}

@@ -1,0 +1,49 @@
+//! In which order a child's items and the echo of what is sent to it are taken.
+
+use crate::calls::number;
+use crate::complaint::Complaint;
+use crate::spell::push_hex_line;
+use child_events::{Item, Queue};
+use std::alloc::Global;
+use tcl_words::Text;
+
+/// A line for the item that is taken: its moment, and its bytes or `end`; `none` where there is none.
+fn push_next(alloc: Global, text: &mut Text, queue: &mut Queue) -> Result<(), Complaint> {
+    let Some((moment, item)) = queue.next() else {
+        text.extend(b"none\n")?;
+        return Ok(());
+    };
+    text.extend(format!(in alloc; "{moment} ")?.as_bytes())?;
+    match item {
+        Item::Out(bytes) => push_hex_line(alloc, text, bytes.as_slice())?,
+        Item::Eof => text.extend(b"end\n")?,
+        Item::ReadFail(_) => text.extend(b"failed\n")?,
+    }
+    Ok(())
+}
+
+/// `out`, a moment and bytes that came from the child, `echo`, a moment and bytes that were sent to it,
+/// `end` and a moment, or `next`, which has a line of what is taken.
+pub fn shown_queue(alloc: Global, calls: &[Vec<Text>]) -> Result<Text, Complaint> {
+    let mut text = Text::new(alloc);
+    let mut queue = Queue::new(alloc);
+    'calls: for call in calls {
+        match call.as_slice() {
+            [name] if name.as_slice() == b"next".as_slice() => push_next(
+                alloc, &mut text, &mut queue,
+            )?,
+            [name, moment] if name.as_slice() == b"end".as_slice() => queue.push(
+                number(moment)?,
+                Item::Eof,
+            )?,
+            [name, moment, bytes] if name.as_slice() == b"out".as_slice() => {
+                queue.push(number(moment)?, Item::Out(bytes.copied(alloc)?))?;
+            }
+            [name, moment, bytes] if name.as_slice() == b"echo".as_slice() => {
+                queue.insert_echo(number(moment)?, bytes.as_slice())?;
+            }
+            _ => return Err(Complaint::Call),
+        }
+    }
+    Ok(text)
+}
