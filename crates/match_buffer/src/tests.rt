@@ -102,3 +102,15 @@ fn another_size(rt: HostRuntime) -> Result<(), Fail> {
     compare(&rt, &mut buffer, b"j");
     Ok(())
 }
+
+/// What is kept where nothing matches, and what the next piece is tested with.
+#[test]
+fn keeps_the_last(rt: HostRuntime) -> Result<(), Fail> {
+    let mut buffer = Buffer::new(rt.alloc(), 5)?;
+    buffer.add(b"abcdefg")?;
+    buffer.trim();
+    compare(&rt, &mut buffer, b"cdefg");
+    buffer.add(b"h")?;
+    compare(&rt, &mut buffer, b"cdefgh");
+    Ok(())
+}
