@@ -4,7 +4,9 @@
 mod buffers;
 mod calls;
 mod complaint;
+mod expressions;
 mod globs;
+mod patterns;
 mod queues;
 mod scans;
 mod spell;
@@ -14,7 +16,9 @@ mod words;
 use crate::buffers::shown_buffer;
 use crate::calls::calls;
 use crate::complaint::Complaint;
+use crate::expressions::shown_expressions;
 use crate::globs::shown_globs;
+use crate::patterns::shown_patterns;
 use crate::queues::shown_queue;
 use crate::scans::shown_scan;
 use crate::terminal::shown_terminal;
@@ -36,10 +40,14 @@ enum Layer {
     Commands,
     /// A list.
     List,
+    /// Expressions, each with values of operands.
+    Expression,
     /// The modes of a terminal, and texts that are sent to it.
     Terminal,
     /// Globs, each with a text.
     Glob,
+    /// The arguments of an `expect`, and texts that are tested.
+    Pattern,
     /// Calls of a match buffer.
     Buffer,
     /// Calls of a child's queue.
@@ -52,8 +60,10 @@ fn layer_of(name: &str) -> Option<Layer> {
     match name {
         "commands" => Some(Layer::Commands),
         "list" => Some(Layer::List),
+        "expression" => Some(Layer::Expression),
         "terminal" => Some(Layer::Terminal),
         "glob" => Some(Layer::Glob),
+        "pattern" => Some(Layer::Pattern),
         "buffer" => Some(Layer::Buffer),
         "queue" => Some(Layer::Queue),
         "scan" => Some(Layer::Scan),
@@ -75,8 +85,10 @@ fn shown<R: Read>(alloc: Global, layer: Layer, input: &mut R) -> Result<Text, Co
     match layer {
         Layer::Commands => Ok(shown_commands(alloc, &src)?),
         Layer::List => Ok(shown_list(alloc, &src)?),
+        Layer::Expression => shown_expressions(alloc, &calls(alloc, &src)?),
         Layer::Terminal => shown_terminal(alloc, &calls(alloc, &src)?),
         Layer::Glob => shown_globs(alloc, &calls(alloc, &src)?),
+        Layer::Pattern => shown_patterns(alloc, &calls(alloc, &src)?),
         Layer::Buffer => shown_buffer(alloc, &calls(alloc, &src)?),
         Layer::Queue => shown_queue(alloc, &calls(alloc, &src)?),
         Layer::Scan => shown_scan(alloc, &src),
@@ -94,7 +106,8 @@ fn run(rt: &HostRuntime) -> Result<(), Complaint> {
 fn main(rt: HostRuntime) -> ExitCode {
     let complaint = match run(&rt) {
         Ok(()) => return ExitCode::SUCCESS,
-        Err(Complaint::Usage) => "usage: layer_show commands|list|terminal|glob|buffer|queue|scan",
+        Err(Complaint::Usage) =>
+            "usage: layer_show commands|list|expression|terminal|glob|pattern|buffer|queue|scan",
         Err(Complaint::Device) => "cannot read or write",
         Err(Complaint::Call) => "no call of this layer",
         Err(Complaint::Memory) => "out of memory",

@@ -1,0 +1,13 @@
+pub mod Grouped
+pub mod Shown
+pub mod Standing
+pub mod Classes
+pub mod Patterns
+pub mod Accepting
+pub mod Derived
+pub mod Tokens
+pub mod Counts
+pub mod Meant
+pub mod Heads
+pub mod Numbers
+pub mod Followed

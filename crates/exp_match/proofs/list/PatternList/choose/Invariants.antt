@@ -1,0 +1,6 @@
+use Rattle.std.proofs.Common.{◌≡◌}
+use Rattle.exp_match.specs.Choice.{NoneBefore}
+use Rattle.exp_match.proofs.list.PatternList.choose.Given as goal
+
+abbrev pub invariant-loop-index : goal.invariant-loop-index
+invariant-loop-index l = (l.entry-items ≡ l.self.entries) × NoneBefore l.self.entries l.groups l.bytes l.index

@@ -1,0 +1,91 @@
+-- Which of the listed patterns is chosen, as expect(1) tests them in their order.
+use Rattle.std.specs.Prelude.{◌≡◌, ℕ, ◌<◌, ◌≤◌, Bool, true, false, not, ◌&&◌, ◌==◌, List, [], ◌∷◌, length, Option, Some, None, IsSome, option_map, position}
+use Rattle.std.specs.List.{slice_get, list_any}
+use Rattle.exp_glob.specs.Spans.{FindsFirst}
+use Rattle.exp_match.specs.Written.{FindsAsWritten}
+use Rattle.exp_match.specs.Exact.{FindsExact}
+use Rattle.exp_match.specs.declared.entry.Entry.{Entry}
+use Rattle.exp_match.specs.declared.entry.Keyword.TheVariants as keyword
+use Rattle.exp_match.specs.declared.entry.Want.{Want}
+use Rattle.exp_match.specs.declared.entry.Want.TheVariants as want
+use Rattle.exp_match.specs.declared.chosen.Chosen.{Chosen}
+use Rattle.exp_match.specs.declared.chosen.Chosen.TheVariants as chosen
+
+abbrev pub Found : Type 0
+Found = List (Option (ℕ × ℕ))
+
+-- the span of a match without groups
+abbrev pub alone : ℕ × ℕ → Found
+alone s = Some s ∷ None ∷ None ∷ None ∷ None ∷ None ∷ None ∷ None ∷ None ∷ None ∷ []
+
+-- what an entry finds first in these bytes: its spans, or nothing; a keyword finds nothing
+abbrev pub Finds : Want → List ℕ → Option Found → Type 0
+Finds (want.Exact text nocase) bytes found = (span : Option (ℕ × ℕ)) × FindsExact nocase text bytes span × (found ≡ option_map alone span)
+Finds (want.Glob glob nocase) bytes found = (span : Option (ℕ × ℕ)) × FindsFirst glob nocase bytes span × (found ≡ option_map alone span)
+Finds (want.Regular written) bytes found = FindsAsWritten written bytes found
+Finds (want.Keyword k) bytes found = found ≡ None
+
+-- an entry belongs to one of the groups
+abbrev pub in_groups : List ℕ → Entry → Bool
+in_groups groups e = list_any (λ g. g == e.group) groups
+
+-- `eof`, `default`
+abbrev pub waits_for_end : Want → Bool
+waits_for_end (want.Keyword keyword.Eof) = true
+waits_for_end (want.Keyword keyword.Default) = true
+waits_for_end w = false
+
+-- `timeout`, `default`
+abbrev pub waits_for_time : Want → Bool
+waits_for_time (want.Keyword keyword.Timeout) = true
+waits_for_time (want.Keyword keyword.Default) = true
+waits_for_time w = false
+
+-- `full_buffer`
+abbrev pub waits_for_full : Want → Bool
+waits_for_full (want.Keyword keyword.FullBuffer) = true
+waits_for_full w = false
+
+-- `timeout` alone
+abbrev pub waits_for_time_alone : Want → Bool
+waits_for_time_alone (want.Keyword keyword.Timeout) = true
+waits_for_time_alone w = false
+
+-- the first listed entry of the groups that passes a test
+abbrev pub first_in : (Want → Bool) → List ℕ → List Entry → Option ℕ
+first_in test groups = position (λ e. in_groups groups e && test e.want)
+
+-- an entry other than `timeout` stands in the group
+abbrev pub serves : ℕ → List Entry → Bool
+serves g = list_any (λ e. e.group == g && not (waits_for_time_alone e.want))
+
+-- what an entry finds where it belongs to one of the groups; elsewhere it isn't tried
+abbrev pub FindsIn : List ℕ → Entry → List ℕ → Option Found → Type 0
+FindsIn groups e bytes None = in_groups groups e ≡ true → Finds e.want bytes None
+FindsIn groups e bytes (Some spans) = (in_groups groups e ≡ true) × Finds e.want bytes (Some spans)
+
+-- no entry of the groups before place n finds anything
+abbrev pub NoneBefore : List Entry → List ℕ → List ℕ → ℕ → Type 0
+NoneBefore entries groups bytes n =
+    (k : ℕ) (e : Entry) → k < n → slice_get entries k ≡ Some e → FindsIn groups e bytes None
+
+-- an entry of the groups finds these spans
+abbrev pub FindsAt : List Entry → List ℕ → List ℕ → ℕ → Found → Type 0
+FindsAt entries groups bytes n spans =
+    (e : Entry) × (slice_get entries n ≡ Some e) × FindsIn groups e bytes (Some spans)
+
+-- `full_buffer` is listed in the groups, and at least `most` bytes are there
+abbrev pub IsFull : List Entry → List ℕ → List ℕ → ℕ → Type 0
+IsFull entries groups bytes most = IsSome (first_in waits_for_full groups entries) × (most ≤ length bytes)
+
+-- the first listed pattern that finds something; else full; else nothing
+abbrev pub Decides : List Entry → List ℕ → List ℕ → ℕ → Chosen → Type 0
+Decides entries groups bytes most (chosen.Pattern n spans) = FindsAt entries groups bytes n spans × NoneBefore entries groups bytes n
+Decides entries groups bytes most chosen.Full = NoneBefore entries groups bytes (length entries) × IsFull entries groups bytes most
+Decides entries groups bytes most chosen.None = NoneBefore entries groups bytes (length entries) × (¬ IsFull entries groups bytes most)
+
+-- a chosen pattern is one of n entries
+abbrev pub IsListed : ℕ → Chosen → Type 0
+IsListed n (chosen.Pattern k spans) = k < n
+IsListed n chosen.Full = Unit {0}
+IsListed n chosen.None = Unit {0}

@@ -1,0 +1,6 @@
+pub mod Written
+pub mod Exact
+pub mod Scan
+pub mod Grammar
+pub mod Arguments
+pub mod Choice

@@ -1,0 +1,329 @@
+//! The arguments of `expect`.
+
+ghost use Rattle.std.specs.Prelude.{◌≡◌, Ok};
+ghost use Rattle.std.specs.Str.{bytes_eq};
+ghost use Rattle.exp_match.specs.Arguments.{Gives, is_dash as is_dash_of, plain_role as plain_role_of, way_role as way_role_of, role_of as role_of_word, no_marks as no_marks_of, with_mark as with_mark_of, want_of as want_of_word, with_entry as with_entry_of, with_id as with_id_of, with_timeout as with_timeout_of, awaits_action, by_role as by_role_of, taken as taken_of, ended as ended_of, nothing_read, patterns_of};
+
+use crate::entry::{Entries, Entry, Keyword, Want};
+use crate::faults::{PatternFault, Refusal};
+use crate::grammar::pattern_text;
+use crate::list::PatternList;
+use crate::pending::{Mark, Marks, Pending, Reader, Role, Way};
+use crate::regular::Regular;
+use exp_glob::Glob;
+use std::alloc::Global;
+use tcl_words::{Text, Texts};
+
+fn is(word: &[u8], name: &[u8]) -> bool
+    ensures { result ≡ bytes_eq word.now name.now }
+{
+    word == name
+}
+
+/// Whether a word begins with `-`.
+fn is_dash(word: &[u8]) -> bool
+    ensures { result ≡ is_dash_of word.now }
+{
+    match word {
+        [] => false,
+        [b, ..] => *b == b'-',
+    }
+}
+
+/// What a word is that is no flag with a meaning.
+fn plain_role(word: &[u8]) -> Role
+    ensures { result ≡ plain_role_of word.now }
+{
+    if is_dash(word) || is(word, b"null") {
+        Role::Bad
+    } else if is(word, b"eof") {
+        Role::Keyword(Keyword::Eof)
+    } else if is(word, b"timeout") {
+        Role::Keyword(Keyword::Timeout)
+    } else if is(word, b"default") {
+        Role::Keyword(Keyword::Default)
+    } else if is(word, b"full_buffer") {
+        Role::Keyword(Keyword::FullBuffer)
+    } else {
+        Role::Glob
+    }
+}
+
+/// What a word is that is no flag for the next pattern, for a process or a time.
+fn way_role(word: &[u8]) -> Role
+    ensures { result ≡ way_role_of word.now }
+{
+    if is(word, b"-ex") || is(word, b"-exact") {
+        Role::Written(Way::Exact)
+    } else if is(word, b"-gl") || is(word, b"-glob") {
+        Role::Written(Way::Glob)
+    } else if is(word, b"-re") || is(word, b"-regexp") {
+        Role::Written(Way::Regular)
+    } else {
+        plain_role(word)
+    }
+}
+
+/// What a word is, where a pattern may stand.
+#[tactic(auto, unfolding(crate::specs::Arguments::role_of))]
+fn role_of(word: &[u8]) -> Role
+    ensures { result ≡ role_of_word word.now }
+{
+    if is(word, b"-nocase") {
+        Role::Mark(Mark::Nocase)
+    } else if is(word, b"-indices") {
+        Role::Mark(Mark::Indices)
+    } else if is(word, b"-notransfer") {
+        Role::Mark(Mark::Notransfer)
+    } else if is(word, b"-i") {
+        Role::Id
+    } else if is(word, b"-timeout") {
+        Role::Timeout
+    } else {
+        way_role(word)
+    }
+}
+
+fn no_marks() -> Marks
+    ensures { result ≡ no_marks_of }
+{
+    Marks {
+        nocase: false,
+        indices: false,
+        notransfer: false,
+    }
+}
+
+fn with_mark(marks: Marks, mark: Mark) -> Marks
+    ensures { result ≡ with_mark_of marks mark }
+{
+    match mark {
+        Mark::Nocase => Marks {
+            nocase: true,
+            ..marks
+        },
+        Mark::Indices => Marks {
+            indices: true,
+            ..marks
+        },
+        Mark::Notransfer => Marks {
+            notransfer: true,
+            ..marks
+        },
+    }
+}
+
+/// A regular pattern, which the word at a place has to be.
+fn regular(alloc: Global, nocase: bool, at: usize, word: &[u8]) -> Result<Want, PatternFault>
+    ensures { Gives result (want_of_word Way.Regular nocase at word.now) }
+{
+    let Some(source) = pattern_text(alloc, word)? else {
+        return Err(PatternFault::BadRegex(at));
+    };
+    match Regular::build(alloc, source, nocase) {
+        Ok(regular) => Ok(Want::Regular(regular)),
+        Err(Refusal::Refused) => Err(PatternFault::Refused),
+        Err(Refusal::Memory) => Err(PatternFault::Memory),
+    }
+}
+
+/// The pattern that the word at a place is.
+fn want_of(
+    alloc: Global,
+    way: Way,
+    nocase: bool,
+    at: usize,
+    word: &[u8],
+) -> Result<Want, PatternFault>
+    ensures { Gives result (want_of_word way nocase at word.now) }
+{
+    match way {
+        Way::Exact => {
+            let text = Text::from_slice(alloc, word)?;
+            Ok(Want::Exact { text, nocase })
+        }
+        Way::Glob => {
+            let glob = Glob::new(alloc, word)?;
+            Ok(Want::Glob { glob, nocase })
+        }
+        Way::Regular => regular(alloc, nocase, at, word),
+    }
+}
+
+/// The list with a pattern or keyword and its action behind the others.
+fn with_entry(
+    alloc: Global,
+    list: PatternList,
+    marks: Marks,
+    want: Want,
+    action: &[u8],
+) -> Result<PatternList, PatternFault>
+    ensures { Gives result (Ok (with_entry_of list marks want action.now)) }
+{
+    let mut list = list;
+    let entry = Entry {
+        want,
+        indices: marks.indices,
+        notransfer: marks.notransfer,
+        action: Text::from_slice(alloc, action)?,
+        group: list.ids.len(),
+    };
+    list.entries.push(entry)?;
+    Ok(list)
+}
+
+/// The reader behind the pattern at a place.
+fn pattern(
+    alloc: Global,
+    list: PatternList,
+    marks: Marks,
+    way: Way,
+    at: usize,
+    word: &[u8],
+) -> Result<Reader, PatternFault>
+    ensures { Gives result (awaits_action list marks (want_of_word way marks.nocase at word.now)) }
+{
+    let want = want_of(alloc, way, marks.nocase, at, word)?;
+    Ok(Reader {
+        list,
+        marks,
+        pending: Pending::Action(want),
+    })
+}
+
+/// The reader behind a word where a pattern may stand.
+fn by_role(
+    alloc: Global,
+    list: PatternList,
+    marks: Marks,
+    at: usize,
+    word: &[u8],
+    role: Role,
+) -> Result<Reader, PatternFault>
+    ensures { Gives result (by_role_of list marks at word.now role) }
+{
+    match role {
+        Role::Mark(mark) => Ok(Reader {
+            list,
+            marks: with_mark(marks, mark),
+            pending: Pending::More(at),
+        }),
+        Role::Id => Ok(Reader {
+            list,
+            marks,
+            pending: Pending::Id(at),
+        }),
+        Role::Timeout => Ok(Reader {
+            list,
+            marks,
+            pending: Pending::Timeout(at),
+        }),
+        Role::Written(way) => Ok(Reader {
+            list,
+            marks,
+            pending: Pending::Pattern(way, at),
+        }),
+        Role::Keyword(keyword) => Ok(Reader {
+            list,
+            marks: no_marks(),
+            pending: Pending::Action(Want::Keyword(keyword)),
+        }),
+        Role::Glob => pattern(alloc, list, marks, Way::Glob, at, word),
+        Role::Bad => Err(PatternFault::BadFlag(at)),
+    }
+}
+
+/// The list with a process behind the others.
+fn with_id(alloc: Global, list: PatternList, word: &[u8]) -> Result<PatternList, PatternFault>
+    ensures { Gives result (Ok (with_id_of list word.now)) }
+{
+    let mut list = list;
+    list.ids.push(Text::from_slice(alloc, word)?)?;
+    Ok(list)
+}
+
+/// The list with a time in the place of its own.
+fn with_timeout(alloc: Global, list: PatternList, word: &[u8]) -> Result<PatternList, PatternFault>
+    ensures { Gives result (Ok (with_timeout_of list word.now)) }
+{
+    let mut list = list;
+    list.timeout = Some(Text::from_slice(alloc, word)?);
+    Ok(list)
+}
+
+/// The reader behind the word at a place.
+fn taken(alloc: Global, reader: Reader, at: usize, word: &[u8]) -> Result<Reader, PatternFault>
+    ensures { Gives result (taken_of reader.list reader.marks at word.now reader.pending) }
+{
+    let Reader {
+        list,
+        marks,
+        pending,
+    } = reader;
+    match pending {
+        Pending::Front => by_role(alloc, list, marks, at, word, role_of(word)),
+        Pending::More(_) => by_role(alloc, list, marks, at, word, role_of(word)),
+        Pending::Id(_) => Ok(Reader {
+            list: with_id(alloc, list, word)?,
+            marks,
+            pending: Pending::Front,
+        }),
+        Pending::Timeout(_) => Ok(Reader {
+            list: with_timeout(alloc, list, word)?,
+            marks,
+            pending: Pending::Front,
+        }),
+        Pending::Pattern(way, _) => pattern(alloc, list, marks, way, at, word),
+        Pending::Action(want) => Ok(Reader {
+            list: with_entry(alloc, list, marks, want, word)?,
+            marks: no_marks(),
+            pending: Pending::Front,
+        }),
+    }
+}
+
+/// The list, where the arguments may end here.
+fn ended(alloc: Global, reader: Reader) -> Result<PatternList, PatternFault>
+    ensures { Gives result (ended_of reader.list reader.marks reader.pending) }
+{
+    let Reader {
+        list,
+        marks,
+        pending,
+    } = reader;
+    match pending {
+        Pending::Front => Ok(list),
+        Pending::More(flag) => Err(PatternFault::BadFlag(flag)),
+        Pending::Id(flag) => Err(PatternFault::BadFlag(flag)),
+        Pending::Timeout(flag) => Err(PatternFault::BadFlag(flag)),
+        Pending::Pattern(_, flag) => Err(PatternFault::BadFlag(flag)),
+        Pending::Action(want) => with_entry(alloc, list, marks, want, b""),
+    }
+}
+
+/// Where the reading begins.
+fn nothing(alloc: Global) -> Reader
+    ensures { result ≡ nothing_read }
+{
+    Reader {
+        list: PatternList {
+            entries: Entries::new(alloc),
+            ids: Texts::new(alloc),
+            timeout: None,
+        },
+        marks: no_marks(),
+        pending: Pending::Front,
+    }
+}
+
+/// The list that arguments write.
+#[tactic(auto, unfolding(crate::specs::Arguments::patterns_of))]
+pub(crate) fn read(alloc: Global, args: &[Text]) -> Result<PatternList, PatternFault>
+    ensures { Gives result (patterns_of args.now) }
+{
+    let mut reader = nothing(alloc);
+    for (at, word) in args.iter().enumerate() {
+        reader = taken(alloc, reader, at, word.as_slice())?;
+    }
+    ended(alloc, reader)
+}

@@ -1,0 +1,186 @@
+//! Whether a text is a regular pattern.
+
+ghost use Rattle.std.specs.Prelude.{◌≡◌, ◌↔◌, ◌+◌, ◌^◌, ◌<◌, ◌≤◌, List, ℕ, true, false, IfOk, IfSome, MatchOption, length, option_map, chars};
+ghost use Rattle.exp_match.specs.Scan.{opening as opening_of, escape as escape_of, token_at as token_of, behind as behind_of, accepts as accepts_of, outermost, is_pattern};
+ghost use Rattle.exp_match.specs.Grammar.{RePattern};
+
+use crate::class::{class, is_set, quoted};
+use crate::count::count;
+use crate::places::{after, char_at, is_at};
+use crate::token::{Nesting, Token};
+use std::alloc::{AllocError, Global};
+use std::str::from_utf8;
+
+/// A group opens. A `?` stands behind its `(` in `(?:` alone.
+fn opening(rest: &[char]) -> Option<(Token, usize)>
+    ensures value { result ≡ opening_of rest.now }
+    ensures within { IfSome result (λ t. t.1 ≤ length rest.now) }
+{
+    if !is_at(rest, 0, '?') {
+        return Some((Token::Open, 0));
+    }
+    if is_at(rest, 1, ':') {
+        Some((Token::Open, 2))
+    } else {
+        None
+    }
+}
+
+/// What a backslash and the character behind it are.
+fn escape(rest: &[char]) -> Option<(Token, usize)>
+    ensures value { result ≡ escape_of rest.now }
+    ensures within { IfSome result (λ t. t.1 ≤ length rest.now) }
+{
+    match rest {
+        [] => None,
+        [c, ..] => {
+            if is_set(*c) {
+                return Some((Token::Atom, 1));
+            }
+            match quoted(*c) {
+                Some(_) => Some((Token::Atom, 1)),
+                None => None,
+            }
+        }
+    }
+}
+
+/// What begins with a character, and how many characters behind it belong to it.
+#[tactic(auto, unfolding(crate::specs::Scan::token_at))]
+fn token_at(c: char, rest: &[char]) -> Option<(Token, usize)>
+    ensures value { result ≡ token_of c rest.now }
+    ensures within { IfSome result (λ t. t.1 ≤ length rest.now) }
+{
+    match c {
+        '|' | '^' | '$' => Some((Token::Bound, 0)),
+        '*' | '+' | '?' => Some((Token::Repeat, 0)),
+        '{' => with_token(Token::Repeat, count(rest)),
+        '(' => opening(rest),
+        ')' => Some((Token::Close, 0)),
+        '[' => with_token(Token::Atom, class(rest)),
+        '\\' => escape(rest),
+        ']' | '}' => None,
+        _ => Some((Token::Atom, 0)),
+    }
+}
+
+/// A token of so many characters behind its first.
+fn with_token(token: Token, count: Option<usize>) -> Option<(Token, usize)>
+    ensures { result ≡ option_map (λ n. (token, n)) count }
+{
+    match count {
+        Some(n) => Some((token, n)),
+        None => None,
+    }
+}
+
+/// The nesting behind a token, where the token may stand.
+fn behind(nesting: Nesting, token: Token) -> Option<Nesting>
+    requires { nesting.opened + nesting.left < 2 ^ 63 }
+    ensures value { result ≡ behind_of nesting token }
+    ensures sum { IfSome result (λ n. n.opened + n.left ≡ nesting.opened + nesting.left) }
+{
+    let Nesting {
+        opened,
+        left,
+        repeatable,
+    } = nesting;
+    match token {
+        Token::Bound => Some(Nesting {
+            opened,
+            left,
+            repeatable: false,
+        }),
+        Token::Repeat => {
+            if !repeatable {
+                return None;
+            }
+            Some(Nesting {
+                opened,
+                left,
+                repeatable: false,
+            })
+        }
+        Token::Open => {
+            if left == 0 {
+                return None;
+            }
+            Some(Nesting {
+                opened: opened + 1,
+                left: left - 1,
+                repeatable: false,
+            })
+        }
+        Token::Close => {
+            if opened == 0 {
+                return None;
+            }
+            Some(Nesting {
+                opened: opened - 1,
+                left: left + 1,
+                repeatable: true,
+            })
+        }
+        Token::Atom => Some(Nesting {
+            opened,
+            left,
+            repeatable: true,
+        }),
+    }
+}
+
+/// Whether the characters are a pattern.
+fn accepts(chars: &[char]) -> bool
+    ensures { result ≡ accepts_of chars.now outermost }
+{
+    let mut nesting = Nesting {
+        opened: 0,
+        left: 50,
+        repeatable: false,
+    };
+    let mut at = 0;
+    while at < chars.len() {
+        let Some((token, n)) = token_at(char_at(chars, at), after(chars, at + 1)) else {
+            return false;
+        };
+        let Some(next) = behind(nesting, token) else {
+            return false;
+        };
+        nesting = next;
+        at += 1 + n;
+    }
+    nesting.opened == 0
+}
+
+/// A text in UTF-8, where it is a regular pattern: of at most 4,096 bytes, with groups nested at most 50 deep.
+///
+/// It takes memory for the text's characters.
+#[tactic(auto, unfolding(crate::specs::Scan::is_pattern))]
+pub(crate) fn pattern_text(alloc: Global, text: &[u8]) -> Result<Option<&str>, AllocError>
+    ensures { IfOk result (λ found. MatchOption found (is_pattern text.now ≡ false) (λ s. (is_pattern text.now ≡ true) × (s.now ≡ text.now))) }
+{
+    if text.len() > 4096 {
+        return Ok(None);
+    }
+    let Ok(source) = from_utf8(text) else {
+        return Ok(None);
+    };
+    let chars = characters(alloc, source)?;
+    if accepts(chars.as_slice()) {
+        Ok(Some(source))
+    } else {
+        Ok(None)
+    }
+}
+
+/// The characters of a text.
+fn characters(alloc: Global, text: &str) -> Result<Vec<char>, AllocError>
+    ensures { IfOk result (λ v. v.items ≡ chars text.now) }
+{
+    text.chars().collect(alloc)
+}
+
+/// The law of the grammar: what `PatternList::build` takes for a regular pattern is what the rules derive.
+pub fn pattern_rules()
+    ensures { (text : List ℕ) → (is_pattern text ≡ true) ↔ RePattern text }
+{}

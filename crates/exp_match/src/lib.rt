@@ -1,0 +1,32 @@
+//! The patterns of an `expect` command: how its arguments write them, and which of them matches bytes first, as expect(1) has it.
+//!
+//! `specs/Arguments.antt` says how arguments are read, `specs/Grammar.antt` which texts are regular patterns, and `specs/Choice.antt` which pattern is chosen.
+#![tactic(auto)]
+
+mod arguments;
+mod choose;
+mod chosen;
+mod class;
+mod count;
+mod entry;
+mod exact;
+mod faults;
+mod grammar;
+mod list;
+mod pending;
+mod places;
+mod readers;
+mod regular;
+mod token;
+
+pub use chosen::Chosen;
+pub use entry::{Entries, Entry, Keyword, Want};
+pub use faults::{PatternFault, Refusal};
+pub use grammar::pattern_rules;
+pub use list::PatternList;
+pub use pending::{Mark, Marks, Pending, Reader, Role, Way};
+pub use regular::{Regular, Spans};
+pub use token::{Nesting, Token};
+
+#[cfg(test)]
+mod tests;

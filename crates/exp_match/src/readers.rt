@@ -1,0 +1,156 @@
+//! What a list of patterns says, without taking memory.
+
+ghost use Rattle.std.specs.Prelude.{◌≡◌, ◌+◌, ◌-◌, ◌==◌, ◌<◌, ◌≤◌, Some, None, IfSome, position, length, if◌then◌else◌, option_map};
+ghost use Rattle.std.specs.List.{slice_get};
+ghost use Rattle.exp_match.specs.Choice.{waits_for_end as waits_for_end_of, waits_for_time as waits_for_time_of, waits_for_full as waits_for_full_of, waits_for_time_alone as waits_for_time_alone_of, first_in, serves as serves_of};
+ghost use Rattle.exp_match.specs.Arguments.{Gives, patterns_of};
+
+use crate::arguments::read;
+use crate::choose::in_groups;
+use crate::entry::{Keyword, Want};
+use crate::faults::PatternFault;
+use crate::list::PatternList;
+use std::alloc::Global;
+use tcl_words::Text;
+
+/// Whether an entry serves when the output has ended.
+fn waits_for_end(want: &Want) -> bool
+    ensures { result ≡ waits_for_end_of want.now }
+{
+    match want {
+        Want::Keyword(Keyword::Eof) => true,
+        Want::Keyword(Keyword::Default) => true,
+        _ => false,
+    }
+}
+
+/// Whether an entry serves when the time is over.
+fn waits_for_time(want: &Want) -> bool
+    ensures { result ≡ waits_for_time_of want.now }
+{
+    match want {
+        Want::Keyword(Keyword::Timeout) => true,
+        Want::Keyword(Keyword::Default) => true,
+        _ => false,
+    }
+}
+
+/// Whether an entry serves when the buffer is full.
+fn waits_for_full(want: &Want) -> bool
+    ensures { result ≡ waits_for_full_of want.now }
+{
+    match want {
+        Want::Keyword(Keyword::FullBuffer) => true,
+        _ => false,
+    }
+}
+
+/// Whether an entry is `timeout`.
+fn waits_for_time_alone(want: &Want) -> bool
+    ensures { result ≡ waits_for_time_alone_of want.now }
+{
+    match want {
+        Want::Keyword(Keyword::Timeout) => true,
+        _ => false,
+    }
+}
+
+impl PatternList {
+    /// The list that the arguments of `expect` write.
+    ///
+    /// The first bad argument decides, with its place. `Refused` and `Memory` tell nothing of the arguments.
+    pub fn build(alloc: Global, args: &[Text]) -> Result<PatternList, PatternFault>
+        ensures { Gives result (patterns_of args.now) }
+    {
+        read(alloc, args)
+    }
+
+    /// The script of an entry, maybe empty.
+    pub fn action(&self, index: usize) -> &[u8]
+        requires { index < length self.now.entries }
+        ensures { option_map (λ e. e.action) (slice_get self.now.entries index) ≡ Some result.now }
+    {
+        self.entries.as_slice()[index].action.as_slice()
+    }
+
+    /// Whether `-indices` and `-notransfer` stand before an entry's pattern.
+    pub fn marks(&self, index: usize) -> (bool, bool)
+        requires { index < length self.now.entries }
+        ensures { option_map (λ e. (e.indices, e.notransfer)) (slice_get self.now.entries index) ≡ Some result }
+    {
+        let entry = &self.entries.as_slice()[index];
+        (entry.indices, entry.notransfer)
+    }
+
+    /// The first listed `eof` or `default` of these groups.
+    pub fn at_end(&self, groups: &[usize]) -> Option<usize>
+        ensures first { result ≡ first_in waits_for_end_of groups.now self.now.entries }
+        ensures within { IfSome result (λ n. n < length self.now.entries) }
+    {
+        self.entries
+            .as_slice()
+            .iter()
+            .position(|e| in_groups(groups, e) && waits_for_end(&e.want))
+    }
+
+    /// The first listed `full_buffer` of these groups.
+    pub fn at_full(&self, groups: &[usize]) -> Option<usize>
+        ensures first { result ≡ first_in waits_for_full_of groups.now self.now.entries }
+        ensures within { IfSome result (λ n. n < length self.now.entries) }
+    {
+        self.entries
+            .as_slice()
+            .iter()
+            .position(|e| in_groups(groups, e) && waits_for_full(&e.want))
+    }
+
+    /// The first listed `timeout` or `default` of any group.
+    pub fn at_timeout(&self) -> Option<usize>
+        ensures first { result ≡ position (λ e. waits_for_time_of e.want) self.now.entries }
+        ensures within { IfSome result (λ n. n < length self.now.entries) }
+    {
+        self.entries
+            .as_slice()
+            .iter()
+            .position(|e| waits_for_time(&e.want))
+    }
+
+    /// What the last `-timeout` names.
+    pub fn timeout(&self) -> Option<&[u8]>
+        ensures { option_map (λ t. t.now) result ≡ self.now.timeout }
+    {
+        match &self.timeout {
+            Some(time) => Some(time.as_slice()),
+            None => None,
+        }
+    }
+
+    /// How many groups there are: one more than `-i` stands there.
+    pub fn groups(&self) -> usize
+        ensures { result ≡ length self.now.ids + 1 }
+    {
+        self.ids.as_slice().len() + 1
+    }
+
+    /// The process that a group's `-i` names, and none for group 0.
+    pub fn group_id(&self, group: usize) -> Option<&[u8]>
+        requires { group ≤ length self.now.ids }
+        ensures { option_map (λ t. t.now) result ≡ (if group == 0 then None else slice_get self.now.ids (group - 1)) }
+    {
+        if group == 0 {
+            return None;
+        }
+        Some(self.ids.as_slice()[group - 1].as_slice())
+    }
+
+    /// Whether a pattern, or a keyword other than `timeout`, stands in a group.
+    pub fn serves(&self, group: usize) -> bool
+        requires { group ≤ length self.now.ids }
+        ensures { result ≡ serves_of group self.now.entries }
+    {
+        self.entries
+            .as_slice()
+            .iter()
+            .any(|e| e.group == group && !waits_for_time_alone(&e.want))
+    }
+}

@@ -1,0 +1,65 @@
+//! What expressions come to.
+
+use crate::complaint::Complaint;
+use crate::spell::push_labelled;
+use std::alloc::Global;
+use tcl_expr::{Expr, ExprFault, Operands, Step, parse};
+use tcl_words::Text;
+
+fn push_fault(alloc: Global, text: &mut Text, fault: &ExprFault) -> Result<(), Complaint> {
+    let name = match fault {
+        ExprFault::Syntax => b"Syntax".as_slice(),
+        ExprFault::NotNumber(word) => {
+            return Ok(push_labelled(alloc, text, b"NotNumber ", word.as_slice())?);
+        }
+        ExprFault::DivideByZero => b"DivideByZero",
+        ExprFault::Overflow => b"Overflow",
+        ExprFault::TooDeep => b"TooDeep",
+        ExprFault::Memory => return Err(Complaint::Memory),
+    };
+    text.extend(name)?;
+    Ok(())
+}
+
+/// Goes on with the values of operands, in the order in which they are asked for, until no more are there.
+fn push_value(
+    alloc: Global,
+    text: &mut Text,
+    expr: &Expr,
+    values: &[Text],
+) -> Result<(), Complaint> {
+    let mut log = Operands::new(alloc);
+    'operands: for value in values {
+        match expr.advance(alloc, &mut log) {
+            Step::NeedVar(_) => text.extend(b"variable ")?,
+            Step::NeedScript(_) => text.extend(b"script ")?,
+            Step::Value(_) => break,
+            Step::Fault(ExprFault::Memory) => return Err(Complaint::Memory),
+            Step::Fault(_) => break,
+        }
+        log.give(value.copied(alloc)?)?;
+    }
+    match expr.advance(alloc, &mut log) {
+        Step::NeedVar(_) => text.extend(b"variable")?,
+        Step::NeedScript(_) => text.extend(b"script")?,
+        Step::Value(value) => push_labelled(alloc, text, b"value ", value.as_slice())?,
+        Step::Fault(fault) => push_fault(alloc, text, &fault)?,
+    }
+    Ok(())
+}
+
+/// Each call has an expression, and the values of operands. A line says what was asked for and what it came to.
+pub fn shown_expressions(alloc: Global, calls: &[Vec<Text>]) -> Result<Text, Complaint> {
+    let mut text = Text::new(alloc);
+    'calls: for call in calls {
+        let [source, values @ ..] = call.as_slice() else {
+            return Err(Complaint::Call);
+        };
+        match parse(alloc, source.as_slice()) {
+            Ok(expr) => push_value(alloc, &mut text, &expr, values)?,
+            Err(fault) => push_fault(alloc, &mut text, &fault)?,
+        }
+        text.push(b'\n')?;
+    }
+    Ok(text)
+}

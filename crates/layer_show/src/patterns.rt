@@ -1,0 +1,65 @@
+//! Which of listed patterns is chosen.
+
+use crate::calls::number;
+use crate::complaint::Complaint;
+use exp_match::{Chosen, PatternFault, PatternList};
+use std::alloc::Global;
+use tcl_words::Text;
+
+fn push_chosen(alloc: Global, text: &mut Text, chosen: Chosen) -> Result<(), Complaint> {
+    let (index, spans) = match chosen {
+        Chosen::Full => return Ok(text.extend(b"full\n")?),
+        Chosen::None => return Ok(text.extend(b"none\n")?),
+        Chosen::Pattern(index, spans) => (index, spans),
+    };
+    text.extend(format!(in alloc; "{index}")?.as_bytes())?;
+    'spans: for span in &spans {
+        match span {
+            Some((start, end)) => text.extend(format!(in alloc; " {start},{end}")?.as_bytes())?,
+            None => text.extend(b" -")?,
+        }
+    }
+    text.push(b'\n')?;
+    Ok(())
+}
+
+fn refused(alloc: Global, fault: PatternFault) -> Result<Text, Complaint> {
+    let line = match fault {
+        PatternFault::BadFlag(index) => format!(in alloc; "bad flag {index}\n")?,
+        PatternFault::BadRegex(index) => format!(in alloc; "bad regular expression {index}\n")?,
+        PatternFault::Refused => format!(in alloc; "refused\n")?,
+        PatternFault::Memory => return Err(Complaint::Memory),
+    };
+    Ok(Text::from_slice(alloc, line.as_bytes())?)
+}
+
+/// Every group of a list.
+fn all_groups(alloc: Global, list: &PatternList) -> Result<Vec<usize>, Complaint> {
+    let mut groups = Vec::new(alloc);
+    'groups: for group in 0..list.groups() {
+        groups.push(group).map_err(|_| Complaint::Memory)?;
+    }
+    Ok(groups)
+}
+
+/// The first call has the arguments of `expect`; each other one the most bytes that are kept, and bytes. A line
+/// has the pattern that is chosen, with its spans.
+pub fn shown_patterns(alloc: Global, calls: &[Vec<Text>]) -> Result<Text, Complaint> {
+    let mut text = Text::new(alloc);
+    let [arguments, tests @ ..] = calls else {
+        return Ok(text);
+    };
+    let list = match PatternList::build(alloc, arguments.as_slice()) {
+        Ok(list) => list,
+        Err(fault) => return refused(alloc, fault),
+    };
+    let groups = all_groups(alloc, &list)?;
+    'tests: for test in tests {
+        let [max, bytes] = test.as_slice() else {
+            return Err(Complaint::Call);
+        };
+        let chosen = list.choose(alloc, groups.as_slice(), bytes.as_slice(), number(max)?)?;
+        push_chosen(alloc, &mut text, chosen)?;
+    }
+    Ok(text)
+}

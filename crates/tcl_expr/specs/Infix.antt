@@ -1,0 +1,103 @@
+-- The operators of expressions and their precedence, as the manual page expr(n) has them. No shifts, `**`, `in` or `ni`.
+use Rattle.std.specs.Prelude.{ℕ, Bool, false, not, ◌&&◌, ◌||◌, nat_le, List, [], ◌∷◌, drop, Option, Some, None, ◌==◌, if◌then◌else◌}
+use Rattle.tcl_words.specs.Lists.{begins_with}
+use Rattle.tcl_expr.specs.declared.operators.Prefix.{Prefix}
+use Rattle.tcl_expr.specs.declared.operators.Prefix.TheVariants.{Minus, Plus, Complement, Not}
+use Rattle.tcl_expr.specs.declared.operators.Arithmetic.{Arithmetic}
+use Rattle.tcl_expr.specs.declared.operators.Arithmetic.TheVariants.{Multiply, Divide, Remainder, Add, Subtract, BitAnd, BitXor, BitOr}
+use Rattle.tcl_expr.specs.declared.operators.Comparison.{Comparison}
+use Rattle.tcl_expr.specs.declared.operators.Comparison.TheVariants.{Less, Greater, AtMost, AtLeast, Equal, Unequal}
+use Rattle.tcl_expr.specs.declared.operators.Eager.{Eager}
+use Rattle.tcl_expr.specs.declared.operators.Eager.TheVariants as eager
+use Rattle.tcl_expr.specs.declared.operators.Lazy.{Lazy}
+use Rattle.tcl_expr.specs.declared.operators.Lazy.TheVariants.{And, Or}
+use Rattle.tcl_expr.specs.declared.operators.Infix.{Infix}
+use Rattle.tcl_expr.specs.declared.operators.Infix.TheVariants as between
+
+abbrev pub is_letter : ℕ → Bool
+is_letter b = nat_le 97 b && nat_le b 122 || nat_le 65 b && nat_le b 90
+
+abbrev pub begins_letter : List ℕ → Bool
+begins_letter [] = false
+begins_letter (b ∷ bytes) = is_letter b
+
+abbrev pub arithmetic : Arithmetic → Infix
+arithmetic op = between.Eager (eager.Arithmetic op)
+
+abbrev pub comparison : Comparison → Infix
+comparison op = between.Eager (eager.Comparison op)
+
+-- an operator, and how many bytes behind its first one belong to it
+abbrev pub alone : Option Infix → Option (Infix × ℕ)
+alone None = None
+alone (Some op) = Some (op, 0)
+
+-- an operator that may stand alone or, as another one, before `=`
+abbrev pub with_equals : Option Infix → Comparison → List ℕ → Option (Infix × ℕ)
+with_equals short longer bytes = if begins_with 61 bytes then Some (comparison longer, 1) else alone short
+
+-- an operator of one byte that is another one where it stands twice
+abbrev pub doubled : ℕ → Arithmetic → Lazy → List ℕ → Option (Infix × ℕ)
+doubled b short twice bytes = if begins_with b bytes then Some (between.Lazy twice, 1) else Some (arithmetic short, 0)
+
+-- `eq` and `ne`, by their second letter, where no letter follows
+abbrev pub word_operator : ℕ → Eager → List ℕ → Option (Infix × ℕ)
+word_operator second op bytes =
+    if not (begins_with second bytes) then None
+    else (if begins_letter (drop 1 bytes) then None
+    else Some (between.Eager op, 1))
+
+-- the operator between two operands that begins with a byte, and how many bytes behind it belong to it
+unfoldable pub infix_at : ℕ → List ℕ → Option (Infix × ℕ)
+infix_at b bytes =
+    if b == 42 then Some (arithmetic Multiply, 0)
+    else (if b == 47 then Some (arithmetic Divide, 0)
+    else (if b == 37 then Some (arithmetic Remainder, 0)
+    else (if b == 43 then Some (arithmetic Add, 0)
+    else (if b == 45 then Some (arithmetic Subtract, 0)
+    else (if b == 94 then Some (arithmetic BitXor, 0)
+    else (if b == 60 then with_equals (Some (comparison Less)) AtMost bytes
+    else (if b == 62 then with_equals (Some (comparison Greater)) AtLeast bytes
+    else (if b == 61 then with_equals None Equal bytes
+    else (if b == 33 then with_equals None Unequal bytes
+    else (if b == 38 then doubled 38 BitAnd And bytes
+    else (if b == 124 then doubled 124 BitOr Or bytes
+    else (if b == 101 then word_operator 113 eager.Same bytes
+    else (if b == 110 then word_operator 101 eager.Differs bytes
+    else None)))))))))))))
+
+abbrev pub arithmetic_level : Arithmetic → ℕ
+arithmetic_level Multiply = 1
+arithmetic_level Divide = 1
+arithmetic_level Remainder = 1
+arithmetic_level Add = 2
+arithmetic_level Subtract = 2
+arithmetic_level BitAnd = 6
+arithmetic_level BitXor = 7
+arithmetic_level BitOr = 8
+
+abbrev pub comparison_level : Comparison → ℕ
+comparison_level Less = 3
+comparison_level Greater = 3
+comparison_level AtMost = 3
+comparison_level AtLeast = 3
+comparison_level Equal = 4
+comparison_level Unequal = 4
+
+-- how loosely an operator binds: 1 is the tightest level, 10 the loosest
+abbrev pub level_of : Infix → ℕ
+level_of (between.Eager (eager.Arithmetic op)) = arithmetic_level op
+level_of (between.Eager (eager.Comparison op)) = comparison_level op
+level_of (between.Eager eager.Same) = 5
+level_of (between.Eager eager.Differs) = 5
+level_of (between.Lazy And) = 9
+level_of (between.Lazy Or) = 10
+
+-- the operator before an operand that a byte is
+abbrev pub prefix_at : ℕ → Option Prefix
+prefix_at b =
+    if b == 45 then Some Minus
+    else (if b == 43 then Some Plus
+    else (if b == 126 then Some Complement
+    else (if b == 33 then Some Not
+    else None)))

@@ -1,0 +1,19 @@
+-- Small words of the operators on values.
+use Rattle.std.specs.Prelude.{◌≡◌, ℕ, List, Bool, true, false, not}
+use Rattle.tcl_expr.specs.declared.items.Shown.{Shown}
+use Rattle.tcl_expr.specs.declared.items.Shown.TheVariants.{Lent, Written}
+use Rattle.tcl_expr.specs.declared.faults.ExprFault.{ExprFault}
+use Rattle.tcl_expr.specs.declared.faults.ExprFault.TheVariants.{Memory, NotNumber}
+
+abbrev pub shown_text : Shown → List ℕ
+shown_text (Lent bytes) = bytes.now
+shown_text (Written text) = text
+
+abbrev pub opposed : Bool → Bool → Bool
+opposed true b = not b
+opposed false b = b
+
+-- the fault of a text that is no number, or of want of memory
+abbrev pub IsNotNumber : ExprFault → List ℕ → Type 0
+IsNotNumber Memory text = Unit {0}
+IsNotNumber fault text = fault ≡ NotNumber text

@@ -1,0 +1,22 @@
+-- Values that wait for their operators, the last one first.
+use Rattle.std.specs.Prelude.{ℕ, List, [], ◌∷◌, slice_index_or, nat_lt, Bool, true, Option, Some, None}
+use Rattle.tcl_expr.specs.declared.stack.Item.{Item}
+use Rattle.tcl_expr.specs.declared.stack.Item.TheVariants as items
+use Rattle.tcl_expr.specs.Number.{number_text}
+use Rattle.tcl_expr.specs.Truth.{word_text}
+
+abbrev pub first : List Item → Option Item
+first [] = None
+first (x ∷ xs) = Some x
+
+-- a value's text, where these operands were given
+abbrev pub item_text : List (List ℕ) → Item → List ℕ
+item_text given (items.Number z) = number_text z
+item_text given (items.Word w) = word_text w
+item_text given (items.Given k) = slice_index_or given k []
+
+-- whether a value is none of the operands from a place on
+abbrev pub is_below : ℕ → Item → Bool
+is_below n (items.Number z) = true
+is_below n (items.Word w) = true
+is_below n (items.Given k) = nat_lt k n

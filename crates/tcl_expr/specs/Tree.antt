@@ -1,0 +1,19 @@
+-- What an expression is made of, grouped.
+use Rattle.std.specs.Prelude.{ℤ}
+use Rattle.tcl_words.specs.Pieces.{Spelled}
+use Rattle.tcl_expr.specs.declared.bareword.Bareword.{Bareword}
+use Rattle.tcl_expr.specs.declared.operators.Prefix.{Prefix}
+use Rattle.tcl_expr.specs.declared.operators.Eager.{Eager}
+use Rattle.tcl_expr.specs.declared.operators.Lazy.{Lazy}
+
+pub data Tree : Type 0 where
+  number : ℤ → Tree
+  word : Bareword → Tree
+  -- what this word of the language is filled to
+  operand : Spelled → Tree
+  unary : Prefix → Tree → Tree
+  binary : Eager → Tree → Tree → Tree
+  -- `&&` and `||`
+  lazy : Lazy → Tree → Tree → Tree
+  -- `?:`
+  choice : Tree → Tree → Tree → Tree

@@ -1,0 +1,20 @@
+-- White space between the parts of an expression, as expr(n) has it: a newline is white space, and so is a backslash before a newline.
+use Rattle.std.specs.Prelude.{ℕ, ◌+◌, List, drop, if◌then◌else◌}
+use Rattle.tcl_words.specs.Course.{reading}
+use Rattle.tcl_words.specs.Backslash.{blanks}
+use Rattle.tcl_words.specs.Lists.{is_white}
+use Rattle.tcl_words.specs.Commands.{is_continued}
+
+abbrev pub white_step : (ℕ → ℕ) → ℕ → List ℕ → ℕ
+white_step on b bytes =
+    if is_white b then 1 + on 0
+    else (if is_continued b bytes then 2 + blanks (drop 1 bytes) + on (1 + blanks (drop 1 bytes))
+    else 0)
+
+-- how many bytes of white space a text begins with
+unfoldable pub white : List ℕ → ℕ
+white = reading 0 white_step
+
+-- the place behind the white space at a place
+abbrev pub gap : List ℕ → ℕ → ℕ
+gap text at = at + white (drop at text)

@@ -1,0 +1,227 @@
+//! The levels of an expression. Each function puts the instructions of what it reads at the end of `code`, and answers how
+//! many bytes it took, with the white space behind them.
+//!
+//! `depth` is how many more parentheses, prefix operators and branches of `?:` may open in one another.
+//! A chain of operators is a loop, so the stack grows with the nesting alone.
+
+ghost use Rattle.std.specs.Prelude.{◌≡◌, ◌≤◌, ◌∷◌, IfOk, length};
+ghost use Rattle.tcl_expr.specs.Grammar.{inside_of, term, in_parens, prefixed, level, whole};
+ghost use Rattle.tcl_expr.specs.White.{gap};
+ghost use Rattle.tcl_expr.specs.Reads.{Writes};
+
+use crate::code::{Code, Op};
+use crate::faults::ExprFault;
+use crate::infix::{infix_at, level_of, prefix_at};
+use crate::leaf::{digits_len, is_lowest, leaf};
+use crate::operators::{Infix, Lazy, Prefix};
+use crate::white::{after, begins_with, gap};
+use std::alloc::{AllocError, Global};
+
+/// Parentheses, prefix operators and branches may stand in one another so deep.
+pub(crate) const DEEPEST: u8 = 200;
+
+/// The loosest level of operators between two operands.
+const LOOSEST: u8 = 10;
+
+/// An expression one level deeper.
+#[cycle(expression)]
+#[tactic(auto, unfolding(crate::specs::Grammar::inside_of))]
+fn inner(alloc: Global, code: &mut Code, text: &[u8], depth: u8) -> Result<usize, ExprFault>
+    ensures value { Writes result ((inside_of depth).whole text.now) code.old code.new }
+    ensures within { IfOk result (λ n. n ≤ length text.now) }
+{
+    if depth == 0 {
+        return Err(ExprFault::TooDeep);
+    }
+    whole(alloc, code, text, depth - 1)
+}
+
+/// A prefix operator's operand.
+#[cycle(expression)]
+#[tactic(auto, unfolding(crate::specs::Grammar::inside_of))]
+fn inner_term(alloc: Global, code: &mut Code, text: &[u8], depth: u8) -> Result<usize, ExprFault>
+    ensures value { Writes result ((inside_of depth).term text.now) code.old code.new }
+    ensures within { IfOk result (λ n. n ≤ length text.now) }
+{
+    if depth == 0 {
+        return Err(ExprFault::TooDeep);
+    }
+    term(alloc, code, text, depth - 1)
+}
+
+/// The expression at the place n, and the `)` behind it.
+#[cycle(expression)]
+fn in_parens(
+    alloc: Global,
+    code: &mut Code,
+    text: &[u8],
+    n: usize,
+    depth: u8,
+) -> Result<usize, ExprFault>
+    requires { n ≤ length text.now }
+    ensures value { Writes result (in_parens text.now n ((inside_of depth).whole (drop n text.now))) code.old code.new }
+    ensures within { IfOk result (λ m. m ≤ length text.now) }
+{
+    let m = n + inner(alloc, code, after(text, n), depth)?;
+    if !begins_with(b')', after(text, m)) {
+        return Err(ExprFault::Syntax);
+    }
+    Ok(gap(text, m + 1))
+}
+
+ghost use Rattle.std.specs.Prelude.{drop};
+
+/// A prefix operator and its operand.
+#[cycle(expression)]
+fn prefixed(
+    alloc: Global,
+    code: &mut Code,
+    text: &[u8],
+    op: Prefix,
+    depth: u8,
+) -> Result<usize, ExprFault>
+    requires { 1 ≤ length text.now }
+    ensures value { Writes result (prefixed (inside_of depth) text.now (Some op)) code.old code.new }
+    ensures within { IfOk result (λ n. n ≤ length text.now) }
+{
+    let n = gap(text, 1);
+    let m = inner_term(alloc, code, after(text, n), depth)?;
+    code.push(Op::Apply(op))?;
+    Ok(n + m)
+}
+
+/// Level 0: a leaf, an expression in parentheses, or a prefix operator and its operand.
+#[cycle(expression)]
+#[tactic(auto, unfolding(crate::specs::Grammar::term))]
+fn term(alloc: Global, code: &mut Code, text: &[u8], depth: u8) -> Result<usize, ExprFault>
+    ensures value { Writes result (term (inside_of depth) text.now) code.old code.new }
+    ensures within { IfOk result (λ n. n ≤ length text.now) }
+{
+    match text {
+        [] => Err(ExprFault::Syntax),
+        [b, rest @ ..] => {
+            if *b == b'(' {
+                return in_parens(alloc, code, text, gap(text, 1), depth);
+            }
+            if is_lowest(*b, rest) {
+                code.push(Op::Number(i64::MIN))?;
+                return Ok(gap(text, 1 + digits_len(rest)));
+            }
+            match prefix_at(*b) {
+                None => leaf(alloc, code, text),
+                Some(op) => prefixed(alloc, code, text, op, depth),
+            }
+        }
+    }
+}
+
+/// An operator's right operand, of the next tighter level, and the operator's own instructions.
+#[cycle(expression)]
+fn right(
+    alloc: Global,
+    code: &mut Code,
+    op: Infix,
+    text: &[u8],
+    loosest: u8,
+    depth: u8,
+) -> Result<usize, ExprFault>
+    ensures value { WritesRight result op (level (inside_of depth) loosest text.now) code.old code.new }
+    ensures within { IfOk result (λ n. n ≤ length text.now) }
+{
+    match op {
+        Infix::Eager(op) => {
+            let n = level(alloc, code, text, loosest, depth)?;
+            code.push(Op::Combine(op))?;
+            Ok(n)
+        }
+        Infix::Lazy(op) => {
+            let at = code.len();
+            code.push(Op::Test(op, 0))?;
+            let n = level(alloc, code, text, loosest, depth)?;
+            code.push(Op::Truth(op))?;
+            code.patch(at, Op::Test(op, code.len() - at - 1));
+            Ok(n)
+        }
+    }
+}
+
+ghost use Rattle.tcl_expr.specs.Reads.{WritesRight};
+
+/// A chain of operands with operators of a level between them, or what a tighter level has.
+#[cycle(expression)]
+fn level(
+    alloc: Global,
+    code: &mut Code,
+    text: &[u8],
+    loosest: u8,
+    depth: u8,
+) -> Result<usize, ExprFault>
+    ensures value { Writes result (level (inside_of depth) loosest text.now) code.old code.new }
+    ensures within { IfOk result (λ n. n ≤ length text.now) }
+{
+    if loosest == 0 {
+        return term(alloc, code, text, depth);
+    }
+    let mut at = level(alloc, code, text, loosest - 1, depth)?;
+    while at < text.len() {
+        let rest = after(text, at + 1);
+        let Some((op, n)) = infix_at(text[at], rest) else {
+            return Ok(at);
+        };
+        if level_of(op) != loosest {
+            return Ok(at);
+        }
+        let n = gap(rest, n);
+        at += 1 + n + right(alloc, code, op, after(rest, n), loosest - 1, depth)?;
+    }
+    Ok(at)
+}
+
+/// An expression: a chain of the loosest level and, where `?` is behind it, two branches.
+#[cycle(expression)]
+pub(crate) fn whole(
+    alloc: Global,
+    code: &mut Code,
+    text: &[u8],
+    depth: u8,
+) -> Result<usize, ExprFault>
+    ensures value { Writes result (whole (inside_of depth) text.now) code.old code.new }
+    ensures within { IfOk result (λ n. n ≤ length text.now) }
+{
+    let n = level(alloc, code, text, LOOSEST, depth)?;
+    if !begins_with(b'?', after(text, n)) {
+        return Ok(n);
+    }
+    branches(alloc, code, text, gap(text, n + 1), depth)
+}
+
+/// The two branches of `?:`, the first at the place n.
+#[cycle(expression)]
+fn branches(
+    alloc: Global,
+    code: &mut Code,
+    text: &[u8],
+    n: usize,
+    depth: u8,
+) -> Result<usize, ExprFault>
+    requires { n ≤ length text.now }
+    ensures value { WritesBranches result (inside_of depth) text.now n code.old code.new }
+    ensures within { IfOk result (λ m. m ≤ length text.now) }
+{
+    let test = code.len();
+    code.push(Op::Branch(0))?;
+    let m = n + inner(alloc, code, after(text, n), depth)?;
+    if !begins_with(b':', after(text, m)) {
+        return Err(ExprFault::Syntax);
+    }
+    let m = gap(text, m + 1);
+    let leave = code.len();
+    code.push(Op::Skip(0))?;
+    let k = inner(alloc, code, after(text, m), depth)?;
+    code.patch(test, Op::Branch(leave - test));
+    code.patch(leave, Op::Skip(code.len() - leave - 1));
+    code.push(Op::Join)?;
+    Ok(m + k)
+}
+
+ghost use Rattle.tcl_expr.specs.Reads.{WritesBranches};

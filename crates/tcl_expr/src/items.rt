@@ -1,0 +1,206 @@
+//! What operators make of values that wait.
+
+ghost use Rattle.std.specs.Prelude.{◌≡◌, IfOk, bytes_eq};
+ghost use Rattle.tcl_expr.specs.Number.{number_of};
+ghost use Rattle.tcl_expr.specs.Truth.{truth_of};
+ghost use Rattle.tcl_expr.specs.Value.{prefixed, combined, arithmetic, on_number, on_truth, negated, order_of, bit};
+
+use crate::bareword::{is_same, read_truth, truth_from};
+use crate::faults::ExprFault;
+use crate::number::{read_number, write_number};
+use crate::operators::{Arithmetic, Eager, Prefix};
+use crate::progress::Operands;
+use crate::stack::Item;
+use crate::values::{arithmetic, bit, holds, negated};
+use std::alloc::{AllocError, Global};
+use std::cmp::Ordering;
+use tcl_words::Text;
+
+/// The text of a value: lent where it is there, else written.
+#[derive(Drop)]
+pub(crate) enum Shown<'a> {
+    Lent(&'a [u8]),
+    Written(Text),
+}
+
+impl Shown<'_> {
+    pub(crate) fn as_slice(&self) -> &[u8]
+        ensures { result.now ≡ shown_text self.now }
+    {
+        match self {
+            Shown::Lent(bytes) => *bytes,
+            Shown::Written(text) => text.as_slice(),
+        }
+    }
+}
+
+impl Operands {
+    ghost use Rattle.tcl_expr.specs.Stack.{item_text};
+    ghost use Rattle.tcl_expr.specs.Reads.{Gives, Fails};
+
+    /// The text of a value.
+    fn shown(&self, alloc: Global, item: Item) -> Result<Shown<'_>, AllocError>
+        ensures { IfOk result (λ s. shown_text s ≡ item_text self.now.given item) }
+    {
+        match item {
+            Item::Number(z) => Ok(Shown::Written(write_number(alloc, z)?)),
+            Item::Word(word) => Ok(Shown::Lent(word.text())),
+            Item::Given(k) => match self.given.as_slice().get(k) {
+                None => Ok(Shown::Lent(b"")),
+                Some(text) => Ok(Shown::Lent(text.as_slice())),
+            },
+        }
+    }
+
+    /// The text of a value, as one of its own.
+    pub(crate) fn text(&self, alloc: Global, item: Item) -> Result<Text, AllocError>
+        ensures { IfOk result (λ t. t ≡ item_text self.now.given item) }
+    {
+        match self.shown(alloc, item)? {
+            Shown::Lent(bytes) => Ok(Text::from_slice(alloc, bytes)?),
+            Shown::Written(text) => Ok(text),
+        }
+    }
+
+    /// The number that a value is.
+    fn number(&self, item: Item) -> Option<i64>
+        ensures { result ≡ number_of (item_text self.now.given item) }
+    {
+        match item {
+            Item::Number(z) => Some(z),
+            Item::Word(_) => None,
+            Item::Given(k) => match self.given.as_slice().get(k) {
+                None => None,
+                Some(text) => read_number(text.as_slice()),
+            },
+        }
+    }
+
+    /// The truth value that a value is.
+    pub(crate) fn truth(&self, item: Item) -> Option<bool>
+        ensures { result ≡ truth_of (item_text self.now.given item) }
+    {
+        match item {
+            Item::Number(z) => truth_from(Some(z), b""),
+            Item::Word(word) => Some(word.says()),
+            Item::Given(k) => match self.given.as_slice().get(k) {
+                None => None,
+                Some(text) => read_truth(text.as_slice()),
+            },
+        }
+    }
+
+    /// The fault of a value that is no number.
+    pub(crate) fn not_number(&self, alloc: Global, item: Item) -> ExprFault
+        ensures { IsNotNumber result (item_text self.now.given item) }
+    {
+        match self.text(alloc, item) {
+            Err(_) => ExprFault::Memory,
+            Ok(text) => ExprFault::NotNumber(text),
+        }
+    }
+
+    /// What a prefix operator on numbers makes of a value.
+    fn on_number(&self, alloc: Global, op: Prefix, item: Item) -> Result<i64, ExprFault>
+        ensures { Gives result (on_number (item_text self.now.given item) (number_of (item_text self.now.given item)) (negated op)) }
+    {
+        match self.number(item) {
+            None => Err(self.not_number(alloc, item)),
+            Some(z) => negated(op, z),
+        }
+    }
+
+    /// The truth value that a value has to be, or its opposite, as a number.
+    pub(crate) fn on_truth(
+        &self,
+        alloc: Global,
+        item: Item,
+        opposite: bool,
+    ) -> Result<i64, ExprFault>
+        ensures { Gives result (on_truth (item_text self.now.given item) (truth_of (item_text self.now.given item)) (λ b. Ok (bit (opposed opposite b)))) }
+    {
+        match self.truth(item) {
+            None => Err(self.not_number(alloc, item)),
+            Some(b) => Ok(bit(b != opposite)),
+        }
+    }
+
+    /// What a prefix operator makes of a value.
+    pub(crate) fn prefixed(&self, alloc: Global, op: Prefix, item: Item) -> Result<i64, ExprFault>
+        ensures { Gives result (prefixed op (item_text self.now.given item)) }
+    {
+        match op {
+            Prefix::Not => self.on_truth(alloc, item, true),
+            Prefix::Minus => self.on_number(alloc, Prefix::Minus, item),
+            Prefix::Plus => self.on_number(alloc, Prefix::Plus, item),
+            Prefix::Complement => self.on_number(alloc, Prefix::Complement, item),
+        }
+    }
+
+    /// What an operator on numbers makes of two values. The left one is checked first.
+    fn computed(&self, alloc: Global, op: Arithmetic, a: Item, b: Item) -> Result<i64, ExprFault>
+        ensures { Gives result (combined (Eager.Arithmetic op) (item_text self.now.given a) (item_text self.now.given b)) }
+    {
+        let Some(x) = self.number(a) else {
+            return Err(self.not_number(alloc, a));
+        };
+        let Some(y) = self.number(b) else {
+            return Err(self.not_number(alloc, b));
+        };
+        arithmetic(op, x, y)
+    }
+
+    /// The order of two values as texts.
+    fn text_order(&self, alloc: Global, a: Item, b: Item) -> Result<Ordering, AllocError>
+        ensures { IfOk result (λ o. o ≡ slice_cmp nat_cmp (item_text self.now.given a) (item_text self.now.given b)) }
+    {
+        let a = self.shown(alloc, a)?;
+        let b = self.shown(alloc, b)?;
+        Ok(a.as_slice().cmp(&b.as_slice()))
+    }
+
+    /// The order of two values: as numbers where both are numbers, else as texts.
+    fn order(&self, alloc: Global, a: Item, b: Item) -> Result<Ordering, AllocError>
+        ensures { IfOk result (λ o. o ≡ order_of (number_of (item_text self.now.given a)) (number_of (item_text self.now.given b)) (item_text self.now.given a) (item_text self.now.given b)) }
+    {
+        match self.number(a) {
+            None => self.text_order(alloc, a, b),
+            Some(x) => match self.number(b) {
+                None => self.text_order(alloc, a, b),
+                Some(y) => Ok(x.cmp(&y)),
+            },
+        }
+    }
+
+    /// Whether two values have the same text.
+    fn same(&self, alloc: Global, a: Item, b: Item) -> Result<bool, AllocError>
+        ensures { IfOk result (λ s. s ≡ bytes_eq (item_text self.now.given a) (item_text self.now.given b)) }
+    {
+        let a = self.shown(alloc, a)?;
+        let b = self.shown(alloc, b)?;
+        Ok(is_same(a.as_slice(), b.as_slice()))
+    }
+
+    /// What an operator makes of two values.
+    pub(crate) fn combined(
+        &self,
+        alloc: Global,
+        op: Eager,
+        a: Item,
+        b: Item,
+    ) -> Result<i64, ExprFault>
+        ensures { Gives result (combined op (item_text self.now.given a) (item_text self.now.given b)) }
+    {
+        match op {
+            Eager::Arithmetic(op) => self.computed(alloc, op, a, b),
+            Eager::Comparison(op) => Ok(bit(holds(op, self.order(alloc, a, b)?))),
+            Eager::Same => Ok(bit(self.same(alloc, a, b)?)),
+            Eager::Differs => Ok(bit(!self.same(alloc, a, b)?)),
+        }
+    }
+}
+
+ghost use Rattle.std.specs.Prelude.{Ok};
+ghost use Rattle.std.specs.Ordering.{nat_cmp};
+ghost use Rattle.std.specs.Cmp.Lexicographic.{slice_cmp};
+ghost use Rattle.tcl_expr.specs.Items.{shown_text, opposed, IsNotNumber};

@@ -1,0 +1,19 @@
+//! Laws of the definitions. Each function does nothing: its contract is the law.
+
+ghost use Rattle.std.specs.Prelude.{◌≡◌, ◌<◌, ℕ, ℤ, List, Some, length};
+ghost use Rattle.std.specs.Int.{w64};
+ghost use Rattle.std.specs.Int.RustNames.{FitsSigned};
+ghost use Rattle.tcl_words.specs.Pieces.{Spelled};
+ghost use Rattle.tcl_expr.specs.Number.{number_of, number_text};
+ghost use Rattle.tcl_expr.specs.Tree.{Tree};
+ghost use Rattle.tcl_expr.specs.Value.{outcome, needs, operands_in};
+
+/// An expression that still needs an operand was given fewer than stand in it.
+pub fn operands_are_bounded()
+    ensures { (t : Tree) (given : List (List ℕ)) (w : Spelled) → outcome t given ≡ needs w → length given < operands_in t }
+{}
+
+/// A number's text reads as that number.
+pub fn numbers_round_trip()
+    ensures { (z : ℤ) → FitsSigned w64 z → number_of (number_text z) ≡ Some z }
+{}

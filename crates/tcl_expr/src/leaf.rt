@@ -1,0 +1,148 @@
+//! What an expression is made of in the end: numbers, words and operands.
+
+ghost use Rattle.std.specs.Prelude.{◌≡◌, ◌≤◌, ◌+◌, ◌<◌, ◌^◌, ◌∷◌, IfOk, IsTrue, length, take, drop};
+ghost use Rattle.tcl_expr.specs.Grammar.{digits_len, letters_len, number_leaf, word_leaf, operand_leaf, leaf, is_lowest, is_lowest_magnitude};
+ghost use Rattle.tcl_expr.specs.Number.{numeral as numeral_of};
+ghost use Rattle.tcl_expr.specs.Truth.{word_of};
+ghost use Rattle.tcl_words.specs.Operands.{operand as operand_read};
+ghost use Rattle.tcl_expr.specs.Reads.{Writes};
+
+use crate::bareword::Bareword;
+use crate::code::{Code, Op};
+use crate::faults::ExprFault;
+use crate::infix::is_letter;
+use crate::number::{is_digit, numeral};
+use crate::white::{before, gap};
+use std::alloc::Global;
+use tcl_words::{WordFault, operand};
+
+/// How many digits a text begins with.
+#[tactic(auto, unfolding(crate::specs::Grammar::digits_len))]
+pub(crate) fn digits_len(text: &[u8]) -> usize
+    ensures value { result ≡ digits_len text.now }
+    ensures within { result ≤ length text.now }
+{
+    text.iter().take_while(|b| is_digit(**b)).count()
+}
+
+/// How many letters a text begins with.
+#[tactic(auto, unfolding(crate::specs::Grammar::letters_len))]
+fn letters_len(text: &[u8]) -> usize
+    ensures value { result ≡ letters_len text.now }
+    ensures within { result ≤ length text.now }
+{
+    text.iter().take_while(|b| is_letter(**b)).count()
+}
+
+fn is_lowest_magnitude(magnitude: Option<u64>) -> bool
+    ensures { result ≡ is_lowest_magnitude magnitude }
+{
+    match magnitude {
+        None => false,
+        Some(n) => n == 9_223_372_036_854_775_808,
+    }
+}
+
+/// Whether a byte and those behind it are `-9223372036854775808`, the one number that is read with its `-`.
+#[tactic(auto, unfolding(crate::specs::Grammar::is_lowest))]
+pub(crate) fn is_lowest(b: u8, rest: &[u8]) -> bool
+    ensures { result ≡ is_lowest b rest.now }
+{
+    if b != b'-' {
+        return false;
+    }
+    is_lowest_magnitude(numeral(9_223_372_036_854_775_808, before(rest, digits_len(rest))))
+}
+
+/// A number of n bytes.
+fn number_leaf(
+    code: &mut Code,
+    text: &[u8],
+    n: usize,
+    value: Option<u64>,
+) -> Result<usize, ExprFault>
+    requires within { n ≤ length text.now }
+    requires fits { IfSome value (λ v. v ≤ 9223372036854775807) }
+    ensures value { Writes result (number_leaf text.now n value) code.old code.new }
+    ensures within { IfOk result (λ m. m ≤ length text.now) }
+{
+    match value {
+        None => Err(ExprFault::Syntax),
+        Some(v) => {
+            code.push(Op::Number(v as i64))?;
+            Ok(gap(text, n))
+        }
+    }
+}
+
+ghost use Rattle.std.specs.Prelude.{IfSome};
+
+/// A word of n bytes.
+fn word_leaf(
+    code: &mut Code,
+    text: &[u8],
+    n: usize,
+    word: Option<Bareword>,
+) -> Result<usize, ExprFault>
+    requires within { n ≤ length text.now }
+    ensures value { Writes result (word_leaf text.now n word) code.old code.new }
+    ensures within { IfOk result (λ m. m ≤ length text.now) }
+{
+    match word {
+        None => Err(ExprFault::Syntax),
+        Some(w) => {
+            code.push(Op::Word(w))?;
+            Ok(gap(text, n))
+        }
+    }
+}
+
+/// The fault of an expression with a malformed word.
+fn malformed(fault: WordFault) -> ExprFault
+    ensures { IsMalformed fault result }
+{
+    match fault {
+        WordFault::Memory => ExprFault::Memory,
+        _ => ExprFault::Syntax,
+    }
+}
+
+ghost use Rattle.tcl_expr.specs.Leaves.{IsMalformed};
+
+/// `$..`, `[..]`, `".."` or `{..}`.
+fn operand_leaf(alloc: Global, code: &mut Code, text: &[u8]) -> Result<usize, ExprFault>
+    ensures value { Writes result (operand_leaf text.now (operand_read text.now)) code.old code.new }
+    ensures within { IfOk result (λ m. m ≤ length text.now) }
+{
+    match operand(alloc, text) {
+        Err(fault) => Err(malformed(fault)),
+        Ok(None) => Err(ExprFault::Syntax),
+        Ok(Some((word, n))) => {
+            code.push(Op::Operand(word))?;
+            Ok(gap(text, n))
+        }
+    }
+}
+
+/// A number, a word or an operand.
+#[tactic(auto, unfolding(crate::specs::Grammar::leaf))]
+pub(crate) fn leaf(alloc: Global, code: &mut Code, text: &[u8]) -> Result<usize, ExprFault>
+    ensures value { Writes result (leaf text.now) code.old code.new }
+    ensures within { IfOk result (λ m. m ≤ length text.now) }
+{
+    match text {
+        [] => Err(ExprFault::Syntax),
+        [b, ..] => {
+            if is_digit(*b) {
+                let n = digits_len(text);
+                let value = numeral(9_223_372_036_854_775_807, before(text, n));
+                return number_leaf(code, text, n, value);
+            }
+            if is_letter(*b) {
+                let n = letters_len(text);
+                return word_leaf(code, text, n, Bareword::read(before(text, n)));
+            }
+            operand_leaf(alloc, code, text)
+        }
+    }
+}

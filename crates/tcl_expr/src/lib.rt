@@ -1,0 +1,37 @@
+//! Expressions of a Tcl subset: a text is read once, and its value is then worked out operand by operand.
+//!
+//! [`parse`] reads a text. [`Expr::advance`] goes on until the value is known, a fault is met or the next operand is
+//! needed, which the caller works out and hands in by [`Operands::give`]. What `&&`, `||` and `?:` don't need is never asked for.
+//!
+//! The grammar is defined in `specs/Grammar`, and an expression's value in `specs/Value`, by recursion on its tree.
+#![tactic(auto)]
+
+mod advance;
+mod bareword;
+mod code;
+mod faults;
+mod grammar;
+mod infix;
+mod items;
+mod laws;
+mod leaf;
+mod number;
+mod operators;
+mod parsing;
+mod progress;
+mod script;
+mod stack;
+mod turns;
+mod values;
+mod white;
+
+pub use advance::Step;
+pub use bareword::read_truth;
+pub use faults::ExprFault;
+pub use laws::{numbers_round_trip, operands_are_bounded};
+pub use number::{read_number, write_number};
+pub use parsing::{Expr, parse};
+pub use progress::Operands;
+
+#[cfg(test)]
+mod tests;

@@ -1,0 +1,109 @@
+//! Numbers as texts: an optional minus and digits without a needless zero, within 64 bits.
+
+ghost use Rattle.std.specs.Prelude.{◌≡◌, ◌≤◌, true, length, IfOk};
+ghost use Rattle.std.specs.List.{list_all};
+ghost use Rattle.tcl_expr.specs.Number.{is_digit, value_from, is_numeral as numeral_shape, numeral as numeral_of, negative, number_of, number_text};
+
+use crate::white::before;
+use std::alloc::{AllocError, Global};
+use tcl_words::Text;
+
+/// Whether a byte is an ASCII digit.
+pub(crate) fn is_digit(b: u8) -> bool
+    ensures { result ≡ is_digit b }
+{
+    48 <= b && b <= 57
+}
+
+fn all_digits(text: &[u8]) -> bool
+    ensures { result ≡ list_all is_digit text.now }
+{
+    text.iter().all(|b| 48 <= *b && *b <= 57)
+}
+
+/// The value of at most 19 digits.
+fn value(digits: &[u8]) -> u64
+    requires few { length digits.now ≤ 19 }
+    requires digits { list_all is_digit digits.now ≡ true }
+    ensures { result ≡ value_from 0 digits.now }
+{
+    let mut n: u64 = 0;
+    for b in digits {
+        n = n * 10 + u64::from(*b - b'0');
+    }
+    n
+}
+
+/// Whether a text is 1 to 19 digits without a needless zero.
+fn is_numeral(text: &[u8]) -> bool
+    ensures { result ≡ numeral_shape text.now }
+{
+    if text.is_empty() || text.len() > 19 || !all_digits(text) {
+        return false;
+    }
+    text.len() == 1 || text[0] != b'0'
+}
+
+/// The number that digits are, if it is at most so great.
+pub(crate) fn numeral(most: u64, text: &[u8]) -> Option<u64>
+    ensures value { result ≡ numeral_of most text.now }
+    ensures within { IfSome result (λ n. n ≤ most) }
+{
+    if !is_numeral(text) {
+        return None;
+    }
+    let n = value(text);
+    if n <= most { Some(n) } else { None }
+}
+
+/// The number behind a minus that a magnitude is. There is no number `-0`.
+fn negative(magnitude: Option<u64>) -> Option<i64>
+    requires { IfSome magnitude (λ n. n ≤ 9223372036854775808) }
+    ensures { result ≡ negative magnitude }
+{
+    match magnitude {
+        None => None,
+        Some(n) => {
+            if n == 0 {
+                return None;
+            }
+            Some(!((n - 1) as i64))
+        }
+    }
+}
+
+ghost use Rattle.std.specs.Prelude.{IfSome};
+ghost use Rattle.tcl_expr.specs.Number.{positive};
+
+fn positive(magnitude: Option<u64>) -> Option<i64>
+    requires { IfSome magnitude (λ n. n ≤ 9223372036854775807) }
+    ensures { result ≡ positive magnitude }
+{
+    match magnitude {
+        None => None,
+        Some(n) => Some(n as i64),
+    }
+}
+
+/// The number that a text is: an optional minus and digits without a needless zero, from -9223372036854775808 to
+/// 9223372036854775807. `-0`, `+1`, `007`, blanks around digits and the empty text are no numbers.
+#[tactic(auto, unfolding(crate::specs::Number::number_of))]
+pub fn read_number(text: &[u8]) -> Option<i64>
+    ensures { result ≡ number_of text.now }
+{
+    match text {
+        [] => None,
+        [b'-', digits @ ..] => negative(numeral(9_223_372_036_854_775_808, digits)),
+        [_, ..] => positive(numeral(9_223_372_036_854_775_807, text)),
+    }
+}
+
+/// The text of a number, which reads as that number and as no other: its decimal digits, behind `-` where it is below 0.
+pub fn write_number(alloc: Global, number: i64) -> Result<Text, AllocError>
+    ensures text { IfOk result (λ t. t ≡ number_text number) }
+{
+    let digits = format!(in alloc; "{number}")?;
+    Ok(Text {
+        bytes: digits.into_bytes(),
+    })
+}
