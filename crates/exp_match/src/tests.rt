@@ -253,3 +253,10 @@ fn too_big_to_compile(rt: HostRuntime) -> Result<(), Fail> {
     assert!(rt; is_refused(regular_list(alloc, words.as_slice())));
     Ok(())
 }
+
+/// A glob takes what it matches, and `*` what is left.
+#[test]
+fn globs_take_the_rest(rt: HostRuntime) -> Result<(), Fail> {
+    check_first(&rt, b"-gl", &(b"cd", b"abcdefgh\n", Some((2, 4))))?;
+    check_first(&rt, b"-gl", &(b"*", b"efgh\r\n", Some((0, 6))))
+}

@@ -52,7 +52,7 @@ enum Layer {
     Buffer,
     /// Calls of a child's queue.
     Queue,
-    /// A glob, and data that it is sought in.
+    /// The arguments of an `expect`, and data that its patterns are sought in.
     Scan,
 }
 

@@ -34,7 +34,7 @@ fn refused(alloc: Global, fault: PatternFault) -> Result<Text, Complaint> {
 }
 
 /// Every group of a list.
-fn all_groups(alloc: Global, list: &PatternList) -> Result<Vec<usize>, Complaint> {
+pub fn all_groups(alloc: Global, list: &PatternList) -> Result<Vec<usize>, Complaint> {
     let mut groups = Vec::new(alloc);
     'groups: for group in 0..list.groups() {
         groups.push(group).map_err(|_| Complaint::Memory)?;

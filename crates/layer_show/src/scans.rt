@@ -1,40 +1,63 @@
-//! Data gone over by a glob, as a dialogue does it.
+//! Data gone over by patterns, as a dialogue does it.
 
 use crate::calls::number;
 use crate::complaint::Complaint;
-use exp_glob::Glob;
+use crate::patterns::all_groups;
+use exp_match::{Chosen, PatternList};
 use match_buffer::Buffer;
-use std::alloc::Global;
+use std::alloc::{AllocError, Global};
 use tcl_words::{Text, read_list};
 
 /// How many bytes come at once.
 const PIECE: usize = 4096;
 
+/// The end of what was chosen, where a pattern was.
+fn end_of(chosen: Chosen) -> Option<usize> {
+    match chosen {
+        Chosen::Pattern(_, spans) => spans[0].map(|span| span.1),
+        Chosen::Full => None,
+        Chosen::None => None,
+    }
+}
+
 /// Takes what matches off the buffer, and says how often something did.
-fn matches(glob: &Glob, buffer: &mut Buffer) -> u64 {
+fn matches(
+    alloc: Global,
+    list: &PatternList,
+    groups: &[usize],
+    buffer: &mut Buffer,
+) -> Result<u64, AllocError> {
+    let most = buffer.size;
     let mut found = 0u64;
     'matches: for _ in 0..buffer.ring().len() {
-        match glob.find(buffer.bytes(), false) {
-            Some((_, end)) if 0 < end && end <= buffer.ring().len() => buffer.take(end),
+        let chosen = list.choose(alloc, groups, buffer.bytes(), most)?;
+        match end_of(chosen) {
+            Some(end) if 0 < end && end <= buffer.ring().len() => buffer.take(end),
             _ => break,
         }
         found = found.wrapping_add(1);
     }
-    found
+    Ok(found)
 }
 
-fn scanned(glob: &Glob, mut buffer: Buffer, data: &[u8]) -> Result<u64, Complaint> {
+fn scanned(
+    alloc: Global,
+    list: &PatternList,
+    mut buffer: Buffer,
+    data: &[u8],
+) -> Result<u64, Complaint> {
+    let groups = all_groups(alloc, list)?;
     let mut found = 0u64;
     'pieces: for piece in data.chunks(PIECE) {
         buffer.add(piece)?;
-        found = found.wrapping_add(matches(glob, &mut buffer));
+        found = found.wrapping_add(matches(alloc, list, groups.as_slice(), &mut buffer)?);
         buffer.trim();
     }
     Ok(found)
 }
 
-/// The first line has a buffer's size and a glob. What follows comes to the buffer in pieces of 4,096 bytes;
-/// what the glob matches is taken off. A line says how often it matched.
+/// The first line has a buffer's size and the arguments of `expect`. What follows comes to the buffer in
+/// pieces of 4,096 bytes; what a pattern matches is taken off. A line says how often one matched.
 pub fn shown_scan(alloc: Global, src: &[u8]) -> Result<Text, Complaint> {
     let Some(newline) = src.iter().position(|b| *b == b'\n') else {
         return Err(Complaint::Call);
@@ -44,11 +67,13 @@ pub fn shown_scan(alloc: Global, src: &[u8]) -> Result<Text, Complaint> {
         return Err(Complaint::Call);
     };
     let words = read_list(alloc, line)?;
-    let [size, pattern] = words.as_slice() else {
+    let [size, arguments @ ..] = words.as_slice() else {
         return Err(Complaint::Call);
     };
-    let glob = Glob::new(alloc, pattern.as_slice())?;
+    let Ok(list) = PatternList::build(alloc, arguments) else {
+        return Err(Complaint::Call);
+    };
     let buffer = Buffer::new(alloc, number(size)?)?;
-    let found = scanned(&glob, buffer, data)?;
+    let found = scanned(alloc, &list, buffer, data)?;
     Ok(Text::from_slice(alloc, format!(in alloc; "{found}\n")?.as_bytes())?)
 }
