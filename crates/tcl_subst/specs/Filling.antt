@@ -1,0 +1,48 @@
+-- The value of a word (Tcl(n): variable substitution, command substitution).
+use Rattle.std.specs.Prelude.{ℕ, List, [], ◌∷◌, ◌++◌, length, Result, Ok, Err, if◌then◌else◌}
+use Rattle.tcl_words.specs.Pieces.{Piece, Pieces, literal, variable, member, script, no_pieces, piece}
+use Rattle.tcl_subst.specs.declared.faults.SubstFault.{SubstFault}
+use Rattle.tcl_subst.specs.declared.faults.SubstFault.TheVariants.{TooLong}
+use Rattle.tcl_subst.specs.Faults.{is_too_long}
+use Rattle.tcl_subst.specs.Variables.{Variables, value_of, member_of}
+
+-- What filling a word comes to.
+pub data Fill : Type 0 where
+  -- the value
+  Full : List ℕ → Fill
+  -- a script to evaluate, and what follows its value and the variables after it
+  Asks : List ℕ → (List ℕ → Variables → Fill) → Fill
+  -- a fault, and the variable that has it
+  Failed : SubstFault → List ℕ → Fill
+
+-- what follows a value
+abbrev pub Next : Type 0
+Next = List ℕ → Variables → Fill
+
+abbrev pub element_name : List ℕ → List ℕ → List ℕ
+element_name array index = array ++ (40 ∷ (index ++ 41 ∷ []))
+
+-- a value behind the others
+abbrev pub behind : List ℕ → List ℕ → (List ℕ → Fill) → Fill
+behind text value k = if is_too_long (length (text ++ value)) then Failed TooLong [] else k (text ++ value)
+
+abbrev pub where_read : Result (List ℕ) SubstFault → List ℕ → Next → Variables → Fill
+where_read (Ok value) name k vars = k value vars
+where_read (Err f) name k vars = Failed f name
+
+abbrev mutual
+  pub fill_piece : Piece → Next → Variables → Fill
+  fill_piece (literal text) k vars = k text vars
+  fill_piece (variable name) k vars = where_read (value_of name vars) name k vars
+  fill_piece (member array index) k vars =
+      fill_pieces index [] (λ i vars. where_read (member_of array i vars) (element_name array i) k vars) vars
+  fill_piece (script text) k vars = Asks text k
+
+  -- the values of the pieces behind a text, each read or evaluated in its turn
+  pub fill_pieces : Pieces → List ℕ → Next → Variables → Fill
+  fill_pieces no_pieces text k vars = k text vars
+  fill_pieces (piece p more) text k vars = fill_piece p (λ value vars. behind text value (λ text. fill_pieces more text k vars)) vars
+
+-- the value of a word
+abbrev pub fill : Pieces → Variables → Fill
+fill pieces vars = fill_pieces pieces [] (λ value vars. Full value) vars

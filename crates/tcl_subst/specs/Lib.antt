@@ -1,0 +1,11 @@
+pub mod Entries
+pub mod Faults
+pub mod Filling
+pub mod HomeLending
+pub mod Lending
+pub mod Recipes
+pub mod Report
+pub mod Rests
+pub mod Slots
+pub mod Variables
+pub mod Writes

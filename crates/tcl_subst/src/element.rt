@@ -1,0 +1,37 @@
+//! Names of array elements.
+
+ghost use Rattle.std.specs.Prelude.{◌≡◌, ◌<◌, ◌==◌, length, option_map, position, IfSome};
+ghost use Rattle.tcl_subst.specs.Slots.{element, parted};
+
+/// The array and the index of a name `array(index)`: the last byte is `)`, and the array stands before the first `(`.
+#[tactic(auto, unfolding(crate::specs::Slots::element))]
+pub fn element(name: &[u8]) -> Option<(&[u8], &[u8])>
+    ensures { option_map (λ e. (e.0.now, e.1.now)) result ≡ element name.now }
+{
+    match name.split_last() {
+        None => None,
+        Some((last, front)) => {
+            if *last != b')' {
+                return None;
+            }
+            parted(front)
+        }
+    }
+}
+
+/// What stands before and behind the first `(`.
+fn parted(front: &[u8]) -> Option<(&[u8], &[u8])>
+    ensures { option_map (λ e. (e.0.now, e.1.now)) result ≡ parted front.now (position (λ b. b == 40) front.now) }
+{
+    match parenthesis(front) {
+        None => None,
+        Some(paren) => Some((&front[..paren], &front[paren + 1..])),
+    }
+}
+
+fn parenthesis(front: &[u8]) -> Option<usize>
+    ensures found { result ≡ position (λ b. b == 40) front.now }
+    ensures within { IfSome result (λ k. k < length front.now) }
+{
+    front.iter().position(|b| *b == b'(')
+}

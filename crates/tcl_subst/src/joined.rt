@@ -1,0 +1,196 @@
+//! What the values of a word's parts were joined to.
+
+ghost use Rattle.std.specs.Prelude.{◌≡◌, ◌∷◌, [], Ok, Err, IfOk, OnErr};
+ghost use Rattle.tcl_subst.specs.Filling.{element_name};
+ghost use Rattle.tcl_subst.specs.Recipes.{Takes, joined, joined_if_read, nothing, around, taken, fault_of, name_of};
+ghost use Rattle.tcl_subst.specs.Variables.{value_of, member_of};
+
+use crate::faults::SubstFault;
+use crate::limits::are_too_long;
+use crate::recipe::Step;
+use crate::vars::Vars;
+use std::alloc::{AllocError, AllocFailed, Global};
+use std::collections::LinkedList;
+use std::mem;
+use tcl_values::Value;
+use tcl_words::Text;
+
+/// Why filling a word ended.
+#[derive(Drop)]
+pub enum Refusal {
+    /// No memory was left.
+    Memory,
+    /// A value would be too long.
+    TooLong,
+    /// A variable or an element, by its name, could not be read.
+    Unread(SubstFault, Text),
+}
+
+impl From<AllocError> for Refusal {
+    ghost use Rattle.tcl_subst.specs.declared.joined.Refusal.TheVariants.{Memory};
+
+    ghost from_gives = { λ _ e. e ≡ Memory };
+
+    fn from(_e: AllocError) -> Refusal {
+        Refusal::Memory
+    }
+}
+
+impl<T: Drop> From<AllocFailed<T>> for Refusal {
+    ghost use Rattle.tcl_subst.specs.declared.joined.Refusal.TheVariants.{Memory};
+
+    ghost from_gives = { λ _ e. e ≡ Memory };
+
+    fn from(_e: AllocFailed<T>) -> Refusal {
+        Refusal::Memory
+    }
+}
+
+impl Refusal {
+    /// The fault.
+    pub fn fault(&self) -> SubstFault
+        ensures { result ≡ fault_of self.now }
+    {
+        match self {
+            Refusal::Memory => SubstFault::Memory,
+            Refusal::TooLong => SubstFault::TooLong,
+            Refusal::Unread(fault, _) => *fault,
+        }
+    }
+
+    /// The variable that has the fault: no bytes where none has.
+    pub fn name(&self) -> &[u8]
+        ensures { result.now ≡ name_of self.now }
+    {
+        match self {
+            Refusal::Memory => &[],
+            Refusal::TooLong => &[],
+            Refusal::Unread(_, name) => name.as_slice(),
+        }
+    }
+}
+
+/// The values of a word's parts, joined; within an index those of the index, and around it what was joined before.
+#[derive(Drop)]
+pub struct Joined {
+    /// The word's value, or the innermost open index.
+    pub current: Value,
+    /// What stands around it, the innermost first.
+    pub outer: LinkedList<Value>,
+}
+
+impl Joined {
+    /// Nothing was joined.
+    pub fn new(alloc: Global) -> Joined
+        ensures { result ≡ nothing }
+    {
+        Joined {
+            current: Value::new(alloc),
+            outer: LinkedList::new(alloc),
+        }
+    }
+
+    /// Puts a value behind what was joined. The first one is taken as it is.
+    pub fn join(&mut self, alloc: Global, value: Value) -> Result<(), Refusal>
+        ensures taken { Takes result (joined value self.old) self.new }
+        ensures kept { OnErr result (self.new ≡ self.old) }
+    {
+        if are_too_long(self.current.as_slice(), value.as_slice()) {
+            return Err(Refusal::TooLong);
+        }
+        if self.current.len() == 0 {
+            self.current = value;
+            return Ok(());
+        }
+        self.current.append(alloc, value.as_slice())?;
+        Ok(())
+    }
+
+    /// The value of a read variable, or why it wasn't read.
+    fn join_read(
+        &mut self,
+        alloc: Global,
+        read: Result<Value, SubstFault>,
+        name: &[u8],
+    ) -> Result<(), Refusal>
+        ensures taken { Takes result (joined_if_read read name.now self.old) self.new }
+        ensures memory { read ≡ Err SubstFault.Memory → result ≡ Err Refusal.Memory }
+    {
+        match read {
+            Ok(value) => self.join(alloc, value),
+            Err(SubstFault::Memory) => Err(Refusal::Memory),
+            Err(fault) => Err(Refusal::Unread(fault, Text::from_slice(alloc, name)?)),
+        }
+    }
+
+    fn variable(&mut self, alloc: Global, name: &Text, vars: &Vars) -> Result<(), Refusal>
+        ensures { Takes result (joined_if_read (value_of name.now vars.now) name.now self.old) self.new }
+    {
+        let name = name.as_slice();
+        let read = vars.get(name);
+        self.join_read(alloc, read, name)
+    }
+
+    fn open(&mut self, alloc: Global) -> Result<(), Refusal>
+        ensures { Takes result (Ok (record { current = []; outer = self.old.current ∷ self.old.outer })) self.new }
+    {
+        let around = mem::replace(&mut self.current, Value::new(alloc));
+        self.outer.push_front(around)?;
+        Ok(())
+    }
+
+    /// Ends an index, and joins the element's value to what stands around it.
+    fn close(&mut self, alloc: Global, array: &Text, vars: &Vars) -> Result<(), Refusal>
+        ensures { Takes result (joined_if_read (member_of array.now self.old.current vars.now) (element_name array.now self.old.current) (around self.old.outer)) self.new }
+    {
+        let index = self.leave_index(alloc);
+        self.member(alloc, array.as_slice(), index.as_slice(), vars)
+    }
+
+    /// Ends an index and answers it.
+    fn leave_index(&mut self, alloc: Global) -> Value
+        ensures index { result ≡ self.old.current }
+        ensures left { self.new ≡ around self.old.outer }
+    {
+        let around = self.outer.pop_front().unwrap_or(Value::new(alloc));
+        mem::replace(&mut self.current, around)
+    }
+
+    fn member(
+        &mut self,
+        alloc: Global,
+        array: &[u8],
+        index: &[u8],
+        vars: &Vars,
+    ) -> Result<(), Refusal>
+        ensures { Takes result (joined_if_read (member_of array.now index.now vars.now) (element_name array.now index.now) self.old) self.new }
+    {
+        let read = vars.get_member(array, index);
+        let name = element_name(alloc, array, index)?;
+        self.join_read(alloc, read, name.as_slice())
+    }
+
+    /// Takes a step that is no script.
+    pub fn take(&mut self, alloc: Global, step: &Step, vars: &Vars) -> Result<(), Refusal>
+        ensures { Takes result (taken step.now self.old vars.now) self.new }
+    {
+        match step {
+            Step::Text(text) => self.join(alloc, text.shared(alloc)?),
+            Step::Variable(name) => self.variable(alloc, name, vars),
+            Step::Script(_) => Ok(()),
+            Step::Open => self.open(alloc),
+            Step::Close(array) => self.close(alloc, array, vars),
+        }
+    }
+}
+
+/// The name `array(index)` of an element.
+pub fn element_name(alloc: Global, array: &[u8], index: &[u8]) -> Result<Text, AllocError>
+    ensures { IfOk result (λ t. t ≡ element_name array.now index.now) }
+{
+    let mut name = Text::from_slice(alloc, array)?;
+    name.push(b'(')?;
+    name.extend(index)?;
+    name.push(b')')?;
+    Ok(name)
+}

@@ -1,0 +1,34 @@
+//! The variables of a script, and the values of its words.
+//!
+//! `Vars` is a list of scopes, each a map from names to texts, arrays and links. A `Filler` joins the values of a word's parts,
+//! and asks for the value of each script in its turn; `filling_is_fill` says what that means.
+#![tactic(auto)]
+
+mod element;
+mod faults;
+mod fill_step;
+mod filler;
+mod joined;
+mod laws;
+mod limits;
+mod lists;
+mod names;
+mod reads;
+mod recipe;
+mod report;
+mod scope;
+mod unsets;
+mod vars;
+mod write;
+mod writes;
+
+pub use faults::SubstFault;
+pub use fill_step::FillStep;
+pub use filler::Filler;
+pub use laws::filling_is_fill;
+pub use limits::VALUE_LIMIT;
+pub use recipe::Recipe;
+pub use vars::Vars;
+
+#[cfg(test)]
+mod tests;

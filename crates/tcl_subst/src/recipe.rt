@@ -1,0 +1,101 @@
+//! A word as steps in one line.
+
+ghost use Rattle.std.specs.Prelude.{◌≡◌, ◌++◌, [], IfOk, OnOk};
+ghost use Rattle.std.specs.Option.{option_copied};
+ghost use Rattle.tcl_words.specs.Pieces.{part_view, parts_view, word_view};
+ghost use Rattle.tcl_subst.specs.Recipes.{piece_onto, steps_onto, script_at, is_script};
+
+use std::alloc::{AllocError, Global};
+use tcl_values::Value;
+use tcl_words::{Part, Text, Word};
+
+/// A step of filling a word.
+#[derive(Drop)]
+pub enum Step {
+    /// Bytes that stand for themselves.
+    Text(Value),
+    /// A variable by its name.
+    Variable(Text),
+    /// A script by its text.
+    Script(Text),
+    /// The begin of an array's index.
+    Open,
+    /// The end of an array's index, with the array's name.
+    Close(Text),
+}
+
+impl Step {
+    /// Whether it is a script.
+    pub fn is_script(&self) -> bool
+        ensures { result ≡ is_script self.now }
+    {
+        match self {
+            Step::Text(_) => false,
+            Step::Variable(_) => false,
+            Step::Script(_) => true,
+            Step::Open => false,
+            Step::Close(_) => false,
+        }
+    }
+}
+
+/// The steps of filling a word. A word is turned into them once, however often it is filled.
+#[derive(Drop)]
+pub struct Recipe {
+    /// The steps, in order.
+    pub steps: Vec<Step>,
+}
+
+impl Recipe {
+    /// The steps of a word.
+    pub fn of(alloc: Global, word: &Word) -> Result<Recipe, AllocError>
+        ensures { IfOk result (λ r. r.steps.items ≡ steps_onto (word_view word.now).pieces []) }
+    {
+        let mut steps = Vec::new(alloc);
+        push_parts(&mut steps, alloc, word.parts.as_slice())?;
+        Ok(Recipe { steps })
+    }
+
+    /// The text of the script that is the step of a number.
+    pub fn script(&self, number: usize) -> Option<&Text>
+        ensures { option_copied result ≡ script_at number self.now.steps.items }
+    {
+        match self.steps.get(number) {
+            None => None,
+            Some(Step::Text(_)) => None,
+            Some(Step::Variable(_)) => None,
+            Some(Step::Script(text)) => Some(text),
+            Some(Step::Open) => None,
+            Some(Step::Close(_)) => None,
+        }
+    }
+}
+
+#[cycle(push)]
+fn push_part(steps: &mut Vec<Step>, alloc: Global, part: &Part) -> Result<(), AllocError>
+    ensures { OnOk result (steps.new.items ≡ steps.old.items ++ piece_onto (part_view part.now) []) }
+{
+    match part {
+        Part::Lit(text) => steps.push(Step::Text(Value::from_slice(alloc, text.as_slice())?))?,
+        Part::Var(name, index) => match index {
+            None => steps.push(Step::Variable(name.copied(alloc)?))?,
+            Some(index) => {
+                steps.push(Step::Open)?;
+                push_parts(steps, alloc, index.as_slice())?;
+                steps.push(Step::Close(name.copied(alloc)?))?;
+            }
+        },
+        Part::Script(text) => steps.push(Step::Script(text.copied(alloc)?))?,
+    }
+    Ok(())
+}
+
+#[cycle(push)]
+fn push_parts(steps: &mut Vec<Step>, alloc: Global, parts: &[Part]) -> Result<(), AllocError>
+    ensures { OnOk result (steps.new.items ≡ steps.old.items ++ steps_onto (parts_view parts.now) []) }
+{
+    for part in parts {
+        push_part(steps, alloc, part)?;
+    }
+    Ok(())
+}

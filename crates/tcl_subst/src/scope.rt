@@ -1,0 +1,18 @@
+//! A scope: variables by name.
+
+use crate::names::Names;
+use tcl_values::Value;
+
+/// What a name names in a scope.
+#[derive(Drop)]
+pub enum Slot {
+    /// A variable.
+    Text(Value),
+    /// An array: elements by index.
+    Array(Names<Value>),
+    /// The variable of that name in the outermost scope.
+    Link,
+}
+
+/// A scope.
+pub type Scope = Names<Slot>;

@@ -1,0 +1,276 @@
+//! The variables of a script.
+
+ghost use Rattle.std.specs.Prelude.{◌≡◌, ◌≢◌, ◌<◌, ◌==◌, ◌∷◌, [], length, drop, true, Ok, Err, MatchResult, IfOk, IfSome, IfNone};
+ghost use Rattle.tcl_subst.specs.Faults.{Gives, Changes, Tells};
+ghost use Rattle.tcl_subst.specs.Report.{values_of};
+ghost use Rattle.tcl_subst.specs.Slots.{read};
+ghost use Rattle.tcl_subst.specs.Variables.{list_of, base, home, home_in, member_of, is_global, has, is_link, value_of, with_value, without_value, linked, no_variables};
+ghost use Rattle.tcl_subst.specs.Entries.{find};
+ghost use Rattle.tcl_subst.specs.Writes.{write_of, set_to, appended, elements_appended};
+
+use crate::element::element;
+use crate::faults::SubstFault;
+use crate::lists::list;
+use crate::names::Names;
+use crate::reads::{is_there, member, read};
+use crate::report::{add_scope, listed_values};
+use crate::scope::{Scope, Slot};
+use crate::unsets::{link, unset};
+use crate::write::Write;
+use crate::writes::write;
+use std::alloc::{AllocError, Global};
+use std::collections::LinkedList;
+use std::marker::Model;
+use tcl_values::Value;
+use tcl_words::Text;
+
+/// The variables of a script: scopes, of which the innermost one is the current one (Tcl(n), proc(n), global(n)).
+///
+/// A name is looked up in the current scope, and where it is linked there, in the outermost one. A name whose last byte is `)` and
+/// that has a `(` is that of an array's element: the array stands before the first `(`, the index behind it.
+///
+/// Reading answers `NoVariable` where there is no such variable or element, `IsArray` for the name of an array and `NotArray` for an
+/// element of a variable that is none. Writing answers `IsArray` and `NotArray` in the same cases, then `BadList`, then `TooLong` where
+/// the value would have more than `VALUE_LIMIT` bytes. A call takes time in the length of the name and the logarithm of the number of
+/// variables, and copies no value but a short one.
+#[derive(Drop)]
+pub struct Vars {
+    alloc: Global,
+    /// The outermost scope.
+    globals: Scope,
+    /// The others, the innermost first.
+    locals: LinkedList<Scope>,
+}
+
+impl Model for Vars {
+    ghost use Rattle.tcl_subst.specs.Variables.{Variables};
+
+    ghost Value = { Variables };
+
+    ghost view = { λ v. record { globals = v.globals; locals = v.locals } };
+}
+
+/// The name that stands in a scope: of an element the array's.
+fn base(name: &[u8]) -> &[u8]
+    ensures { result.now ≡ base name.now }
+{
+    match element(name) {
+        None => name,
+        Some((array, _)) => array,
+    }
+}
+
+fn is_link(scope: &Scope, name: &[u8]) -> bool
+    ensures { result ≡ is_link (find name.now scope.now) }
+{
+    match scope.get(name) {
+        None => false,
+        Some(Slot::Text(_)) => false,
+        Some(Slot::Array(_)) => false,
+        Some(Slot::Link) => true,
+    }
+}
+
+impl Vars {
+    ghost use Rattle.std.specs.Borrow.{sem};
+    ghost use Rattle.tcl_subst.specs.HomeLending.{lends_home};
+
+    /// No variables, and the outermost scope alone. It allocates nothing.
+    pub fn new(alloc: Global) -> Vars
+        ensures { result ≡ no_variables }
+    {
+        Vars {
+            alloc,
+            globals: Names::new(alloc),
+            locals: LinkedList::new(alloc),
+        }
+    }
+
+    /// Whether a name is looked up in the outermost scope.
+    fn is_global(&self, name: &[u8]) -> bool
+        ensures { result ≡ is_global name.now self.now }
+    {
+        match self.locals.front() {
+            None => true,
+            Some(scope) => is_link(scope, base(name)),
+        }
+    }
+
+    /// The scope in which a name is looked up.
+    fn home(&self, name: &[u8]) -> &Scope
+        ensures { result.now ≡ home name.now self.now }
+    {
+        self.home_of(base(name))
+    }
+
+    /// The scope in which a name, not of an element, is looked up.
+    fn home_of(&self, name: &[u8]) -> &Scope
+        ensures { result.now ≡ home_in name.now self.now.globals self.now.locals }
+    {
+        match self.locals.front() {
+            None => &self.globals,
+            Some(scope) => {
+                if is_link(scope, name) {
+                    return &self.globals;
+                }
+                scope
+            }
+        }
+    }
+
+    /// The current scope, where a name is looked up in it and it isn't the outermost one.
+    fn local_mut(&mut self, name: &[u8]) -> Option<&mut Scope>
+        ensures* writes_back { sem 𝓛 (lends_home name.now self.entry result) }
+        ensures value { IfSome result (λ s. s.now ≡ home name.now self.old) }
+        ensures global { IfNone result (is_global name.now self.old ≡ true) }
+    {
+        if self.is_global(name) {
+            return None;
+        }
+        self.locals.front_mut()
+    }
+
+    fn write(&mut self, name: &[u8], by: Write<'_>) -> Result<(), SubstFault>
+        ensures { Changes result (with_value (write_of by.entry) name.now self.old) self.old self.new }
+    {
+        let alloc = self.alloc;
+        if let Some(scope) = self.local_mut(name) {
+            return write(scope, alloc, name, by);
+        }
+        write(&mut self.globals, alloc, name, by)
+    }
+
+    /// The value of a variable or an element, shared: `NoVariable`, `IsArray` or `NotArray` where there is none.
+    pub fn get(&self, name: &[u8]) -> Result<Value, SubstFault>
+        ensures { Gives result (value_of name.now self.now) }
+    {
+        let value = read(self.home(name), name)?;
+        Ok(value.shared(self.alloc)?)
+    }
+
+    /// The value of an array's element, shared.
+    pub fn get_member(&self, array: &[u8], index: &[u8]) -> Result<Value, SubstFault>
+        ensures { Gives result (member_of array.now index.now self.now) }
+    {
+        let value = member(self.home_of(array), array, index)?;
+        Ok(value.shared(self.alloc)?)
+    }
+
+    /// The value of a variable or an element of the outermost scope, shared.
+    pub fn get_global(&self, name: &[u8]) -> Result<Value, SubstFault>
+        ensures { Gives result (read name.now self.now.globals) }
+    {
+        let value = read(&self.globals, name)?;
+        Ok(value.shared(self.alloc)?)
+    }
+
+    /// The bytes of a variable or an element.
+    pub fn peek(&self, name: &[u8]) -> Result<&[u8], SubstFault>
+        ensures { MatchResult result (λ v. value_of name.now self.now ≡ Ok v.now) (λ f. value_of name.now self.now ≡ Err f) }
+    {
+        let value = read(self.home(name), name)?;
+        Ok(value.as_slice())
+    }
+
+    /// Whether there is a variable or an element.
+    pub fn exists(&self, name: &[u8]) -> bool
+        ensures { result ≡ has name.now self.now }
+    {
+        is_there(self.home(name), name)
+    }
+
+    /// Gives a variable or an element a value: `IsArray`, `NotArray` or `TooLong` where it can't be. A fault changes nothing.
+    pub fn set(&mut self, name: &[u8], value: Value) -> Result<(), SubstFault>
+        ensures { Changes result (with_value (set_to value) name.now self.old) self.old self.new }
+    {
+        self.write(name, Write::Set(value))
+    }
+
+    /// Puts bytes behind the value of a variable or an element, where a missing one counts as empty: `IsArray`, `NotArray` or
+    /// `TooLong` where it can't be. A fault changes nothing.
+    ///
+    /// Takes amortised constant time for a byte, where the value isn't shared.
+    pub fn append(&mut self, name: &[u8], bytes: &[u8]) -> Result<(), SubstFault>
+        ensures { Changes result (with_value (appended bytes.now) name.now self.old) self.old self.new }
+    {
+        self.write(name, Write::Append(bytes))
+    }
+
+    /// Puts elements behind those of the list that a variable or an element is, where a missing one counts as empty, and makes it
+    /// the written text of them all: `IsArray`, `NotArray`, `BadList` or `TooLong` where it can't be. A fault changes nothing.
+    ///
+    /// Takes time in the length of what is added, where the value isn't shared and got its elements in this way.
+    pub fn append_elements(&mut self, name: &[u8], more: &[Text]) -> Result<(), SubstFault>
+        ensures { Changes result (with_value (elements_appended more.now) name.now self.old) self.old self.new }
+    {
+        self.write(name, Write::Elements(more))
+    }
+
+    /// Reads a variable or an element as a list, so that its elements are at hand from then on: `NoVariable`, `IsArray`, `NotArray` or
+    /// `BadList` where it is none. No value changes.
+    pub fn listed(&mut self, name: &[u8]) -> Result<(), SubstFault>
+        ensures same { self.new ≡ self.old }
+        ensures told { Tells result (list_of name.now self.old) }
+    {
+        let alloc = self.alloc;
+        if let Some(scope) = self.local_mut(name) {
+            return list(scope, alloc, name);
+        }
+        list(&mut self.globals, alloc, name)
+    }
+
+    /// The variables and elements of the outermost scope that have a value, with their values, in byte order of names.
+    pub fn globals(&self) -> Result<Vec<(Text, Text)>, AllocError>
+        ensures { IfOk result (λ v. v.items ≡ values_of self.now.globals) }
+    {
+        let mut values = Names::new(self.alloc);
+        add_scope(&mut values, self.alloc, &self.globals)?;
+        listed_values(self.alloc, values)
+    }
+
+    /// Takes a variable, an array or an element out: `NoVariable` where there is none, `NotArray` for an element of a variable that
+    /// is no array. A link stays, and an array without elements too. A fault changes nothing.
+    pub fn unset(&mut self, name: &[u8]) -> Result<(), SubstFault>
+        ensures { Changes result (without_value name.now self.old) self.old self.new }
+    {
+        if let Some(scope) = self.local_mut(name) {
+            return unset(scope, name);
+        }
+        unset(&mut self.globals, name)
+    }
+
+    /// Links a name of the current scope to the variable of that name in the outermost one; in the outermost one nothing happens,
+    /// nor with the name of an element. `Exists` where the name is a variable's. A fault changes nothing.
+    pub fn link_global(&mut self, name: &[u8]) -> Result<(), SubstFault>
+        ensures { Changes result (linked name.now self.old) self.old self.new }
+    {
+        let alloc = self.alloc;
+        match self.locals.front_mut() {
+            None => Ok(()),
+            Some(scope) => link(scope, alloc, name),
+        }
+    }
+
+    /// Begins a scope without variables, which is the current one from then on. A fault changes nothing.
+    pub fn push_scope(&mut self) -> Result<(), SubstFault>
+        ensures { Changes result (Ok (record self.old { locals = [] ∷ self.old.locals })) self.old self.new }
+    {
+        self.locals.push_front(Names::new(self.alloc))?;
+        Ok(())
+    }
+
+    /// Whether the current scope is the outermost one.
+    pub fn is_outermost(&self) -> bool
+        ensures { result ≡ (length self.now.locals == 0) }
+    {
+        self.locals.is_empty()
+    }
+
+    /// Ends the current scope, which isn't the outermost one.
+    pub fn pop_scope(&mut self)
+        requires { 0 < length self.old.locals }
+        ensures { self.new ≡ record self.old { locals = drop 1 self.old.locals } }
+    {
+        self.locals.pop_front();
+    }
+}

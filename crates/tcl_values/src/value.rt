@@ -1,0 +1,204 @@
+//! A value of a variable or a word: a text that is shared where it is long.
+
+ghost use Rattle.std.specs.Prelude.{◌≡◌, ◌≢◌, ◌++◌, [], length, None, Ok, Err, IfOk, IfErr, OnOk, OnErr};
+ghost use Rattle.tcl_words.specs.Lists.{ReadsAs, elements};
+ghost use Rattle.tcl_values.specs.Lists.{elements_of, with_elements};
+
+use crate::elements::Elements;
+use crate::faults::GrowFault;
+use crate::listed::Listed;
+use std::alloc::{AllocError, Global};
+use std::marker::Model;
+use std::rc::Rc;
+use tcl_words::{ListFault, Text};
+
+/// A text with more bytes than this is shared.
+const SHORT: usize = 64;
+
+/// How the bytes of a value are held.
+#[derive(Drop)]
+pub enum Form {
+    /// A short text, which is copied where it is wanted twice.
+    Short(Text),
+    /// A text that may have several owners.
+    Shared(Rc<Text>),
+    /// A list that may have several owners.
+    Listed(Rc<Listed>),
+}
+
+/// A value: bytes of any kind and number. A contract sees it as the list of its bytes.
+#[derive(Drop)]
+pub struct Value {
+    /// How the bytes are held.
+    form: Form,
+}
+
+impl Model for Value {
+    ghost use Rattle.std.specs.Prelude.{List, ℕ};
+
+    ghost Value = { List ℕ };
+
+    ghost use Rattle.tcl_values.specs.Forms.{bytes_of};
+
+    ghost view = { λ v. bytes_of v.form };
+}
+
+impl Value {
+    /// The value without bytes. It allocates nothing.
+    pub fn new(alloc: Global) -> Value
+        ensures { result ≡ [] }
+    {
+        Value {
+            form: Form::Short(Text::new(alloc)),
+        }
+    }
+
+    /// The value of a text's bytes.
+    pub fn from_text(alloc: Global, text: Text) -> Result<Value, AllocError>
+        ensures { IfOk result (λ v. v ≡ text) }
+    {
+        if text.len() <= SHORT {
+            return Ok(Value {
+                form: Form::Short(text),
+            });
+        }
+        Ok(Value {
+            form: Form::Shared(Rc::new(alloc, text)?),
+        })
+    }
+
+    /// The value of these bytes, copied.
+    pub fn from_slice(alloc: Global, bytes: &[u8]) -> Result<Value, AllocError>
+        ensures { IfOk result (λ v. v ≡ bytes.now) }
+    {
+        Value::from_text(alloc, Text::from_slice(alloc, bytes)?)
+    }
+
+    /// The bytes, in order.
+    pub fn as_slice(&self) -> &[u8]
+        ensures { result.now ≡ self.now }
+    {
+        match &self.form {
+            Form::Short(text) => text.as_slice(),
+            Form::Shared(text) => text.as_slice(),
+            Form::Listed(list) => list.as_slice(),
+        }
+    }
+
+    /// How many bytes there are.
+    pub fn len(&self) -> usize
+        ensures { result ≡ length self.now }
+    {
+        self.as_slice().len()
+    }
+
+    /// An equal value. It copies at most a short text.
+    pub fn shared(&self, alloc: Global) -> Result<Value, AllocError>
+        ensures { IfOk result (λ v. v ≡ self.now) }
+    {
+        let form = match &self.form {
+            Form::Short(text) => Form::Short(text.copied(alloc)?),
+            Form::Shared(text) => Form::Shared(text.clone()?),
+            Form::Listed(list) => Form::Listed(list.clone()?),
+        };
+        Ok(Value { form })
+    }
+
+    /// The bytes as a text. It copies nothing where the value has no other owner.
+    pub fn into_text(self, alloc: Global) -> Result<Text, AllocError>
+        ensures { IfOk result (λ t. t ≡ self) }
+    {
+        match self.form {
+            Form::Short(text) => Ok(text),
+            Form::Shared(text) => match Rc::try_unwrap(text) {
+                Ok(text) => Ok(text),
+                Err(text) => text.copied(alloc),
+            },
+            Form::Listed(list) => match Rc::try_unwrap(list) {
+                Ok(list) => Ok(list.into_text()),
+                Err(list) => Text::from_slice(alloc, list.as_slice()),
+            },
+        }
+    }
+
+    /// Puts bytes behind the value. Refused ones leave it as it was.
+    ///
+    /// Takes amortised constant time for a byte, where the value isn't shared and wasn't read as a list.
+    pub fn append(&mut self, alloc: Global, bytes: &[u8]) -> Result<(), AllocError>
+        ensures appended { OnOk result (self.new ≡ self.old ++ bytes.now) }
+        ensures kept { OnErr result (self.new ≡ self.old) }
+    {
+        if let Form::Shared(shared) = &mut self.form {
+            if let Some(text) = Rc::get_mut(shared) {
+                return text.extend(bytes);
+            }
+        }
+        let mut text = Text::from_slice(alloc, self.as_slice())?;
+        text.extend(bytes)?;
+        *self = Value::from_text(alloc, text)?;
+        Ok(())
+    }
+
+    /// Puts elements behind those of the list that the value is, and makes it the written text of them all.
+    /// A refusal leaves it as it was: `BadList` exactly where it reads as no list, `TooLong` exactly where it would have more
+    /// than `limit` bytes then.
+    ///
+    /// Takes time in the length of what is added, where the value isn't shared and got its elements in this way.
+    pub fn append_elements(
+        &mut self,
+        alloc: Global,
+        more: &[Text],
+        limit: usize,
+    ) -> Result<(), GrowFault>
+        ensures grown { OnOk result (with_elements limit self.old more.now ≡ Ok self.new) }
+        ensures refused { IfErr result (λ f. f ≢ GrowFault.Memory → with_elements limit self.old more.now ≡ Err f) }
+        ensures kept { OnErr result (self.new ≡ self.old) }
+    {
+        if let Form::Listed(shared) = &mut self.form {
+            if let Some(list) = Rc::get_mut(shared) {
+                list.push_all(alloc, more, limit)?;
+                return Ok(());
+            }
+        }
+        let list = self.list(alloc)?.with_more(alloc, more, limit)?;
+        self.form = Form::Listed(Rc::new(alloc, list)?);
+        Ok(())
+    }
+
+    /// Reads the value as a list, so that its elements are at hand from then on. The value stays the same.
+    ///
+    /// `BadList` exactly where it reads as no list.
+    pub fn listed(&mut self, alloc: Global) -> Result<(), ListFault>
+        ensures same { self.new ≡ self.old }
+        ensures found { OnOk result (ReadsAs self.old (elements_of self.old)) }
+        ensures bad { result ≡ Err ListFault.BadList → elements self.old ≡ None }
+    {
+        self.form = Form::Listed(self.list(alloc)?);
+        Ok(())
+    }
+
+    /// The elements of the list that the value is. It copies nothing where the value was read as a list already.
+    ///
+    /// `BadList` exactly where it reads as no list.
+    pub fn elements(&self, alloc: Global) -> Result<Elements, ListFault>
+        ensures found { IfOk result (λ e. ReadsAs self.now e) }
+        ensures bad { result ≡ Err ListFault.BadList → elements self.now ≡ None }
+    {
+        Ok(Elements::new(self.list(alloc)?))
+    }
+
+    /// The value as a list with its elements. It copies nothing where the value was read as one already.
+    fn list(&self, alloc: Global) -> Result<Rc<Listed>, ListFault>
+        ensures same { IfOk result (λ l. l.value ≡ self.now) }
+        ensures found { OnOk result (ReadsAs self.now (elements_of self.now)) }
+        ensures bad { result ≡ Err ListFault.BadList → elements self.now ≡ None }
+    {
+        if let Form::Listed(list) = &self.form {
+            list.elements();
+            return Ok(list.clone()?);
+        }
+        let list = Listed::read(alloc, self.as_slice())?;
+        list.elements();
+        Ok(Rc::new(alloc, list)?)
+    }
+}
