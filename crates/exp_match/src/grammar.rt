@@ -80,52 +80,43 @@ fn behind(nesting: Nesting, token: Token) -> Option<Nesting>
     ensures value { result ≡ behind_of nesting token }
     ensures sum { IfSome result (λ n. n.opened + n.left ≡ nesting.opened + nesting.left) }
 {
-    let Nesting {
-        opened,
-        left,
-        repeatable,
-    } = nesting;
+    let bound = Nesting {
+        repeatable: false,
+        ..nesting
+    };
+    let atom = Nesting {
+        repeatable: true,
+        ..nesting
+    };
     match token {
-        Token::Bound => Some(Nesting {
-            opened,
-            left,
-            repeatable: false,
-        }),
+        Token::Bound => Some(bound),
         Token::Repeat => {
-            if !repeatable {
+            if !nesting.repeatable {
                 return None;
             }
-            Some(Nesting {
-                opened,
-                left,
-                repeatable: false,
-            })
+            Some(bound)
         }
         Token::Open => {
-            if left == 0 {
+            if nesting.left == 0 {
                 return None;
             }
             Some(Nesting {
-                opened: opened + 1,
-                left: left - 1,
-                repeatable: false,
+                opened: nesting.opened + 1,
+                left: nesting.left - 1,
+                ..bound
             })
         }
         Token::Close => {
-            if opened == 0 {
+            if nesting.opened == 0 {
                 return None;
             }
             Some(Nesting {
-                opened: opened - 1,
-                left: left + 1,
-                repeatable: true,
+                opened: nesting.opened - 1,
+                left: nesting.left + 1,
+                ..atom
             })
         }
-        Token::Atom => Some(Nesting {
-            opened,
-            left,
-            repeatable: true,
-        }),
+        Token::Atom => Some(atom),
     }
 }
 

@@ -21,12 +21,10 @@ mod token;
 
 pub use chosen::Chosen;
 pub use entry::{Entries, Entry, Keyword, Want};
-pub use faults::{PatternFault, Refusal};
+pub use faults::PatternFault;
 pub use grammar::pattern_rules;
 pub use list::PatternList;
-pub use pending::{Mark, Marks, Pending, Reader, Role, Way};
 pub use regular::{Regular, Spans};
-pub use token::{Nesting, Token};
 
 #[cfg(test)]
 mod tests;

@@ -39,7 +39,7 @@ impl Regular {
     /// A pattern of this text. `.` takes a newline too.
     ///
     /// `Refused` where `regex` builds no program of it, as for one that is too big.
-    pub fn build(alloc: Global, source: &str, nocase: bool) -> Result<Regular, Refusal>
+    pub(crate) fn build(alloc: Global, source: &str, nocase: bool) -> Result<Regular, Refusal>
         ensures { IfOk result (λ r. r ≡ record { source = source.now; nocase = nocase }) }
     {
         let builder = RegexBuilder::new(source)
