@@ -6,3 +6,8 @@ pub mod Numbers
 pub mod Advancing
 pub mod Bounds
 pub mod Props
+pub mod Places
+pub mod Lowest
+pub mod Derived
+pub mod Followed
+pub mod Ruled

@@ -13,7 +13,7 @@ use Rattle.tcl_expr.specs.Truth.{word_text, word_of, says, truth_of, truth_from}
 use mir.Syntax.{w64}
 use mir.Val.{SFits}
 
-own : IsNumeralModel (λ ds. list_all is_digit ds ≡ true) (value_from 0)
+pub own : IsNumeralModel (λ ds. list_all is_digit ds ≡ true) (value_from 0)
 own = numerals_by_fold _ (search rules) value_from (search rules)
 
 pub word_is_no_number : (w : Bareword) → number_of (word_text w) ≡ None

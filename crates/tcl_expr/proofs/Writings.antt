@@ -13,10 +13,12 @@ use Rattle.tcl_expr.specs.declared.operators.Lazy.{Lazy}
 use Rattle.tcl_expr.specs.declared.operators.Prefix.{Prefix}
 use Rattle.tcl_expr.specs.White.{gap}
 use Rattle.tcl_expr.specs.Infix.{infix_at, level_of}
-use Rattle.tcl_expr.specs.Tree.{Tree, number, unary, choice}
+use Rattle.tcl_expr.specs.Tree.{Tree, number, unary, choice, joined}
 use Rattle.tcl_expr.specs.Instr.{Instr, push, apply, combine, test, truth, branch, skip, join, postfix, tree_of}
 use Rattle.tcl_expr.specs.Built.{tree_of-postfix}
-use Rattle.tcl_expr.specs.Grammar.{Read, Inside, behind, joined, chain, chain_step, chained, level, linked, colon, question, term, whole, is_lowest, lowest, digits_len, inside_of, deepest, to_the_end, parsed}
+use Rattle.tcl_expr.specs.Leaf.{Read, is_lowest, lowest, digits_len}
+use Rattle.tcl_expr.specs.Rules.{deepest}
+use Rattle.tcl_expr.specs.Grammar.{Inside, behind, chain, chain_step, chained, level, linked, colon, question, term, whole, inside_of, to_the_end, parsed}
 use Rattle.tcl_expr.specs.Reads.{Fails, Wrote, Writes, WroteRight, WroteBranches, WritesBranches, FailsBranches}
 use Rattle.tcl_words.specs.Lists.{begins_with}
 
@@ -42,7 +44,7 @@ fails_by Memory r s e h = tt
 abbrev same : Tree → Tree
 same t = t
 
-behind_behind : (m n : ℕ) (r : Read) → behind m (λ t. t) (behind n (λ t. t) r) ≡ behind (m + n) (λ t. t) r
+pub behind_behind : (m n : ℕ) (r : Read) → behind m (λ t. t) (behind n (λ t. t) r) ≡ behind (m + n) (λ t. t) r
 behind_behind m n (Ok p) = ap (λ k. Ok (p.0, k)) (omega arith)
 behind_behind m n (Err e) = refl
 

@@ -1,89 +1,29 @@
--- The grammar of expressions, as the manual page expr(n) has it, by levels of precedence: each level is a chain of the next tighter one,
--- grouped to the left, and `?:` groups to the right.
+-- The grammar of `Rules` as a function, which names the first fault. Each level of precedence is a chain of the next tighter one, grouped to the
+-- left, and `?:` groups to the right.
 --
 --     whole   := level10 | level10 '?' whole ':' whole
 --     level k := level (k-1) (operator-of-level-k level (k-1))*
 --     level 0 := prefix level0 | '(' whole ')' | number | word | operand
 --
--- A reading takes bytes that begin with no white space, and the white space behind what it reads. This language has of its own: numbers as
--- `Number` says, six words, and parentheses, prefix operators and the branches of `?:` in one another at most 200 deep. Number 201 is a
--- fault where it opens.
-use Rattle.std.specs.Prelude.{ℕ, zero, suc, ◌+◌, Bool, false, ◌&&◌, List, [], ◌∷◌, length, take, drop, Option, Some, None, Result, Ok, Err, ℤ, pos, negsuc, ◌==◌, if◌then◌else◌}
-use Rattle.std.specs.List.{prefix_len}
+-- A reading takes bytes that begin with no white space, and the white space behind what it reads. Nesting that is too deep is a fault where
+-- it opens.
+use Rattle.std.specs.Prelude.{ℕ, zero, suc, ◌+◌, List, [], ◌∷◌, length, drop, Option, Some, None, Result, Ok, Err, ◌==◌, if◌then◌else◌}
 use Rattle.tcl_words.specs.Course.{reading}
 use Rattle.tcl_words.specs.Lists.{begins_with}
-use Rattle.tcl_words.specs.Operands.{Operand, operand as operand_read}
 use Rattle.tcl_expr.specs.declared.faults.ExprFault.{ExprFault}
 use Rattle.tcl_expr.specs.declared.faults.ExprFault.TheVariants.{Syntax, TooDeep}
-use Rattle.tcl_expr.specs.declared.bareword.Bareword.{Bareword}
 use Rattle.tcl_expr.specs.declared.operators.Prefix.{Prefix}
 use Rattle.tcl_expr.specs.declared.operators.Infix.{Infix}
-use Rattle.tcl_expr.specs.declared.operators.Infix.TheVariants as between
-use Rattle.tcl_expr.specs.Number.{is_digit, numeral}
-use Rattle.tcl_expr.specs.Truth.{word_of}
 use Rattle.tcl_expr.specs.White.{gap}
-use Rattle.tcl_expr.specs.Infix.{is_letter, infix_at, level_of, prefix_at}
-use Rattle.tcl_expr.specs.Tree.{Tree, number, word, operand, unary, binary, lazy, choice}
-
--- A tree, and how many bytes it took, or the first fault.
-abbrev pub Read : Type 0
-Read = Result (Tree × ℕ) ExprFault
+use Rattle.tcl_expr.specs.Infix.{infix_at, level_of, prefix_at}
+use Rattle.tcl_expr.specs.Tree.{Tree, number, unary, joined, choice}
+use Rattle.tcl_expr.specs.Leaf.{Read, spaced, leaf, is_lowest, digits_len, lowest}
+use Rattle.tcl_expr.specs.Rules.{deepest}
 
 -- What is read with n more bytes before it, which change its tree by f.
 abbrev pub behind : ℕ → (Tree → Tree) → Read → Read
 behind n f (Err e) = Err e
 behind n f (Ok p) = Ok (f p.0, n + p.1)
-
--- a tree that takes n bytes and the white space behind them
-abbrev pub spaced : List ℕ → Tree → ℕ → Read
-spaced text t n = Ok (t, gap text n)
-
--- ---- what has no part that is an expression
-
-unfoldable pub digits_len : List ℕ → ℕ
-digits_len text = prefix_len is_digit text
-
-unfoldable pub letters_len : List ℕ → ℕ
-letters_len text = prefix_len is_letter text
-
-abbrev pub number_leaf : List ℕ → ℕ → Option ℕ → Read
-number_leaf text n None = Err Syntax
-number_leaf text n (Some v) = spaced text (number (pos v)) n
-
-abbrev pub word_leaf : List ℕ → ℕ → Option Bareword → Read
-word_leaf text n None = Err Syntax
-word_leaf text n (Some w) = spaced text (word w) n
-
--- A malformed word is a malformed expression.
-abbrev pub operand_leaf : List ℕ → Operand → Read
-operand_leaf text (Err e) = Err Syntax
-operand_leaf text (Ok None) = Err Syntax
-operand_leaf text (Ok (Some (w, n))) = spaced text (operand w) n
-
-abbrev pub leaf_at : ℕ → List ℕ → Read
-leaf_at b text =
-    if is_digit b then number_leaf text (digits_len text) (numeral 9223372036854775807 (take (digits_len text) text))
-    else (if is_letter b then word_leaf text (letters_len text) (word_of (take (letters_len text) text))
-    else operand_leaf text (operand_read text))
-
--- a number, a word or an operand
-unfoldable pub leaf : List ℕ → Read
-leaf [] = Err Syntax
-leaf (b ∷ bytes) = leaf_at b (b ∷ bytes)
-
--- 9223372036854775808, which is a number behind `-` alone
-abbrev pub is_lowest_magnitude : Option ℕ → Bool
-is_lowest_magnitude None = false
-is_lowest_magnitude (Some n) = n == 9223372036854775808
-
--- `-9223372036854775808`: the `-` is read with the number, and is no operator
-unfoldable pub is_lowest : ℕ → List ℕ → Bool
-is_lowest b bytes = b == 45 && is_lowest_magnitude (numeral 9223372036854775808 (take (digits_len bytes) bytes))
-
-abbrev pub lowest : ℤ
-lowest = negsuc 9223372036854775807
-
--- ---- levels
 
 -- What stands one deeper: behind `(`, in a branch of `?:`, and behind a prefix operator.
 pub record Inside : Type 0 where
@@ -109,11 +49,6 @@ term_at inside b bytes =
 unfoldable pub term : Inside → List ℕ → Read
 term inside [] = Err Syntax
 term inside (b ∷ bytes) = term_at inside b bytes
-
--- two operands with the operator between them
-abbrev pub joined : Infix → Tree → Tree → Tree
-joined (between.Eager op) l r = binary op l r
-joined (between.Lazy op) l r = lazy op l r
 
 -- a right operand that stands n bytes behind its operator's first byte, and then the chain behind it
 abbrev pub linked : (ℕ → Tree → Read) → Infix → ℕ → Tree → Read → Read
@@ -168,10 +103,6 @@ whole inside text = question inside text (level inside 10 text)
 unfoldable pub inside_of : ℕ → Inside
 inside_of zero = record { whole = λ text. Err TooDeep; term = λ text. Err TooDeep }
 inside_of (suc depth) = record { whole = whole (inside_of depth); term = term (inside_of depth) }
-
--- so deep parentheses, prefix operators and branches may nest
-abbrev pub deepest : ℕ
-deepest = 200
 
 -- nothing may be left behind an expression
 abbrev pub to_the_end : List ℕ → Read → Result Tree ExprFault

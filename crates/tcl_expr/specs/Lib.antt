@@ -6,6 +6,8 @@ pub mod Tree
 pub mod Instr
 pub mod Codes
 pub mod Built
+pub mod Leaf
+pub mod Rules
 pub mod Grammar
 pub mod Reads
 pub mod Leaves

@@ -3,9 +3,10 @@ use Rattle.std.specs.Prelude.{◌≡◌, ℕ, List, ◌++◌, drop, Result, Ok, 
 use Rattle.tcl_expr.specs.declared.faults.ExprFault.{ExprFault}
 use Rattle.tcl_expr.specs.declared.faults.ExprFault.TheVariants.{Memory}
 use Rattle.tcl_expr.specs.declared.operators.Infix.{Infix}
-use Rattle.tcl_expr.specs.Tree.{Tree, choice}
+use Rattle.tcl_expr.specs.Tree.{Tree, choice, joined}
 use Rattle.tcl_expr.specs.Instr.{Instr, postfix}
-use Rattle.tcl_expr.specs.Grammar.{Read, Inside, joined, colon}
+use Rattle.tcl_expr.specs.Leaf.{Read}
+use Rattle.tcl_expr.specs.Grammar.{Inside, colon}
 
 -- What a function returned is what the definition says: a value or a fault. Want of memory says nothing.
 abbrev pub Fails : {Y : Type 0} → ExprFault → Result Y ExprFault → Type 0

@@ -18,3 +18,7 @@ white = reading 0 white_step
 -- the place behind the white space at a place
 abbrev pub gap : List ℕ → ℕ → ℕ
 gap text at = at + white (drop at text)
+
+-- a text without the white space that it begins with
+abbrev pub past : List ℕ → List ℕ
+past text = drop (white text) text

@@ -1,10 +1,12 @@
 //! Laws of the definitions. Each function does nothing: its contract is the law.
 
-ghost use Rattle.std.specs.Prelude.{◌≡◌, ◌<◌, ℕ, ℤ, List, Some, length};
+ghost use Rattle.std.specs.Prelude.{◌≡◌, ◌↔◌, ◌<◌, ℕ, ℤ, List, Some, Ok, length};
 ghost use Rattle.std.specs.Int.{w64};
 ghost use Rattle.std.specs.Int.RustNames.{FitsSigned};
 ghost use Rattle.tcl_words.specs.Pieces.{Spelled};
 ghost use Rattle.tcl_expr.specs.Number.{number_of, number_text};
+ghost use Rattle.tcl_expr.specs.Grammar.{parsed};
+ghost use Rattle.tcl_expr.specs.Rules.{IsExpression};
 ghost use Rattle.tcl_expr.specs.Tree.{Tree};
 ghost use Rattle.tcl_expr.specs.Value.{outcome, needs, operands_in};
 
@@ -16,4 +18,10 @@ pub fn operands_are_bounded()
 /// A number's text reads as that number.
 pub fn numbers_round_trip()
     ensures { (z : ℤ) → FitsSigned w64 z → number_of (number_text z) ≡ Some z }
+{}
+
+/// The grammar's law: a text is read as a tree just where the rules give it that tree, so they give a text one tree at most.
+pub fn expression_rules()
+    ensures rules { (text : List ℕ) (t : Tree) → (parsed text ≡ Ok t) ↔ IsExpression text t }
+    ensures one { (text : List ℕ) (t u : Tree) → IsExpression text t → IsExpression text u → t ≡ u }
 {}

@@ -1,7 +1,7 @@
 //! What an expression is made of in the end: numbers, words and operands.
 
 ghost use Rattle.std.specs.Prelude.{◌≡◌, ◌≤◌, ◌+◌, ◌<◌, ◌^◌, ◌∷◌, IfOk, IsTrue, length, take, drop};
-ghost use Rattle.tcl_expr.specs.Grammar.{digits_len, letters_len, number_leaf, word_leaf, operand_leaf, leaf, is_lowest, is_lowest_magnitude};
+ghost use Rattle.tcl_expr.specs.Leaf.{digits_len, letters_len, number_leaf, word_leaf, operand_leaf, leaf, is_lowest, is_lowest_magnitude};
 ghost use Rattle.tcl_expr.specs.Number.{numeral as numeral_of};
 ghost use Rattle.tcl_expr.specs.Truth.{word_of};
 ghost use Rattle.tcl_words.specs.Operands.{operand as operand_read};
@@ -17,7 +17,7 @@ use std::alloc::Global;
 use tcl_words::{WordFault, operand};
 
 /// How many digits a text begins with.
-#[tactic(auto, unfolding(crate::specs::Grammar::digits_len))]
+#[tactic(auto, unfolding(crate::specs::Leaf::digits_len))]
 pub(crate) fn digits_len(text: &[u8]) -> usize
     ensures value { result ≡ digits_len text.now }
     ensures within { result ≤ length text.now }
@@ -26,7 +26,7 @@ pub(crate) fn digits_len(text: &[u8]) -> usize
 }
 
 /// How many letters a text begins with.
-#[tactic(auto, unfolding(crate::specs::Grammar::letters_len))]
+#[tactic(auto, unfolding(crate::specs::Leaf::letters_len))]
 fn letters_len(text: &[u8]) -> usize
     ensures value { result ≡ letters_len text.now }
     ensures within { result ≤ length text.now }
@@ -44,7 +44,7 @@ fn is_lowest_magnitude(magnitude: Option<u64>) -> bool
 }
 
 /// Whether a byte and those behind it are `-9223372036854775808`, the one number that is read with its `-`.
-#[tactic(auto, unfolding(crate::specs::Grammar::is_lowest))]
+#[tactic(auto, unfolding(crate::specs::Leaf::is_lowest))]
 pub(crate) fn is_lowest(b: u8, rest: &[u8]) -> bool
     ensures { result ≡ is_lowest b rest.now }
 {
@@ -125,7 +125,7 @@ fn operand_leaf(alloc: Global, code: &mut Code, text: &[u8]) -> Result<usize, Ex
 }
 
 /// A number, a word or an operand.
-#[tactic(auto, unfolding(crate::specs::Grammar::leaf))]
+#[tactic(auto, unfolding(crate::specs::Leaf::leaf))]
 pub(crate) fn leaf(alloc: Global, code: &mut Code, text: &[u8]) -> Result<usize, ExprFault>
     ensures value { Writes result (leaf text.now) code.old code.new }
     ensures within { IfOk result (λ m. m ≤ length text.now) }

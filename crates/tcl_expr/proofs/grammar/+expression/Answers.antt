@@ -4,7 +4,8 @@ use Rattle.std.proofs.lemmas.Result.{err_from_is_err_and}
 use Rattle.tcl_words.specs.Lists.{begins_with}
 use Rattle.tcl_expr.specs.White.{gap}
 use Rattle.tcl_expr.specs.Infix.{infix_at, level_of}
-use Rattle.tcl_expr.specs.Grammar.{inside_of, level, is_lowest, digits_len}
+use Rattle.tcl_expr.specs.Leaf.{is_lowest, digits_len}
+use Rattle.tcl_expr.specs.Grammar.{inside_of, level}
 use Rattle.tcl_expr.proofs.Writings.{level_zero, level_fails, level_init, level_none, level_other, level_link, level_end, link_fails, prefixed_writes, right_eager, right_lazy, branches_write, whole_fails, whole_plain, whole_writes, lowest_writes, behind_first}
 use Rattle.tcl_expr.proofs.grammar.+expression.Goals as goal
 

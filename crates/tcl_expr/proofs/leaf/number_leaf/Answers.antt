@@ -3,7 +3,7 @@ use Rattle.std.proofs.lemmas.Int.{to_z_pos}
 use mir.Syntax.{w64}
 use Rattle.tcl_expr.specs.Tree.{number}
 use Rattle.tcl_expr.specs.Instr.{postfix}
-use Rattle.tcl_expr.specs.Grammar.{number_leaf}
+use Rattle.tcl_expr.specs.Leaf.{number_leaf}
 use Rattle.tcl_expr.proofs.leaf.number_leaf.Goals as goal
 
 pub returns-in_ok-push-in-Some-clause-value : goal.returns-in_ok-push-in-Some-clause-value

@@ -2,7 +2,7 @@ use Rattle.std.proofs.Common.{ap, ◌∙◌, refl}
 use Rattle.tcl_words.specs.Pieces.{word_view}
 use Rattle.tcl_expr.specs.Tree.{operand}
 use Rattle.tcl_expr.specs.Instr.{postfix}
-use Rattle.tcl_expr.specs.Grammar.{operand_leaf}
+use Rattle.tcl_expr.specs.Leaf.{operand_leaf}
 use Rattle.tcl_expr.proofs.leaf.operand_leaf.Goals as goal
 
 pub returns-in_ok-push-in-Ok-Some-clause-value : goal.returns-in_ok-push-in-Ok-Some-clause-value

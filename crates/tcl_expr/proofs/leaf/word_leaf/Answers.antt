@@ -1,7 +1,7 @@
 use Rattle.std.proofs.Common.{ap, ◌∙◌, refl}
 use Rattle.tcl_expr.specs.Tree.{word}
 use Rattle.tcl_expr.specs.Instr.{postfix}
-use Rattle.tcl_expr.specs.Grammar.{word_leaf}
+use Rattle.tcl_expr.specs.Leaf.{word_leaf}
 use Rattle.tcl_expr.proofs.leaf.word_leaf.Goals as goal
 
 pub returns-in_ok-push-in-Some-clause-value : goal.returns-in_ok-push-in-Some-clause-value

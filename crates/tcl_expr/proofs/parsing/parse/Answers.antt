@@ -1,6 +1,7 @@
 use Rattle.std.proofs.Common.{◌≡◌, true, length, ◌==◌, arith}
 use Rattle.std.proofs.lemmas.Bool.Decides.{nat_tests}
-use Rattle.tcl_expr.specs.Grammar.{inside_of, deepest, whole}
+use Rattle.tcl_expr.specs.Rules.{deepest}
+use Rattle.tcl_expr.specs.Grammar.{inside_of, whole}
 use Rattle.tcl_expr.proofs.Writings.{grouped, parsed_is}
 use Rattle.tcl_expr.proofs.parsing.parse.Goals as goal
 
