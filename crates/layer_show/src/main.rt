@@ -5,12 +5,14 @@ mod buffers;
 mod calls;
 mod complaint;
 mod expressions;
+mod fills;
 mod globs;
 mod patterns;
 mod queues;
 mod scans;
 mod spell;
 mod terminal;
+mod variables;
 mod words;
 
 use crate::buffers::shown_buffer;
@@ -22,6 +24,7 @@ use crate::patterns::shown_patterns;
 use crate::queues::shown_queue;
 use crate::scans::shown_scan;
 use crate::terminal::shown_terminal;
+use crate::variables::shown_variables;
 use crate::words::{shown_commands, shown_list};
 use std::alloc::Global;
 use std::env;
@@ -54,6 +57,8 @@ enum Layer {
     Queue,
     /// The arguments of an `expect`, and data that its patterns are sought in.
     Scan,
+    /// Calls on variables, and words that are filled.
+    Variables,
 }
 
 fn layer_of(name: &str) -> Option<Layer> {
@@ -67,6 +72,7 @@ fn layer_of(name: &str) -> Option<Layer> {
         "buffer" => Some(Layer::Buffer),
         "queue" => Some(Layer::Queue),
         "scan" => Some(Layer::Scan),
+        "variables" => Some(Layer::Variables),
         _ => None,
     }
 }
@@ -92,6 +98,7 @@ fn shown<R: Read>(alloc: Global, layer: Layer, input: &mut R) -> Result<Text, Co
         Layer::Buffer => shown_buffer(alloc, &calls(alloc, &src)?),
         Layer::Queue => shown_queue(alloc, &calls(alloc, &src)?),
         Layer::Scan => shown_scan(alloc, &src),
+        Layer::Variables => shown_variables(alloc, &calls(alloc, &src)?),
     }
 }
 
@@ -107,7 +114,7 @@ fn main(rt: HostRuntime) -> ExitCode {
     let complaint = match run(&rt) {
         Ok(()) => return ExitCode::SUCCESS,
         Err(Complaint::Usage) =>
-            "usage: layer_show commands|list|expression|terminal|glob|pattern|buffer|queue|scan",
+            "usage: layer_show commands|list|expression|terminal|glob|pattern|buffer|queue|scan|variables",
         Err(Complaint::Device) => "cannot read or write",
         Err(Complaint::Call) => "no call of this layer",
         Err(Complaint::Memory) => "out of memory",

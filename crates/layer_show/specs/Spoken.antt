@@ -1,0 +1,20 @@
+-- What a word is filled to where each script in it comes to its own text.
+use Rattle.std.specs.Prelude.{◌≡◌, ◌≢◌, ℕ, List, Result, Ok, Err}
+use Rattle.tcl_subst.specs.declared.faults.SubstFault.{SubstFault}
+use Rattle.tcl_subst.specs.declared.faults.SubstFault.TheVariants.{Memory}
+use Rattle.tcl_subst.specs.Filling.{Fill, Full, Asks, Failed}
+use Rattle.tcl_subst.specs.Variables.{Variables}
+use Rattle.layer_show.specs.declared.fills.Filling.{Filling}
+use Rattle.layer_show.specs.declared.fills.Filling.TheVariants.{Value, Malformed, Refused}
+
+-- the value, or the fault and the variable that has it
+abbrev pub spoken : Fill → Variables → Result (List ℕ) (SubstFault × List ℕ)
+spoken (Full value) vars = Ok value
+spoken (Asks text next) vars = spoken (next text vars) vars
+spoken (Failed fault name) vars = Err (fault, name)
+
+-- What was filled is what is meant. Want of memory says nothing.
+abbrev pub Fills : Filling → Result (List ℕ) (SubstFault × List ℕ) → Type 0
+Fills (Value value) meant = meant ≡ Ok value
+Fills (Malformed fault) meant = ⊥
+Fills (Refused fault name) meant = fault ≢ Memory → meant ≡ Err (fault, name)

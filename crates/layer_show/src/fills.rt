@@ -1,0 +1,130 @@
+//! What a word is filled to.
+
+ghost use Rattle.std.specs.Prelude.{◌≡◌, ◌↔◌, [], None, Err, unwrap_or, IfOk, OnOk};
+ghost use Rattle.tcl_words.specs.Pieces.{word_view};
+ghost use Rattle.tcl_subst.specs.Filling.{fill};
+ghost use Rattle.tcl_subst.specs.Recipes.{begun, given, script_at, steps_onto};
+ghost use Rattle.tcl_subst.specs.Rests.{rest};
+ghost use Rattle.layer_show.specs.Spoken.{spoken, Fills};
+
+use crate::complaint::Complaint;
+use crate::spell::{fault_name, push_labelled};
+use std::alloc::{AllocError, Global};
+use std::rc::Rc;
+use tcl_subst::{FillStep, Filler, Recipe, SubstFault, Vars, filling_is_fill};
+use tcl_values::Value;
+use tcl_words::{Command, Text, Word, WordFault, next_command};
+
+/// What a text is filled to, as the only word of a command.
+#[derive(Drop)]
+pub enum Filling {
+    /// The value of the word.
+    Value(Value),
+    /// Why the text is no command.
+    Malformed(WordFault),
+    /// Why the word could not be filled, and the variable that has the fault.
+    Refused(SubstFault, Text),
+}
+
+/// A fault's name; `None` for want of memory, which is none of the variables'.
+pub fn refusal_name(fault: SubstFault) -> Option<&'static [u8]>
+    ensures { result ≡ None ↔ (fault ≡ SubstFault.Memory) }
+{
+    match fault {
+        SubstFault::NoVariable => Some(b"NoVariable"),
+        SubstFault::IsArray => Some(b"IsArray"),
+        SubstFault::NotArray => Some(b"NotArray"),
+        SubstFault::TooLong => Some(b"TooLong"),
+        SubstFault::Memory => None,
+        SubstFault::Exists => Some(b"Exists"),
+        SubstFault::BadList => Some(b"BadList"),
+    }
+}
+
+/// Gives a script's own text as its value.
+fn give_text(alloc: Global, filler: &mut Filler, number: usize) -> Result<(), AllocError>
+    ensures { OnOk result (filler.new ≡ given (unwrap_or (script_at number filler.old.steps) []) filler.old) }
+{
+    let value = match filler.recipe().script(number) {
+        None => Value::new(alloc),
+        Some(script) => Value::from_slice(alloc, script.as_slice())?,
+    };
+    filler.give(alloc, value)
+}
+
+/// Goes on with the scripts' texts. A script is a step, and is asked for once.
+fn filled_by(alloc: Global, mut filler: Filler, vars: &Vars) -> Result<Filling, Complaint>
+    ensures { IfOk result (λ f. Fills f (spoken (rest filler vars.now) vars.now)) }
+{
+    filling_is_fill();
+    let most = filler.recipe().steps.len();
+    'scripts: for _ in 0..=most {
+        match filler.advance(alloc, vars) {
+            FillStep::Value(value) => return Ok(Filling::Value(value)),
+            FillStep::NeedScript(number) => give_text(alloc, &mut filler, number)?,
+            FillStep::Fault(fault) => {
+                return Ok(Filling::Refused(fault, Text::from_slice(alloc, filler.name())?));
+            }
+        }
+    }
+    Err(Complaint::Call)
+}
+
+fn filler_of(alloc: Global, word: &Word) -> Result<Filler, AllocError>
+    ensures { IfOk result (λ f. f ≡ begun (steps_onto (word_view word.now).pieces [])) }
+{
+    let recipe = Rc::new(alloc, Recipe::of(alloc, word)?)?;
+    Ok(Filler::new(alloc, recipe))
+}
+
+/// Fills a word; each script in it comes to its own text.
+fn filled_word(alloc: Global, vars: &Vars, word: &Word) -> Result<Filling, Complaint>
+    ensures { IfOk result (λ f. Fills f (spoken (fill (word_view word.now).pieces vars.now) vars.now)) }
+{
+    filling_is_fill();
+    let filler = filler_of(alloc, word)?;
+    filled_by(alloc, filler, vars)
+}
+
+/// Fills the only word of a command.
+fn filled_command(alloc: Global, vars: &Vars, command: &Command) -> Result<Filling, Complaint> {
+    match command.words.as_slice() {
+        [word] => filled_word(alloc, vars, word),
+        _ => Err(Complaint::Call),
+    }
+}
+
+/// Fills a text that is a command of one word.
+pub fn filled(alloc: Global, vars: &Vars, src: &[u8]) -> Result<Filling, Complaint> {
+    match next_command(alloc, src, 0) {
+        Ok(Some((command, _))) => filled_command(alloc, vars, &command),
+        Ok(None) => Err(Complaint::Call),
+        Err(fault) => Ok(Filling::Malformed(fault)),
+    }
+}
+
+/// Puts a fault behind a text, where it isn't want of memory.
+pub fn push_refusal(text: &mut Text, fault: SubstFault) -> Result<(), Complaint>
+    ensures { fault ≡ SubstFault.Memory → result ≡ Err Complaint.Memory }
+{
+    match refusal_name(fault) {
+        None => Err(Complaint::Memory),
+        Some(name) => Ok(text.extend(name)?),
+    }
+}
+
+/// Puts what a word was filled to behind a text: the value, or the fault, and the variable that has it.
+pub fn push_filled(alloc: Global, text: &mut Text, filled: &Filling) -> Result<(), Complaint> {
+    match filled {
+        Filling::Value(value) => push_labelled(alloc, text, b"value ", value.as_slice())?,
+        Filling::Malformed(fault) => match fault_name(*fault) {
+            None => return Err(Complaint::Memory),
+            Some(name) => text.extend(name)?,
+        },
+        Filling::Refused(fault, name) => {
+            push_refusal(text, *fault)?;
+            push_labelled(alloc, text, b" ", name.as_slice())?;
+        }
+    }
+    Ok(())
+}
