@@ -27,6 +27,7 @@ pub use fill_step::FillStep;
 pub use filler::Filler;
 pub use laws::filling_is_fill;
 pub use limits::VALUE_LIMIT;
+pub use names::Names;
 pub use recipe::Recipe;
 pub use vars::Vars;
 

@@ -1,0 +1,7 @@
+pub mod Onto
+pub mod Joins
+pub mod Grouped
+pub mod Places
+pub mod Scopes
+pub mod Fits
+pub mod Emptied

@@ -1,0 +1,12 @@
+pub mod Texts
+pub mod Said
+pub mod Says
+pub mod Indices
+pub mod Strings
+pub mod Plain
+pub mod Verbs
+pub mod Joining
+pub mod Arms
+pub mod Groups
+pub mod Procs
+pub mod Scopes

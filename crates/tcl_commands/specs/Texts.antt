@@ -1,0 +1,84 @@
+-- Texts of errors: Tcl's own words where Tcl has them. Of a word that is quoted at most 200 bytes are shown.
+use Rattle.std.specs.Prelude.{ℕ, Bool, true, false, List, [], ◌∷◌, ◌++◌, take, codes, if◌then◌else◌}
+use Rattle.tcl_words.specs.declared.faults.WordFault.{WordFault}
+use Rattle.tcl_words.specs.declared.faults.WordFault.TheVariants as word
+use Rattle.tcl_expr.specs.declared.faults.ExprFault.{ExprFault}
+use Rattle.tcl_expr.specs.declared.faults.ExprFault.TheVariants as expr
+use Rattle.tcl_subst.specs.declared.faults.SubstFault.{SubstFault}
+use Rattle.tcl_subst.specs.declared.faults.SubstFault.TheVariants.{NoVariable, IsArray, NotArray, TooLong, Memory, Exists, BadList}
+
+-- a text, and a word in quotes behind it
+abbrev pub quoted : List ℕ → List ℕ → List ℕ
+quoted front word = front ++ 34 ∷ take 200 word ++ 34 ∷ []
+
+-- a command's word, where it has too few or too many arguments
+abbrev pub wrong_args : List ℕ → List ℕ
+wrong_args command = quoted (codes "wrong # args for ") command
+
+abbrev pub bad_option : List ℕ → List ℕ
+bad_option option = quoted (codes "bad option ") option
+
+abbrev pub bad_index : List ℕ → List ℕ
+bad_index text = quoted (codes "bad index ") text
+
+abbrev pub expected_number : List ℕ → List ℕ
+expected_number text = quoted (codes "expected number but got ") text
+
+abbrev pub bad_list : List ℕ
+bad_list = codes "bad list"
+
+abbrev pub too_long : List ℕ
+too_long = codes "value too long"
+
+abbrev pub too_deep : List ℕ
+too_deep = codes "too many nested evaluations"
+
+-- a variable that can't be read or set: the front says which
+abbrev pub variable_fault : List ℕ → List ℕ → SubstFault → List ℕ
+variable_fault front name NoVariable = quoted front name ++ codes ": no such variable"
+variable_fault front name IsArray = quoted front name ++ codes ": variable is array"
+variable_fault front name NotArray = quoted front name ++ codes ": variable isn't array"
+variable_fault front name TooLong = too_long
+variable_fault front name BadList = bad_list
+variable_fault front name Exists = quoted (codes "variable ") name ++ codes " already exists"
+variable_fault front name Memory = []
+
+abbrev pub not_read : List ℕ → SubstFault → List ℕ
+not_read name f = variable_fault (codes "can't read ") name f
+
+abbrev pub not_set : List ℕ → SubstFault → List ℕ
+not_set name f = variable_fault (codes "can't set ") name f
+
+-- whether it says that there is no such variable
+abbrev pub is_missing : SubstFault → Bool
+is_missing NoVariable = true
+is_missing IsArray = false
+is_missing NotArray = false
+is_missing TooLong = false
+is_missing Memory = false
+is_missing Exists = false
+is_missing BadList = false
+
+-- nothing to unset; an element of a variable that is no array can't be set
+abbrev pub not_unset : List ℕ → SubstFault → List ℕ
+not_unset name f = if is_missing f then variable_fault (codes "can't unset ") name f else not_set name f
+
+-- why a command could not be read
+abbrev pub word_fault : WordFault → List ℕ
+word_fault word.MissingBrace = codes "missing close-brace"
+word_fault word.MissingBracket = codes "missing close-bracket"
+word_fault word.MissingQuote = codes "missing " ++ 34 ∷ []
+word_fault word.ExtraAfterQuote = codes "extra characters after close-quote"
+word_fault word.ExtraAfterBrace = codes "extra characters after close-brace"
+word_fault word.TooDeep = codes "nesting too deep"
+word_fault word.MissingParen = codes "missing )"
+word_fault word.Memory = []
+
+-- why the expression of a text has no value
+abbrev pub expr_fault : List ℕ → ExprFault → List ℕ
+expr_fault source expr.Syntax = quoted (codes "syntax error in expression ") source
+expr_fault source (expr.NotNumber text) = expected_number text
+expr_fault source expr.DivideByZero = codes "divide by zero"
+expr_fault source expr.Overflow = codes "integer overflow"
+expr_fault source expr.TooDeep = codes "expression too deep"
+expr_fault source expr.Memory = []

@@ -1,0 +1,154 @@
+//! How a call binds the arguments of a procedure.
+
+ghost use Rattle.std.specs.Prelude.{◌≡◌, List, ℕ, is_some, drop, true, IfOk, OnErr};
+ghost use Rattle.tcl_commands.specs.Procs.{takes_all, bound, bound_in, value_for, entered, has_value, or_not_set};
+ghost use Rattle.tcl_commands.specs.Says.{Binds};
+ghost use Rattle.tcl_commands.specs.Scopes.{IsOwn, KeepsOuter};
+ghost use Rattle.tcl_subst.specs.Variables.{with_value};
+ghost use Rattle.tcl_subst.specs.Writes.{set_to};
+ghost use Rattle.tcl_words.specs.Lists.{written};
+
+use crate::complaint::Complaint;
+use crate::formals::{Formal, Formals};
+use crate::texts::{is, not_set, wrong};
+use crate::values::{listed, texts_of};
+use std::alloc::{AllocError, Global};
+use tcl_subst::Vars;
+use tcl_values::Value;
+
+/// Whether a formal argument, the others behind it, takes all arguments that are left.
+fn takes_all(formal: &Formal, others: &[Formal]) -> bool
+    ensures { result ≡ takes_all formal.now others.now }
+{
+    match others {
+        [] => is(formal.name.as_slice(), b"args"),
+        [_, ..] => false,
+    }
+}
+
+/// Whether there are neither too few nor too many arguments.
+fn fits(formals: &[Formal], args: &[Value]) -> bool
+    ensures { result ≡ is_some (bound formals.now args.now) }
+{
+    let mut rest = formals;
+    let mut left = args;
+    while let [formal, others @ ..] = rest {
+        if takes_all(formal, others) {
+            return true;
+        }
+        if !has_value(formal, left) {
+            return false;
+        }
+        rest = others;
+        left = behind(left);
+    }
+    left.is_empty()
+}
+
+/// Whether there is an argument for a formal one, or a default.
+fn has_value(formal: &Formal, args: &[Value]) -> bool
+    ensures { result ≡ has_value formal.now args.now }
+{
+    match args {
+        [] => formal.default.is_some(),
+        [_, ..] => true,
+    }
+}
+
+/// The arguments behind the first.
+fn behind(args: &[Value]) -> &[Value]
+    ensures { result.now ≡ drop 1 args.now }
+{
+    match args {
+        [] => args,
+        [_, rest @ ..] => rest,
+    }
+}
+
+/// Sets a name.
+#[tactic(auto, using(crate::proofs::Scopes::keeps_all))]
+fn bind(alloc: Global, name: &[u8], value: Value, vars: &mut Vars) -> Result<(), Complaint>
+    requires { IsOwn vars.old.locals }
+    ensures bound { Binds result (or_not_set name.now (with_value (set_to value) name.now vars.old)) vars.new }
+    ensures kept { KeepsOuter vars.old vars.new }
+{
+    match vars.set(name, value) {
+        Ok(()) => Ok(()),
+        Err(fault) => Err(Complaint::Said(not_set(alloc, name, fault)?)),
+    }
+}
+
+/// The value of a formal argument that takes one: the first of these, or its default, or nothing where it has none.
+fn value_of(alloc: Global, formal: &Formal, args: &[Value]) -> Result<Value, AllocError>
+    ensures { IfOk result (λ v. v ≡ value_for formal.now args.now) }
+{
+    match args {
+        [] => match &formal.default {
+            None => Ok(Value::new(alloc)),
+            Some(value) => value.shared(alloc),
+        },
+        [value, ..] => value.shared(alloc),
+    }
+}
+
+/// The list of values.
+fn list_of(alloc: Global, values: &[Value]) -> Result<Value, AllocError>
+    ensures { IfOk result (λ v. v ≡ written values.now) }
+{
+    let texts = texts_of(alloc, values)?;
+    listed(alloc, texts.as_slice())
+}
+
+/// Sets the names of formal arguments in a scope of their own, in turn, where there are neither too few nor too many arguments.
+#[tactic(auto, using(crate::proofs::Scopes::keeps_on, crate::proofs::Scopes::keeps_all))]
+fn bind_all(
+    alloc: Global,
+    formals: &[Formal],
+    args: &[Value],
+    vars: &mut Vars,
+) -> Result<(), Complaint>
+    requires fits { is_some (bound formals.now args.now) ≡ true }
+    requires own { IsOwn vars.old.locals }
+    ensures bound { (command : List ℕ) → Binds result (bound_in command (bound formals.now args.now) vars.old) vars.new }
+    ensures kept { KeepsOuter vars.old vars.new }
+{
+    let mut rest = formals;
+    let mut left = args;
+    while let [formal, others @ ..] = rest {
+        if takes_all(formal, others) {
+            return bind(alloc, formal.name.as_slice(), list_of(alloc, left)?, vars);
+        }
+        let value = value_of(alloc, formal, left)?;
+        bind(alloc, formal.name.as_slice(), value, vars)?;
+        rest = others;
+        left = behind(left);
+    }
+    Ok(())
+}
+
+/// Begins a scope of its own for a call, and binds the arguments in it. A complaint leaves the variables as they were.
+pub fn enter(
+    alloc: Global,
+    command: &[u8],
+    formals: &Formals,
+    args: &[Value],
+    vars: &mut Vars,
+) -> Result<(), Complaint>
+    ensures entered { Binds result (entered command.now formals.now args.now vars.old) vars.new }
+    ensures kept { OnErr result (vars.new ≡ vars.old) }
+{
+    if !fits(formals.as_slice(), args) {
+        return Err(wrong(alloc, command));
+    }
+    match vars.push_scope() {
+        Ok(()) => {}
+        Err(_) => return Err(Complaint::Memory),
+    }
+    match bind_all(alloc, formals.as_slice(), args, vars) {
+        Ok(()) => Ok(()),
+        Err(complaint) => {
+            vars.pop_scope();
+            Err(complaint)
+        }
+    }
+}

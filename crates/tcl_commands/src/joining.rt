@@ -1,0 +1,103 @@
+//! Words joined to one text.
+
+ghost use Rattle.std.specs.Prelude.{◌≡◌, ◌∷◌, IfOk, OnOk};
+ghost use Rattle.tcl_commands.specs.Joining.{joined, ends_with_backslash, pruned, full, expr_text, eval_text, with_word};
+ghost use Rattle.tcl_commands.specs.Said.{limited};
+ghost use Rattle.tcl_commands.specs.Says.{Says};
+
+use crate::complaint::Complaint;
+use crate::texts::wrong;
+use crate::values::limited;
+use crate::white::{trimmed_end, trimmed_front};
+use std::alloc::{AllocError, Global};
+use tcl_values::Value;
+use tcl_words::Text;
+
+/// A word, and the others behind it, each behind a space.
+fn joined_words(alloc: Global, first: &[u8], words: &[Value]) -> Result<Text, AllocError>
+    ensures { IfOk result (λ t. t ≡ joined (first.now ∷ words.now)) }
+{
+    let mut text = Text::from_slice(alloc, first)?;
+    for word in words {
+        text.push(b' ')?;
+        text.extend(word.as_slice())?;
+    }
+    Ok(text)
+}
+
+/// The text of `expr word ..`. One word is shared.
+pub fn expr_text(alloc: Global, command: &[u8], args: &[Value]) -> Result<Value, Complaint>
+    ensures { Says result (expr_text command.now args.now) }
+{
+    match args {
+        [] => Err(wrong(alloc, command)),
+        [word] => limited(alloc, word.shared(alloc)?),
+        [word, words @ ..] => joined_limited(alloc, word.as_slice(), words),
+    }
+}
+
+fn joined_limited(alloc: Global, first: &[u8], words: &[Value]) -> Result<Value, Complaint>
+    ensures { Says result (limited (joined (first.now ∷ words.now))) }
+{
+    let text = joined_words(alloc, first, words)?;
+    limited(alloc, Value::from_text(alloc, text)?)
+}
+
+fn ends_with_backslash(text: &[u8]) -> bool
+    ensures { result ≡ ends_with_backslash text.now }
+{
+    match text.last() {
+        None => false,
+        Some(b) => *b == b'\\',
+    }
+}
+
+/// A word without the white space at its two ends; of white space behind a backslash the first byte stays.
+fn pruned(word: &[u8]) -> &[u8]
+    ensures { result.now ≡ pruned word.now }
+{
+    let text = trimmed_front(word);
+    let front = trimmed_end(text);
+    if ends_with_backslash(front) && front.len() < text.len() {
+        return text.split_at(front.len() + 1).0;
+    }
+    front
+}
+
+/// Puts a word behind a text, and a space between where both have bytes.
+fn push_word(text: &mut Text, word: &[u8]) -> Result<(), AllocError>
+    ensures { OnOk result (text.new ≡ with_word text.old word.now) }
+{
+    if word.is_empty() {
+        return Ok(());
+    }
+    if text.len() == 0 {
+        return text.extend(word);
+    }
+    text.push(b' ')?;
+    text.extend(word)
+}
+
+/// The words that aren't empty once they are pruned, joined.
+fn full_words(alloc: Global, words: &[Value]) -> Result<Text, AllocError>
+    ensures { IfOk result (λ t. t ≡ joined (full words.now)) }
+{
+    let mut text = Text::new(alloc);
+    for word in words {
+        push_word(&mut text, pruned(word.as_slice()))?;
+    }
+    Ok(text)
+}
+
+/// The script of `eval word ..`
+pub fn eval_text(alloc: Global, command: &[u8], args: &[Value]) -> Result<Value, Complaint>
+    ensures { Says result (eval_text command.now args.now) }
+{
+    match args {
+        [] => Err(wrong(alloc, command)),
+        [_, ..] => {
+            let text = full_words(alloc, args)?;
+            limited(alloc, Value::from_text(alloc, text)?)
+        }
+    }
+}

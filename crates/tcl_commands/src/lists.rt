@@ -1,0 +1,89 @@
+//! The commands on lists.
+
+ghost use Rattle.tcl_commands.specs.Plain.{list_length, llength, list_element, lindex, list_range, lrange};
+ghost use Rattle.tcl_commands.specs.Said.{limited};
+ghost use Rattle.tcl_commands.specs.Says.{Says};
+ghost use Rattle.tcl_words.specs.Lists.{written};
+
+use crate::complaint::Complaint;
+use crate::indices::{between, element_at, index_of};
+use crate::texts::wrong;
+use crate::values::{count_text, limited, list_of, listed, texts_of};
+use std::alloc::Global;
+use tcl_values::Value;
+use tcl_words::Text;
+
+/// The list of texts, where it isn't too long.
+fn list_text(alloc: Global, texts: &[Text]) -> Result<Value, Complaint>
+    ensures { Says result (limited (written texts.now)) }
+{
+    limited(alloc, listed(alloc, texts)?)
+}
+
+/// `list value ..`
+pub(crate) fn list(alloc: Global, args: &[Value]) -> Result<Value, Complaint>
+    ensures { Says result (limited (written args.now)) }
+{
+    let texts = texts_of(alloc, args)?;
+    list_text(alloc, texts.as_slice())
+}
+
+/// `llength list`
+pub(crate) fn llength(alloc: Global, command: &[u8], args: &[Value]) -> Result<Value, Complaint>
+    ensures { Says result (llength command.now args.now) }
+{
+    match args {
+        [] => Err(wrong(alloc, command)),
+        [l] => list_length(alloc, l),
+        [_, _, ..] => Err(wrong(alloc, command)),
+    }
+}
+
+fn list_length(alloc: Global, list: &Value) -> Result<Value, Complaint>
+    ensures { Says result (list_length list.now) }
+{
+    let elements = list_of(alloc, list)?;
+    Ok(count_text(alloc, elements.len())?)
+}
+
+/// `lindex list ?index?`
+pub(crate) fn lindex(alloc: Global, command: &[u8], args: &[Value]) -> Result<Value, Complaint>
+    ensures { Says result (lindex command.now args.now) }
+{
+    match args {
+        [] => Err(wrong(alloc, command)),
+        [l] => Ok(l.shared(alloc)?),
+        [l, i] => list_element(alloc, l, i.as_slice()),
+        [_, _, _, ..] => Err(wrong(alloc, command)),
+    }
+}
+
+fn list_element(alloc: Global, list: &Value, index: &[u8]) -> Result<Value, Complaint>
+    ensures { Says result (list_element list.now index.now) }
+{
+    let elements = list_of(alloc, list)?;
+    let place = index_of(alloc, elements.len(), index)?;
+    Ok(Value::from_slice(alloc, element_at(place, &elements))?)
+}
+
+/// `lrange list from to`
+pub(crate) fn lrange(alloc: Global, command: &[u8], args: &[Value]) -> Result<Value, Complaint>
+    ensures { Says result (lrange command.now args.now) }
+{
+    match args {
+        [] => Err(wrong(alloc, command)),
+        [_] => Err(wrong(alloc, command)),
+        [_, _] => Err(wrong(alloc, command)),
+        [l, i, j] => list_range(alloc, l, i.as_slice(), j.as_slice()),
+        [_, _, _, _, ..] => Err(wrong(alloc, command)),
+    }
+}
+
+fn list_range(alloc: Global, list: &Value, from: &[u8], to: &[u8]) -> Result<Value, Complaint>
+    ensures { Says result (list_range list.now from.now to.now) }
+{
+    let elements = list_of(alloc, list)?;
+    let from = index_of(alloc, elements.len(), from)?;
+    let to = index_of(alloc, elements.len(), to)?;
+    list_text(alloc, between(from, to, elements.as_slice()))
+}

@@ -1,0 +1,36 @@
+//! The status of `exit`.
+
+ghost use Rattle.tcl_commands.specs.Says.{Says};
+ghost use Rattle.tcl_commands.specs.Verbs.{status_of, exit_status};
+ghost use Rattle.tcl_expr.specs.Number.{number_of};
+
+use crate::complaint::Complaint;
+use crate::texts::{quoted, wrong};
+use std::alloc::Global;
+use tcl_expr::read_number;
+use tcl_values::Value;
+
+/// The status of `exit ?status?`: a number from 0 to 255, and 0 where it is left out.
+pub fn exit_status(alloc: Global, command: &[u8], args: &[Value]) -> Result<u8, Complaint>
+    ensures { Says result (exit_status command.now args.now) }
+{
+    match args {
+        [] => Ok(0),
+        [status] => status_of(alloc, status.as_slice()),
+        [_, _, ..] => Err(wrong(alloc, command)),
+    }
+}
+
+fn status_of(alloc: Global, text: &[u8]) -> Result<u8, Complaint>
+    ensures { Says result (status_of text.now (number_of text.now)) }
+{
+    match read_number(text) {
+        None => Err(Complaint::Said(quoted(alloc, b"bad exit status ", text)?)),
+        Some(number) => {
+            if 0 <= number && number <= 255 {
+                return Ok(number as u8);
+            }
+            Err(Complaint::Said(quoted(alloc, b"bad exit status ", text)?))
+        }
+    }
+}

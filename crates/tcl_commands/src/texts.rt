@@ -1,0 +1,217 @@
+//! Texts of errors.
+
+ghost use Rattle.std.specs.Prelude.{◌≡◌, ◌≢◌, ◌++◌, take, IfOk};
+ghost use Rattle.std.specs.Str.{bytes_eq};
+ghost use Rattle.tcl_commands.specs.Says.{Complains};
+ghost use Rattle.tcl_commands.specs.Texts.{bad_list, too_long, too_deep, is_missing, quoted, wrong_args, bad_option, bad_index, expected_number, variable_fault, not_read, not_set, not_unset, word_fault, expr_fault};
+
+use crate::complaint::Complaint;
+use std::alloc::{AllocError, Global};
+use tcl_expr::ExprFault;
+use tcl_subst::SubstFault;
+use tcl_words::{Text, WordFault};
+
+/// Whether a word is this name.
+pub(crate) fn is(word: &[u8], name: &[u8]) -> bool
+    ensures { result ≡ bytes_eq word.now name.now }
+{
+    word == name
+}
+
+/// A text is no list.
+pub fn bad_list() -> &'static [u8]
+    ensures { result.now ≡ bad_list }
+{
+    b"bad list"
+}
+
+/// A value would have more bytes than are allowed.
+pub fn too_long() -> &'static [u8]
+    ensures { result.now ≡ too_long }
+{
+    b"value too long"
+}
+
+/// Evaluations stand too deep in one another.
+pub fn too_deep() -> &'static [u8]
+    ensures { result.now ≡ too_deep }
+{
+    b"too many nested evaluations"
+}
+
+/// At most so many bytes of a word.
+fn front(word: &[u8], most: usize) -> &[u8]
+    ensures { result.now ≡ take most word.now }
+{
+    if word.len() <= most {
+        word
+    } else {
+        word.split_at(most).0
+    }
+}
+
+/// A text, and a word in quotes behind it, of which at most 200 bytes are shown.
+pub fn quoted(alloc: Global, front_text: &[u8], word: &[u8]) -> Result<Text, AllocError>
+    ensures { IfOk result (λ t. t ≡ quoted front_text.now word.now) }
+{
+    let mut text = Text::from_slice(alloc, front_text)?;
+    text.push(b'"')?;
+    text.extend(front(word, 200))?;
+    text.push(b'"')?;
+    Ok(text)
+}
+
+/// A quoted word with a text behind it.
+fn quoted_before(
+    alloc: Global,
+    front_text: &[u8],
+    word: &[u8],
+    behind: &[u8],
+) -> Result<Text, AllocError>
+    ensures { IfOk result (λ t. t ≡ quoted front_text.now word.now ++ behind.now) }
+{
+    let mut text = quoted(alloc, front_text, word)?;
+    text.extend(behind)?;
+    Ok(text)
+}
+
+/// A command has too few or too many arguments.
+pub fn wrong_args(alloc: Global, command: &[u8]) -> Result<Text, AllocError>
+    ensures { IfOk result (λ t. t ≡ wrong_args command.now) }
+{
+    quoted(alloc, b"wrong # args for ", command)
+}
+
+/// A command has no such option.
+pub fn bad_option(alloc: Global, option: &[u8]) -> Result<Text, AllocError>
+    ensures { IfOk result (λ t. t ≡ bad_option option.now) }
+{
+    quoted(alloc, b"bad option ", option)
+}
+
+/// A text is no index.
+pub fn bad_index(alloc: Global, text: &[u8]) -> Result<Text, AllocError>
+    ensures { IfOk result (λ t. t ≡ bad_index text.now) }
+{
+    quoted(alloc, b"bad index ", text)
+}
+
+/// A text is no number.
+pub fn expected_number(alloc: Global, text: &[u8]) -> Result<Text, AllocError>
+    ensures { IfOk result (λ t. t ≡ expected_number text.now) }
+{
+    quoted(alloc, b"expected number but got ", text)
+}
+
+/// Why a variable can't be read or set. The front says which. There is a text but for want of memory.
+fn variable_fault(
+    alloc: Global,
+    front_text: &[u8],
+    name: &[u8],
+    fault: SubstFault,
+) -> Result<Text, AllocError>
+    ensures text { IfOk result (λ t. t ≡ variable_fault front_text.now name.now fault) }
+    ensures memory { IfOk result (λ _. fault ≢ SubstFault.Memory) }
+{
+    match fault {
+        SubstFault::NoVariable => quoted_before(alloc, front_text, name, b": no such variable"),
+        SubstFault::IsArray => quoted_before(alloc, front_text, name, b": variable is array"),
+        SubstFault::NotArray => quoted_before(alloc, front_text, name, b": variable isn't array"),
+        SubstFault::TooLong => Text::from_slice(alloc, too_long()),
+        SubstFault::BadList => Text::from_slice(alloc, bad_list()),
+        SubstFault::Exists => quoted_before(alloc, b"variable ", name, b" already exists"),
+        SubstFault::Memory => Err(AllocError),
+    }
+}
+
+/// Why a variable can't be read. There is a text but for want of memory.
+pub fn not_read(alloc: Global, name: &[u8], fault: SubstFault) -> Result<Text, AllocError>
+    ensures text { IfOk result (λ t. t ≡ not_read name.now fault) }
+    ensures memory { IfOk result (λ _. fault ≢ SubstFault.Memory) }
+{
+    variable_fault(alloc, b"can't read ", name, fault)
+}
+
+/// Why a variable can't be set. There is a text but for want of memory.
+pub fn not_set(alloc: Global, name: &[u8], fault: SubstFault) -> Result<Text, AllocError>
+    ensures text { IfOk result (λ t. t ≡ not_set name.now fault) }
+    ensures memory { IfOk result (λ _. fault ≢ SubstFault.Memory) }
+{
+    variable_fault(alloc, b"can't set ", name, fault)
+}
+
+/// Whether a fault says that there is no such variable.
+pub(crate) fn is_missing(fault: SubstFault) -> bool
+    ensures { result ≡ is_missing fault }
+{
+    match fault {
+        SubstFault::NoVariable => true,
+        SubstFault::IsArray => false,
+        SubstFault::NotArray => false,
+        SubstFault::TooLong => false,
+        SubstFault::Memory => false,
+        SubstFault::Exists => false,
+        SubstFault::BadList => false,
+    }
+}
+
+/// Why a variable can't be unset. There is a text but for want of memory.
+pub fn not_unset(alloc: Global, name: &[u8], fault: SubstFault) -> Result<Text, AllocError>
+    ensures text { IfOk result (λ t. t ≡ not_unset name.now fault) }
+    ensures memory { IfOk result (λ _. fault ≢ SubstFault.Memory) }
+{
+    if is_missing(fault) {
+        return variable_fault(alloc, b"can't unset ", name, fault);
+    }
+    not_set(alloc, name, fault)
+}
+
+/// Why a command could not be read.
+pub fn word_fault(fault: WordFault) -> &'static [u8]
+    ensures { result.now ≡ word_fault fault }
+{
+    match fault {
+        WordFault::MissingBrace => b"missing close-brace",
+        WordFault::MissingBracket => b"missing close-bracket",
+        WordFault::MissingQuote => b"missing \"",
+        WordFault::ExtraAfterQuote => b"extra characters after close-quote",
+        WordFault::ExtraAfterBrace => b"extra characters after close-brace",
+        WordFault::TooDeep => b"nesting too deep",
+        WordFault::MissingParen => b"missing )",
+        WordFault::Memory => b"",
+    }
+}
+
+/// Why the expression of a text has no value.
+pub fn expr_fault(alloc: Global, source: &[u8], fault: &ExprFault) -> Result<Text, AllocError>
+    ensures { IfOk result (λ t. t ≡ expr_fault source.now fault.now) }
+{
+    match fault {
+        ExprFault::Syntax => quoted(alloc, b"syntax error in expression ", source),
+        ExprFault::NotNumber(text) => expected_number(alloc, text.as_slice()),
+        ExprFault::DivideByZero => Text::from_slice(alloc, b"divide by zero"),
+        ExprFault::Overflow => Text::from_slice(alloc, b"integer overflow"),
+        ExprFault::TooDeep => Text::from_slice(alloc, b"expression too deep"),
+        ExprFault::Memory => Ok(Text::new(alloc)),
+    }
+}
+
+/// The complaint that a command has too few or too many arguments.
+pub(crate) fn wrong(alloc: Global, command: &[u8]) -> Complaint
+    ensures { Complains result (wrong_args command.now) }
+{
+    match wrong_args(alloc, command) {
+        Ok(text) => Complaint::Said(text),
+        Err(_) => Complaint::Memory,
+    }
+}
+
+/// The complaint that a text is no list.
+pub(crate) fn no_list(alloc: Global) -> Complaint
+    ensures { Complains result bad_list }
+{
+    match Text::from_slice(alloc, bad_list()) {
+        Ok(text) => Complaint::Said(text),
+        Err(_) => Complaint::Memory,
+    }
+}

@@ -1,0 +1,88 @@
+//! Texts read as lists and as numbers.
+
+ghost use Rattle.std.specs.Prelude.{◌≡◌, IfOk};
+ghost use Rattle.tcl_commands.specs.Said.{limited, list_of, as_number};
+ghost use Rattle.tcl_commands.specs.Says.{Says};
+ghost use Rattle.tcl_commands.specs.Strings.{count_text};
+ghost use Rattle.tcl_subst.specs.Faults.{is_too_long};
+ghost use Rattle.tcl_words.specs.Lists.{written};
+
+use crate::complaint::Complaint;
+use crate::texts::{expected_number, no_list, too_long};
+use std::alloc::{AllocError, Global};
+use tcl_expr::{read_number, write_number};
+use tcl_subst::VALUE_LIMIT;
+use tcl_values::{Elements, Value};
+use tcl_words::{ListFault, Text, Texts};
+
+/// The elements of the list that a value is.
+pub(crate) fn list_of(alloc: Global, value: &Value) -> Result<Elements, Complaint>
+    ensures { Says result (list_of value.now) }
+{
+    match value.elements(alloc) {
+        Ok(elements) => Ok(elements),
+        Err(ListFault::BadList) => Err(no_list(alloc)),
+        Err(ListFault::Memory) => Err(Complaint::Memory),
+    }
+}
+
+/// The number that a text is.
+pub(crate) fn as_number(alloc: Global, text: &[u8]) -> Result<i64, Complaint>
+    ensures { Says result (as_number text.now) }
+{
+    match read_number(text) {
+        Some(number) => Ok(number),
+        None => Err(Complaint::Said(expected_number(alloc, text)?)),
+    }
+}
+
+#[tactic(auto, unfolding(tcl_subst::specs::Faults::is_too_long))]
+fn is_too_long(count: usize) -> bool
+    ensures { result ≡ is_too_long count }
+{
+    VALUE_LIMIT < count
+}
+
+/// A value, where it isn't too long.
+pub(crate) fn limited(alloc: Global, value: Value) -> Result<Value, Complaint>
+    ensures { Says result (limited value) }
+{
+    if is_too_long(value.len()) {
+        return Err(Complaint::Said(Text::from_slice(alloc, too_long())?));
+    }
+    Ok(value)
+}
+
+/// The texts of values, in order.
+pub(crate) fn texts_of(alloc: Global, values: &[Value]) -> Result<Texts, AllocError>
+    ensures { IfOk result (λ t. t ≡ values.now) }
+{
+    let mut texts = Texts::new(alloc);
+    for value in values {
+        texts.push(Text::from_slice(alloc, value.as_slice())?)?;
+    }
+    Ok(texts)
+}
+
+/// The list of texts, with its elements kept.
+pub(crate) fn listed(alloc: Global, texts: &[Text]) -> Result<Value, AllocError>
+    ensures { IfOk result (λ v. v ≡ written texts.now) }
+{
+    let mut value = Value::new(alloc);
+    match value.append_elements(alloc, texts, usize::MAX) {
+        Ok(()) => Ok(value),
+        Err(_) => Err(AllocError),
+    }
+}
+
+/// The text of a count.
+pub(crate) fn count_text(alloc: Global, count: usize) -> Result<Value, AllocError>
+    ensures { IfOk result (λ v. v ≡ count_text count) }
+{
+    Value::from_text(
+        alloc,
+        Text {
+            bytes: format!(in alloc; "{count}")?.into_bytes(),
+        },
+    )
+}

@@ -1,0 +1,12 @@
+-- All words of a text, command by command.
+use Rattle.std.specs.Prelude.{List, [], ◌∷◌, ◌++◌, Option, Some, None}
+use Rattle.tcl_words.specs.declared.faults.WordFault.{WordFault}
+use Rattle.tcl_words.specs.Pieces.{Spelled}
+use Rattle.tcl_scripts.specs.declared.script.Reading.{Reading}
+use Rattle.tcl_scripts.specs.declared.script.Reading.TheVariants.{Command, Malformed}
+
+-- the words in order, up to a malformed command, and its fault
+abbrev pub all_words : List Reading → List Spelled × Option WordFault
+all_words [] = ([], None)
+all_words (Malformed f ∷ rs) = ([], Some f)
+all_words (Command words ∷ rs) = (words ++ (all_words rs).0, (all_words rs).1)

@@ -1,0 +1,152 @@
+//! The words of a command, kept to be filled.
+
+ghost use Rattle.std.specs.Prelude.{◌≡◌, [], ◌∷◌, ◌++◌, MatchOption, drop, length, IfOk, OnOk};
+ghost use Rattle.tcl_words.specs.Pieces.{word_view, words_view};
+ghost use Rattle.tcl_subst.specs.Recipes.{begun, steps_onto};
+
+use std::alloc::{AllocError, Global};
+use std::marker::Model;
+use std::rc::Rc;
+use tcl_subst::{Filler, Recipe};
+use tcl_words::Word;
+
+/// A word with the steps of filling it. A contract sees its parts.
+#[derive(Drop)]
+pub struct KeptWord {
+    /// Whether its value is split as a list.
+    expand: bool,
+    /// The steps.
+    recipe: Rc<Recipe>,
+}
+
+impl Model for KeptWord {
+    ghost use Rattle.std.specs.Prelude.{◌≡◌, []};
+    ghost use Rattle.tcl_words.specs.Pieces.{Spelled};
+    ghost use Rattle.tcl_expr.specs.Codes.{coded_spelled};
+    ghost use Rattle.tcl_subst.specs.Recipes.{steps_onto};
+    ghost use Rattle.tcl_scripts.specs.Kept.{pieces_of};
+
+    ghost Value = { Spelled };
+
+    ghost coded = { coded_spelled };
+
+    ghost view = { λ w. record { expand = w.expand; pieces = pieces_of w.recipe.value.steps.items } };
+
+    ghost invariant = { λ w. w.recipe.value.steps.items ≡ steps_onto (pieces_of w.recipe.value.steps.items) [] };
+}
+
+impl KeptWord {
+    /// Keeps a word.
+    pub fn new(alloc: Global, word: &Word) -> Result<KeptWord, AllocError>
+        ensures { IfOk result (λ w. w ≡ word_view word.now) }
+    {
+        let recipe = Recipe::of(alloc, word)?;
+        Ok(KeptWord {
+            expand: word.expand,
+            recipe: Rc::new(alloc, recipe)?,
+        })
+    }
+
+    /// The same word. Nothing is copied.
+    fn shared(&self) -> Result<KeptWord, AllocError>
+        ensures { IfOk result (λ w. w ≡ self.now) }
+    {
+        Ok(KeptWord {
+            expand: self.expand,
+            recipe: self.recipe.clone()?,
+        })
+    }
+
+    /// Whether its value is split as a list, and each element is a word.
+    pub fn is_expanded(&self) -> bool
+        ensures { result ≡ self.now.expand }
+    {
+        self.expand
+    }
+
+    /// What fills it, at the first step.
+    pub fn filler(&self, alloc: Global) -> Result<Filler, AllocError>
+        ensures { IfOk result (λ f. f ≡ begun (steps_onto self.now.pieces [])) }
+    {
+        Ok(Filler::new(alloc, self.recipe.clone()?))
+    }
+}
+
+/// The words of a command, shared. A contract sees the list of them.
+#[derive(Drop)]
+pub struct Words {
+    list: Rc<Vec<KeptWord>>,
+}
+
+impl Model for Words {
+    ghost use Rattle.std.specs.Prelude.{List};
+    ghost use Rattle.std.specs.Coded.{coded_list};
+    ghost use Rattle.tcl_words.specs.Pieces.{Spelled};
+    ghost use Rattle.tcl_expr.specs.Codes.{coded_spelled};
+
+    ghost Value = { List Spelled };
+
+    ghost coded = { coded_list coded_spelled };
+
+    ghost view = { λ w. w.list.value.items };
+}
+
+impl Words {
+    /// Keeps words in their order.
+    pub fn new(alloc: Global, words: &[Word]) -> Result<Words, AllocError>
+        ensures { IfOk result (λ w. w ≡ words_view words.now) }
+    {
+        let mut list = Vec::new(alloc);
+        for word in words {
+            list.push(KeptWord::new(alloc, word)?)?;
+        }
+        Ok(Words {
+            list: Rc::new(alloc, list)?,
+        })
+    }
+
+    /// The word at a place, where there is one, and the place behind it.
+    pub fn next(&self, at: usize) -> Option<(&KeptWord, usize)>
+        ensures { MatchOption result (drop at self.now ≡ []) (λ p. drop at self.now ≡ p.0.now ∷ drop p.1 self.now) }
+    {
+        match self.list.get(at) {
+            None => None,
+            Some(word) => Some((word, at + 1)),
+        }
+    }
+
+    /// How many words there are.
+    pub fn len(&self) -> usize
+        ensures { result ≡ length self.now }
+    {
+        self.list.len()
+    }
+
+    /// Words that were kept, in their order.
+    pub(crate) fn of(alloc: Global, list: Vec<KeptWord>) -> Result<Words, AllocError>
+        ensures { IfOk result (λ w. w ≡ list.items) }
+    {
+        Ok(Words {
+            list: Rc::new(alloc, list)?,
+        })
+    }
+
+    /// Puts the words behind others. Their steps are shared.
+    pub(crate) fn copy_to(&self, list: &mut Vec<KeptWord>) -> Result<(), AllocError>
+        ensures { OnOk result (list.new.items ≡ list.old.items ++ self.now) }
+    {
+        for word in self.list.as_slice() {
+            list.push(word.shared()?)?;
+        }
+        Ok(())
+    }
+
+    /// The same words. Nothing is copied.
+    pub fn shared(&self) -> Result<Words, AllocError>
+        ensures { IfOk result (λ w. w ≡ self.now) }
+    {
+        Ok(Words {
+            list: self.list.clone()?,
+        })
+    }
+}
