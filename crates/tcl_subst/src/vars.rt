@@ -168,8 +168,7 @@ impl Vars {
     pub fn peek(&self, name: &[u8]) -> Result<&[u8], SubstFault>
         ensures { MatchResult result (λ v. value_of name.now self.now ≡ Ok v.now) (λ f. value_of name.now self.now ≡ Err f) }
     {
-        let value = read(self.home(name), name)?;
-        Ok(value.as_slice())
+        Ok(read(self.home(name), name)?.as_slice())
     }
 
     /// Whether there is a variable or an element.
