@@ -1,0 +1,74 @@
+-- A word whose filler was just begun.
+use Rattle.std.proofs.Common.{◌≡◌, ℕ, zero, suc, Bool, false, ◌==◌, List, [], ◌∷◌, drop, length, ap, sym, refl, ◌∙◌, arith}
+use Rattle.tcl_words.specs.Pieces.{Spelled}
+use Rattle.tcl_subst.specs.Filling.{Fill}
+use Rattle.tcl_subst.specs.Recipes.{Filling, given}
+use Rattle.tcl_subst.specs.Rests.{rest}
+use Rattle.tcl_commands.specs.declared.code.Code.TheVariants.{Ok}
+use Rattle.tcl_scripts.specs.declared.script.Reading.{Reading}
+use Rattle.tcl_scripts.specs.declared.script.Reading.TheVariants.{Command as Words}
+use Rattle.tcl_eval.specs.declared.frame.Then.{Then}
+use Rattle.tcl_eval.specs.declared.frame.Then.TheVariants.{Command}
+use Rattle.tcl_eval.specs.declared.frame.End.TheVariants.{StepLimit}
+use Rattle.tcl_eval.specs.declared.frame.Frame.{Frame}
+use Rattle.tcl_eval.specs.declared.frame.Frame.TheVariants.{Fill as FillFrame, Seq}
+use Rattle.tcl_eval.specs.Advanced.{Fills}
+use Rattle.tcl_eval.specs.Tree.{State, Tree, Over}
+use Rattle.tcl_eval.specs.Meaning.{Next, Eval, eval, on_said, spread, fill_word, fill_words, sequence, stepped, each}
+use Rattle.tcl_eval.specs.Rest.{frames_rest, then_rest}
+use Rattle.tcl_eval.specs.Work.{Work, EvalWork, Ticks, Tick, word_work, words_work, eval_work, then_work, frames_work}
+
+pub words_first : (ev : Eval) (f : Filling) (w : Spelled) (ws words : List Spelled) (done : List (List ℕ)) (k : Next) (go : List (List ℕ) → State → Tree) (st : State)
+    → Fills f w → words ≡ w ∷ ws
+    → fill_word ev (rest (given [] f) st.vars) k (λ v st. on_said (spread w.expand v done) k (λ done st. fill_words ev ws done k go st) st) st ≡ fill_words ev words done k go st
+words_first ev f w ws words done k go st fills e =
+    ap (λ (p : Fill). fill_word ev p k (λ v st. on_said (spread w.expand v done) k (λ done st. fill_words ev ws done k go st) st) st) (fills st.vars)
+    ∙ ap (λ (l : List Spelled). fill_words ev l done k go st) (sym e)
+
+pub words_work_first : (ev : EvalWork) (f : Filling) (w : Spelled) (ws words : List Spelled) (done : List (List ℕ)) (k : Work) (go : List (List ℕ) → State → Ticks) (st : State)
+    → Fills f w → words ≡ w ∷ ws
+    → Tick (word_work ev (rest (given [] f) st.vars) k (λ v st. on_said (spread w.expand v done) k (λ done st. words_work ev ws done k go st) st) st) ≡ words_work ev words done k go st
+words_work_first ev f w ws words done k go st fills e =
+    ap (λ (p : Fill). Tick (word_work ev p k (λ v st. on_said (spread w.expand v done) k (λ done st. words_work ev ws done k go st) st) st)) (fills st.vars)
+    ∙ ap (λ (l : List Spelled). words_work ev l done k go st) (sym e)
+
+-- the frame that was pushed for a word, handed a value without bytes
+module _ (depth next to : ℕ) (words words' : List Spelled) (w : Spelled) (expand : Bool) (filler : Filling) (done : List (List ℕ)) (what : Then) (stack stack' : List Frame) (v : List ℕ) (st : State) where
+  pub fill_frame : drop next words ≡ w ∷ drop to words → Fills filler w → words' ≡ words → expand ≡ w.expand → stack' ≡ FillFrame words' to expand filler done what depth ∷ stack → v ≡ []
+      → frames_rest stack' Ok v st ≡ fill_words (eval depth) (drop next words) done (frames_rest stack) (then_rest depth what (frames_rest stack)) st
+  fill_frame is fills same spread' pushed none =
+      ap (λ (s : List Frame). frames_rest s Ok v st) pushed
+      ∙ ap (λ (v : List ℕ). frames_rest (FillFrame words' to expand filler done what depth ∷ stack) Ok v st) none
+      ∙ ap (λ (l : List Spelled). frames_rest (FillFrame l to expand filler done what depth ∷ stack) Ok [] st) same
+      ∙ ap (λ (b : Bool). frames_rest (FillFrame words to b filler done what depth ∷ stack) Ok [] st) spread'
+      ∙ words_first (eval depth) filler w (drop to words) (drop next words) done (frames_rest stack) (then_rest depth what (frames_rest stack)) st fills is
+
+  pub fill_frame_work : drop next words ≡ w ∷ drop to words → Fills filler w → words' ≡ words → expand ≡ w.expand → stack' ≡ FillFrame words' to expand filler done what depth ∷ stack → v ≡ []
+      → frames_work stack' Ok v st ≡ words_work (eval_work depth) (drop next words) done (frames_work stack) (then_work what (frames_work stack)) st
+  fill_frame_work is fills same spread' pushed none =
+      ap (λ (s : List Frame). frames_work s Ok v st) pushed
+      ∙ ap (λ (v : List ℕ). frames_work (FillFrame words' to expand filler done what depth ∷ stack) Ok v st) none
+      ∙ ap (λ (l : List Spelled). frames_work (FillFrame l to expand filler done what depth ∷ stack) Ok [] st) same
+      ∙ ap (λ (b : Bool). frames_work (FillFrame words to b filler done what depth ∷ stack) Ok [] st) spread'
+      ∙ words_work_first (eval_work depth) filler w (drop to words) (drop next words) done (frames_work stack) (then_work what (frames_work stack)) st fills is
+
+-- the frame that was pushed for the commands behind one whose words are filled
+module _ (depth next to : ℕ) (script script' : List Reading) (words words' : List Spelled) (done : List (List ℕ)) (stack stack' : List Frame) (last : List ℕ) (st : State) where
+  pub seq_frame : drop next script ≡ Words words ∷ drop to script → words' ≡ words → script' ≡ script → stack' ≡ Seq script' to depth ∷ stack → done ≡ []
+      → fill_words (eval depth) (drop 0 words') done (frames_rest stack') (then_rest depth Command (frames_rest stack')) st ≡ sequence (eval depth) (drop next script) (frames_rest stack) last st
+  seq_frame is same same' pushed none =
+      ap (λ (s : List Frame). fill_words (eval depth) (drop 0 words') done (frames_rest s) (then_rest depth Command (frames_rest s)) st) pushed
+      ∙ ap (λ (d : List (List ℕ)). fill_words (eval depth) (drop 0 words') d (frames_rest (Seq script' to depth ∷ stack)) (then_rest depth Command (frames_rest (Seq script' to depth ∷ stack))) st) none
+      ∙ ap (λ (l : List Spelled). fill_words (eval depth) (drop 0 l) [] (frames_rest (Seq script' to depth ∷ stack)) (then_rest depth Command (frames_rest (Seq script' to depth ∷ stack))) st) same
+      ∙ ap (λ (s : List Reading). fill_words (eval depth) words [] (frames_rest (Seq s to depth ∷ stack)) (then_rest depth Command (frames_rest (Seq s to depth ∷ stack))) st) same'
+      ∙ ap (λ (l : List Reading). sequence (eval depth) l (frames_rest stack) last st) (sym is)
+
+stepped_none : (n : ℕ) (st : State) (go : State → Tree) → n ≡ 0 → stepped n st go ≡ Over StepLimit st
+stepped_none zero st go e = refl
+stepped_none (suc n) st go e = absurd (omega arith)
+
+-- no step is left for a turn of a `foreach`
+pub each_spent : (ev : Eval) (names : List (List ℕ)) (left : List (List (List ℕ))) (body : List Reading) (k : Next) (st st' : State)
+    → (length left == 0) ≡ false → st.left ≡ 0 → st' ≡ st → Over StepLimit st' ≡ each ev names left body k st
+each_spent ev names [] body k st st' some none same = absurd (cc)
+each_spent ev names (es ∷ left) body k st st' some none same = ap (λ (s : State). Over StepLimit s) same ∙ sym (stepped_none st.left st _ none)

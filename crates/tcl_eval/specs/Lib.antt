@@ -1,0 +1,9 @@
+pub mod Advanced
+pub mod Asked
+pub mod Evaluated
+pub mod Meaning
+pub mod Rest
+pub mod Steps
+pub mod Suspended
+pub mod Tree
+pub mod Work

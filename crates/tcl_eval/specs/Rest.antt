@@ -1,0 +1,117 @@
+-- What a machine still does.
+use Rattle.std.specs.Prelude.{ℕ, Bool, true, false, Some, List, [], ◌∷◌, drop, if◌then◌else◌}
+use Rattle.tcl_subst.specs.Recipes.{given}
+use Rattle.tcl_subst.specs.Rests.{rest}
+use Rattle.tcl_subst.specs.Variables.{Variables}
+use Rattle.tcl_commands.specs.declared.code.Code.{Code}
+use Rattle.tcl_commands.specs.declared.code.Code.TheVariants.{Ok, Error}
+use Rattle.tcl_commands.specs.Texts.{expr_fault}
+use Rattle.tcl_scripts.specs.Commands.{commands}
+use Rattle.tcl_eval.specs.declared.advance.Advance.{Advance}
+use Rattle.tcl_eval.specs.declared.advance.Advance.TheVariants.{Value, Operand as NeedOperand, Fault}
+use Rattle.tcl_eval.specs.declared.frame.End.TheVariants.{Finished}
+use Rattle.tcl_eval.specs.declared.frame.Then.{Then}
+use Rattle.tcl_eval.specs.declared.frame.Then.TheVariants.{Command, List as HostList}
+use Rattle.tcl_eval.specs.declared.frame.Turning.{Turning}
+use Rattle.tcl_eval.specs.declared.frame.Goal.{Goal}
+use Rattle.tcl_eval.specs.declared.frame.Goal.TheVariants.{Result, Turn as TurnGoal, Arm}
+use Rattle.tcl_eval.specs.declared.frame.Frame.{Frame}
+use Rattle.tcl_eval.specs.declared.frame.Frame.TheVariants.{Seq, Fill, Operand, Arms, Catch, Turn, Next as NextFrame, Start, Each, Scope, HostBody}
+use Rattle.tcl_eval.specs.declared.frame.Mode.{Mode}
+use Rattle.tcl_eval.specs.declared.frame.Mode.TheVariants.{Give, Invoke, Run, Begin, AfterWords, AfterBody, Define, Ended}
+use Rattle.tcl_eval.specs.declared.engine.Engine.{Engine}
+use Rattle.tcl_eval.specs.Evaluated.{Evaluated, with_operand}
+use Rattle.tcl_eval.specs.Tree.{Call, Begin as BeginCall, AfterWords as WordsCall, AfterBody as AfterCall, Knows, Resume, known_of, State, Tree, Over, Ask}
+use Rattle.tcl_eval.specs.Meaning.{Next, on_ok, on_said, tested, turn_end, stepped, fill_word, fill_parts, fill_words, spread, value_from, tree_of, arms, decided, advanced, turned, turns, loop, each, caught, scope_end, defined, after_script_by, next_body, after_body, worded_by, host_words, begun_by, invoke, sequence, eval}
+
+-- what follows the words
+abbrev pub then_rest : ℕ → Then → Next → List (List ℕ) → State → Tree
+then_rest depth Command k words st = stepped st.left st (λ st. invoke (eval depth) words k st)
+then_rest depth (HostList fault) k words st = host_words (eval depth) fault k words st
+
+-- the turns of a loop that are left, once its condition is known
+abbrev pub turns_left : ℕ → Turning → Next → Bool → State → Tree
+turns_left depth t k b st = decided b k (turned (eval depth) t.test t.body t.next k t.bound) st
+
+-- what follows the value of an expression
+abbrev pub goal_rest : ℕ → Goal → Next → List ℕ → State → Tree
+goal_rest depth Result k v st = k Ok v st
+goal_rest depth (TurnGoal t) k v st = tested v k (turns_left depth t k) st
+goal_rest depth (Arm body arms') k v st =
+    tested v k (λ b st. if b then eval depth (commands body) k st else arms (eval depth) arms'.0 arms'.1 k st) st
+
+-- an expression that was evaluated so far
+abbrev pub evaluated : ℕ → Evaluated → Goal → Next → State → Tree
+evaluated depth e goal k st = value_from (fill_parts (eval depth)) e.tree e.given k (λ v vs st. goal_rest depth goal k v st) st
+
+-- what follows a step of an evaluation
+abbrev pub advanced_to : ℕ → Advance → Evaluated → Goal → Next → State → Tree
+advanced_to depth (Value v) e goal k st = goal_rest depth goal k v st
+advanced_to depth (NeedOperand f) e goal k st =
+    fill_word (eval depth) (rest (given [] f) st.vars) k (λ v st. evaluated depth (with_operand v e) goal k st) st
+advanced_to depth (Fault f) e goal k st = k Error (expr_fault [] f) st
+
+-- a loop: its condition, and then its turns
+abbrev pub looped : ℕ → Turning → Next → State → Tree
+looped depth t k st = turns (eval depth) t.test t.body t.next k t.bound st
+
+-- what a frame does with the code and the value that it is handed
+abbrev pub frame_rest : Frame → Next → Next
+frame_rest (Seq script next depth) k = on_ok (λ v st. sequence (eval depth) (drop next script) k v st) k
+frame_rest (Fill words next expand filler done to depth) k =
+    on_ok
+    (λ v st. fill_word (eval depth) (rest (given v filler) st.vars) k
+    (λ v st. on_said (spread expand v done) k (λ done st. fill_words (eval depth) (drop next words) done k (then_rest depth to k) st) st) st)
+    k
+frame_rest (Operand evaluation filler goal depth) k =
+    on_ok
+    (λ v st. fill_word (eval depth) (rest (given v filler) st.vars) k (λ v st. evaluated depth (with_operand v evaluation) goal k st) st)
+    k
+frame_rest (Arms arms' depth) k = on_ok (λ v st. arms (eval depth) arms'.0 arms'.1 k st) k
+frame_rest (Catch name) k = caught name k
+frame_rest (Turn t depth) k = turn_end k (λ st. advanced (eval depth) t.next k (λ st. looped depth t k st) st)
+frame_rest (NextFrame t depth) k = on_ok (λ v st. looped depth t k st) k
+frame_rest (Start test next body depth) k =
+    on_ok
+    (λ v st. on_said (tree_of test) k (λ t st. loop (eval depth) t (commands body) (Some (commands next)) k st) st)
+    k
+frame_rest (Each groups body depth) k = turn_end k (λ st. each (eval depth) groups.names groups.left body k st)
+frame_rest Scope k = scope_end k
+frame_rest (HostBody bound depth) k = after_body (eval depth) k bound
+
+-- what the frames do, the top first; below the last the run is over
+abbrev pub frames_rest : List Frame → Next
+frames_rest [] c v st = Over (Finished c v) st
+frames_rest (f ∷ fs) c v st = frame_rest f (frames_rest fs) c v st
+
+abbrev pub begin_call : Bool → List (List ℕ) → Variables → Call
+begin_call true words vars = Resume vars
+begin_call false words vars = BeginCall words vars
+
+abbrev pub words_call : Bool → List (List ℕ) → Variables → Call
+words_call true words vars = Resume vars
+words_call false words vars = WordsCall words vars
+
+abbrev pub after_call : Bool → Code → List ℕ → Variables → Call
+after_call true c v vars = Resume vars
+after_call false c v vars = AfterCall c v vars
+
+abbrev pub mode_rest : Mode → Next → State → Tree
+mode_rest (Give c v) k st = k c v st
+mode_rest (Invoke words depth) k st = invoke (eval depth) words k st
+mode_rest (Run script depth) k st = eval depth script k st
+mode_rest (Begin words depth resumed) k st =
+    Ask (begin_call resumed words st.vars) st.left (λ r. begun_by (eval depth) words r k st)
+mode_rest (AfterWords words depth resumed) k st =
+    Ask (words_call resumed words st.vars) st.left (λ r. worded_by (eval depth) r k st)
+mode_rest (AfterBody c v bound depth resumed) k st =
+    Ask (after_call resumed c v st.vars) st.left (λ r. after_script_by c r k (next_body (eval depth) k bound) st)
+mode_rest (Define name formals body) k st = Ask (Knows name) st.left (λ r. defined name formals body (known_of r) k st)
+mode_rest (Ended end) k st = Over end st
+
+abbrev pub state_of : Engine → ℕ → State
+state_of m left = record { vars = m.vars; procs = m.procs; left = left }
+
+-- what is left of a run, where the meter has so many steps left and this is next
+abbrev pub engine_rest : Engine → ℕ → Mode → Tree
+engine_rest m left mode = mode_rest mode (frames_rest m.stack) (state_of m left)

@@ -1,0 +1,38 @@
+-- A machine that is run again.
+use Rattle.std.specs.Prelude.{◌≡◌, List}
+use Rattle.tcl_eval.specs.declared.machine.Pause.{Pause}
+use Rattle.tcl_eval.specs.declared.machine.Pause.TheVariants.{Finished, Waits, Stopped, StepLimit, Memory}
+use Rattle.tcl_eval.specs.declared.frame.End.TheVariants.{Finished as FinishedSo, Stopped as StoppedSo, StepLimit as AtLimit}
+use Rattle.tcl_eval.specs.declared.frame.Mode.{Mode}
+use Rattle.tcl_eval.specs.declared.frame.Mode.TheVariants.{Ended}
+use Rattle.tcl_eval.specs.Tree.{Reply, Over}
+use Rattle.tcl_eval.specs.Meaning.{Next}
+use Rattle.tcl_eval.specs.Asked.{EndsInWait, IsAsking}
+
+-- the end of the source is the end of the run
+abbrev pub at_the_end : Next
+at_the_end c v st = Over (FinishedSo c v) st
+
+abbrev pub IsOver : Mode → Type 0
+IsOver (Ended end) = Unit {0}
+IsOver _ = ⊥
+
+abbrev pub IsSuspended : Mode → Type 0
+IsSuspended (Ended end) = ⊥
+IsSuspended _ = Unit {0}
+
+-- the pause that a machine shows
+abbrev pub IsShownBy : Pause → Mode → Type 0
+IsShownBy Waits mode = IsSuspended mode
+IsShownBy (Finished c v) mode = mode ≡ Ended (FinishedSo c v)
+IsShownBy (Stopped e) mode = mode ≡ Ended (StoppedSo e)
+IsShownBy StepLimit mode = mode ≡ Ended AtLimit
+IsShownBy Memory mode = Unit {0}
+
+-- it is over by this pause, or it waits in a call and the last reply was a `Wait`
+abbrev pub IsPauseOf : Pause → Mode → List Reply → Type 0
+IsPauseOf Waits mode replies = EndsInWait replies × IsAsking mode
+IsPauseOf (Finished c v) mode replies = mode ≡ Ended (FinishedSo c v)
+IsPauseOf (Stopped e) mode replies = mode ≡ Ended (StoppedSo e)
+IsPauseOf StepLimit mode replies = mode ≡ Ended AtLimit
+IsPauseOf Memory mode replies = Unit {0}

@@ -1,0 +1,292 @@
+//! How expressions are evaluated.
+
+ghost use Rattle.std.specs.Prelude.{◌≡◌, ℕ, ◌+◌, ◌≤◌, ◌*◌, ◌∷◌, [], drop, IfOk, if◌then◌else◌};
+ghost use Rattle.tcl_subst.specs.Rests.{rest, told};
+ghost use Rattle.tcl_scripts.specs.Commands.{commands};
+ghost use Rattle.tcl_eval.specs.Advanced.{IsTold};
+ghost use Rattle.tcl_eval.specs.Evaluated.{fresh, with_operand};
+ghost use Rattle.tcl_commands.specs.Says.{Says};
+ghost use Rattle.tcl_commands.specs.Texts.{expected_number, expr_fault};
+ghost use Rattle.tcl_eval.specs.Steps.{left_of};
+ghost use Rattle.tcl_eval.specs.Meaning.{eval, fill_word, tested, arms, tree_of, on_said};
+ghost use Rattle.tcl_eval.specs.Rest.{engine_rest, frames_rest, state_of, goal_rest, evaluated, advanced_to, turns_left};
+ghost use Rattle.tcl_eval.specs.Work.{engine_work, frames_work, eval_work, word_work, goal_work, evaluated_work, advanced_work, decided_work, arms_work, bodies, credit, potential};
+
+use crate::advance::Advance;
+use crate::engine::Engine;
+use crate::evaluation::{Evaluation, Test};
+use crate::frame::{End, Frame, Goal, Mode, Turning};
+use crate::meter::Meter;
+use crate::said::said;
+use crate::words::{advanced, fault_text, script_text};
+use std::alloc::{AllocError, Global};
+use tcl_commands::{Arms, Code, Complaint, expected_number, expr_fault};
+use tcl_expr::{ExprFault, read_truth};
+use tcl_subst::{FillStep, Filler};
+use tcl_values::Value;
+
+impl Engine {
+    /// Evaluates an expression on.
+    pub(crate) fn express(
+        &mut self,
+        meter: &mut Meter,
+        mut evaluation: Evaluation,
+        goal: Goal,
+        depth: u32,
+    ) -> Result<Mode, AllocError>
+        ensures rest { IfOk result (λ mode. engine_rest self.new (left_of meter.new) mode ≡ evaluated depth evaluation goal (frames_rest self.old.stack) (state_of self.old (left_of meter.old))) }
+        ensures work { IfOk result (λ mode. engine_work self.new (left_of meter.new) mode ≡ evaluated_work (eval_work depth) evaluation goal (frames_work self.old.stack) (state_of self.old (left_of meter.old))) }
+        ensures potential { IfOk result (λ mode. potential self.new (left_of meter.new) mode ≤ 8 * left_of meter.old + bodies self.old.stack) }
+    {
+        let step = evaluation.advance(self.alloc)?;
+        let mode = self.express_to(meter, step, evaluation, goal, depth)?;
+        Ok(mode)
+    }
+
+    /// Goes on behind a step of an evaluation.
+    fn express_to(
+        &mut self,
+        meter: &mut Meter,
+        step: Advance,
+        evaluation: Evaluation,
+        goal: Goal,
+        depth: u32,
+    ) -> Result<Mode, AllocError>
+        ensures rest { IfOk result (λ mode. engine_rest self.new (left_of meter.new) mode ≡ advanced_to depth step evaluation goal (frames_rest self.old.stack) (state_of self.old (left_of meter.old))) }
+        ensures work { IfOk result (λ mode. engine_work self.new (left_of meter.new) mode ≡ advanced_work (eval_work depth) step evaluation goal (frames_work self.old.stack) (state_of self.old (left_of meter.old))) }
+        ensures potential { IfOk result (λ mode. potential self.new (left_of meter.new) mode ≤ 8 * left_of meter.old + bodies self.old.stack) }
+    {
+        match step {
+            Advance::Value(value) => {
+                let mode = self.reached(meter, value, goal, depth)?;
+                Ok(mode)
+            }
+            Advance::Operand(filler) => {
+                self.stack.push(Frame::Operand {
+                    evaluation,
+                    filler,
+                    goal,
+                    depth,
+                })?;
+                Ok(Mode::Give(Code::Ok, Value::new(self.alloc)))
+            }
+            Advance::Fault(fault) => {
+                let text = expr_text_of(self.alloc, &[], &fault)?;
+                Ok(Mode::Give(Code::Error, text))
+            }
+        }
+    }
+
+    /// Fills an operand on.
+    pub(crate) fn operand_on(
+        &mut self,
+        meter: &mut Meter,
+        evaluation: Evaluation,
+        mut filler: Filler,
+        goal: Goal,
+        depth: u32,
+    ) -> Result<Mode, AllocError>
+        ensures rest { IfOk result (λ mode. engine_rest self.new (left_of meter.new) mode ≡ fill_word (eval depth) (rest filler self.old.vars) (frames_rest self.old.stack) (λ v st. evaluated depth (with_operand v evaluation) goal (frames_rest self.old.stack) st) (state_of self.old (left_of meter.old))) }
+        ensures work { IfOk result (λ mode. engine_work self.new (left_of meter.new) mode ≡ word_work (eval_work depth) (rest filler self.old.vars) (frames_work self.old.stack) (λ v st. evaluated_work (eval_work depth) (with_operand v evaluation) goal (frames_work self.old.stack) st) (state_of self.old (left_of meter.old))) }
+        ensures potential { IfOk result (λ mode. potential self.new (left_of meter.new) mode ≤ 8 * left_of meter.old + bodies self.old.stack) }
+    {
+        let step = advanced(self.alloc, &mut filler, &self.vars)?;
+        let mode = self.operand_to(meter, step, evaluation, filler, goal, depth)?;
+        Ok(mode)
+    }
+
+    /// Goes on behind a step of an operand's filler.
+    fn operand_to(
+        &mut self,
+        meter: &mut Meter,
+        step: FillStep,
+        mut evaluation: Evaluation,
+        filler: Filler,
+        goal: Goal,
+        depth: u32,
+    ) -> Result<Mode, AllocError>
+        ensures rest { IfOk result (λ mode. engine_rest self.new (left_of meter.new) mode ≡ fill_word (eval depth) (told (step, filler)) (frames_rest self.old.stack) (λ v st. evaluated depth (with_operand v evaluation) goal (frames_rest self.old.stack) st) (state_of self.old (left_of meter.old))) }
+        ensures work { IfOk result (λ mode. engine_work self.new (left_of meter.new) mode ≡ word_work (eval_work depth) (told (step, filler)) (frames_work self.old.stack) (λ v st. evaluated_work (eval_work depth) (with_operand v evaluation) goal (frames_work self.old.stack) st) (state_of self.old (left_of meter.old))) }
+        ensures potential { IfOk result (λ mode. potential self.new (left_of meter.new) mode ≤ 8 * left_of meter.old + bodies self.old.stack) }
+    {
+        match step {
+            FillStep::Value(value) => {
+                evaluation.give(self.alloc, value)?;
+                let mode = self.express(meter, evaluation, goal, depth)?;
+                Ok(mode)
+            }
+            FillStep::NeedScript(number) => {
+                let text = script_text(self.alloc, &filler, number)?;
+                self.stack.push(Frame::Operand {
+                    evaluation,
+                    filler,
+                    goal,
+                    depth,
+                })?;
+                let mode = self.start_text(text.as_slice(), depth)?;
+                Ok(mode)
+            }
+            FillStep::Fault(fault) => {
+                let text = fault_text(self.alloc, &filler, fault)?;
+                Ok(Mode::Give(Code::Error, text))
+            }
+        }
+    }
+
+    /// Goes on behind the value of an expression.
+    fn reached(
+        &mut self,
+        meter: &mut Meter,
+        value: Value,
+        goal: Goal,
+        depth: u32,
+    ) -> Result<Mode, AllocError>
+        ensures rest { IfOk result (λ mode. engine_rest self.new (left_of meter.new) mode ≡ goal_rest depth goal (frames_rest self.old.stack) value (state_of self.old (left_of meter.old))) }
+        ensures work { IfOk result (λ mode. engine_work self.new (left_of meter.new) mode ≡ goal_work (eval_work depth) goal (frames_work self.old.stack) value (state_of self.old (left_of meter.old))) }
+        ensures potential { IfOk result (λ mode. potential self.new (left_of meter.new) mode ≤ 8 * left_of meter.old + bodies self.old.stack) }
+    {
+        match goal {
+            Goal::Result => Ok(Mode::Give(Code::Ok, value)),
+            Goal::Turn(turning) => match read_truth(value.as_slice()) {
+                None => {
+                    let mode = self.no_truth(&value)?;
+                    Ok(mode)
+                }
+                Some(holds) => {
+                    let mode = self.turn_or_end(meter, turning, holds, depth)?;
+                    Ok(mode)
+                }
+            },
+            Goal::Arm { body, arms } => match read_truth(value.as_slice()) {
+                None => {
+                    let mode = self.no_truth(&value)?;
+                    Ok(mode)
+                }
+                Some(true) => {
+                    let mode = self.start_text(body.as_slice(), depth)?;
+                    Ok(mode)
+                }
+                Some(false) => {
+                    self.stack.push(Frame::Arms { arms, depth })?;
+                    Ok(Mode::Give(Code::Ok, Value::new(self.alloc)))
+                }
+            },
+        }
+    }
+
+    /// A value that is no truth value.
+    fn no_truth(&mut self, value: &Value) -> Result<Mode, AllocError>
+        ensures value { IfOk result (λ mode. mode ≡ Mode.Give Code.Error (expected_number value.now)) }
+        ensures same { self.new ≡ self.old }
+    {
+        let text = expected_number(self.alloc, value.as_slice())?;
+        Ok(Mode::Give(Code::Error, Value::from_text(self.alloc, text)?))
+    }
+
+    /// Begins a turn where the condition holds.
+    fn turn_or_end(
+        &mut self,
+        meter: &mut Meter,
+        turning: Turning,
+        holds: bool,
+        depth: u32,
+    ) -> Result<Mode, AllocError>
+        ensures rest { IfOk result (λ mode. engine_rest self.new (left_of meter.new) mode ≡ turns_left depth turning (frames_rest self.old.stack) holds (state_of self.old (left_of meter.old))) }
+        ensures work { IfOk result (λ mode. engine_work self.new (left_of meter.new) mode ≡ decided_work holds (frames_work self.old.stack) (state_of self.old (left_of meter.old))) }
+        ensures potential { IfOk result (λ mode. potential self.new (left_of meter.new) mode ≤ 8 * left_of meter.old + bodies self.old.stack) }
+    {
+        if !holds {
+            return Ok(Mode::Give(Code::Ok, Value::new(self.alloc)));
+        }
+        if !meter.begin() {
+            return Ok(Mode::Ended(End::StepLimit));
+        }
+        let Turning {
+            test,
+            body,
+            next,
+            bound,
+        } = turning;
+        if bound == 0 {
+            return Ok(Mode::Ended(End::StepLimit));
+        }
+        let script = body.shared()?;
+        self.stack.push(Frame::Turn {
+            turning: Turning {
+                test,
+                body,
+                next,
+                bound: bound - 1,
+            },
+            depth,
+        })?;
+        Ok(Mode::Run { script, depth })
+    }
+
+    /// Goes on with the conditions of an `if` that are left.
+    pub(crate) fn arms(
+        &mut self,
+        meter: &mut Meter,
+        mut left: Arms,
+        depth: u32,
+    ) -> Result<Mode, AllocError>
+        ensures rest { IfOk result (λ mode. engine_rest self.new (left_of meter.new) mode ≡ arms (eval depth) left.0 left.1 (frames_rest self.old.stack) (state_of self.old (left_of meter.old))) }
+        ensures work { IfOk result (λ mode. engine_work self.new (left_of meter.new) mode ≡ arms_work (eval_work depth) left.0 left.1 (frames_work self.old.stack) (state_of self.old (left_of meter.old))) }
+        ensures potential { IfOk result (λ mode. potential self.new (left_of meter.new) mode ≤ 8 * left_of meter.old + bodies self.old.stack) }
+    {
+        match left.take() {
+            None => match left.otherwise() {
+                None => Ok(Mode::Give(Code::Ok, Value::new(self.alloc))),
+                Some(body) => {
+                    let mode = self.start_text(body.as_slice(), depth)?;
+                    Ok(mode)
+                }
+            },
+            Some((test, body)) => {
+                let mode = self.arm(meter, test, Goal::Arm { body, arms: left }, depth)?;
+                Ok(mode)
+            }
+        }
+    }
+
+    /// Evaluates the expression of a text.
+    pub(crate) fn arm(
+        &mut self,
+        meter: &mut Meter,
+        text: Value,
+        goal: Goal,
+        depth: u32,
+    ) -> Result<Mode, AllocError>
+        ensures rest { IfOk result (λ mode. engine_rest self.new (left_of meter.new) mode ≡ on_said (tree_of text) (frames_rest self.old.stack) (λ t st. evaluated depth (fresh t) goal (frames_rest self.old.stack) st) (state_of self.old (left_of meter.old))) }
+        ensures work { IfOk result (λ mode. engine_work self.new (left_of meter.new) mode ≡ on_said (tree_of text) (frames_work self.old.stack) (λ t st. evaluated_work (eval_work depth) (fresh t) goal (frames_work self.old.stack) st) (state_of self.old (left_of meter.old))) }
+        ensures potential { IfOk result (λ mode. potential self.new (left_of meter.new) mode ≤ 8 * left_of meter.old + bodies self.old.stack) }
+    {
+        match said(self.alloc, read_test(self.alloc, &text))? {
+            Ok(test) => {
+                let evaluation = Evaluation::new(self.alloc, test);
+                let mode = self.express(meter, evaluation, goal, depth)?;
+                Ok(mode)
+            }
+            Err(text) => Ok(Mode::Give(Code::Error, text)),
+        }
+    }
+}
+
+/// The expression that a text is, or the text of its fault.
+pub(crate) fn read_test(alloc: Global, text: &Value) -> Result<Test, Complaint>
+    ensures { Says result (tree_of text.now) }
+{
+    match Test::parse(alloc, text.as_slice()) {
+        Ok(test) => Ok(test),
+        Err(ExprFault::Memory) => Err(Complaint::Memory),
+        Err(fault) => Err(Complaint::Said(expr_fault(alloc, text.as_slice(), &fault)?)),
+    }
+}
+
+/// The text of a fault of an expression.
+fn expr_text_of(alloc: Global, source: &[u8], fault: &ExprFault) -> Result<Value, AllocError>
+    ensures { IfOk result (λ v. v ≡ expr_fault source.now fault.now) }
+{
+    let text = expr_fault(alloc, source, fault)?;
+    Value::from_text(alloc, text)
+}

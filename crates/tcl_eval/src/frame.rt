@@ -1,0 +1,175 @@
+//! What a machine still has to do.
+
+use crate::ending::Ending;
+use crate::evaluation::{Evaluation, Test};
+use crate::values::Values;
+use tcl_commands::{Arms, Code, Groups};
+use tcl_scripts::{Script, Words};
+use tcl_subst::Filler;
+use tcl_values::Value;
+use tcl_words::WordFault;
+
+/// How a run ended.
+#[derive(Drop)]
+pub enum End {
+    /// The script came to its end, with a code and a value.
+    Finished(Code, Value),
+    /// A command ended it.
+    Stopped(Ending),
+    /// No step was left.
+    StepLimit,
+    /// No memory was left.
+    Memory,
+}
+
+/// What is done with words once they are filled.
+#[derive(Drop)]
+pub enum Then {
+    /// They are a command.
+    Command,
+    /// The host asked for them; a text that is malformed at its end has a fault.
+    List(Option<WordFault>),
+}
+
+/// A loop: `while`, or `for` behind its start.
+#[derive(Drop)]
+pub struct Turning {
+    /// The condition.
+    pub test: Test,
+    /// The body.
+    pub body: Script,
+    /// The script behind each turn of a `for`.
+    pub next: Option<Script>,
+    /// At most so many turns are left: as many as there were steps when it began.
+    pub bound: u64,
+}
+
+/// What is done with the value of an expression.
+#[derive(Drop)]
+pub enum Goal {
+    /// It is the result.
+    Result,
+    /// It decides on a turn of a loop.
+    Turn(Turning),
+    /// It decides between a body and what stands behind it in an `if`.
+    Arm { body: Value, arms: Arms },
+}
+
+/// What is still to be done with the code and the value of what stands above.
+#[derive(Drop)]
+pub enum Frame {
+    /// The commands of a script from a place on.
+    Seq {
+        script: Script,
+        next: usize,
+        depth: u32,
+    },
+    /// Words to be filled: the words and the place behind the current one, the current one, and the values that are done.
+    Fill {
+        words: Words,
+        next: usize,
+        expand: bool,
+        filler: Filler,
+        done: Values,
+        then: Then,
+        depth: u32,
+    },
+    /// An operand of an expression to be filled.
+    Operand {
+        evaluation: Evaluation,
+        filler: Filler,
+        goal: Goal,
+        depth: u32,
+    },
+    /// The conditions of an `if` that are left.
+    Arms {
+        arms: Arms,
+        depth: u32,
+    },
+    /// The end of a `catch`, and the variable that gets the value.
+    Catch {
+        name: Option<Value>,
+    },
+    /// The end of a loop's body.
+    Turn {
+        turning: Turning,
+        depth: u32,
+    },
+    /// The end of the script behind a turn of a `for`.
+    Next {
+        turning: Turning,
+        depth: u32,
+    },
+    /// The end of the start of a `for`, with its condition, its script behind each turn and its body.
+    Start {
+        test: Value,
+        next: Value,
+        body: Value,
+        depth: u32,
+    },
+    /// The end of the body of a `foreach`.
+    Each {
+        groups: Groups,
+        body: Script,
+        depth: u32,
+    },
+    /// The end of a procedure.
+    Scope,
+    /// The end of a script that the host asked for, with at most so many more.
+    HostBody {
+        bound: u64,
+        depth: u32,
+    },
+}
+
+/// What a machine does next.
+#[derive(Drop)]
+pub enum Mode {
+    /// Hands a code and a value to the top frame.
+    Give(Code, Value),
+    /// Carries out a command that was begun.
+    Invoke {
+        words: Values,
+        depth: u32,
+    },
+    /// Evaluates a script.
+    Run {
+        script: Script,
+        depth: u32,
+    },
+    /// Asks the host to begin a command, or to resume it.
+    Begin {
+        words: Values,
+        depth: u32,
+        resumed: bool,
+    },
+    /// Hands the host the words that it asked for, or resumes that call.
+    AfterWords {
+        words: Values,
+        depth: u32,
+        resumed: bool,
+    },
+    /// Tells the host how a script that it asked for ended, or resumes that call.
+    AfterBody {
+        code: Code,
+        value: Value,
+        bound: u64,
+        depth: u32,
+        resumed: bool,
+    },
+    /// Asks the host whether it knows the name of a new procedure.
+    Define {
+        name: Value,
+        formals: Value,
+        body: Value,
+    },
+    /// It is over.
+    Ended(End),
+}
+
+/// What came of a call of the host.
+#[derive(Drop)]
+pub struct Asked {
+    pub mode: Mode,
+    pub paused: bool,
+}

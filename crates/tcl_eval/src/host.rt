@@ -1,0 +1,61 @@
+//! Who carries out the commands that the language doesn't have.
+
+ghost use Rattle.std.specs.Prelude.{◌≡◌};
+
+use crate::ending::Ending;
+use crate::values::Values;
+use tcl_commands::Code;
+use tcl_subst::Vars;
+use tcl_values::Value;
+
+/// What a host answers.
+#[derive(Drop)]
+pub enum HostStep {
+    /// The command is done, with a code and a value.
+    Done(Code, Value),
+    /// The command is an error with this text.
+    Fail(Value),
+    /// A script is to be evaluated before the command goes on.
+    Body(Value),
+    /// The words of a text are to be filled before the command goes on.
+    Words(Value),
+    /// There is no answer yet.
+    Wait,
+    /// The whole script ends.
+    Stop(Ending),
+    /// The host has no command of that name.
+    Unknown,
+    /// No memory was left.
+    Memory,
+}
+
+/// A host. Each call but `knows` is lent the script's variables, and may change them.
+///
+/// The machine takes a step at a place where it has no meaning for an error: `Words` and `Unknown` from another call than `begin`, and `Body`
+/// from `after_body` at other codes than `Again` and `AgainLater`.
+pub trait Host {
+    ghost use Rattle.tcl_eval.specs.Tree.{Call, Reply};
+
+    /// In this state the host may give this call this reply, and go on to that state.
+    ghost answers: { Self → Call → Reply → Self → Type 0 };
+
+    /// Whether the host has a command of this name, so that no procedure can have it.
+    fn knows(&self, name: &[u8]) -> bool
+        ensures { answers self.now (Call.Knows name.now) (Reply.Known result) self.now };
+
+    /// Begins a command, by its words.
+    fn begin(&mut self, vars: &mut Vars, words: &Values) -> HostStep
+        ensures { answers self.old (Call.Begin words.now vars.old) (Reply.Stepped result vars.new) self.new };
+
+    /// Goes on with a call that was answered `Wait`.
+    fn resume(&mut self, vars: &mut Vars) -> HostStep
+        ensures { answers self.old (Call.Resume vars.old) (Reply.Stepped result vars.new) self.new };
+
+    /// Goes on with the words that were asked for.
+    fn after_words(&mut self, vars: &mut Vars, words: &Values) -> HostStep
+        ensures { answers self.old (Call.AfterWords words.now vars.old) (Reply.Stepped result vars.new) self.new };
+
+    /// Goes on behind the script that was asked for, which ended with this code and value.
+    fn after_body(&mut self, vars: &mut Vars, code: Code, value: &Value) -> HostStep
+        ensures { answers self.old (Call.AfterBody code value.now vars.old) (Reply.Stepped result vars.new) self.new };
+}

@@ -1,0 +1,40 @@
+//! The evaluation of scripts, over any host.
+//!
+//! A [`Machine`] runs a script's commands. It carries out those of the language itself, and asks a [`Host`] for all others; where the host
+//! waits, the machine pauses, and goes on where it stood when it is run again.
+//!
+//! What a script means is defined in `specs/Meaning`: a tree of the calls of the host that it needs, with what follows each reply.
+#![tactic(auto)]
+
+mod advance;
+mod asking;
+mod commands;
+mod ending;
+mod engine;
+mod evaluation;
+mod exprs;
+mod frame;
+mod host;
+mod loops;
+mod machine;
+mod meter;
+mod pile;
+mod procedure;
+mod procs;
+mod replies;
+mod said;
+mod values;
+mod words;
+
+pub use advance::Advance;
+pub use ending::Ending;
+pub use engine::Engine;
+pub use evaluation::{Evaluation, Test};
+pub use frame::{End, Frame, Goal, Mode, Then, Turning};
+pub use host::{Host, HostStep};
+pub use machine::{Machine, Pause};
+pub use meter::Meter;
+pub use pile::Pile;
+pub use procedure::Procedure;
+pub use tcl_commands::Code;
+pub use values::Values;

@@ -1,0 +1,123 @@
+//! A machine that is run again.
+
+ghost use Rattle.std.specs.Prelude.{◌≡◌, ◌≢◌, ℕ, List, IfOk};
+ghost use Rattle.tcl_scripts.specs.Commands.{commands};
+ghost use Rattle.tcl_eval.specs.Meaning.{eval};
+ghost use Rattle.tcl_eval.specs.Rest.{engine_rest};
+ghost use Rattle.tcl_eval.specs.Steps.{left_of};
+ghost use Rattle.tcl_eval.specs.Suspended.{IsPauseOf, IsShownBy, IsOver, at_the_end};
+ghost use Rattle.tcl_eval.specs.Tree.{Reply, Leads};
+
+use crate::ending::Ending;
+use crate::engine::Engine;
+use crate::frame::{End, Mode};
+use crate::host::Host;
+use crate::meter::Meter;
+use crate::pile::Pile;
+use std::alloc::{AllocError, Global};
+use std::marker::PhantomData;
+use std::mem;
+use tcl_commands::Code;
+use tcl_scripts::Script;
+use tcl_subst::{Names, Vars};
+use tcl_values::Value;
+
+/// So many scripts may be under evaluation at once.
+pub const DEEPEST: u32 = 200;
+
+/// Why a run paused.
+#[derive(Drop)]
+pub enum Pause {
+    /// The script came to its end, with a code and a value.
+    Finished(Code, Value),
+    /// The host waits.
+    Waits,
+    /// A command ended the script.
+    Stopped(Ending),
+    /// No step was left.
+    StepLimit,
+    /// No memory was left.
+    Memory,
+}
+
+/// A script's evaluation over a host, which can be suspended and run again.
+#[derive(Drop)]
+pub struct Machine<H: Host> {
+    /// What is kept.
+    pub engine: Engine,
+    /// What is done next.
+    pub mode: Mode,
+    pub host: PhantomData<H>,
+}
+
+impl<H: Host> Machine<H> {
+    /// A machine that is to evaluate a source, with these variables and no procedures.
+    pub fn new(alloc: Global, source: &[u8], vars: Vars) -> Result<Machine<H>, AllocError>
+        ensures { IfOk result (λ m. (left : ℕ) → engine_rest m.engine left m.mode ≡ eval 200 (commands source.now) at_the_end (record { vars = vars; procs = []; left = left })) }
+    {
+        let script = Script::read(alloc, source)?;
+        Ok(Machine {
+            engine: Engine {
+                alloc,
+                stack: Pile::new(alloc),
+                vars,
+                procs: Names::new(alloc),
+            },
+            mode: Mode::Run {
+                script,
+                depth: DEEPEST,
+            },
+            host: PhantomData,
+        })
+    }
+
+    /// The variables as they are.
+    pub fn vars(&self) -> &Vars
+        ensures { result.now ≡ self.now.engine.vars }
+    {
+        &self.engine.vars
+    }
+
+    /// The pause of a machine that is suspended or over; a refused copy of a text is `Memory`.
+    fn pause(&self) -> Pause
+        ensures { IsShownBy result self.now.mode }
+    {
+        match &self.mode {
+            Mode::Ended(End::Finished(code, value)) => match value.shared(self.engine.alloc) {
+                Ok(value) => Pause::Finished(*code, value),
+                Err(_) => Pause::Memory,
+            },
+            Mode::Ended(End::Stopped(ending)) => Pause::Stopped(*ending),
+            Mode::Ended(End::StepLimit) => Pause::StepLimit,
+            Mode::Ended(End::Memory) => Pause::Memory,
+            _ => Pause::Waits,
+        }
+    }
+
+    /// Runs on until it is over or the host waits.
+    ///
+    /// There are replies to just the calls that what was left of the run names, each once and in order, which lead the host from its old
+    /// state to its new one, and with which what was left of the run is what is left of it now. The steps that are left fall with it. A run
+    /// that is over stays as it is, and shows the same pause again, or `Memory` where a copy of its text was refused.
+    pub fn run(&mut self, host: &mut H, meter: &mut Meter) -> Pause
+        ensures leads { result ≢ Pause.Memory → (replies : List Reply) × Leads H.answers replies (engine_rest self.old.engine (left_of meter.old) self.old.mode) host.old (engine_rest self.new.engine (left_of meter.new) self.new.mode) host.new × IsPauseOf result self.new.mode replies }
+        ensures shown { IsShownBy result self.new.mode }
+        ensures over { IsOver self.old.mode → self.new ≡ self.old }
+        ensures host { IsOver self.old.mode → host.new ≡ host.old }
+        ensures meter { IsOver self.old.mode → meter.new ≡ meter.old }
+    {
+        if matches!(&self.mode, Mode::Ended(_)) {
+            return self.pause();
+        }
+        let mode = mem::replace(&mut self.mode, Mode::Ended(End::Memory));
+        match self.engine.go(host, meter, mode) {
+            Err(_) => Pause::Memory,
+            Ok(asked) => {
+                self.mode = asked.mode;
+                self.pause()
+            }
+        }
+    }
+}
+
+ghost use Rattle.std.specs.Prelude.{[]};

@@ -1,0 +1,13 @@
+//! Procedures.
+
+use tcl_commands::Formals;
+use tcl_scripts::Script;
+
+/// A procedure.
+#[derive(Drop)]
+pub struct Procedure {
+    /// The formal arguments.
+    pub formals: Formals,
+    /// The body.
+    pub body: Script,
+}

@@ -1,0 +1,188 @@
+//! Procedures and `catch`.
+
+ghost use Rattle.std.specs.Prelude.{◌≡◌, ℕ, ◌+◌, ◌≤◌, ◌*◌, ◌∷◌, [], drop, codes, IfOk};
+ghost use Rattle.tcl_commands.specs.Texts.{quoted};
+ghost use Rattle.tcl_scripts.specs.Commands.{commands};
+ghost use Rattle.tcl_eval.specs.Meaning.{eval, caught, digit, scope_end, left_scope, outside_loop, invalid_name, reserved, called, called_as, defined};
+ghost use Rattle.tcl_eval.specs.Rest.{engine_rest, frames_rest, state_of};
+ghost use Rattle.tcl_eval.specs.Work.{engine_work, frames_work, caught_work, scope_work, bodies, credit, again};
+
+use crate::engine::Engine;
+use crate::frame::{Frame, Mode};
+use crate::procedure::Procedure;
+use crate::said::said;
+use crate::values::Values;
+use std::alloc::{AllocError, Global};
+use tcl_commands::{Code, Complaint, enter, formals_of, not_set, quoted};
+use tcl_scripts::Script;
+use tcl_subst::SubstFault;
+use tcl_values::Value;
+
+/// The digit of a code.
+fn digit(code: Code) -> &'static [u8]
+    ensures { result.now ≡ digit code }
+{
+    match code {
+        Code::Ok => b"0",
+        Code::Error => b"1",
+        Code::Return => b"2",
+        Code::Break => b"3",
+        Code::Continue => b"4",
+        Code::Again => b"5",
+        Code::AgainLater => b"6",
+    }
+}
+
+/// A loop's word outside of a loop.
+fn outside_loop(alloc: Global, word: &[u8]) -> Result<Value, AllocError>
+    ensures { IfOk result (λ v. v ≡ outside_loop word.now) }
+{
+    let mut text = quoted(alloc, b"invoked ", word)?;
+    text.extend(b" outside of a loop")?;
+    Value::from_text(alloc, text)
+}
+
+/// A text with a name in quotes behind it.
+fn named(alloc: Global, front: &[u8], name: &[u8]) -> Result<Value, AllocError>
+    ensures { IfOk result (λ v. v ≡ quoted front.now name.now) }
+{
+    let text = quoted(alloc, front, name)?;
+    Value::from_text(alloc, text)
+}
+
+impl Engine {
+    /// Goes on behind the script of a `catch`.
+    pub(crate) fn caught(
+        &mut self,
+        name: Option<Value>,
+        code: Code,
+        value: Value,
+    ) -> Result<Mode, AllocError>
+        ensures rest { IfOk result (λ mode. (left : ℕ) → engine_rest self.new left mode ≡ caught name (frames_rest self.old.stack) code value (state_of self.old left)) }
+        ensures work { IfOk result (λ mode. (left : ℕ) → engine_work self.new left mode ≡ caught_work name (frames_work self.old.stack) code value (state_of self.old left)) }
+        ensures potential { IfOk result (λ mode. bodies self.new.stack + credit mode ≤ bodies self.old.stack) }
+    {
+        let Some(name) = name else {
+            return Ok(Mode::Give(Code::Ok, self.value(digit(code))?));
+        };
+        match self.vars.set(name.as_slice(), value) {
+            Ok(()) => Ok(Mode::Give(Code::Ok, self.value(digit(code))?)),
+            Err(fault) => {
+                let text = not_set_text(self.alloc, name.as_slice(), fault)?;
+                Ok(Mode::Give(Code::Error, text))
+            }
+        }
+    }
+
+    /// Goes on behind the body of a procedure.
+    pub(crate) fn scope_end(&mut self, code: Code, value: Value) -> Result<Mode, AllocError>
+        ensures rest { IfOk result (λ mode. (left : ℕ) → engine_rest self.new left mode ≡ scope_end (frames_rest self.old.stack) code value (state_of self.old left)) }
+        ensures work { IfOk result (λ mode. (left : ℕ) → engine_work self.new left mode ≡ scope_work (frames_work self.old.stack) code value (state_of self.old left)) }
+        ensures potential { IfOk result (λ mode. bodies self.new.stack + credit mode ≤ bodies self.old.stack + again code) }
+    {
+        self.leave();
+        match code {
+            Code::Return => Ok(Mode::Give(Code::Ok, value)),
+            Code::Break => {
+                let text = outside_loop(self.alloc, b"break")?;
+                Ok(Mode::Give(Code::Error, text))
+            }
+            Code::Continue => {
+                let text = outside_loop(self.alloc, b"continue")?;
+                Ok(Mode::Give(Code::Error, text))
+            }
+            _ => Ok(Mode::Give(code, value)),
+        }
+    }
+
+    /// Ends the current scope, where it isn't the outermost one.
+    fn leave(&mut self)
+        ensures { self.new ≡ record self.old { vars = record { globals = self.old.vars.globals; locals = drop 1 self.old.vars.locals } } }
+    {
+        if !self.vars.is_outermost() {
+            self.vars.pop_scope();
+        }
+    }
+
+    /// Calls the procedure of a name.
+    pub(crate) fn call(&mut self, words: Values, depth: u32) -> Result<Mode, AllocError>
+        ensures rest { IfOk result (λ mode. (left : ℕ) → engine_rest self.new left mode ≡ called (eval depth) words (frames_rest self.old.stack) (state_of self.old left)) }
+        ensures potential { IfOk result (λ mode. bodies self.new.stack + credit mode ≤ bodies self.old.stack + 1) }
+    {
+        let Some((name, args)) = words.as_slice().split_first() else {
+            let text = named(self.alloc, b"invalid command name ", &[])?;
+            return Ok(Mode::Give(Code::Error, text));
+        };
+        let mode = self.call_as(name.as_slice(), args, depth)?;
+        Ok(mode)
+    }
+
+    /// Calls the procedure of a name with these arguments.
+    fn call_as(&mut self, name: &[u8], args: &[Value], depth: u32) -> Result<Mode, AllocError>
+        ensures rest { IfOk result (λ mode. (left : ℕ) → engine_rest self.new left mode ≡ called_as (eval depth) (find name.now self.old.procs) name.now args.now (frames_rest self.old.stack) (state_of self.old left)) }
+        ensures potential { IfOk result (λ mode. bodies self.new.stack + credit mode ≤ bodies self.old.stack + 1) }
+    {
+        let Some(procedure) = self.procs.get(name) else {
+            let text = named(self.alloc, b"invalid command name ", name)?;
+            return Ok(Mode::Give(Code::Error, text));
+        };
+        let script = procedure.body.shared()?;
+        match enter(self.alloc, name, &procedure.formals, args, &mut self.vars) {
+            Ok(()) => {
+                self.stack.push(Frame::Scope)?;
+                Ok(Mode::Run { script, depth })
+            }
+            Err(Complaint::Said(text)) => {
+                let text = Value::from_text(self.alloc, text)?;
+                Ok(Mode::Give(Code::Error, text))
+            }
+            Err(Complaint::Memory) => Err(AllocError),
+        }
+    }
+
+    /// Defines a procedure, where the host has no command of its name.
+    pub(crate) fn define(
+        &mut self,
+        name: Value,
+        formals: Value,
+        body: Value,
+        is_known: bool,
+    ) -> Result<Mode, AllocError>
+        ensures rest { IfOk result (λ mode. (left : ℕ) → engine_rest self.new left mode ≡ defined name formals body is_known (frames_rest self.old.stack) (state_of self.old left)) }
+        ensures potential { IfOk result (λ mode. bodies self.new.stack + credit mode ≤ bodies self.old.stack) }
+    {
+        if is_known {
+            let text = reserved(self.alloc, name.as_slice())?;
+            return Ok(Mode::Give(Code::Error, text));
+        }
+        match said(self.alloc, formals_of(self.alloc, &formals))? {
+            Ok(formals) => {
+                let body = Script::read(self.alloc, body.as_slice())?;
+                let procedure = Procedure { formals, body };
+                self.procs.insert(self.alloc, name.as_slice(), procedure)?;
+                Ok(Mode::Give(Code::Ok, Value::new(self.alloc)))
+            }
+            Err(text) => Ok(Mode::Give(Code::Error, text)),
+        }
+    }
+}
+
+/// Why a variable can't be set.
+fn not_set_text(alloc: Global, name: &[u8], fault: SubstFault) -> Result<Value, AllocError>
+    ensures text { IfOk result (λ v. v ≡ not_set name.now fault) }
+    ensures memory { IfOk result (λ _. fault ≢ SubstFault.Memory) }
+{
+    let text = not_set(alloc, name, fault)?;
+    Value::from_text(alloc, text)
+}
+
+ghost use Rattle.std.specs.Prelude.{◌≢◌};
+ghost use Rattle.tcl_commands.specs.Texts.{not_set};
+ghost use Rattle.tcl_subst.specs.Entries.{find};
+
+/// A name that no procedure can have.
+pub(crate) fn reserved(alloc: Global, name: &[u8]) -> Result<Value, AllocError>
+    ensures { IfOk result (λ v. v ≡ reserved name.now) }
+{
+    named(alloc, b"can't redefine ", name)
+}

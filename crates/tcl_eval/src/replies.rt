@@ -1,0 +1,198 @@
+//! What a machine makes of the host's replies.
+
+ghost use Rattle.std.specs.Prelude.{◌≡◌, ℕ, ◌+◌, ◌<◌, ◌*◌, IfOk, false};
+ghost use Rattle.tcl_eval.specs.Asked.{WaitsAt, GoesDown, IsAskingOnPause};
+ghost use Rattle.tcl_eval.specs.Rest.{engine_rest};
+ghost use Rattle.tcl_eval.specs.Steps.{left_of};
+ghost use Rattle.tcl_eval.specs.Tree.{Stepped, follow};
+ghost use Rattle.tcl_eval.specs.Work.{potential, bodies, credit, again};
+
+use crate::engine::Engine;
+use crate::frame::{Asked, End, Frame, Mode, Then};
+use crate::host::HostStep;
+use crate::meter::Meter;
+use crate::values::Values;
+use std::alloc::AllocError;
+use tcl_commands::Code;
+use tcl_scripts::Script;
+use tcl_values::Value;
+
+/// It goes on.
+fn on(mode: Mode) -> Asked
+    ensures { result ≡ record { mode = mode; paused = false } }
+{
+    Asked {
+        mode,
+        paused: false,
+    }
+}
+
+impl Engine {
+    /// Begins a script that the host asked for, with at most so many more.
+    fn host_body(&mut self, text: &Value, bound: u64, depth: u32) -> Result<Mode, AllocError>
+        ensures rest { IfOk result (λ mode. (left : ℕ) → engine_rest self.new left mode ≡ eval depth (commands text.now) (after_body (eval depth) (frames_rest self.old.stack) bound) (state_of self.old left)) }
+        ensures potential { IfOk result (λ mode. bodies self.new.stack + credit mode ≤ bodies self.old.stack + 4) }
+    {
+        let script = Script::read(self.alloc, text.as_slice())?;
+        self.stack.push(Frame::HostBody { bound, depth })?;
+        Ok(Mode::Run { script, depth })
+    }
+
+    /// Takes the host's reply to a command that was begun.
+    pub(crate) fn take_begun(
+        &mut self,
+        meter: &mut Meter,
+        words: Values,
+        depth: u32,
+        step: HostStep,
+    ) -> Result<Asked, AllocError>
+        ensures rest { IfOk result (λ a. engine_rest self.new (left_of meter.new) a.mode ≡ follow (engine_rest self.old (left_of meter.old) (Mode.Begin words depth false)) (Stepped step self.old.vars)) }
+        ensures paused { IfOk result (λ a. WaitsAt a (Stepped step self.old.vars)) }
+        ensures asking { IfOk result (λ a. IsAskingOnPause a) }
+        ensures potential { IfOk result (λ a. GoesDown a (potential self.new (left_of meter.new) a.mode) (8 * left_of meter.old + bodies self.old.stack + 6)) }
+    {
+        match step {
+            HostStep::Done(code, value) => Ok(on(Mode::Give(code, value))),
+            HostStep::Fail(text) => Ok(on(Mode::Give(Code::Error, text))),
+            HostStep::Body(text) => {
+                let mode = self.host_body(&text, meter.left(), depth)?;
+                Ok(on(mode))
+            }
+            HostStep::Words(text) => {
+                let script = Script::read(self.alloc, text.as_slice())?;
+                let (wanted, fault) = script.all_words(self.alloc)?;
+                let done = Values::new(self.alloc);
+                let mode = self.fill(meter, wanted, 0, done, Then::List(fault), depth)?;
+                Ok(on(mode))
+            }
+            HostStep::Wait => Ok(Asked {
+                mode: Mode::Begin {
+                    words,
+                    depth,
+                    resumed: true,
+                },
+                paused: true,
+            }),
+            HostStep::Stop(ending) => Ok(on(Mode::Ended(End::Stopped(ending)))),
+            HostStep::Unknown => {
+                let mode = self.call(words, depth)?;
+                Ok(on(mode))
+            }
+            HostStep::Memory => Ok(on(Mode::Ended(End::Memory))),
+        }
+    }
+
+    /// Takes the host's reply to words that it asked for.
+    pub(crate) fn take_words(
+        &mut self,
+        meter: &Meter,
+        words: Values,
+        depth: u32,
+        step: HostStep,
+    ) -> Result<Asked, AllocError>
+        ensures rest { IfOk result (λ a. engine_rest self.new (left_of meter.now) a.mode ≡ follow (engine_rest self.old (left_of meter.now) (Mode.AfterWords words depth false)) (Stepped step self.old.vars)) }
+        ensures paused { IfOk result (λ a. WaitsAt a (Stepped step self.old.vars)) }
+        ensures asking { IfOk result (λ a. IsAskingOnPause a) }
+        ensures potential { IfOk result (λ a. GoesDown a (bodies self.new.stack + credit a.mode) (bodies self.old.stack + 5)) }
+    {
+        match step {
+            HostStep::Done(code, value) => Ok(on(Mode::Give(code, value))),
+            HostStep::Fail(text) => Ok(on(Mode::Give(Code::Error, text))),
+            HostStep::Body(text) => {
+                let mode = self.host_body(&text, meter.left(), depth)?;
+                Ok(on(mode))
+            }
+            HostStep::Words(text) => Ok(on(Mode::Give(Code::Error, text))),
+            HostStep::Wait => Ok(Asked {
+                mode: Mode::AfterWords {
+                    words,
+                    depth,
+                    resumed: true,
+                },
+                paused: true,
+            }),
+            HostStep::Stop(ending) => Ok(on(Mode::Ended(End::Stopped(ending)))),
+            HostStep::Unknown => Ok(on(Mode::Give(Code::Error, Value::new(self.alloc)))),
+            HostStep::Memory => Ok(on(Mode::Ended(End::Memory))),
+        }
+    }
+
+    /// Takes the host's reply behind a script that it asked for.
+    pub(crate) fn take_after(
+        &mut self,
+        code: Code,
+        value: Value,
+        bound: u64,
+        depth: u32,
+        step: HostStep,
+    ) -> Result<Asked, AllocError>
+        ensures rest { IfOk result (λ a. (left : ℕ) → engine_rest self.new left a.mode ≡ follow (engine_rest self.old left (Mode.AfterBody code value bound depth false)) (Stepped step self.old.vars)) }
+        ensures paused { IfOk result (λ a. WaitsAt a (Stepped step self.old.vars)) }
+        ensures asking { IfOk result (λ a. IsAskingOnPause a) }
+        ensures potential { IfOk result (λ a. GoesDown a (bodies self.new.stack + credit a.mode) (bodies self.old.stack + 3 + again code)) }
+    {
+        match step {
+            HostStep::Done(code, value) => Ok(on(Mode::Give(code, value))),
+            HostStep::Fail(text) => Ok(on(Mode::Give(Code::Error, text))),
+            HostStep::Body(text) => {
+                let mode = self.body_again(code, text, bound, depth)?;
+                Ok(on(mode))
+            }
+            HostStep::Words(text) => Ok(on(Mode::Give(Code::Error, text))),
+            HostStep::Wait => Ok(Asked {
+                mode: Mode::AfterBody {
+                    code,
+                    value,
+                    bound,
+                    depth,
+                    resumed: true,
+                },
+                paused: true,
+            }),
+            HostStep::Stop(ending) => Ok(on(Mode::Ended(End::Stopped(ending)))),
+            HostStep::Unknown => Ok(on(Mode::Give(Code::Error, Value::new(self.alloc)))),
+            HostStep::Memory => Ok(on(Mode::Ended(End::Memory))),
+        }
+    }
+
+    /// One more script of the host, at the two codes at which there may be one.
+    fn body_again(
+        &mut self,
+        code: Code,
+        text: Value,
+        bound: u64,
+        depth: u32,
+    ) -> Result<Mode, AllocError>
+        ensures rest { IfOk result (λ mode. (left : ℕ) → engine_rest self.new left mode ≡ after_script code (HostStep.Body text) (frames_rest self.old.stack) (next_body (eval depth) (frames_rest self.old.stack) bound) (state_of self.old left)) }
+        ensures potential { IfOk result (λ mode. bodies self.new.stack + credit mode < bodies self.old.stack + 3 + again code) }
+    {
+        match code {
+            Code::Again => {
+                let mode = self.next_body(&text, bound, depth)?;
+                Ok(mode)
+            }
+            Code::AgainLater => {
+                let mode = self.next_body(&text, bound, depth)?;
+                Ok(mode)
+            }
+            _ => Ok(Mode::Give(Code::Error, text)),
+        }
+    }
+
+    /// One more script of the host, where one is left.
+    fn next_body(&mut self, text: &Value, bound: u64, depth: u32) -> Result<Mode, AllocError>
+        ensures rest { IfOk result (λ mode. (left : ℕ) → engine_rest self.new left mode ≡ next_body (eval depth) (frames_rest self.old.stack) bound text.now (state_of self.old left)) }
+        ensures potential { IfOk result (λ mode. bodies self.new.stack + credit mode ≤ bodies self.old.stack + 4) }
+    {
+        if bound == 0 {
+            return Ok(Mode::Ended(End::StepLimit));
+        }
+        let mode = self.host_body(text, bound - 1, depth)?;
+        Ok(mode)
+    }
+}
+
+ghost use Rattle.std.specs.Prelude.{◌≤◌};
+ghost use Rattle.tcl_eval.specs.Meaning.{eval, after_body, after_script, next_body};
+ghost use Rattle.tcl_eval.specs.Rest.{frames_rest, state_of};
+ghost use Rattle.tcl_scripts.specs.Commands.{commands};

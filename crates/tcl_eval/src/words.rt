@@ -1,0 +1,251 @@
+//! How words are filled.
+
+ghost use Rattle.std.specs.Prelude.{◌≡◌, ◌≢◌, ℕ, ◌+◌, ◌≤◌, ◌*◌, ◌∷◌, [], drop, IfOk, None, Some};
+ghost use Rattle.tcl_subst.specs.Filling.{fill};
+ghost use Rattle.tcl_subst.specs.Recipes.{given};
+ghost use Rattle.tcl_subst.specs.Rests.{rest, told};
+ghost use Rattle.tcl_subst.specs.Variables.{Variables};
+ghost use Rattle.tcl_commands.specs.Says.{Says};
+ghost use Rattle.tcl_eval.specs.Advanced.{Fills};
+ghost use Rattle.tcl_eval.specs.Steps.{left_of};
+ghost use Rattle.tcl_eval.specs.Meaning.{eval, fill_word, fill_words, spread, on_said};
+ghost use Rattle.tcl_eval.specs.Rest.{engine_rest, frames_rest, state_of, then_rest};
+ghost use Rattle.tcl_eval.specs.Work.{engine_work, frames_work, eval_work, word_work, words_work, then_work, then_weight, bodies, credit, potential};
+
+use crate::engine::Engine;
+use crate::evaluation::first;
+use crate::frame::{End, Frame, Mode, Then};
+use crate::meter::Meter;
+use crate::said::said;
+use crate::values::Values;
+use std::alloc::{AllocError, Global};
+use tcl_commands::{Code, Complaint, bad_list, not_read, word_fault};
+use tcl_scripts::{KeptWord, Words};
+use tcl_subst::{FillStep, Filler, SubstFault, Vars, filling_is_fill};
+use tcl_values::Value;
+use tcl_words::{ListFault, Text};
+
+impl Engine {
+    /// Goes on behind words that are filled.
+    fn filled(
+        &mut self,
+        meter: &mut Meter,
+        done: Values,
+        then: Then,
+        depth: u32,
+    ) -> Result<Mode, AllocError>
+        ensures rest { IfOk result (λ mode. engine_rest self.new (left_of meter.new) mode ≡ then_rest depth then (frames_rest self.old.stack) done (state_of self.old (left_of meter.old))) }
+        ensures work { IfOk result (λ mode. engine_work self.new (left_of meter.new) mode ≡ then_work then (frames_work self.old.stack) done (state_of self.old (left_of meter.old))) }
+        ensures potential { IfOk result (λ mode. potential self.new (left_of meter.new) mode ≤ 8 * left_of meter.old + bodies self.old.stack + then_weight then) }
+    {
+        match then {
+            Then::Command => {
+                if meter.begin() {
+                    Ok(Mode::Invoke { words: done, depth })
+                } else {
+                    Ok(Mode::Ended(End::StepLimit))
+                }
+            }
+            Then::List(Some(fault)) => Ok(Mode::Give(Code::Error, self.value(word_fault(fault))?)),
+            Then::List(None) => Ok(Mode::AfterWords {
+                words: done,
+                depth,
+                resumed: false,
+            }),
+        }
+    }
+
+    /// Fills the words from a place on, behind those that are done.
+    pub(crate) fn fill(
+        &mut self,
+        meter: &mut Meter,
+        words: Words,
+        next: usize,
+        done: Values,
+        then: Then,
+        depth: u32,
+    ) -> Result<Mode, AllocError>
+        ensures rest { IfOk result (λ mode. engine_rest self.new (left_of meter.new) mode ≡ fill_words (eval depth) (drop next words) done (frames_rest self.old.stack) (then_rest depth then (frames_rest self.old.stack)) (state_of self.old (left_of meter.old))) }
+        ensures work { IfOk result (λ mode. engine_work self.new (left_of meter.new) mode ≡ words_work (eval_work depth) (drop next words) done (frames_work self.old.stack) (then_work then (frames_work self.old.stack)) (state_of self.old (left_of meter.old))) }
+        ensures potential { IfOk result (λ mode. potential self.new (left_of meter.new) mode ≤ 8 * left_of meter.old + bodies self.old.stack + then_weight then) }
+    {
+        match words.next(next) {
+            None => {
+                let mode = self.filled(meter, done, then, depth)?;
+                Ok(mode)
+            }
+            Some((word, to)) => {
+                let expand = word.is_expanded();
+                let filler = first_filler(self.alloc, word)?;
+                let words = words.shared()?;
+                self.stack.push(Frame::Fill {
+                    words,
+                    next: to,
+                    expand,
+                    filler,
+                    done,
+                    then,
+                    depth,
+                })?;
+                Ok(Mode::Give(Code::Ok, Value::new(self.alloc)))
+            }
+        }
+    }
+
+    /// Fills a word on.
+    pub(crate) fn fill_on(
+        &mut self,
+        meter: &mut Meter,
+        words: Words,
+        next: usize,
+        expand: bool,
+        mut filler: Filler,
+        done: Values,
+        then: Then,
+        depth: u32,
+    ) -> Result<Mode, AllocError>
+        ensures rest { IfOk result (λ mode. engine_rest self.new (left_of meter.new) mode ≡ fill_word (eval depth) (rest filler self.old.vars) (frames_rest self.old.stack) (λ v st. on_said (spread expand v done) (frames_rest self.old.stack) (λ done st. fill_words (eval depth) (drop next words) done (frames_rest self.old.stack) (then_rest depth then (frames_rest self.old.stack)) st) st) (state_of self.old (left_of meter.old))) }
+        ensures work { IfOk result (λ mode. engine_work self.new (left_of meter.new) mode ≡ word_work (eval_work depth) (rest filler self.old.vars) (frames_work self.old.stack) (λ v st. on_said (spread expand v done) (frames_work self.old.stack) (λ done st. words_work (eval_work depth) (drop next words) done (frames_work self.old.stack) (then_work then (frames_work self.old.stack)) st) st) (state_of self.old (left_of meter.old))) }
+        ensures potential { IfOk result (λ mode. potential self.new (left_of meter.new) mode ≤ 8 * left_of meter.old + bodies self.old.stack + then_weight then) }
+    {
+        let step = advanced(self.alloc, &mut filler, &self.vars)?;
+        let mode = self.fill_to(meter, step, words, next, expand, filler, done, then, depth)?;
+        Ok(mode)
+    }
+
+    /// Goes on behind a step of a filler.
+    fn fill_to(
+        &mut self,
+        meter: &mut Meter,
+        step: FillStep,
+        words: Words,
+        next: usize,
+        expand: bool,
+        filler: Filler,
+        done: Values,
+        then: Then,
+        depth: u32,
+    ) -> Result<Mode, AllocError>
+        ensures rest { IfOk result (λ mode. engine_rest self.new (left_of meter.new) mode ≡ fill_word (eval depth) (told (step, filler)) (frames_rest self.old.stack) (λ v st. on_said (spread expand v done) (frames_rest self.old.stack) (λ done st. fill_words (eval depth) (drop next words) done (frames_rest self.old.stack) (then_rest depth then (frames_rest self.old.stack)) st) st) (state_of self.old (left_of meter.old))) }
+        ensures work { IfOk result (λ mode. engine_work self.new (left_of meter.new) mode ≡ word_work (eval_work depth) (told (step, filler)) (frames_work self.old.stack) (λ v st. on_said (spread expand v done) (frames_work self.old.stack) (λ done st. words_work (eval_work depth) (drop next words) done (frames_work self.old.stack) (then_work then (frames_work self.old.stack)) st) st) (state_of self.old (left_of meter.old))) }
+        ensures potential { IfOk result (λ mode. potential self.new (left_of meter.new) mode ≤ 8 * left_of meter.old + bodies self.old.stack + then_weight then) }
+    {
+        match step {
+            FillStep::Value(value) => {
+                let mode = self.fill_past(meter, value, words, next, expand, done, then, depth)?;
+                Ok(mode)
+            }
+            FillStep::NeedScript(number) => {
+                let text = script_text(self.alloc, &filler, number)?;
+                self.stack.push(Frame::Fill {
+                    words,
+                    next,
+                    expand,
+                    filler,
+                    done,
+                    then,
+                    depth,
+                })?;
+                let mode = self.start_text(text.as_slice(), depth)?;
+                Ok(mode)
+            }
+            FillStep::Fault(fault) => {
+                let text = fault_text(self.alloc, &filler, fault)?;
+                Ok(Mode::Give(Code::Error, text))
+            }
+        }
+    }
+
+    /// Goes on behind the value of a word.
+    fn fill_past(
+        &mut self,
+        meter: &mut Meter,
+        value: Value,
+        words: Words,
+        next: usize,
+        expand: bool,
+        done: Values,
+        then: Then,
+        depth: u32,
+    ) -> Result<Mode, AllocError>
+        ensures rest { IfOk result (λ mode. engine_rest self.new (left_of meter.new) mode ≡ on_said (spread expand value done) (frames_rest self.old.stack) (λ done st. fill_words (eval depth) (drop next words) done (frames_rest self.old.stack) (then_rest depth then (frames_rest self.old.stack)) st) (state_of self.old (left_of meter.old))) }
+        ensures work { IfOk result (λ mode. engine_work self.new (left_of meter.new) mode ≡ on_said (spread expand value done) (frames_work self.old.stack) (λ done st. words_work (eval_work depth) (drop next words) done (frames_work self.old.stack) (then_work then (frames_work self.old.stack)) st) (state_of self.old (left_of meter.old))) }
+        ensures potential { IfOk result (λ mode. potential self.new (left_of meter.new) mode ≤ 8 * left_of meter.old + bodies self.old.stack + then_weight then) }
+    {
+        match said(self.alloc, spread(self.alloc, expand, value, done))? {
+            Ok(done) => {
+                let mode = self.fill(meter, words, next, done, then, depth)?;
+                Ok(mode)
+            }
+            Err(text) => Ok(Mode::Give(Code::Error, text)),
+        }
+    }
+}
+
+/// What fills a word, at its first step.
+fn first_filler(alloc: Global, word: &KeptWord) -> Result<Filler, AllocError>
+    ensures { IfOk result (λ f. Fills f word.now) }
+{
+    let filler = word.filler(alloc)?;
+    Ok(first(filler))
+}
+
+/// The next step of a filler.
+pub(crate) fn advanced(
+    alloc: Global,
+    filler: &mut Filler,
+    vars: &Vars,
+) -> Result<FillStep, AllocError>
+    ensures { IfOk result (λ s. told (s, filler.new) ≡ rest filler.old vars.now) }
+{
+    filling_is_fill();
+    match filler.advance(alloc, vars) {
+        FillStep::Fault(SubstFault::Memory) => Err(AllocError),
+        step => Ok(step),
+    }
+}
+
+/// The text of the script that a filler needs.
+pub(crate) fn script_text(alloc: Global, filler: &Filler, number: usize) -> Result<Text, AllocError>
+    ensures { IfOk result (λ t. t ≡ unwrap_or (script_at number filler.now.steps) []) }
+{
+    match filler.recipe().script(number) {
+        None => Ok(Text::new(alloc)),
+        Some(text) => text.copied(alloc),
+    }
+}
+
+ghost use Rattle.std.specs.Prelude.{unwrap_or};
+ghost use Rattle.tcl_subst.specs.Recipes.{script_at, refused_name};
+ghost use Rattle.tcl_commands.specs.Texts.{not_read};
+
+/// The text of a filler's fault.
+pub(crate) fn fault_text(
+    alloc: Global,
+    filler: &Filler,
+    fault: SubstFault,
+) -> Result<Value, AllocError>
+    ensures { IfOk result (λ v. v ≡ not_read (refused_name filler.now.fault) fault) }
+{
+    let text = not_read(alloc, filler.name(), fault)?;
+    Value::from_text(alloc, text)
+}
+
+/// A word's value behind those that are done; the elements of its list where it stands behind `{*}`.
+fn spread(alloc: Global, expand: bool, value: Value, done: Values) -> Result<Values, Complaint>
+    ensures { Says result (spread expand value done) }
+{
+    let mut done = done;
+    if !expand {
+        done.push(value)?;
+        return Ok(done);
+    }
+    match value.elements(alloc) {
+        Ok(elements) => {
+            done.push_all(alloc, elements.as_slice())?;
+            Ok(done)
+        }
+        Err(ListFault::BadList) => Err(Complaint::Said(Text::from_slice(alloc, bad_list())?)),
+        Err(ListFault::Memory) => Err(Complaint::Memory),
+    }
+}
