@@ -1,3 +1,4 @@
 pub mod ReadOn
 pub mod Greedy
 pub mod Starts
+pub mod Found

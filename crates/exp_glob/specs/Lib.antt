@@ -1,3 +1,4 @@
 pub mod Elements
 pub mod Spans
 pub mod Runs
+pub mod Search

@@ -2,6 +2,7 @@
 
 ghost use Rattle.std.specs.Prelude.{◌≡◌, ◌≤◌, ◌+◌, true, false, length, IfOk, IfSome};
 ghost use Rattle.exp_glob.specs.Elements.{glob_of};
+ghost use Rattle.exp_glob.specs.Search.{first_span};
 ghost use Rattle.exp_glob.specs.Spans.{FindsFirst};
 
 use crate::element::Elements;
@@ -59,6 +60,7 @@ impl Glob {
     /// Under `nocase` letters of ASCII are compared without case. It takes no memory, and time in the product of both lengths.
     pub fn find(&self, text: &[u8], nocase: bool) -> Option<(usize, usize)>
         ensures first { FindsFirst self.now nocase text.now result }
+        ensures value { result ≡ first_span self.now nocase text.now }
         ensures within { IfSome result (λ r. (r.0 ≤ r.1) × (r.1 ≤ length text.now)) }
     {
         let elements = self.elements.as_slice();

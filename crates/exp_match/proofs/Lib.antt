@@ -11,3 +11,5 @@ pub mod Meant
 pub mod Heads
 pub mod Numbers
 pub mod Followed
+pub mod Answering
+pub mod Deciding

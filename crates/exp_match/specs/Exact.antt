@@ -1,6 +1,7 @@
 -- Where an exact pattern stands.
-use Rattle.std.specs.Prelude.{◌≡◌, ℕ, ◌+◌, ◌<◌, ◌≤◌, Bool, true, ◌==◌, if◌then◌else◌, List, length, slice_index, Option, MatchOption}
+use Rattle.std.specs.Prelude.{◌≡◌, ℕ, ◌+◌, ◌<◌, ◌≤◌, Bool, true, false, ◌&&◌, ◌==◌, if◌then◌else◌, List, [], ◌∷◌, length, drop, slice_index, Option, Some, None, MatchOption}
 use Rattle.std.specs.Char.{to_ascii_lowercase}
+use Rattle.exp_glob.specs.Search.{first_below}
 
 -- two bytes are alike; without case, letters of ASCII in either case are
 abbrev pub alike : Bool → ℕ → ℕ → Bool
@@ -17,3 +18,19 @@ abbrev pub FindsExact : Bool → List ℕ → List ℕ → Option (ℕ × ℕ) �
 FindsExact nocase text bytes found =
     MatchOption found ((k : ℕ) → ¬ StandsAt nocase text bytes k)
     (λ s. StandsAt nocase text bytes s.0 × (s.1 ≡ s.0 + length text) × ((k : ℕ) → StandsAt nocase text bytes k → s.0 ≤ k))
+
+-- The same as a function.
+
+-- the text stands at the front of the bytes
+abbrev pub begins : Bool → List ℕ → List ℕ → Bool
+begins nocase [] bytes = true
+begins nocase (c ∷ text) [] = false
+begins nocase (c ∷ text) (b ∷ bytes) = alike nocase b c && begins nocase text bytes
+
+-- the span of the text, where it stands at a place
+abbrev pub text_at : Bool → List ℕ → List ℕ → ℕ → Option (ℕ × ℕ)
+text_at nocase text bytes k = if begins nocase text (drop k bytes) then Some (k, k + length text) else None
+
+-- the least place where the text stands, with its end
+unfoldable pub find_text : Bool → List ℕ → List ℕ → Option (ℕ × ℕ)
+find_text nocase text bytes = first_below (text_at nocase text bytes) (length bytes + 1)

@@ -4,3 +4,4 @@ pub mod Scan
 pub mod Grammar
 pub mod Arguments
 pub mod Choice
+pub mod Decide

@@ -1,5 +1,5 @@
 -- What a regular pattern finds, by its text alone: the grammar of `regex_syntax` reads the text, and `find` of `regex_hir` searches leftmost-first.
-use Rattle.std.specs.Prelude.{◌≡◌, ℕ, ◌+◌, ◌*◌, ◌<◌, ◌≤◌, Bool, true, false, List, Option, Some, None, MatchOption, IsSomeAnd, option_map, chars}
+use Rattle.std.specs.Prelude.{◌≡◌, ℕ, zero, suc, ◌+◌, ◌*◌, ◌<◌, ◌≤◌, Bool, true, false, List, [], ◌∷◌, Option, Some, None, MatchOption, IsSomeAnd, option_map, option_and_then, chars}
 use Rattle.std.specs.List.{slice_get}
 use Rattle.regex.specs.Patterns.{Match, find, slot_of, default_config, Config}
 use Rattle.regex.specs.Writes.{both}
@@ -35,3 +35,19 @@ Shows seen found = MatchOption found (seen ≡ None) (λ spans. (m : Seen) × (s
 abbrev pub FindsAsWritten : Written → List ℕ → Option (List (Option (ℕ × ℕ))) → Type 0
 FindsAsWritten w bytes found =
     IsSomeAnd (read (config_of w.nocase) (chars w.source)) (λ p. Shows (option_map seen_of (find p.0.value bytes 0)) found)
+
+-- The same as a function.
+
+-- what so many groups span, from group n on
+abbrev pub groups_from : Seen → ℕ → ℕ → List (Option (ℕ × ℕ))
+groups_from m zero n = []
+groups_from m (suc count) n = both (m.2 (2 * n)) (m.2 (2 * n + 1)) ∷ groups_from m count (n + 1)
+
+-- the spans of the match and of the groups 1 to 9
+abbrev pub groups_of : Seen → List (Option (ℕ × ℕ))
+groups_of m = Some (m.0, m.1) ∷ groups_from m 9 1
+
+-- the spans of the first match of a pattern in these bytes
+unfoldable pub find_written : Written → List ℕ → Option (List (Option (ℕ × ℕ)))
+find_written w bytes =
+    option_and_then (λ p. option_map groups_of (option_map seen_of (find p.0.value bytes 0))) (read (config_of w.nocase) (chars w.source))

@@ -2,6 +2,7 @@
 
 ghost use Rattle.std.specs.Prelude.{◌≡◌, IfOk, length, option_map};
 ghost use Rattle.exp_match.specs.Choice.{Finds, FindsIn, Decides, IsListed, in_groups as in_groups_of, alone as alone_of};
+ghost use Rattle.exp_match.specs.Decide.{found_by, found_in, decide};
 
 use crate::chosen::Chosen;
 use crate::entry::{Entry, Want};
@@ -41,7 +42,8 @@ fn alone(span: Option<(usize, usize)>) -> Option<Spans>
 
 /// What an entry finds first. A regular pattern takes memory for its search, the others none.
 fn first_match(alloc: Global, want: &Want, bytes: &[u8]) -> Result<Option<Spans>, AllocError>
-    ensures { IfOk result (Finds want.now bytes.now) }
+    ensures finds { IfOk result (Finds want.now bytes.now) }
+    ensures value { IfOk result (λ found. found ≡ found_by want.now bytes.now) }
 {
     match want {
         Want::Exact { text, nocase } => Ok(alone(find_exact(text.as_slice(), *nocase, bytes))),
@@ -58,7 +60,8 @@ fn match_in(
     entry: &Entry,
     bytes: &[u8],
 ) -> Result<Option<Spans>, AllocError>
-    ensures { IfOk result (FindsIn groups.now entry.now bytes.now) }
+    ensures finds { IfOk result (FindsIn groups.now entry.now bytes.now) }
+    ensures value { IfOk result (λ found. found ≡ found_in groups.now entry.now bytes.now) }
 {
     if !in_groups(groups, entry) {
         return Ok(None);
@@ -78,6 +81,7 @@ impl PatternList {
         max: usize,
     ) -> Result<Chosen, AllocError>
         ensures decides { IfOk result (Decides self.now.entries groups.now bytes.now max) }
+        ensures chosen { IfOk result (λ chosen. chosen ≡ decide self.now.entries groups.now bytes.now max) }
         ensures within { IfOk result (IsListed (length self.now.entries)) }
     {
         for (index, entry) in self.entries.as_slice().iter().enumerate() {

@@ -1,7 +1,7 @@
 //! The search for an exact pattern.
 
 ghost use Rattle.std.specs.Prelude.{◌≡◌, ◌↔◌, ◌<◌, ◌≤◌, true, false, IsTrue, length, slice_index};
-ghost use Rattle.exp_match.specs.Exact.{StandsAt, FindsExact};
+ghost use Rattle.exp_match.specs.Exact.{StandsAt, FindsExact, find_text};
 
 use crate::places::after;
 use memchr::{memchr2, memmem};
@@ -10,7 +10,8 @@ use memchr::{memchr2, memmem};
 ///
 /// It takes no memory. With case it is one linear search, without case it looks at the text at each place that begins like it.
 pub(crate) fn find_exact(text: &[u8], nocase: bool, bytes: &[u8]) -> Option<(usize, usize)>
-    ensures { FindsExact nocase text.now bytes.now result }
+    ensures stands { FindsExact nocase text.now bytes.now result }
+    ensures value { result ≡ find_text nocase text.now bytes.now }
 {
     if nocase {
         find_folded(text, bytes)

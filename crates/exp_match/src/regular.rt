@@ -1,9 +1,9 @@
 //! Regular patterns, compiled.
 
-ghost use Rattle.std.specs.Prelude.{◌≡◌, ◌≢◌, ℕ, ◌<◌, Some, IfOk, IfErr, option_map};
+ghost use Rattle.std.specs.Prelude.{◌≡◌, ◌≢◌, ℕ, ◌<◌, Some, IfOk, IfErr, length, option_map};
 ghost use Rattle.std.specs.List.{slice_get};
 ghost use Rattle.regex.specs.Bytes.{match_span, captures_span};
-ghost use Rattle.exp_match.specs.Written.{FindsAsWritten};
+ghost use Rattle.exp_match.specs.Written.{FindsAsWritten, find_written};
 
 use crate::faults::Refusal;
 use regex::bytes::{Captures, Match, Regex};
@@ -56,7 +56,8 @@ impl Regular {
     ///
     /// A search writes to a matcher, which is made here: it is what takes memory.
     pub fn search(&self, alloc: Global, bytes: &[u8]) -> Result<Option<Spans>, AllocError>
-        ensures { IfOk result (FindsAsWritten self.now bytes.now) }
+        ensures written { IfOk result (FindsAsWritten self.now bytes.now) }
+        ensures value { IfOk result (λ found. found ≡ find_written self.now bytes.now) }
     {
         let mut matcher = self.regex.matcher(alloc)?;
         match matcher.captures(bytes) {
@@ -68,7 +69,8 @@ impl Regular {
 
 /// The spans of the groups 0 to 9.
 fn spans_of(captures: &Captures) -> Spans
-    ensures { (n : ℕ) → n < 10 → slice_get result n ≡ Some (captures_span captures.now n) }
+    ensures ten { length result ≡ 10 }
+    ensures are { (n : ℕ) → n < 10 → slice_get result n ≡ Some (captures_span captures.now n) }
 {
     let mut spans = [None; 10];
     for n in 0..10 {

@@ -1,6 +1,7 @@
 use Rattle.std.proofs.Common.{◌≡◌, List, Some, None, ap, sym, subst, ◌∙◌}
 use Rattle.exp_glob.specs.declared.element.Element.{Element}
 use Rattle.exp_glob.specs.Runs.{behind_star, IsLeastRun}
+use Rattle.exp_glob.proofs.Found.{is_first_span}
 use Rattle.exp_glob.proofs.Greedy.{find_no_start, find_within, find_alone, find_no_end, find_longest, longest_within}
 use Rattle.exp_glob.proofs.pattern.Glob.find.Goals as goal
 
@@ -37,3 +38,15 @@ returns-clause-within c =
     let least = subst (λ (es : List Element). IsLeastRun c.args.nocase es c.args.text.now 0 c.starts-bound.result (Some (c.in-Some.start, c.in-Some.end))) c.as_slice-elements.ensures c.in-Some.ensures in
     let is : behind_star c.args.self.now.elements ≡ Some c.after.result.now = ap behind_star (sym c.as_slice-elements.ensures) ∙ c.in-Some-star_end.ensures.1 ∙ ap (λ (es : List Element). Some es) (sym c.after.ensures) in
     longest_within c.args.nocase c.args.text.now c.args.self.now c.starts-bound.result c.starts-bound.ensures.anchored c.starts-bound.ensures.free c.in-Some.start c.in-Some.end least c.after.result.now is c.in-Some-longest.end c.in-Some-longest.ensures
+
+pub returns-in_default-clause-value : goal.returns-in_default-clause-value
+returns-in_default-clause-value c = is_first_span c.args.nocase c.args.text.now c.args.self.now _ (returns-in_default-clause-first c)
+
+pub returns-in_default-star_end-clause-value : goal.returns-in_default-star_end-clause-value
+returns-in_default-star_end-clause-value c = is_first_span c.args.nocase c.args.text.now c.args.self.now _ (returns-in_default-star_end-clause-first c)
+
+pub returns-in_default-longest-clause-value : goal.returns-in_default-longest-clause-value
+returns-in_default-longest-clause-value c = is_first_span c.args.nocase c.args.text.now c.args.self.now _ (returns-in_default-longest-clause-first c)
+
+pub returns-clause-value : goal.returns-clause-value
+returns-clause-value c = is_first_span c.args.nocase c.args.text.now c.args.self.now _ (returns-clause-first c)

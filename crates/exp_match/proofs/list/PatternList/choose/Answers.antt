@@ -1,0 +1,49 @@
+use Rattle.std.proofs.Common.{◌≡◌, ◌<◌, ◌≤◌, length, get_or, sym, subst, ◌∙◌, arith, rules}
+use Rattle.std.proofs.lemmas.Bool.Decides.{nat_tests}
+use Rattle.exp_match.specs.Choice.{FindsIn}
+use Rattle.exp_match.proofs.Deciding.{none_more, by_entry, at_end, at_start}
+use Rattle.exp_match.proofs.list.PatternList.choose.Goals.{else-max-bytes-via-then-max-bytes+else-is_some, else-max-bytes-via-else-max-bytes}
+use Rattle.exp_match.proofs.list.PatternList.choose.Goals as goal
+
+pub loop-index-init : goal.loop-index-init
+loop-index-init c = record {
+  items = c.as_slice-entry-items.ensures;
+  before = search rules;
+  left = at_start c.args.self.now.entries c.args.groups.now c.args.bytes.now c.args.max;
+}
+
+pub loop-index-preserved : goal.loop-index-preserved
+loop-index-preserved c =
+    let es = c.args.self.now.entries in
+    let lt : c.loop-index.index < length es = rw (← c.loop-index.invariant.items) c.loop-index-test.true in
+    let is : c.entry-item.result ≡ get_or es c.loop-index.index c.entry-item.result = rw (← c.loop-index.invariant.items) c.entry-item.is in
+    record {
+      items = c.loop-index.invariant.items;
+      before = none_more es c.args.groups.now c.args.bytes.now c.loop-index.index c.entry-item.result is
+          (subst (λ f. FindsIn c.args.groups.now c.entry-item.result c.args.bytes.now f) c.in_default.is c.in_ok-spans.ensures.finds) c.loop-index.invariant.before;
+      left = by_entry es c.args.groups.now c.args.bytes.now c.args.max c.loop-index.index c.loop-index.invariant.left lt c.entry-item.result is _ (sym c.in_default.is ∙ c.in_ok-spans.ensures.value);
+    }
+
+pub returns-in-Some-clause-chosen : goal.returns-in-Some-clause-chosen
+returns-in-Some-clause-chosen c =
+    let es = c.args.self.now.entries in
+    let lt : c.loop-index.index < length es = rw (← c.loop-index.invariant.items) c.loop-index-test.true in
+    let is : c.entry-item.result ≡ get_or es c.loop-index.index c.entry-item.result = rw (← c.loop-index.invariant.items) c.entry-item.is in
+    by_entry es c.args.groups.now c.args.bytes.now c.args.max c.loop-index.index c.loop-index.invariant.left lt c.entry-item.result is _ (sym c.in-Some.is ∙ c.in_ok-spans.ensures.value)
+
+pub returns-then-is_some-clause-chosen : goal.returns-then-is_some-clause-chosen
+returns-then-is_some-clause-chosen c =
+    let es = c.args.self.now.entries in
+    let past : length es ≤ c.loop-index.index = rw (← c.loop-index.invariant.items) c.loop-index-test.false in
+    let end = at_end es c.args.groups.now c.args.bytes.now c.args.max c.loop-index.index c.loop-index.invariant.left past in
+    grind (arith, nat_tests)
+
+pub returns-else-max-bytes-clause-chosen : goal.returns-else-max-bytes-clause-chosen
+returns-else-max-bytes-clause-chosen c =
+    let es = c.args.self.now.entries in
+    let past : length es ≤ c.loop-index.index = rw (← c.loop-index.invariant.items) c.loop-index-test.false in
+    let end = at_end es c.args.groups.now c.args.bytes.now c.args.max c.loop-index.index c.loop-index.invariant.left past in
+    elim c.else-max-bytes.branch [
+      | else-max-bytes-via-then-max-bytes+else-is_some w ↦ grind (arith, nat_tests)
+      | else-max-bytes-via-else-max-bytes w ↦ grind (arith, nat_tests)
+    ]
