@@ -1,12 +1,13 @@
 -- The match that is meant is the one that the search by places gives.
 use Rattle.std.proofs.Common.{◌≡◌, ℕ, zero, suc, ◌+◌, ◌<◌, ◌≤◌, Bool, true, false, ◌&&◌, cond, leb, ltb, eqb, List, [], ◌∷◌, length, get_or, Option, Some, None, Decides, option_map, refl, sym, ap, subst, ◌∙◌, ⊎_elim, arith}
+use Rattle.std.specs.Option.{option_or}
 use Rattle.std.proofs.lemmas.Bool.{cases_lt, cond-true, cond-false, false_from_ne_true, leb-true, le-leb}
 use Rattle.std.proofs.lemmas.Bool.Decides.{Decides-and, Decides-eqb, Decides-ltb, Decides-below_or, Decides-like}
 use Rattle.exp_glob.specs.declared.element.Element.{Element}
 use Rattle.exp_glob.specs.declared.element.Element.TheVariants.{Star, One, End}
 use Rattle.exp_glob.specs.declared.pattern.Glob.{Glob}
 use Rattle.exp_glob.specs.Spans.{takes, Spans, FindsFirst}
-use Rattle.exp_glob.specs.Search.{some_below, last_below, or_else, first_below, spans, longest_from, first_span}
+use Rattle.exp_glob.specs.Search.{some_below, last_below, first_below, spans, longest_from, first_span}
 use Rattle.exp_glob.proofs.Greedy.{span_within}
 
 -- places
@@ -15,15 +16,15 @@ module _ {X : Type 0} (find : ℕ → Option X) where
   pub first_none : (n : ℕ) → ((k : ℕ) → k < n → find k ≡ None) → first_below find n ≡ None
   first_none zero none = refl
   first_none (suc n) none =
-      ap (λ o. or_else o (find n)) (first_none n (λ k lt. none k (omega arith))) ∙ none n (omega arith)
+      ap (λ o. option_or o (find n)) (first_none n (λ k lt. none k (omega arith))) ∙ none n (omega arith)
 
   pub first_some : (n k : ℕ) (x : X) → k < n → find k ≡ Some x → ((j : ℕ) → j < k → find j ≡ None) → first_below find n ≡ Some x
   first_some zero k x lt is none = absurd (omega arith)
   first_some (suc n) k x lt is none =
-      ⊎_elim (λ (below : k < n). ap (λ o. or_else o (find n)) (first_some n k x below is none))
+      ⊎_elim (λ (below : k < n). ap (λ o. option_or o (find n)) (first_some n k x below is none))
       (λ (above : n ≤ k).
       let same : k ≡ n = omega arith in
-      ap (λ o. or_else o (find n)) (first_none n (λ j l. none j (omega arith))) ∙ subst (λ i. find i ≡ Some x) same is)
+      ap (λ o. option_or o (find n)) (first_none n (λ j l. none j (omega arith))) ∙ subst (λ i. find i ≡ Some x) same is)
       (cases_lt k n)
 
 module _ (test : ℕ → Bool) where

@@ -1,5 +1,6 @@
 -- The match that a search gives, as a function. What `FindsFirst` allows is this alone.
 use Rattle.std.specs.Prelude.{ℕ, zero, suc, ◌+◌, nat_le, nat_lt, Bool, false, ◌&&◌, ◌||◌, ◌==◌, if◌then◌else◌, List, [], ◌∷◌, length, slice_index, Option, Some, None, option_map}
+use Rattle.std.specs.Option.{option_or}
 use Rattle.exp_glob.specs.declared.element.Element.{Element}
 use Rattle.exp_glob.specs.declared.element.Element.TheVariants.{Star, One, End}
 use Rattle.exp_glob.specs.declared.pattern.Glob.{Glob}
@@ -15,14 +16,10 @@ abbrev pub last_below : (ℕ → Bool) → ℕ → Option ℕ
 last_below test zero = None
 last_below test (suc n) = if test n then Some n else last_below test n
 
-abbrev pub or_else : {X : Type 0} → Option X → Option X → Option X
-or_else (Some x) other = Some x
-or_else None other = other
-
 -- what is found at the least place below n where anything is
 abbrev pub first_below : {X : Type 0} → (ℕ → Option X) → ℕ → Option X
 first_below find zero = None
-first_below find (suc n) = or_else (first_below find n) (find n)
+first_below find (suc n) = option_or (first_below find n) (find n)
 
 -- elements match s from a to b
 abbrev pub spans : Bool → List Element → List ℕ → ℕ → ℕ → Bool

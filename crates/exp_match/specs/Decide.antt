@@ -1,4 +1,4 @@
--- Which of the listed patterns is chosen, as a function. What `Decides` of `Choice` allows is this alone.
+-- Which of the listed patterns is chosen, as a function. `Decides` of `Choice` says in plain words what it gives.
 use Rattle.std.specs.Prelude.{ℕ, ◌+◌, nat_le, Bool, ◌&&◌, if◌then◌else◌, List, [], ◌∷◌, length, Option, Some, None, option_map, is_some}
 use Rattle.exp_glob.specs.Search.{first_span}
 use Rattle.exp_match.specs.Choice.{Found, alone, in_groups, waits_for_full, first_in}
