@@ -7,8 +7,10 @@ mod complaint;
 mod expressions;
 mod fills;
 mod globs;
+mod hosts;
 mod patterns;
 mod queues;
+mod runs;
 mod scans;
 mod spell;
 mod terminal;
@@ -22,6 +24,7 @@ use crate::expressions::shown_expressions;
 use crate::globs::shown_globs;
 use crate::patterns::shown_patterns;
 use crate::queues::shown_queue;
+use crate::runs::shown_runs;
 use crate::scans::shown_scan;
 use crate::terminal::shown_terminal;
 use crate::variables::shown_variables;
@@ -59,6 +62,8 @@ enum Layer {
     Scan,
     /// Calls on variables, and words that are filled.
     Variables,
+    /// Scripts, each with a bound on its steps, and over a host that waits.
+    Scripts,
 }
 
 fn layer_of(name: &str) -> Option<Layer> {
@@ -73,6 +78,7 @@ fn layer_of(name: &str) -> Option<Layer> {
         "queue" => Some(Layer::Queue),
         "scan" => Some(Layer::Scan),
         "variables" => Some(Layer::Variables),
+        "scripts" => Some(Layer::Scripts),
         _ => None,
     }
 }
@@ -99,6 +105,7 @@ fn shown<R: Read>(alloc: Global, layer: Layer, input: &mut R) -> Result<Text, Co
         Layer::Queue => shown_queue(alloc, &calls(alloc, &src)?),
         Layer::Scan => shown_scan(alloc, &src),
         Layer::Variables => shown_variables(alloc, &calls(alloc, &src)?),
+        Layer::Scripts => shown_runs(alloc, &calls(alloc, &src)?),
     }
 }
 
@@ -114,7 +121,7 @@ fn main(rt: HostRuntime) -> ExitCode {
     let complaint = match run(&rt) {
         Ok(()) => return ExitCode::SUCCESS,
         Err(Complaint::Usage) =>
-            "usage: layer_show commands|list|expression|terminal|glob|pattern|buffer|queue|scan|variables",
+            "usage: layer_show commands|list|expression|terminal|glob|pattern|buffer|queue|scan|variables|scripts",
         Err(Complaint::Device) => "cannot read or write",
         Err(Complaint::Call) => "no call of this layer",
         Err(Complaint::Memory) => "out of memory",
