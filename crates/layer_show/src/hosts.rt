@@ -40,9 +40,13 @@ pub struct Wanted {
 /// A call that was put off.
 #[derive(Drop)]
 pub enum Held {
+    /// None was.
     Nothing,
+    /// The begin of a command, with its words.
     Begin(Values),
+    /// What follows the words that were asked for.
     Words(Values),
+    /// What follows the script that was asked for, with its code and value.
     Body(Code, Value),
 }
 
@@ -80,11 +84,7 @@ pub fn digit(code: Code) -> u8 {
 }
 
 fn is_again(code: Code) -> bool {
-    match code {
-        Code::Again => true,
-        Code::AgainLater => true,
-        _ => false,
-    }
+    matches!(code, Code::Again | Code::AgainLater)
 }
 
 /// The step, or want of memory.
