@@ -2,7 +2,7 @@
 
 ghost use Rattle.std.specs.Prelude.{◌≡◌};
 ghost use Rattle.tcl_commands.specs.Strings.{option_of};
-ghost use Rattle.tcl_commands.specs.Verbs.{verb_of};
+ghost use Rattle.tcl_commands.specs.Verbs.{verb_of, plain_of, control_of};
 
 use crate::texts::is;
 
@@ -61,50 +61,69 @@ pub enum Verb {
 pub fn verb_of(word: &[u8]) -> Option<Verb>
     ensures { result ≡ verb_of word.now }
 {
+    match plain_of(word) {
+        Some(plain) => Some(Verb::Plain(plain)),
+        None => control_of(word),
+    }
+}
+
+/// The command of a name, where it evaluates nothing.
+fn plain_of(word: &[u8]) -> Option<Plain>
+    ensures { result ≡ plain_of word.now }
+{
     if is(word, b"set") {
-        Some(Verb::Plain(Plain::Set))
-    } else if is(word, b"if") {
-        Some(Verb::If)
+        Some(Plain::Set)
     } else if is(word, b"incr") {
-        Some(Verb::Plain(Plain::Incr))
+        Some(Plain::Incr)
+    } else if is(word, b"return") {
+        Some(Plain::Return)
+    } else if is(word, b"append") {
+        Some(Plain::Append)
+    } else if is(word, b"lappend") {
+        Some(Plain::Lappend)
+    } else if is(word, b"list") {
+        Some(Plain::List)
+    } else if is(word, b"llength") {
+        Some(Plain::Llength)
+    } else if is(word, b"lindex") {
+        Some(Plain::Lindex)
+    } else if is(word, b"lrange") {
+        Some(Plain::Lrange)
+    } else if is(word, b"string") {
+        Some(Plain::String)
+    } else if is(word, b"break") {
+        Some(Plain::Break)
+    } else if is(word, b"continue") {
+        Some(Plain::Continue)
+    } else if is(word, b"error") {
+        Some(Plain::Error)
+    } else if is(word, b"global") {
+        Some(Plain::Global)
+    } else if is(word, b"info") {
+        Some(Plain::Info)
+    } else if is(word, b"unset") {
+        Some(Plain::Unset)
+    } else {
+        None
+    }
+}
+
+/// The command of a name, where it evaluates a script or an expression, defines a procedure or ends the script.
+fn control_of(word: &[u8]) -> Option<Verb>
+    ensures { result ≡ control_of word.now }
+{
+    if is(word, b"if") {
+        Some(Verb::If)
     } else if is(word, b"expr") {
         Some(Verb::Expr)
-    } else if is(word, b"return") {
-        Some(Verb::Plain(Plain::Return))
     } else if is(word, b"while") {
         Some(Verb::While)
     } else if is(word, b"for") {
         Some(Verb::For)
     } else if is(word, b"foreach") {
         Some(Verb::Foreach)
-    } else if is(word, b"append") {
-        Some(Verb::Plain(Plain::Append))
-    } else if is(word, b"lappend") {
-        Some(Verb::Plain(Plain::Lappend))
-    } else if is(word, b"list") {
-        Some(Verb::Plain(Plain::List))
-    } else if is(word, b"llength") {
-        Some(Verb::Plain(Plain::Llength))
-    } else if is(word, b"lindex") {
-        Some(Verb::Plain(Plain::Lindex))
-    } else if is(word, b"lrange") {
-        Some(Verb::Plain(Plain::Lrange))
-    } else if is(word, b"string") {
-        Some(Verb::Plain(Plain::String))
-    } else if is(word, b"break") {
-        Some(Verb::Plain(Plain::Break))
-    } else if is(word, b"continue") {
-        Some(Verb::Plain(Plain::Continue))
     } else if is(word, b"catch") {
         Some(Verb::Catch)
-    } else if is(word, b"error") {
-        Some(Verb::Plain(Plain::Error))
-    } else if is(word, b"global") {
-        Some(Verb::Plain(Plain::Global))
-    } else if is(word, b"info") {
-        Some(Verb::Plain(Plain::Info))
-    } else if is(word, b"unset") {
-        Some(Verb::Plain(Plain::Unset))
     } else if is(word, b"proc") {
         Some(Verb::Proc)
     } else if is(word, b"eval") {

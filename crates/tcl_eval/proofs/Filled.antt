@@ -11,7 +11,8 @@ use Rattle.tcl_eval.specs.declared.frame.Then.{Then}
 use Rattle.tcl_eval.specs.declared.frame.Then.TheVariants.{Command}
 use Rattle.tcl_eval.specs.declared.frame.End.TheVariants.{StepLimit}
 use Rattle.tcl_eval.specs.declared.frame.Frame.{Frame}
-use Rattle.tcl_eval.specs.declared.frame.Frame.TheVariants.{Fill as FillFrame, Seq}
+use Rattle.tcl_eval.specs.declared.frame.Frame.TheVariants.{Onward}
+use Rattle.tcl_eval.specs.declared.frame.Onward.TheVariants.{Fill as FillOn, Seq}
 use Rattle.tcl_eval.specs.Advanced.{Fills}
 use Rattle.tcl_eval.specs.Tree.{State, Tree, Over}
 use Rattle.tcl_eval.specs.Meaning.{Next, Eval, eval, on_said, spread, fill_word, fill_words, sequence, stepped, each}
@@ -34,33 +35,33 @@ words_work_first ev f w ws words done k go st fills e =
 
 -- the frame that was pushed for a word, handed a value without bytes
 module _ (depth next to : ℕ) (words words' : List Spelled) (w : Spelled) (expand : Bool) (filler : Filling) (done : List (List ℕ)) (what : Then) (stack stack' : List Frame) (v : List ℕ) (st : State) where
-  pub fill_frame : drop next words ≡ w ∷ drop to words → Fills filler w → words' ≡ words → expand ≡ w.expand → stack' ≡ FillFrame words' to expand filler done what depth ∷ stack → v ≡ []
+  pub fill_frame : drop next words ≡ w ∷ drop to words → Fills filler w → words' ≡ words → expand ≡ w.expand → stack' ≡ Onward (FillOn words' to expand filler done what depth) ∷ stack → v ≡ []
       → frames_rest stack' Ok v st ≡ fill_words (eval depth) (drop next words) done (frames_rest stack) (then_rest depth what (frames_rest stack)) st
   fill_frame is fills same spread' pushed none =
       ap (λ (s : List Frame). frames_rest s Ok v st) pushed
-      ∙ ap (λ (v : List ℕ). frames_rest (FillFrame words' to expand filler done what depth ∷ stack) Ok v st) none
-      ∙ ap (λ (l : List Spelled). frames_rest (FillFrame l to expand filler done what depth ∷ stack) Ok [] st) same
-      ∙ ap (λ (b : Bool). frames_rest (FillFrame words to b filler done what depth ∷ stack) Ok [] st) spread'
+      ∙ ap (λ (v : List ℕ). frames_rest (Onward (FillOn words' to expand filler done what depth) ∷ stack) Ok v st) none
+      ∙ ap (λ (l : List Spelled). frames_rest (Onward (FillOn l to expand filler done what depth) ∷ stack) Ok [] st) same
+      ∙ ap (λ (b : Bool). frames_rest (Onward (FillOn words to b filler done what depth) ∷ stack) Ok [] st) spread'
       ∙ words_first (eval depth) filler w (drop to words) (drop next words) done (frames_rest stack) (then_rest depth what (frames_rest stack)) st fills is
 
-  pub fill_frame_work : drop next words ≡ w ∷ drop to words → Fills filler w → words' ≡ words → expand ≡ w.expand → stack' ≡ FillFrame words' to expand filler done what depth ∷ stack → v ≡ []
+  pub fill_frame_work : drop next words ≡ w ∷ drop to words → Fills filler w → words' ≡ words → expand ≡ w.expand → stack' ≡ Onward (FillOn words' to expand filler done what depth) ∷ stack → v ≡ []
       → frames_work stack' Ok v st ≡ words_work (eval_work depth) (drop next words) done (frames_work stack) (then_work what (frames_work stack)) st
   fill_frame_work is fills same spread' pushed none =
       ap (λ (s : List Frame). frames_work s Ok v st) pushed
-      ∙ ap (λ (v : List ℕ). frames_work (FillFrame words' to expand filler done what depth ∷ stack) Ok v st) none
-      ∙ ap (λ (l : List Spelled). frames_work (FillFrame l to expand filler done what depth ∷ stack) Ok [] st) same
-      ∙ ap (λ (b : Bool). frames_work (FillFrame words to b filler done what depth ∷ stack) Ok [] st) spread'
+      ∙ ap (λ (v : List ℕ). frames_work (Onward (FillOn words' to expand filler done what depth) ∷ stack) Ok v st) none
+      ∙ ap (λ (l : List Spelled). frames_work (Onward (FillOn l to expand filler done what depth) ∷ stack) Ok [] st) same
+      ∙ ap (λ (b : Bool). frames_work (Onward (FillOn words to b filler done what depth) ∷ stack) Ok [] st) spread'
       ∙ words_work_first (eval_work depth) filler w (drop to words) (drop next words) done (frames_work stack) (then_work what (frames_work stack)) st fills is
 
 -- the frame that was pushed for the commands behind one whose words are filled
 module _ (depth next to : ℕ) (script script' : List Reading) (words words' : List Spelled) (done : List (List ℕ)) (stack stack' : List Frame) (last : List ℕ) (st : State) where
-  pub seq_frame : drop next script ≡ Words words ∷ drop to script → words' ≡ words → script' ≡ script → stack' ≡ Seq script' to depth ∷ stack → done ≡ []
+  pub seq_frame : drop next script ≡ Words words ∷ drop to script → words' ≡ words → script' ≡ script → stack' ≡ Onward (Seq script' to depth) ∷ stack → done ≡ []
       → fill_words (eval depth) (drop 0 words') done (frames_rest stack') (then_rest depth Command (frames_rest stack')) st ≡ sequence (eval depth) (drop next script) (frames_rest stack) last st
   seq_frame is same same' pushed none =
       ap (λ (s : List Frame). fill_words (eval depth) (drop 0 words') done (frames_rest s) (then_rest depth Command (frames_rest s)) st) pushed
-      ∙ ap (λ (d : List (List ℕ)). fill_words (eval depth) (drop 0 words') d (frames_rest (Seq script' to depth ∷ stack)) (then_rest depth Command (frames_rest (Seq script' to depth ∷ stack))) st) none
-      ∙ ap (λ (l : List Spelled). fill_words (eval depth) (drop 0 l) [] (frames_rest (Seq script' to depth ∷ stack)) (then_rest depth Command (frames_rest (Seq script' to depth ∷ stack))) st) same
-      ∙ ap (λ (s : List Reading). fill_words (eval depth) words [] (frames_rest (Seq s to depth ∷ stack)) (then_rest depth Command (frames_rest (Seq s to depth ∷ stack))) st) same'
+      ∙ ap (λ (d : List (List ℕ)). fill_words (eval depth) (drop 0 words') d (frames_rest (Onward (Seq script' to depth) ∷ stack)) (then_rest depth Command (frames_rest (Onward (Seq script' to depth) ∷ stack))) st) none
+      ∙ ap (λ (l : List Spelled). fill_words (eval depth) (drop 0 l) [] (frames_rest (Onward (Seq script' to depth) ∷ stack)) (then_rest depth Command (frames_rest (Onward (Seq script' to depth) ∷ stack))) st) same
+      ∙ ap (λ (s : List Reading). fill_words (eval depth) words [] (frames_rest (Onward (Seq s to depth) ∷ stack)) (then_rest depth Command (frames_rest (Onward (Seq s to depth) ∷ stack))) st) same'
       ∙ ap (λ (l : List Reading). sequence (eval depth) l (frames_rest stack) last st) (sym is)
 
 stepped_none : (n : ℕ) (st : State) (go : State → Tree) → n ≡ 0 → stepped n st go ≡ Over StepLimit st

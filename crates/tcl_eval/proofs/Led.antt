@@ -1,7 +1,8 @@
 -- Lists of replies that lead from one tree to another.
-use Rattle.std.proofs.Common.{◌≡◌, ℕ, List, [], ◌∷◌, ◌++◌, refl, sym, subst}
+use Rattle.std.proofs.Common.{◌≡◌, ℕ, List, [], ◌∷◌, ◌++◌, Result, Ok, Err, IfOk, true, false, refl, sym, ap, ◌∙◌, subst}
 use Rattle.tcl_eval.specs.Tree.{Call, Reply, Tree, follow, Leads}
-use Rattle.tcl_eval.specs.Asked.{EndsInWait, IsWait, IsReply, IsOverOrAsking, PausesAt}
+use Rattle.tcl_eval.specs.Asked.{EndsInWait, IsWait, WaitsAt, IsReply, IsOverOrAsking, PausesAt, IsAskingOnPause, OnPause}
+use Rattle.tcl_eval.specs.declared.frame.Asked.{Asked}
 use Rattle.tcl_eval.specs.declared.frame.Mode.{Mode}
 use Rattle.tcl_eval.specs.declared.frame.Mode.TheVariants.{Give, Invoke, Run, Begin, AfterWords, AfterBody, Define, Ended}
 
@@ -45,3 +46,17 @@ pauses_append (Begin words depth resumed) rs ss e = (ends_in_wait-append rs ss e
 pauses_append (AfterWords words depth resumed) rs ss e = (ends_in_wait-append rs ss e.0, e.1)
 pauses_append (AfterBody c v bound depth resumed) rs ss e = (ends_in_wait-append rs ss e.0, e.1)
 pauses_append (Define name formals body) rs ss e = (ends_in_wait-append rs ss e.0, e.1)
+
+-- what came of a call, where there is one reply to it
+pub leads_asked : {H E : Type 0} (answers : H → Call → Reply → H → Type 0) (rest : ℕ → Mode → Tree) (mode mode' : Mode) (left : ℕ) (to : Mode → Tree) (h h' : H) (result : Result Asked E)
+    → mode ≡ mode'
+    → IfOk result (λ a. (r : Reply) × IsReply answers rest mode' h r h' × (to a.mode ≡ follow (rest left mode') r) × WaitsAt a r)
+    → IfOk result (λ a. IsAskingOnPause a)
+    → IfOk result (λ a. (replies : List Reply) × Leads answers replies (rest left mode) h (to a.mode) h' × OnPause a replies)
+leads_asked answers rest mode mode' left to h h' (Ok a) e f g =
+    (f.0 ∷ [], leads_reply answers rest mode mode' left h f.0 (to a.mode) h' e f.1 f.2, λ p. pauses_waiting a.mode f.0 (g p) (f.3 p))
+leads_asked answers rest mode mode' left to h h' (Err e') e f g = tt
+
+-- what goes on doesn't pause
+pub pauses_never : (a : Asked) (mode : Mode) (rs : List Reply) → a ≡ record { mode = mode; paused = false } → OnPause a rs
+pauses_never a mode rs e p = let q : false ≡ true = sym (ap (λ (x : Asked). x.paused) e) ∙ p in absurd (cc)

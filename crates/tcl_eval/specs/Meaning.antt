@@ -17,14 +17,14 @@ use Rattle.tcl_commands.specs.declared.code.Code.{Code}
 use Rattle.tcl_commands.specs.declared.code.Code.TheVariants.{Ok, Error, Return, Break, Continue, Again, AgainLater}
 use Rattle.tcl_commands.specs.declared.verbs.Verb.{Verb}
 use Rattle.tcl_commands.specs.declared.verbs.Verb.TheVariants.{Plain, If, While, For, Foreach, Proc, Expr, Eval as EvalCommand, Catch, Exit}
-use Rattle.tcl_commands.specs.Texts.{quoted, wrong_args, expected_number, not_read, not_set, word_fault, expr_fault, too_deep}
+use Rattle.tcl_commands.specs.Texts.{quoted, wrong_args, expected_number, not_read, word_fault, expr_fault, too_deep}
 use Rattle.tcl_commands.specs.Said.{Said, Outcome, list_of}
 use Rattle.tcl_commands.specs.Plain.{plain}
 use Rattle.tcl_commands.specs.Verbs.{verb_of, exit_status}
 use Rattle.tcl_commands.specs.Joining.{expr_text, eval_text}
 use Rattle.tcl_commands.specs.Arms.{arms_of}
 use Rattle.tcl_commands.specs.Groups.{each_of, assigned}
-use Rattle.tcl_commands.specs.Procs.{formals_of, entered}
+use Rattle.tcl_commands.specs.Procs.{formals_of, entered, or_not_set}
 use Rattle.tcl_scripts.specs.declared.script.Reading.{Reading}
 use Rattle.tcl_scripts.specs.declared.script.Reading.TheVariants.{Command, Malformed}
 use Rattle.tcl_scripts.specs.Commands.{commands}
@@ -224,18 +224,12 @@ digit Continue = 52 ∷ []
 digit Again = 53 ∷ []
 digit AgainLater = 54 ∷ []
 
-abbrev pub caught_in : Code → List ℕ → Said Variables → To Tree → State → Tree
-caught_in c name (Fine vars) k st = k Ok (digit c) (record st { vars = vars })
-caught_in c name (Err text) k st = k Error text st
-
-abbrev pub or_not_set : List ℕ → Result Variables SubstFault → Said Variables
-or_not_set name (Fine vars) = Fine vars
-or_not_set name (Err f) = Err (not_set name f)
-
--- the code is the result, and a variable gets the value
-abbrev pub caught : Option (List ℕ) → Next → Next
-caught None k c v st = k Ok (digit c) st
-caught (Some name) k c v st = caught_in c name (or_not_set name (with_value (set_to v) name st.vars)) k st
+module _ {A : Type 0} where
+  -- the code is the result, and a variable gets the value
+  abbrev pub caught : Option (List ℕ) → To A → To A
+  caught None k c v st = k Ok (digit c) st
+  caught (Some name) k c v st =
+      on_said (or_not_set name (with_value (set_to v) name st.vars)) k (λ vars st. k Ok (digit c) (record st { vars = vars })) st
 
 -- ---- procedures (proc(n))
 
@@ -246,15 +240,16 @@ outside_loop name = quoted (codes "invoked ") name ++ codes " outside of a loop"
 abbrev pub left_scope : State → State
 left_scope st = record st { vars = record { globals = st.vars.globals; locals = drop 1 st.vars.locals } }
 
--- at a procedure's end a `return` is its value, and a loop's codes are astray
-abbrev pub scope_end : Next → Next
-scope_end k Ok v st = k Ok v (left_scope st)
-scope_end k Error v st = k Error v (left_scope st)
-scope_end k Return v st = k Ok v (left_scope st)
-scope_end k Break v st = k Error (outside_loop (codes "break")) (left_scope st)
-scope_end k Continue v st = k Error (outside_loop (codes "continue")) (left_scope st)
-scope_end k Again v st = k Again v (left_scope st)
-scope_end k AgainLater v st = k AgainLater v (left_scope st)
+module _ {A : Type 0} where
+  -- at a procedure's end a `return` is its value, and a loop's codes are astray
+  abbrev pub scope_end : To A → To A
+  scope_end k Ok v st = k Ok v (left_scope st)
+  scope_end k Error v st = k Error v (left_scope st)
+  scope_end k Return v st = k Ok v (left_scope st)
+  scope_end k Break v st = k Error (outside_loop (codes "break")) (left_scope st)
+  scope_end k Continue v st = k Error (outside_loop (codes "continue")) (left_scope st)
+  scope_end k Again v st = k Again v (left_scope st)
+  scope_end k AgainLater v st = k AgainLater v (left_scope st)
 
 abbrev pub invalid_name : List ℕ → List ℕ
 invalid_name name = quoted (codes "invalid command name ") name

@@ -16,7 +16,9 @@ use Rattle.tcl_eval.specs.declared.frame.Turning.{Turning}
 use Rattle.tcl_eval.specs.declared.frame.Goal.{Goal}
 use Rattle.tcl_eval.specs.declared.frame.Goal.TheVariants.{Result, Turn as TurnGoal, Arm}
 use Rattle.tcl_eval.specs.declared.frame.Frame.{Frame}
-use Rattle.tcl_eval.specs.declared.frame.Frame.TheVariants.{Seq, Fill, Operand, Arms, Catch, Turn, Next as NextFrame, Start, Each, Scope, HostBody}
+use Rattle.tcl_eval.specs.declared.frame.Frame.TheVariants.{Onward as OnwardFrame, Catch, Turn, Each, Scope, HostBody}
+use Rattle.tcl_eval.specs.declared.frame.Onward.{Onward}
+use Rattle.tcl_eval.specs.declared.frame.Onward.TheVariants.{Seq, Fill, Operand, Arms, Next as NextTurn, Start}
 use Rattle.tcl_eval.specs.declared.frame.Mode.{Mode}
 use Rattle.tcl_eval.specs.declared.frame.Mode.TheVariants.{Give, Invoke, Run, Begin, AfterWords, AfterBody, Define, Ended}
 use Rattle.tcl_eval.specs.declared.engine.Engine.{Engine}
@@ -55,26 +57,24 @@ advanced_to depth (Fault f) e goal k st = k Error (expr_fault [] f) st
 abbrev pub looped : ℕ → Turning → Next → State → Tree
 looped depth t k st = turns (eval depth) t.test t.body t.next k t.bound st
 
+-- what goes on behind `Ok`
+abbrev pub onward_rest : Onward → Next → List ℕ → State → Tree
+onward_rest (Seq script next depth) k v st = sequence (eval depth) (drop next script) k v st
+onward_rest (Fill words next expand filler done to depth) k v st =
+    fill_word (eval depth) (rest (given v filler) st.vars) k
+    (λ v st. on_said (spread expand v done) k (λ done st. fill_words (eval depth) (drop next words) done k (then_rest depth to k) st) st) st
+onward_rest (Operand evaluation filler goal depth) k v st =
+    fill_word (eval depth) (rest (given v filler) st.vars) k (λ v st. evaluated depth (with_operand v evaluation) goal k st) st
+onward_rest (Arms arms' depth) k v st = arms (eval depth) arms'.0 arms'.1 k st
+onward_rest (NextTurn t depth) k v st = looped depth t k st
+onward_rest (Start test next body depth) k v st =
+    on_said (tree_of test) k (λ t st. loop (eval depth) t (commands body) (Some (commands next)) k st) st
+
 -- what a frame does with the code and the value that it is handed
 abbrev pub frame_rest : Frame → Next → Next
-frame_rest (Seq script next depth) k = on_ok (λ v st. sequence (eval depth) (drop next script) k v st) k
-frame_rest (Fill words next expand filler done to depth) k =
-    on_ok
-    (λ v st. fill_word (eval depth) (rest (given v filler) st.vars) k
-    (λ v st. on_said (spread expand v done) k (λ done st. fill_words (eval depth) (drop next words) done k (then_rest depth to k) st) st) st)
-    k
-frame_rest (Operand evaluation filler goal depth) k =
-    on_ok
-    (λ v st. fill_word (eval depth) (rest (given v filler) st.vars) k (λ v st. evaluated depth (with_operand v evaluation) goal k st) st)
-    k
-frame_rest (Arms arms' depth) k = on_ok (λ v st. arms (eval depth) arms'.0 arms'.1 k st) k
+frame_rest (OnwardFrame o) k = on_ok (onward_rest o k) k
 frame_rest (Catch name) k = caught name k
 frame_rest (Turn t depth) k = turn_end k (λ st. advanced (eval depth) t.next k (λ st. looped depth t k st) st)
-frame_rest (NextFrame t depth) k = on_ok (λ v st. looped depth t k st) k
-frame_rest (Start test next body depth) k =
-    on_ok
-    (λ v st. on_said (tree_of test) k (λ t st. loop (eval depth) t (commands body) (Some (commands next)) k st) st)
-    k
 frame_rest (Each groups body depth) k = turn_end k (λ st. each (eval depth) groups.names groups.left body k st)
 frame_rest Scope k = scope_end k
 frame_rest (HostBody bound depth) k = after_body (eval depth) k bound

@@ -6,8 +6,6 @@ use Rattle.tcl_expr.specs.Tree.{Tree as Expression}
 use Rattle.tcl_subst.specs.Filling.{Fill as Filled, fill}
 use Rattle.tcl_subst.specs.Recipes.{given}
 use Rattle.tcl_subst.specs.Rests.{rest}
-use Rattle.tcl_subst.specs.Variables.{with_value}
-use Rattle.tcl_subst.specs.Writes.{set_to}
 use Rattle.tcl_commands.specs.declared.code.Code.{Code}
 use Rattle.tcl_commands.specs.declared.code.Code.TheVariants.{Ok, Error, Return, Break, Continue, Again, AgainLater}
 use Rattle.tcl_commands.specs.Groups.{assigned}
@@ -22,13 +20,15 @@ use Rattle.tcl_eval.specs.declared.frame.Then.TheVariants.{Command, List as Host
 use Rattle.tcl_eval.specs.declared.frame.Goal.{Goal}
 use Rattle.tcl_eval.specs.declared.frame.Goal.TheVariants.{Result, Turn as TurnGoal, Arm}
 use Rattle.tcl_eval.specs.declared.frame.Frame.{Frame}
-use Rattle.tcl_eval.specs.declared.frame.Frame.TheVariants.{Seq, Fill, Operand, Arms, Catch, Turn, Next as NextFrame, Start, Each, Scope, HostBody}
+use Rattle.tcl_eval.specs.declared.frame.Frame.TheVariants.{Onward as OnwardFrame, Catch, Turn, Each, Scope, HostBody}
+use Rattle.tcl_eval.specs.declared.frame.Onward.{Onward}
+use Rattle.tcl_eval.specs.declared.frame.Onward.TheVariants.{Seq, Fill, Operand, Arms, Next as NextTurn, Start}
 use Rattle.tcl_eval.specs.declared.frame.Mode.{Mode}
 use Rattle.tcl_eval.specs.declared.frame.Mode.TheVariants.{Give, Invoke, Run, Begin, AfterWords, AfterBody, Define, Ended}
 use Rattle.tcl_eval.specs.declared.engine.Engine.{Engine}
 use Rattle.tcl_eval.specs.Evaluated.{Evaluated, with_operand}
 use Rattle.tcl_eval.specs.Tree.{State}
-use Rattle.tcl_eval.specs.Meaning.{To, after, on_ok, on_said, tested, turn_end, fill_word, value_from, spread, tree_of, digit, or_not_set, outside_loop, left_scope}
+use Rattle.tcl_eval.specs.Meaning.{To, after, on_ok, on_said, tested, turn_end, fill_word, value_from, spread, tree_of, caught, scope_end}
 use Rattle.tcl_eval.specs.Rest.{state_of}
 
 -- so many transitions
@@ -116,19 +116,6 @@ abbrev pub each_work : List (List ℕ) → List (List (List ℕ)) → Work → S
 each_work names [] k st = k Ok [] st
 each_work names (es ∷ left) k st = stepped_work st.left st (λ st. after (assigned names es st.vars) (on_ok (λ v st. Now) k) st)
 
-abbrev pub caught_work : Option (List ℕ) → Work → Work
-caught_work None k c v st = k Ok (digit c) st
-caught_work (Some name) k c v st = on_said (or_not_set name (with_value (set_to v) name st.vars)) k (λ vars st. k Ok (digit c) (record st { vars = vars })) st
-
-abbrev pub scope_work : Work → Work
-scope_work k Ok v st = k Ok v (left_scope st)
-scope_work k Error v st = k Error v (left_scope st)
-scope_work k Return v st = k Ok v (left_scope st)
-scope_work k Break v st = k Error (outside_loop (codes "break")) (left_scope st)
-scope_work k Continue v st = k Error (outside_loop (codes "continue")) (left_scope st)
-scope_work k Again v st = k Again v (left_scope st)
-scope_work k AgainLater v st = k AgainLater v (left_scope st)
-
 abbrev pub command_work : EvalWork → List Spelled → Work → State → Ticks
 command_work ev words k st = words_work ev words [] k (then_work Command k) st
 
@@ -141,26 +128,24 @@ abbrev pub eval_work : ℕ → EvalWork
 eval_work zero script k st = k Error too_deep st
 eval_work (suc depth) script k st = Tick (sequence_work (eval_work depth) script k [] st)
 
+abbrev pub onward_work : Onward → Work → List ℕ → State → Ticks
+onward_work (Seq script next depth) k v st = sequence_work (eval_work depth) (drop next script) k v st
+onward_work (Fill words next expand filler done to depth) k v st =
+    word_work (eval_work depth) (rest (given v filler) st.vars) k
+    (λ v st. on_said (spread expand v done) k (λ done st. words_work (eval_work depth) (drop next words) done k (then_work to k) st) st) st
+onward_work (Operand evaluation filler goal depth) k v st =
+    word_work (eval_work depth) (rest (given v filler) st.vars) k
+    (λ v st. evaluated_work (eval_work depth) (with_operand v evaluation) goal k st) st
+onward_work (Arms arms depth) k v st = arms_work (eval_work depth) arms.0 arms.1 k st
+onward_work (NextTurn t depth) k v st = loop_work (eval_work depth) t.test k st
+onward_work (Start test next body depth) k v st = on_said (tree_of test) k (λ t st. loop_work (eval_work depth) t k st) st
+
 abbrev pub frame_work : Frame → Work → Work
-frame_work (Seq script next depth) k = on_ok (λ v st. sequence_work (eval_work depth) (drop next script) k v st) k
-frame_work (Fill words next expand filler done to depth) k =
-    on_ok
-    (λ v st. word_work (eval_work depth) (rest (given v filler) st.vars) k
-    (λ v st. on_said (spread expand v done) k (λ done st. words_work (eval_work depth) (drop next words) done k (then_work to k) st) st) st)
-    k
-frame_work (Operand evaluation filler goal depth) k =
-    on_ok
-    (λ v st. word_work (eval_work depth) (rest (given v filler) st.vars) k
-    (λ v st. evaluated_work (eval_work depth) (with_operand v evaluation) goal k st) st)
-    k
-frame_work (Arms arms depth) k = on_ok (λ v st. arms_work (eval_work depth) arms.0 arms.1 k st) k
-frame_work (Catch name) k = caught_work name k
+frame_work (OnwardFrame o) k = on_ok (onward_work o k) k
+frame_work (Catch name) k = caught name k
 frame_work (Turn t depth) k = turn_end k (λ st. next_work (eval_work depth) t.next k (λ st. loop_work (eval_work depth) t.test k st) st)
-frame_work (NextFrame t depth) k = on_ok (λ v st. loop_work (eval_work depth) t.test k st) k
-frame_work (Start test next body depth) k =
-    on_ok (λ v st. on_said (tree_of test) k (λ t st. loop_work (eval_work depth) t k st) st) k
 frame_work (Each groups body depth) k = turn_end k (λ st. each_work groups.names groups.left k st)
-frame_work Scope k = scope_work k
+frame_work Scope k = scope_end k
 frame_work (HostBody bound depth) k = λ c v st. Now
 
 abbrev pub frames_work : List Frame → Work
@@ -195,9 +180,13 @@ abbrev pub then_weight : Then → ℕ
 then_weight Command = 0
 then_weight (HostList fault) = 5
 
+abbrev pub onward_weight : Onward → ℕ
+onward_weight (Fill words next expand filler done to depth) = then_weight to
+onward_weight _ = 0
+
 abbrev pub frame_weight : Frame → ℕ
+frame_weight (OnwardFrame o) = onward_weight o
 frame_weight (HostBody bound depth) = 3
-frame_weight (Fill words next expand filler done to depth) = then_weight to
 frame_weight _ = 0
 
 abbrev pub bodies : List Frame → ℕ

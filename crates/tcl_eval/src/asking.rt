@@ -11,6 +11,7 @@ use crate::engine::Engine;
 use crate::frame::{Asked, Mode};
 use crate::host::{Host, HostStep};
 use crate::meter::Meter;
+use crate::replies::on;
 use crate::values::Values;
 use std::alloc::AllocError;
 use tcl_commands::Code;
@@ -155,64 +156,37 @@ impl Engine {
         ensures potential { IfOk result (λ a. GoesDown a (potential self.new (left_of meter.new) a.mode) (Falls mode (potential self.old (left_of meter.old) mode))) }
     {
         match mode {
-            Mode::Give(code, value) => Ok(Asked {
-                mode: Mode::Give(code, value),
-                paused: false,
-            }),
+            Mode::Give(code, value) => Ok(on(Mode::Give(code, value))),
             Mode::Ended(end) => Ok(Asked {
                 mode: Mode::Ended(end),
                 paused: true,
             }),
-            Mode::Invoke { words, depth } => {
-                let mode = self.invoke(meter, words, depth)?;
-                Ok(Asked {
-                    mode,
-                    paused: false,
-                })
-            }
-            Mode::Run { script, depth } => {
-                let mode = self.start(script, depth)?;
-                Ok(Asked {
-                    mode,
-                    paused: false,
-                })
-            }
+            Mode::Invoke { words, depth } => Ok(on(self.invoke(meter, words, depth)?)),
+            Mode::Run { script, depth } => Ok(on(self.start(script, depth)?)),
             Mode::Begin {
                 words,
                 depth,
                 resumed,
-            } => {
-                let asked = self.ask_begin(host, meter, words, depth, resumed)?;
-                Ok(asked)
-            }
+            } => self.ask_begin(host, meter, words, depth, resumed),
             Mode::AfterWords {
                 words,
                 depth,
                 resumed,
-            } => {
-                let asked = self.ask_words(host, meter, words, depth, resumed)?;
-                Ok(asked)
-            }
+            } => self.ask_words(host, meter, words, depth, resumed),
             Mode::AfterBody {
                 code,
                 value,
                 bound,
                 depth,
                 resumed,
-            } => {
-                let asked = self.ask_after(host, code, value, bound, depth, resumed)?;
-                Ok(asked)
-            }
+            } => self.ask_after(host, code, value, bound, depth, resumed),
             Mode::Define {
                 name,
                 formals,
                 body,
             } => {
                 let mode = self.ask_known(host, name, formals, body)?;
-                Ok(Asked {
-                    mode,
-                    paused: false,
-                })
+                Ok(on(mode))
             }
         }
     }

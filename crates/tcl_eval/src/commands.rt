@@ -15,7 +15,7 @@ ghost use Rattle.tcl_eval.specs.Work.{bodies, credit, potential};
 use crate::ending::Ending;
 use crate::engine::Engine;
 use crate::exprs::read_test;
-use crate::frame::{End, Frame, Goal, Mode};
+use crate::frame::{End, Frame, Goal, Mode, Onward};
 use crate::meter::Meter;
 use crate::procs::reserved;
 use crate::said::said;
@@ -47,10 +47,7 @@ impl Engine {
                 depth,
                 resumed: false,
             }),
-            Some(verb) => {
-                let mode = self.invoke_verb(meter, verb, name.as_slice(), args, depth)?;
-                Ok(mode)
-            }
+            Some(verb) => self.invoke_verb(meter, verb, name.as_slice(), args, depth),
         }
     }
 
@@ -71,42 +68,15 @@ impl Engine {
                 let (code, value) = plain(self.alloc, verb, name, args, &mut self.vars)?;
                 Ok(Mode::Give(code, value))
             }
-            Verb::If => {
-                let mode = self.invoke_if(meter, name, args, depth)?;
-                Ok(mode)
-            }
-            Verb::While => {
-                let mode = self.invoke_while(meter, name, args, depth)?;
-                Ok(mode)
-            }
-            Verb::For => {
-                let mode = self.invoke_for(name, args, depth)?;
-                Ok(mode)
-            }
-            Verb::Foreach => {
-                let mode = self.invoke_foreach(meter, name, args, depth)?;
-                Ok(mode)
-            }
-            Verb::Proc => {
-                let mode = self.invoke_proc(name, args)?;
-                Ok(mode)
-            }
-            Verb::Expr => {
-                let mode = self.invoke_expr(meter, name, args, depth)?;
-                Ok(mode)
-            }
-            Verb::Eval => {
-                let mode = self.invoke_eval(name, args, depth)?;
-                Ok(mode)
-            }
-            Verb::Catch => {
-                let mode = self.invoke_catch(name, args, depth)?;
-                Ok(mode)
-            }
-            Verb::Exit => {
-                let mode = self.invoke_exit(name, args)?;
-                Ok(mode)
-            }
+            Verb::If => self.invoke_if(meter, name, args, depth),
+            Verb::While => self.invoke_while(meter, name, args, depth),
+            Verb::For => self.invoke_for(name, args, depth),
+            Verb::Foreach => self.invoke_foreach(meter, name, args, depth),
+            Verb::Proc => self.invoke_proc(name, args),
+            Verb::Expr => self.invoke_expr(meter, name, args, depth),
+            Verb::Eval => self.invoke_eval(name, args, depth),
+            Verb::Catch => self.invoke_catch(name, args, depth),
+            Verb::Exit => self.invoke_exit(name, args),
         }
     }
 
@@ -130,10 +100,7 @@ impl Engine {
         ensures potential { IfOk result (λ mode. potential self.new (left_of meter.new) mode ≤ 8 * left_of meter.old + bodies self.old.stack + 6) }
     {
         match said(self.alloc, arms_of(self.alloc, name, args))? {
-            Ok(arms) => {
-                let mode = self.arms(meter, arms, depth)?;
-                Ok(mode)
-            }
+            Ok(arms) => self.arms(meter, arms, depth),
             Err(text) => Ok(Mode::Give(Code::Error, text)),
         }
     }
@@ -156,8 +123,7 @@ impl Engine {
         match said(self.alloc, read_test(self.alloc, test))? {
             Ok(test) => {
                 let body = Script::read(self.alloc, body.as_slice())?;
-                let mode = self.begin_loop(meter, test, body, None, depth)?;
-                Ok(mode)
+                self.begin_loop(meter, test, body, None, depth)
             }
             Err(text) => Ok(Mode::Give(Code::Error, text)),
         }
@@ -194,12 +160,12 @@ impl Engine {
         let test = test.shared(self.alloc)?;
         let next = next.shared(self.alloc)?;
         let body = body.shared(self.alloc)?;
-        self.stack.push(Frame::Start {
+        self.stack.push(Frame::Onward(Onward::Start {
             test,
             next,
             body,
             depth,
-        })?;
+        }))?;
         Ok(Mode::Run { script, depth })
     }
 
@@ -217,8 +183,7 @@ impl Engine {
         match said(self.alloc, each_of(self.alloc, name, args))? {
             Ok((groups, body)) => {
                 let body = Script::read(self.alloc, body.as_slice())?;
-                let mode = self.each(meter, groups, body, depth)?;
-                Ok(mode)
+                self.each(meter, groups, body, depth)
             }
             Err(text) => Ok(Mode::Give(Code::Error, text)),
         }
@@ -273,10 +238,7 @@ impl Engine {
         ensures potential { IfOk result (λ mode. potential self.new (left_of meter.new) mode ≤ 8 * left_of meter.old + bodies self.old.stack + 6) }
     {
         match said(self.alloc, expr_text(self.alloc, name, args))? {
-            Ok(text) => {
-                let mode = self.arm(meter, text, Goal::Result, depth)?;
-                Ok(mode)
-            }
+            Ok(text) => self.arm(meter, text, Goal::Result, depth),
             Err(text) => Ok(Mode::Give(Code::Error, text)),
         }
     }
@@ -304,8 +266,7 @@ impl Engine {
             [script] => (script, None),
             [script, variable] => (script, Some(variable.shared(self.alloc)?)),
             _ => {
-                let mode = self.wrong(name)?;
-                return Ok(mode);
+                return self.wrong(name);
             }
         };
         let script = Script::read(self.alloc, script.as_slice())?;

@@ -4,10 +4,10 @@ ghost use Rattle.std.specs.Prelude.{◌≡◌, ℕ, ◌+◌, ◌≤◌, ◌*◌,
 ghost use Rattle.tcl_scripts.specs.Commands.{commands};
 ghost use Rattle.tcl_eval.specs.Steps.{left_of};
 ghost use Rattle.tcl_eval.specs.Meaning.{eval, sequence};
-ghost use Rattle.tcl_eval.specs.Rest.{engine_rest, frame_rest, frames_rest, state_of};
-ghost use Rattle.tcl_eval.specs.Work.{engine_work, frame_work, frames_work, eval_work, sequence_work, Tick, bodies, credit, potential, again};
+ghost use Rattle.tcl_eval.specs.Rest.{engine_rest, onward_rest, frame_rest, frames_rest, state_of};
+ghost use Rattle.tcl_eval.specs.Work.{engine_work, onward_work, frame_work, frames_work, eval_work, sequence_work, Tick, onward_weight, bodies, credit, potential, again};
 
-use crate::frame::{End, Frame, Mode, Then};
+use crate::frame::{End, Frame, Mode, Onward, Then};
 use crate::meter::Meter;
 use crate::pile::Pile;
 use crate::procedure::Procedure;
@@ -48,11 +48,11 @@ impl Engine {
         if depth == 0 {
             return Ok(Mode::Give(Code::Error, self.value(too_deep())?));
         }
-        self.stack.push(Frame::Seq {
+        self.stack.push(Frame::Onward(Onward::Seq {
             script,
             next: 0,
             depth: depth - 1,
-        })?;
+        }))?;
         Ok(Mode::Give(Code::Ok, Value::new(self.alloc)))
     }
 
@@ -63,8 +63,7 @@ impl Engine {
         ensures potential { IfOk result (λ mode. bodies self.new.stack + credit mode ≤ bodies self.old.stack) }
     {
         let script = Script::read(self.alloc, text)?;
-        let mode = self.start(script, depth)?;
-        Ok(mode)
+        self.start(script, depth)
     }
 
     /// Goes on with a script, behind a command with this value.
@@ -88,11 +87,11 @@ impl Engine {
             Some((Reading::Command(words), to)) => {
                 let words = words.shared()?;
                 let script = script.shared()?;
-                self.stack.push(Frame::Seq {
+                self.stack.push(Frame::Onward(Onward::Seq {
                     script,
                     next: to,
                     depth,
-                })?;
+                }))?;
                 let done = Values::new(self.alloc);
                 let mode = self.fill(meter, words, 0, done, Then::Command, depth)?;
                 Ok(mode)
@@ -113,10 +112,7 @@ impl Engine {
     {
         match self.stack.pop() {
             None => Ok(Mode::Ended(End::Finished(code, value))),
-            Some(frame) => {
-                let mode = self.hand_to(meter, frame, code, value)?;
-                Ok(mode)
-            }
+            Some(frame) => self.hand_to(meter, frame, code, value),
         }
     }
 
@@ -133,92 +129,18 @@ impl Engine {
         ensures potential { IfOk result (λ mode. potential self.new (left_of meter.new) mode ≤ 8 * left_of meter.old + bodies (frame ∷ self.old.stack) + again code) }
     {
         match frame {
-            Frame::Seq {
-                script,
-                next,
-                depth,
-            } => match code {
-                Code::Ok => {
-                    let mode = self.go_on(meter, script, next, depth, value)?;
-                    Ok(mode)
-                }
+            Frame::Onward(onward) => match code {
+                Code::Ok => self.onward(meter, onward, value),
                 _ => Ok(Mode::Give(code, value)),
             },
-            Frame::Fill {
-                words,
-                next,
-                expand,
-                mut filler,
-                done,
-                then,
-                depth,
-            } => match code {
-                Code::Ok => {
-                    filler.give(self.alloc, value)?;
-                    let mode = self.fill_on(meter, words, next, expand, filler, done, then, depth)?;
-                    Ok(mode)
-                }
-                _ => Ok(Mode::Give(code, value)),
-            },
-            Frame::Operand {
-                evaluation,
-                mut filler,
-                goal,
-                depth,
-            } => match code {
-                Code::Ok => {
-                    filler.give(self.alloc, value)?;
-                    let mode = self.operand_on(meter, evaluation, filler, goal, depth)?;
-                    Ok(mode)
-                }
-                _ => Ok(Mode::Give(code, value)),
-            },
-            Frame::Arms { arms, depth } => match code {
-                Code::Ok => {
-                    let mode = self.arms(meter, arms, depth)?;
-                    Ok(mode)
-                }
-                _ => Ok(Mode::Give(code, value)),
-            },
-            Frame::Catch { name } => {
-                let mode = self.caught(name, code, value)?;
-                Ok(mode)
-            }
-            Frame::Turn { turning, depth } => {
-                let mode = self.turn_end(meter, turning, depth, code, value)?;
-                Ok(mode)
-            }
-            Frame::Next { turning, depth } => match code {
-                Code::Ok => {
-                    let mode = self.turn(meter, turning, depth)?;
-                    Ok(mode)
-                }
-                _ => Ok(Mode::Give(code, value)),
-            },
-            Frame::Start {
-                test,
-                next,
-                body,
-                depth,
-            } => match code {
-                Code::Ok => {
-                    let mode = self.begin_for(meter, test, next, body, depth)?;
-                    Ok(mode)
-                }
-                _ => Ok(Mode::Give(code, value)),
-            },
+            Frame::Catch { name } => self.caught(name, code, value),
+            Frame::Turn { turning, depth } => self.turn_end(meter, turning, depth, code, value),
             Frame::Each {
                 groups,
                 body,
                 depth,
-            } => {
-                let mode = self.each_end(meter, groups, body, depth, code, value)?;
-                Ok(mode)
-            }
-            Frame::Scope => {
-                let mode = self.scope_end(code, value)?;
-                Ok(mode)
-            }
+            } => self.each_end(meter, groups, body, depth, code, value),
+            Frame::Scope => self.scope_end(code, value),
             Frame::HostBody { bound, depth } => Ok(Mode::AfterBody {
                 code,
                 value,
@@ -226,6 +148,57 @@ impl Engine {
                 depth,
                 resumed: false,
             }),
+        }
+    }
+
+    /// Goes on behind the code `Ok` with a value.
+    fn onward(
+        &mut self,
+        meter: &mut Meter,
+        onward: Onward,
+        value: Value,
+    ) -> Result<Mode, AllocError>
+        ensures rest { IfOk result (λ mode. engine_rest self.new (left_of meter.new) mode ≡ onward_rest onward (frames_rest self.old.stack) value (state_of self.old (left_of meter.old))) }
+        ensures work { IfOk result (λ mode. engine_work self.new (left_of meter.new) mode ≡ onward_work onward (frames_work self.old.stack) value (state_of self.old (left_of meter.old))) }
+        ensures potential { IfOk result (λ mode. potential self.new (left_of meter.new) mode ≤ 8 * left_of meter.old + bodies self.old.stack + onward_weight onward) }
+    {
+        match onward {
+            Onward::Seq {
+                script,
+                next,
+                depth,
+            } => self.go_on(meter, script, next, depth, value),
+            Onward::Fill {
+                words,
+                next,
+                expand,
+                mut filler,
+                done,
+                then,
+                depth,
+            } => {
+                filler.give(self.alloc, value)?;
+                let mode = self.fill_on(meter, words, next, expand, filler, done, then, depth)?;
+                Ok(mode)
+            }
+            Onward::Operand {
+                evaluation,
+                mut filler,
+                goal,
+                depth,
+            } => {
+                filler.give(self.alloc, value)?;
+                let mode = self.operand_on(meter, evaluation, filler, goal, depth)?;
+                Ok(mode)
+            }
+            Onward::Arms { arms, depth } => self.arms(meter, arms, depth),
+            Onward::Next { turning, depth } => self.turn(meter, turning, depth),
+            Onward::Start {
+                test,
+                next,
+                body,
+                depth,
+            } => self.begin_for(meter, test, next, body, depth),
         }
     }
 }

@@ -15,10 +15,10 @@ ghost use Rattle.tcl_eval.specs.Work.{engine_work, frames_work, eval_work, word_
 use crate::advance::Advance;
 use crate::engine::Engine;
 use crate::evaluation::{Evaluation, Test};
-use crate::frame::{End, Frame, Goal, Mode, Turning};
+use crate::frame::{End, Frame, Goal, Mode, Onward, Turning};
 use crate::meter::Meter;
 use crate::said::said;
-use crate::words::{advanced, fault_text, script_text};
+use crate::words::{advanced, script_text};
 use std::alloc::{AllocError, Global};
 use tcl_commands::{Arms, Code, Complaint, expected_number, expr_fault};
 use tcl_expr::{ExprFault, read_truth};
@@ -57,17 +57,14 @@ impl Engine {
         ensures potential { IfOk result (λ mode. potential self.new (left_of meter.new) mode ≤ 8 * left_of meter.old + bodies self.old.stack) }
     {
         match step {
-            Advance::Value(value) => {
-                let mode = self.reached(meter, value, goal, depth)?;
-                Ok(mode)
-            }
+            Advance::Value(value) => self.reached(meter, value, goal, depth),
             Advance::Operand(filler) => {
-                self.stack.push(Frame::Operand {
+                self.stack.push(Frame::Onward(Onward::Operand {
                     evaluation,
                     filler,
                     goal,
                     depth,
-                })?;
+                }))?;
                 Ok(Mode::Give(Code::Ok, Value::new(self.alloc)))
             }
             Advance::Fault(fault) => {
@@ -91,8 +88,7 @@ impl Engine {
         ensures potential { IfOk result (λ mode. potential self.new (left_of meter.new) mode ≤ 8 * left_of meter.old + bodies self.old.stack) }
     {
         let step = advanced(self.alloc, &mut filler, &self.vars)?;
-        let mode = self.operand_to(meter, step, evaluation, filler, goal, depth)?;
-        Ok(mode)
+        self.operand_to(meter, step, evaluation, filler, goal, depth)
     }
 
     /// Goes on behind a step of an operand's filler.
@@ -112,24 +108,20 @@ impl Engine {
         match step {
             FillStep::Value(value) => {
                 evaluation.give(self.alloc, value)?;
-                let mode = self.express(meter, evaluation, goal, depth)?;
-                Ok(mode)
+                self.express(meter, evaluation, goal, depth)
             }
             FillStep::NeedScript(number) => {
                 let text = script_text(self.alloc, &filler, number)?;
-                self.stack.push(Frame::Operand {
+                self.stack.push(Frame::Onward(Onward::Operand {
                     evaluation,
                     filler,
                     goal,
                     depth,
-                })?;
+                }))?;
                 let mode = self.start_text(text.as_slice(), depth)?;
                 Ok(mode)
             }
-            FillStep::Fault(fault) => {
-                let text = fault_text(self.alloc, &filler, fault)?;
-                Ok(Mode::Give(Code::Error, text))
-            }
+            FillStep::Fault(fault) => self.not_filled(&filler, fault),
         }
     }
 
@@ -148,26 +140,14 @@ impl Engine {
         match goal {
             Goal::Result => Ok(Mode::Give(Code::Ok, value)),
             Goal::Turn(turning) => match read_truth(value.as_slice()) {
-                None => {
-                    let mode = self.no_truth(&value)?;
-                    Ok(mode)
-                }
-                Some(holds) => {
-                    let mode = self.turn_or_end(meter, turning, holds, depth)?;
-                    Ok(mode)
-                }
+                None => self.no_truth(&value),
+                Some(holds) => self.turn_or_end(meter, turning, holds, depth),
             },
             Goal::Arm { body, arms } => match read_truth(value.as_slice()) {
-                None => {
-                    let mode = self.no_truth(&value)?;
-                    Ok(mode)
-                }
-                Some(true) => {
-                    let mode = self.start_text(body.as_slice(), depth)?;
-                    Ok(mode)
-                }
+                None => self.no_truth(&value),
+                Some(true) => self.start_text(body.as_slice(), depth),
                 Some(false) => {
-                    self.stack.push(Frame::Arms { arms, depth })?;
+                    self.stack.push(Frame::Onward(Onward::Arms { arms, depth }))?;
                     Ok(Mode::Give(Code::Ok, Value::new(self.alloc)))
                 }
             },
@@ -237,10 +217,7 @@ impl Engine {
         match left.take() {
             None => match left.otherwise() {
                 None => Ok(Mode::Give(Code::Ok, Value::new(self.alloc))),
-                Some(body) => {
-                    let mode = self.start_text(body.as_slice(), depth)?;
-                    Ok(mode)
-                }
+                Some(body) => self.start_text(body.as_slice(), depth),
             },
             Some((test, body)) => {
                 let mode = self.arm(meter, test, Goal::Arm { body, arms: left }, depth)?;
@@ -264,8 +241,7 @@ impl Engine {
         match said(self.alloc, read_test(self.alloc, &text))? {
             Ok(test) => {
                 let evaluation = Evaluation::new(self.alloc, test);
-                let mode = self.express(meter, evaluation, goal, depth)?;
-                Ok(mode)
+                self.express(meter, evaluation, goal, depth)
             }
             Err(text) => Ok(Mode::Give(Code::Error, text)),
         }

@@ -55,9 +55,9 @@ pub enum Goal {
     Arm { body: Value, arms: Arms },
 }
 
-/// What is still to be done with the code and the value of what stands above.
+/// What is still to be done behind the code `Ok`.
 #[derive(Drop)]
-pub enum Frame {
+pub enum Onward {
     /// The commands of a script from a place on.
     Seq {
         script: Script,
@@ -86,15 +86,6 @@ pub enum Frame {
         arms: Arms,
         depth: u32,
     },
-    /// The end of a `catch`, and the variable that gets the value.
-    Catch {
-        name: Option<Value>,
-    },
-    /// The end of a loop's body.
-    Turn {
-        turning: Turning,
-        depth: u32,
-    },
     /// The end of the script behind a turn of a `for`.
     Next {
         turning: Turning,
@@ -105,6 +96,22 @@ pub enum Frame {
         test: Value,
         next: Value,
         body: Value,
+        depth: u32,
+    },
+}
+
+/// What is still to be done with the code and the value of what stands above.
+#[derive(Drop)]
+pub enum Frame {
+    /// It goes on at `Ok`, and hands any other code on.
+    Onward(Onward),
+    /// The end of a `catch`, and the variable that gets the value.
+    Catch {
+        name: Option<Value>,
+    },
+    /// The end of a loop's body.
+    Turn {
+        turning: Turning,
         depth: u32,
     },
     /// The end of the body of a `foreach`.

@@ -30,7 +30,7 @@ pub use advance::Advance;
 pub use ending::Ending;
 pub use engine::Engine;
 pub use evaluation::{Evaluation, Test};
-pub use frame::{End, Frame, Goal, Mode, Then, Turning};
+pub use frame::{End, Frame, Goal, Mode, Onward, Then, Turning};
 pub use host::{Host, HostStep};
 pub use machine::{Machine, Pause};
 pub use meter::Meter;

@@ -10,7 +10,7 @@ ghost use Rattle.tcl_eval.specs.Work.{Now, engine_work, frames_work, eval_work, 
 use crate::engine::Engine;
 use crate::evaluation::{Evaluation, Test};
 use crate::exprs::read_test;
-use crate::frame::{End, Frame, Goal, Mode, Turning};
+use crate::frame::{End, Frame, Goal, Mode, Onward, Turning};
 use crate::meter::Meter;
 use crate::said::said;
 use std::alloc::AllocError;
@@ -32,8 +32,7 @@ impl Engine {
     {
         let test = turning.test.shared()?;
         let evaluation = Evaluation::new(self.alloc, test);
-        let mode = self.express(meter, evaluation, Goal::Turn(turning), depth)?;
-        Ok(mode)
+        self.express(meter, evaluation, Goal::Turn(turning), depth)
     }
 
     /// Goes on behind the body of a turn.
@@ -50,14 +49,8 @@ impl Engine {
         ensures potential { IfOk result (λ mode. potential self.new (left_of meter.new) mode ≤ 8 * left_of meter.old + bodies self.old.stack + again code) }
     {
         match code {
-            Code::Ok => {
-                let mode = self.turn_next(meter, turning, depth)?;
-                Ok(mode)
-            }
-            Code::Continue => {
-                let mode = self.turn_next(meter, turning, depth)?;
-                Ok(mode)
-            }
+            Code::Ok => self.turn_next(meter, turning, depth),
+            Code::Continue => self.turn_next(meter, turning, depth),
             Code::Break => Ok(Mode::Give(Code::Ok, Value::new(self.alloc))),
             _ => Ok(Mode::Give(code, value)),
         }
@@ -75,12 +68,9 @@ impl Engine {
         ensures potential { IfOk result (λ mode. potential self.new (left_of meter.new) mode ≤ 8 * left_of meter.old + bodies self.old.stack) }
     {
         match shared_next(&turning.next)? {
-            None => {
-                let mode = self.turn(meter, turning, depth)?;
-                Ok(mode)
-            }
+            None => self.turn(meter, turning, depth),
             Some(script) => {
-                self.stack.push(Frame::Next { turning, depth })?;
+                self.stack.push(Frame::Onward(Onward::Next { turning, depth }))?;
                 let mode = self.start(script, depth)?;
                 Ok(mode)
             }
@@ -107,8 +97,7 @@ impl Engine {
             next,
             bound,
         };
-        let mode = self.turn(meter, turning, depth)?;
-        Ok(mode)
+        self.turn(meter, turning, depth)
     }
 
     /// Begins a `while`, or a `for` behind its start.
@@ -128,8 +117,7 @@ impl Engine {
             Ok(test) => {
                 let body = Script::read(self.alloc, body.as_slice())?;
                 let next = Script::read(self.alloc, next.as_slice())?;
-                let mode = self.begin_loop(meter, test, body, Some(next), depth)?;
-                Ok(mode)
+                self.begin_loop(meter, test, body, Some(next), depth)
             }
             Err(text) => Ok(Mode::Give(Code::Error, text)),
         }
@@ -150,14 +138,8 @@ impl Engine {
         ensures potential { IfOk result (λ mode. potential self.new (left_of meter.new) mode ≤ 8 * left_of meter.old + bodies self.old.stack + again code) }
     {
         match code {
-            Code::Ok => {
-                let mode = self.each(meter, groups, body, depth)?;
-                Ok(mode)
-            }
-            Code::Continue => {
-                let mode = self.each(meter, groups, body, depth)?;
-                Ok(mode)
-            }
+            Code::Ok => self.each(meter, groups, body, depth),
+            Code::Continue => self.each(meter, groups, body, depth),
             Code::Break => Ok(Mode::Give(Code::Ok, Value::new(self.alloc))),
             _ => Ok(Mode::Give(code, value)),
         }

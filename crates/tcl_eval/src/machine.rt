@@ -1,6 +1,6 @@
 //! A machine that is run again.
 
-ghost use Rattle.std.specs.Prelude.{◌≡◌, ◌≢◌, ℕ, List, IfOk};
+ghost use Rattle.std.specs.Prelude.{◌≡◌, ◌≢◌, ℕ, List, IfOk, []};
 ghost use Rattle.tcl_scripts.specs.Commands.{commands};
 ghost use Rattle.tcl_eval.specs.Meaning.{eval};
 ghost use Rattle.tcl_eval.specs.Rest.{engine_rest};
@@ -119,5 +119,3 @@ impl<H: Host> Machine<H> {
         }
     }
 }
-
-ghost use Rattle.std.specs.Prelude.{[]};

@@ -1,11 +1,12 @@
 //! Procedures and `catch`.
 
-ghost use Rattle.std.specs.Prelude.{◌≡◌, ℕ, ◌+◌, ◌≤◌, ◌*◌, ◌∷◌, [], drop, codes, IfOk};
-ghost use Rattle.tcl_commands.specs.Texts.{quoted};
+ghost use Rattle.std.specs.Prelude.{◌≡◌, ℕ, ◌+◌, ◌≤◌, ◌*◌, ◌∷◌, [], drop, codes, IfOk, ◌≢◌};
+ghost use Rattle.tcl_commands.specs.Texts.{quoted, not_set};
 ghost use Rattle.tcl_scripts.specs.Commands.{commands};
 ghost use Rattle.tcl_eval.specs.Meaning.{eval, caught, digit, scope_end, left_scope, outside_loop, invalid_name, reserved, called, called_as, defined};
 ghost use Rattle.tcl_eval.specs.Rest.{engine_rest, frames_rest, state_of};
-ghost use Rattle.tcl_eval.specs.Work.{engine_work, frames_work, caught_work, scope_work, bodies, credit, again};
+ghost use Rattle.tcl_eval.specs.Work.{engine_work, frames_work, bodies, credit, again};
+ghost use Rattle.tcl_subst.specs.Entries.{find};
 
 use crate::engine::Engine;
 use crate::frame::{Frame, Mode};
@@ -59,7 +60,7 @@ impl Engine {
         value: Value,
     ) -> Result<Mode, AllocError>
         ensures rest { IfOk result (λ mode. (left : ℕ) → engine_rest self.new left mode ≡ caught name (frames_rest self.old.stack) code value (state_of self.old left)) }
-        ensures work { IfOk result (λ mode. (left : ℕ) → engine_work self.new left mode ≡ caught_work name (frames_work self.old.stack) code value (state_of self.old left)) }
+        ensures work { IfOk result (λ mode. (left : ℕ) → engine_work self.new left mode ≡ caught name (frames_work self.old.stack) code value (state_of self.old left)) }
         ensures potential { IfOk result (λ mode. bodies self.new.stack + credit mode ≤ bodies self.old.stack) }
     {
         let Some(name) = name else {
@@ -77,7 +78,7 @@ impl Engine {
     /// Goes on behind the body of a procedure.
     pub(crate) fn scope_end(&mut self, code: Code, value: Value) -> Result<Mode, AllocError>
         ensures rest { IfOk result (λ mode. (left : ℕ) → engine_rest self.new left mode ≡ scope_end (frames_rest self.old.stack) code value (state_of self.old left)) }
-        ensures work { IfOk result (λ mode. (left : ℕ) → engine_work self.new left mode ≡ scope_work (frames_work self.old.stack) code value (state_of self.old left)) }
+        ensures work { IfOk result (λ mode. (left : ℕ) → engine_work self.new left mode ≡ scope_end (frames_work self.old.stack) code value (state_of self.old left)) }
         ensures potential { IfOk result (λ mode. bodies self.new.stack + credit mode ≤ bodies self.old.stack + again code) }
     {
         self.leave();
@@ -113,8 +114,7 @@ impl Engine {
             let text = named(self.alloc, b"invalid command name ", &[])?;
             return Ok(Mode::Give(Code::Error, text));
         };
-        let mode = self.call_as(name.as_slice(), args, depth)?;
-        Ok(mode)
+        self.call_as(name.as_slice(), args, depth)
     }
 
     /// Calls the procedure of a name with these arguments.
@@ -175,10 +175,6 @@ fn not_set_text(alloc: Global, name: &[u8], fault: SubstFault) -> Result<Value, 
     let text = not_set(alloc, name, fault)?;
     Value::from_text(alloc, text)
 }
-
-ghost use Rattle.std.specs.Prelude.{◌≢◌};
-ghost use Rattle.tcl_commands.specs.Texts.{not_set};
-ghost use Rattle.tcl_subst.specs.Entries.{find};
 
 /// A name that no procedure can have.
 pub(crate) fn reserved(alloc: Global, name: &[u8]) -> Result<Value, AllocError>

@@ -1,11 +1,13 @@
 //! What a machine makes of the host's replies.
 
-ghost use Rattle.std.specs.Prelude.{◌≡◌, ℕ, ◌+◌, ◌<◌, ◌*◌, IfOk, false};
+ghost use Rattle.std.specs.Prelude.{◌≡◌, ℕ, ◌+◌, ◌<◌, ◌*◌, IfOk, false, ◌≤◌};
 ghost use Rattle.tcl_eval.specs.Asked.{WaitsAt, GoesDown, IsAskingOnPause};
-ghost use Rattle.tcl_eval.specs.Rest.{engine_rest};
+ghost use Rattle.tcl_eval.specs.Rest.{engine_rest, frames_rest, state_of};
 ghost use Rattle.tcl_eval.specs.Steps.{left_of};
 ghost use Rattle.tcl_eval.specs.Tree.{Stepped, follow};
 ghost use Rattle.tcl_eval.specs.Work.{potential, bodies, credit, again};
+ghost use Rattle.tcl_eval.specs.Meaning.{eval, after_body, after_script, next_body};
+ghost use Rattle.tcl_scripts.specs.Commands.{commands};
 
 use crate::engine::Engine;
 use crate::frame::{Asked, End, Frame, Mode, Then};
@@ -18,7 +20,7 @@ use tcl_scripts::Script;
 use tcl_values::Value;
 
 /// It goes on.
-fn on(mode: Mode) -> Asked
+pub(crate) fn on(mode: Mode) -> Asked
     ensures { result ≡ record { mode = mode; paused = false } }
 {
     Asked {
@@ -167,14 +169,8 @@ impl Engine {
         ensures potential { IfOk result (λ mode. bodies self.new.stack + credit mode < bodies self.old.stack + 3 + again code) }
     {
         match code {
-            Code::Again => {
-                let mode = self.next_body(&text, bound, depth)?;
-                Ok(mode)
-            }
-            Code::AgainLater => {
-                let mode = self.next_body(&text, bound, depth)?;
-                Ok(mode)
-            }
+            Code::Again => self.next_body(&text, bound, depth),
+            Code::AgainLater => self.next_body(&text, bound, depth),
             _ => Ok(Mode::Give(Code::Error, text)),
         }
     }
@@ -191,8 +187,3 @@ impl Engine {
         Ok(mode)
     }
 }
-
-ghost use Rattle.std.specs.Prelude.{◌≤◌};
-ghost use Rattle.tcl_eval.specs.Meaning.{eval, after_body, after_script, next_body};
-ghost use Rattle.tcl_eval.specs.Rest.{frames_rest, state_of};
-ghost use Rattle.tcl_scripts.specs.Commands.{commands};

@@ -1,11 +1,12 @@
 //! How words are filled.
 
-ghost use Rattle.std.specs.Prelude.{◌≡◌, ◌≢◌, ℕ, ◌+◌, ◌≤◌, ◌*◌, ◌∷◌, [], drop, IfOk, None, Some};
+ghost use Rattle.std.specs.Prelude.{◌≡◌, ◌≢◌, ℕ, ◌+◌, ◌≤◌, ◌*◌, ◌∷◌, [], drop, unwrap_or, IfOk, None, Some};
 ghost use Rattle.tcl_subst.specs.Filling.{fill};
-ghost use Rattle.tcl_subst.specs.Recipes.{given};
+ghost use Rattle.tcl_subst.specs.Recipes.{given, script_at, refused_name};
 ghost use Rattle.tcl_subst.specs.Rests.{rest, told};
 ghost use Rattle.tcl_subst.specs.Variables.{Variables};
 ghost use Rattle.tcl_commands.specs.Says.{Says};
+ghost use Rattle.tcl_commands.specs.Texts.{not_read};
 ghost use Rattle.tcl_eval.specs.Advanced.{Fills};
 ghost use Rattle.tcl_eval.specs.Steps.{left_of};
 ghost use Rattle.tcl_eval.specs.Meaning.{eval, fill_word, fill_words, spread, on_said};
@@ -14,7 +15,7 @@ ghost use Rattle.tcl_eval.specs.Work.{engine_work, frames_work, eval_work, word_
 
 use crate::engine::Engine;
 use crate::evaluation::first;
-use crate::frame::{End, Frame, Mode, Then};
+use crate::frame::{End, Frame, Mode, Onward, Then};
 use crate::meter::Meter;
 use crate::said::said;
 use crate::values::Values;
@@ -70,15 +71,12 @@ impl Engine {
         ensures potential { IfOk result (λ mode. potential self.new (left_of meter.new) mode ≤ 8 * left_of meter.old + bodies self.old.stack + then_weight then) }
     {
         match words.next(next) {
-            None => {
-                let mode = self.filled(meter, done, then, depth)?;
-                Ok(mode)
-            }
+            None => self.filled(meter, done, then, depth),
             Some((word, to)) => {
                 let expand = word.is_expanded();
                 let filler = first_filler(self.alloc, word)?;
                 let words = words.shared()?;
-                self.stack.push(Frame::Fill {
+                self.stack.push(Frame::Onward(Onward::Fill {
                     words,
                     next: to,
                     expand,
@@ -86,7 +84,7 @@ impl Engine {
                     done,
                     then,
                     depth,
-                })?;
+                }))?;
                 Ok(Mode::Give(Code::Ok, Value::new(self.alloc)))
             }
         }
@@ -109,8 +107,7 @@ impl Engine {
         ensures potential { IfOk result (λ mode. potential self.new (left_of meter.new) mode ≤ 8 * left_of meter.old + bodies self.old.stack + then_weight then) }
     {
         let step = advanced(self.alloc, &mut filler, &self.vars)?;
-        let mode = self.fill_to(meter, step, words, next, expand, filler, done, then, depth)?;
-        Ok(mode)
+        self.fill_to(meter, step, words, next, expand, filler, done, then, depth)
     }
 
     /// Goes on behind a step of a filler.
@@ -131,13 +128,10 @@ impl Engine {
         ensures potential { IfOk result (λ mode. potential self.new (left_of meter.new) mode ≤ 8 * left_of meter.old + bodies self.old.stack + then_weight then) }
     {
         match step {
-            FillStep::Value(value) => {
-                let mode = self.fill_past(meter, value, words, next, expand, done, then, depth)?;
-                Ok(mode)
-            }
+            FillStep::Value(value) => self.fill_past(meter, value, words, next, expand, done, then, depth),
             FillStep::NeedScript(number) => {
                 let text = script_text(self.alloc, &filler, number)?;
-                self.stack.push(Frame::Fill {
+                self.stack.push(Frame::Onward(Onward::Fill {
                     words,
                     next,
                     expand,
@@ -145,14 +139,11 @@ impl Engine {
                     done,
                     then,
                     depth,
-                })?;
+                }))?;
                 let mode = self.start_text(text.as_slice(), depth)?;
                 Ok(mode)
             }
-            FillStep::Fault(fault) => {
-                let text = fault_text(self.alloc, &filler, fault)?;
-                Ok(Mode::Give(Code::Error, text))
-            }
+            FillStep::Fault(fault) => self.not_filled(&filler, fault),
         }
     }
 
@@ -173,12 +164,17 @@ impl Engine {
         ensures potential { IfOk result (λ mode. potential self.new (left_of meter.new) mode ≤ 8 * left_of meter.old + bodies self.old.stack + then_weight then) }
     {
         match said(self.alloc, spread(self.alloc, expand, value, done))? {
-            Ok(done) => {
-                let mode = self.fill(meter, words, next, done, then, depth)?;
-                Ok(mode)
-            }
+            Ok(done) => self.fill(meter, words, next, done, then, depth),
             Err(text) => Ok(Mode::Give(Code::Error, text)),
         }
+    }
+
+    /// A word that can't be filled.
+    pub(crate) fn not_filled(&self, filler: &Filler, fault: SubstFault) -> Result<Mode, AllocError>
+        ensures { IfOk result (λ mode. mode ≡ Mode.Give Code.Error (not_read (refused_name filler.now.fault) fault)) }
+    {
+        let text = not_read(self.alloc, filler.name(), fault)?;
+        Ok(Mode::Give(Code::Error, Value::from_text(self.alloc, text)?))
     }
 }
 
@@ -213,22 +209,6 @@ pub(crate) fn script_text(alloc: Global, filler: &Filler, number: usize) -> Resu
         None => Ok(Text::new(alloc)),
         Some(text) => text.copied(alloc),
     }
-}
-
-ghost use Rattle.std.specs.Prelude.{unwrap_or};
-ghost use Rattle.tcl_subst.specs.Recipes.{script_at, refused_name};
-ghost use Rattle.tcl_commands.specs.Texts.{not_read};
-
-/// The text of a filler's fault.
-pub(crate) fn fault_text(
-    alloc: Global,
-    filler: &Filler,
-    fault: SubstFault,
-) -> Result<Value, AllocError>
-    ensures { IfOk result (λ v. v ≡ not_read (refused_name filler.now.fault) fault) }
-{
-    let text = not_read(alloc, filler.name(), fault)?;
-    Value::from_text(alloc, text)
 }
 
 /// A word's value behind those that are done; the elements of its list where it stands behind `{*}`.
