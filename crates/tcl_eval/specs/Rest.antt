@@ -1,5 +1,5 @@
 -- What a machine still does.
-use Rattle.std.specs.Prelude.{ℕ, Bool, true, false, Some, List, [], ◌∷◌, drop, if◌then◌else◌}
+use Rattle.std.specs.Prelude.{◌≡◌, ℕ, Bool, true, false, Some, Result, IfOk, List, [], ◌∷◌, drop, if◌then◌else◌}
 use Rattle.tcl_subst.specs.Recipes.{given}
 use Rattle.tcl_subst.specs.Rests.{rest}
 use Rattle.tcl_subst.specs.Variables.{Variables}
@@ -14,7 +14,7 @@ use Rattle.tcl_eval.specs.declared.frame.Then.{Then}
 use Rattle.tcl_eval.specs.declared.frame.Then.TheVariants.{Command, List as HostList}
 use Rattle.tcl_eval.specs.declared.frame.Turning.{Turning}
 use Rattle.tcl_eval.specs.declared.frame.Goal.{Goal}
-use Rattle.tcl_eval.specs.declared.frame.Goal.TheVariants.{Result, Turn as TurnGoal, Arm}
+use Rattle.tcl_eval.specs.declared.frame.Goal.TheVariants.{Result as ResultGoal, Turn as TurnGoal, Arm}
 use Rattle.tcl_eval.specs.declared.frame.Frame.{Frame}
 use Rattle.tcl_eval.specs.declared.frame.Frame.TheVariants.{Onward as OnwardFrame, Catch, Turn, Each, Scope, HostBody}
 use Rattle.tcl_eval.specs.declared.frame.Onward.{Onward}
@@ -22,7 +22,9 @@ use Rattle.tcl_eval.specs.declared.frame.Onward.TheVariants.{Seq, Fill, Operand,
 use Rattle.tcl_eval.specs.declared.frame.Mode.{Mode}
 use Rattle.tcl_eval.specs.declared.frame.Mode.TheVariants.{Give, Invoke, Run, Begin, AfterWords, AfterBody, Define, Ended}
 use Rattle.tcl_eval.specs.declared.engine.Engine.{Engine}
+use Rattle.tcl_eval.specs.declared.meter.Meter.{Meter}
 use Rattle.tcl_eval.specs.Evaluated.{Evaluated, with_operand}
+use Rattle.tcl_eval.specs.Steps.{left_of}
 use Rattle.tcl_eval.specs.Tree.{Call, Begin as BeginCall, AfterWords as WordsCall, AfterBody as AfterCall, Knows, Resume, known_of, State, Tree, Over, Ask}
 use Rattle.tcl_eval.specs.Meaning.{Next, on_ok, on_said, tested, turn_end, stepped, fill_word, fill_parts, fill_words, spread, value_from, tree_of, arms, decided, advanced, turned, turns, loop, each, caught, scope_end, defined, after_script_by, next_body, after_body, worded_by, host_words, begun_by, invoke, sequence, eval}
 
@@ -37,7 +39,7 @@ turns_left depth t k b st = decided b k (turned (eval depth) t.test t.body t.nex
 
 -- what follows the value of an expression
 abbrev pub goal_rest : ℕ → Goal → Next → List ℕ → State → Tree
-goal_rest depth Result k v st = k Ok v st
+goal_rest depth ResultGoal k v st = k Ok v st
 goal_rest depth (TurnGoal t) k v st = tested v k (turns_left depth t k) st
 goal_rest depth (Arm body arms') k v st =
     tested v k (λ b st. if b then eval depth (commands body) k st else arms (eval depth) arms'.0 arms'.1 k st) st
@@ -115,3 +117,13 @@ state_of m left = record { vars = m.vars; procs = m.procs; left = left }
 -- what is left of a run, where the meter has so many steps left and this is next
 abbrev pub engine_rest : Engine → ℕ → Mode → Tree
 engine_rest m left mode = mode_rest mode (frames_rest m.stack) (state_of m left)
+
+-- where memory was enough, what is left of the run is this, before what the old frames do
+abbrev pub RestIs : {E : Type 0} → Engine → Meter → Result Mode E → Engine → Meter → (Next → State → Tree) → Type 0
+RestIs old before result new after what =
+    IfOk result (λ mode. engine_rest new (left_of after) mode ≡ what (frames_rest old.stack) (state_of old (left_of before)))
+
+-- the same, however many steps are left
+abbrev pub AnyRestIs : {E : Type 0} → Engine → Result Mode E → Engine → (Next → State → Tree) → Type 0
+AnyRestIs old result new what =
+    IfOk result (λ mode. (left : ℕ) → engine_rest new left mode ≡ what (frames_rest old.stack) (state_of old left))

@@ -1,6 +1,6 @@
 -- How many transitions a machine makes before a step is begun, the host is asked, or it is over. It shows that a run comes to that, and says
 -- nothing of what a script means.
-use Rattle.std.specs.Prelude.{ℕ, zero, suc, ◌+◌, ◌*◌, Bool, true, false, Option, Some, None, codes, List, [], ◌∷◌, drop, if◌then◌else◌}
+use Rattle.std.specs.Prelude.{◌≡◌, Result, IfOk, ℕ, zero, suc, ◌+◌, ◌*◌, Bool, true, false, Option, Some, None, codes, List, [], ◌∷◌, drop, if◌then◌else◌}
 use Rattle.tcl_words.specs.Pieces.{Spelled}
 use Rattle.tcl_expr.specs.Tree.{Tree as Expression}
 use Rattle.tcl_subst.specs.Filling.{Fill as Filled, fill}
@@ -18,7 +18,7 @@ use Rattle.tcl_eval.specs.declared.advance.Advance.TheVariants.{Value, Operand a
 use Rattle.tcl_eval.specs.declared.frame.Then.{Then}
 use Rattle.tcl_eval.specs.declared.frame.Then.TheVariants.{Command, List as HostList}
 use Rattle.tcl_eval.specs.declared.frame.Goal.{Goal}
-use Rattle.tcl_eval.specs.declared.frame.Goal.TheVariants.{Result, Turn as TurnGoal, Arm}
+use Rattle.tcl_eval.specs.declared.frame.Goal.TheVariants.{Result as ResultGoal, Turn as TurnGoal, Arm}
 use Rattle.tcl_eval.specs.declared.frame.Frame.{Frame}
 use Rattle.tcl_eval.specs.declared.frame.Frame.TheVariants.{Onward as OnwardFrame, Catch, Turn, Each, Scope, HostBody}
 use Rattle.tcl_eval.specs.declared.frame.Onward.{Onward}
@@ -26,7 +26,9 @@ use Rattle.tcl_eval.specs.declared.frame.Onward.TheVariants.{Seq, Fill, Operand,
 use Rattle.tcl_eval.specs.declared.frame.Mode.{Mode}
 use Rattle.tcl_eval.specs.declared.frame.Mode.TheVariants.{Give, Invoke, Run, Begin, AfterWords, AfterBody, Define, Ended}
 use Rattle.tcl_eval.specs.declared.engine.Engine.{Engine}
+use Rattle.tcl_eval.specs.declared.meter.Meter.{Meter}
 use Rattle.tcl_eval.specs.Evaluated.{Evaluated, with_operand}
+use Rattle.tcl_eval.specs.Steps.{left_of}
 use Rattle.tcl_eval.specs.Tree.{State}
 use Rattle.tcl_eval.specs.Meaning.{To, after, on_ok, on_said, tested, turn_end, fill_word, value_from, spread, tree_of, caught, scope_end}
 use Rattle.tcl_eval.specs.Rest.{state_of}
@@ -87,7 +89,7 @@ then_work (HostList (Some f)) k words st = k Error (word_fault f) st
 then_work (HostList None) k words st = Now
 
 abbrev pub goal_work : EvalWork → Goal → Work → List ℕ → State → Ticks
-goal_work ev Result k v st = k Ok v st
+goal_work ev ResultGoal k v st = k Ok v st
 goal_work ev (TurnGoal t) k v st = tested v k (λ b st. decided_work b k st) st
 goal_work ev (Arm body arms) k v st =
     tested v k (λ b st. if b then ev (commands body) k st else Tick (arms_work ev arms.0 arms.1 k st)) st
@@ -164,6 +166,16 @@ mode_work (Ended end) k st = Now
 
 abbrev pub engine_work : Engine → ℕ → Mode → Ticks
 engine_work m left mode = mode_work mode (frames_work m.stack) (state_of m left)
+
+-- where memory was enough, so many transitions are left, before those of the old frames
+abbrev pub WorkIs : {E : Type 0} → Engine → Meter → Result Mode E → Engine → Meter → (Work → State → Ticks) → Type 0
+WorkIs old before result new after what =
+    IfOk result (λ mode. engine_work new (left_of after) mode ≡ what (frames_work old.stack) (state_of old (left_of before)))
+
+-- the same, however many steps are left
+abbrev pub AnyWorkIs : {E : Type 0} → Engine → Result Mode E → Engine → (Work → State → Ticks) → Type 0
+AnyWorkIs old result new what =
+    IfOk result (λ mode. (left : ℕ) → engine_work new left mode ≡ what (frames_work old.stack) (state_of old left))
 
 -- a code at which a host may ask for one more script
 abbrev pub again : Code → ℕ

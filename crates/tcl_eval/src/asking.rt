@@ -1,10 +1,10 @@
 //! Runs of a machine over a host.
 
-ghost use Rattle.std.specs.Prelude.{◌≡◌, ℕ, ◌+◌, ◌≤◌, ◌<◌, ◌*◌, List, IfOk, false};
+ghost use Rattle.std.specs.Prelude.{◌≡◌, ℕ, ◌+◌, ◌≤◌, ◌<◌, ◌*◌, List, IfOk};
 ghost use Rattle.tcl_eval.specs.Asked.{IsAskingOnPause, IsSettled, WaitsAt, GoesDown, PausesAt, IsReply, OnPause, Falls};
 ghost use Rattle.tcl_eval.specs.Rest.{engine_rest, begin_call, words_call, after_call};
 ghost use Rattle.tcl_eval.specs.Steps.{left_of};
-ghost use Rattle.tcl_eval.specs.Tree.{Reply, Stepped, Known, follow, Leads};
+ghost use Rattle.tcl_eval.specs.Tree.{Reply, Stepped, follow, Leads};
 ghost use Rattle.tcl_eval.specs.Work.{potential, bodies, credit, again};
 
 use crate::engine::Engine;

@@ -1,6 +1,6 @@
 //! Commands whose words are filled.
 
-ghost use Rattle.std.specs.Prelude.{◌≡◌, ℕ, ◌+◌, ◌<◌, ◌≤◌, ◌*◌, ◌∷◌, [], Some, IfOk};
+ghost use Rattle.std.specs.Prelude.{◌≡◌, ◌+◌, ◌<◌, ◌≤◌, ◌*◌, ◌∷◌, [], Some, IfOk};
 ghost use Rattle.tcl_scripts.specs.Commands.{commands};
 ghost use Rattle.tcl_commands.specs.Texts.{wrong_args};
 ghost use Rattle.tcl_eval.specs.Steps.{left_of};
@@ -9,7 +9,7 @@ ghost use Rattle.tcl_commands.specs.Verbs.{verb_of, exit_status};
 ghost use Rattle.tcl_eval.specs.declared.ending.Ending.TheVariants.{Exit};
 ghost use Rattle.tcl_eval.specs.declared.frame.End.TheVariants.{Stopped};
 ghost use Rattle.tcl_eval.specs.Tree.{Over};
-ghost use Rattle.tcl_eval.specs.Rest.{engine_rest, frames_rest, state_of};
+ghost use Rattle.tcl_eval.specs.Rest.{AnyRestIs, RestIs};
 ghost use Rattle.tcl_eval.specs.Work.{bodies, credit, potential};
 
 use crate::ending::Ending;
@@ -35,7 +35,7 @@ impl Engine {
         words: Values,
         depth: u32,
     ) -> Result<Mode, AllocError>
-        ensures rest { IfOk result (λ mode. engine_rest self.new (left_of meter.new) mode ≡ invoke (eval depth) words (frames_rest self.old.stack) (state_of self.old (left_of meter.old))) }
+        ensures rest { RestIs self.old meter.old result self.new meter.new (λ k st. invoke (eval depth) words k st) }
         ensures potential { IfOk result (λ mode. potential self.new (left_of meter.new) mode ≤ 8 * left_of meter.old + bodies self.old.stack + 6) }
     {
         let Some((name, args)) = words.as_slice().split_first() else {
@@ -60,7 +60,7 @@ impl Engine {
         args: &[Value],
         depth: u32,
     ) -> Result<Mode, AllocError>
-        ensures rest { IfOk result (λ mode. engine_rest self.new (left_of meter.new) mode ≡ invoked (eval depth) verb name.now args.now (frames_rest self.old.stack) (state_of self.old (left_of meter.old))) }
+        ensures rest { RestIs self.old meter.old result self.new meter.new (λ k st. invoked (eval depth) verb name.now args.now k st) }
         ensures potential { IfOk result (λ mode. potential self.new (left_of meter.new) mode ≤ 8 * left_of meter.old + bodies self.old.stack + 6) }
     {
         match verb {
@@ -96,7 +96,7 @@ impl Engine {
         args: &[Value],
         depth: u32,
     ) -> Result<Mode, AllocError>
-        ensures rest { IfOk result (λ mode. engine_rest self.new (left_of meter.new) mode ≡ invoked (eval depth) Verb.If name.now args.now (frames_rest self.old.stack) (state_of self.old (left_of meter.old))) }
+        ensures rest { RestIs self.old meter.old result self.new meter.new (λ k st. invoked (eval depth) Verb.If name.now args.now k st) }
         ensures potential { IfOk result (λ mode. potential self.new (left_of meter.new) mode ≤ 8 * left_of meter.old + bodies self.old.stack + 6) }
     {
         match said(self.alloc, arms_of(self.alloc, name, args))? {
@@ -113,7 +113,7 @@ impl Engine {
         args: &[Value],
         depth: u32,
     ) -> Result<Mode, AllocError>
-        ensures rest { IfOk result (λ mode. engine_rest self.new (left_of meter.new) mode ≡ while_command (eval depth) name.now args.now (frames_rest self.old.stack) (state_of self.old (left_of meter.old))) }
+        ensures rest { RestIs self.old meter.old result self.new meter.new (λ k st. while_command (eval depth) name.now args.now k st) }
         ensures potential { IfOk result (λ mode. potential self.new (left_of meter.new) mode ≤ 8 * left_of meter.old + bodies self.old.stack + 6) }
     {
         let [test, body] = args else {
@@ -131,16 +131,12 @@ impl Engine {
 
     /// `for a c n b`.
     fn invoke_for(&mut self, name: &[u8], args: &[Value], depth: u32) -> Result<Mode, AllocError>
-        ensures rest { IfOk result (λ mode. (left : ℕ) → engine_rest self.new left mode ≡ for_command (eval depth) name.now args.now (frames_rest self.old.stack) (state_of self.old left)) }
+        ensures rest { AnyRestIs self.old result self.new (λ k st. for_command (eval depth) name.now args.now k st) }
         ensures potential { IfOk result (λ mode. bodies self.new.stack + credit mode ≤ bodies self.old.stack + 6) }
     {
         match args {
             [start, test, next, body] => self.start_for(start, test, next, body, depth),
-            [] => self.wrong(name),
-            [_] => self.wrong(name),
-            [_, _] => self.wrong(name),
-            [_, _, _] => self.wrong(name),
-            [_, _, _, _, _, ..] => self.wrong(name),
+            _ => self.wrong(name),
         }
     }
 
@@ -153,7 +149,7 @@ impl Engine {
         body: &Value,
         depth: u32,
     ) -> Result<Mode, AllocError>
-        ensures rest { IfOk result (λ mode. (left : ℕ) → engine_rest self.new left mode ≡ eval depth (commands start.now) (on_ok (λ v st. on_said (tree_of test.now) (frames_rest self.old.stack) (λ t st. loop_of (eval depth) t (commands body.now) (Some (commands next.now)) (frames_rest self.old.stack) st) st) (frames_rest self.old.stack)) (state_of self.old left)) }
+        ensures rest { AnyRestIs self.old result self.new (λ k st. eval depth (commands start.now) (on_ok (λ v st. on_said (tree_of test.now) k (λ t st. loop_of (eval depth) t (commands body.now) (Some (commands next.now)) k st) st) k) st) }
         ensures potential { IfOk result (λ mode. bodies self.new.stack + credit mode ≤ bodies self.old.stack + 1) }
     {
         let script = Script::read(self.alloc, start.as_slice())?;
@@ -177,7 +173,7 @@ impl Engine {
         args: &[Value],
         depth: u32,
     ) -> Result<Mode, AllocError>
-        ensures rest { IfOk result (λ mode. engine_rest self.new (left_of meter.new) mode ≡ invoked (eval depth) Verb.Foreach name.now args.now (frames_rest self.old.stack) (state_of self.old (left_of meter.old))) }
+        ensures rest { RestIs self.old meter.old result self.new meter.new (λ k st. invoked (eval depth) Verb.Foreach name.now args.now k st) }
         ensures potential { IfOk result (λ mode. potential self.new (left_of meter.new) mode ≤ 8 * left_of meter.old + bodies self.old.stack + 6) }
     {
         match said(self.alloc, each_of(self.alloc, name, args))? {
@@ -191,21 +187,18 @@ impl Engine {
 
     /// `proc name args b`.
     fn invoke_proc(&mut self, name: &[u8], args: &[Value]) -> Result<Mode, AllocError>
-        ensures rest { IfOk result (λ mode. (left : ℕ) → engine_rest self.new left mode ≡ proc_command name.now args.now (frames_rest self.old.stack) (state_of self.old left)) }
+        ensures rest { AnyRestIs self.old result self.new (λ k st. proc_command name.now args.now k st) }
         ensures potential { IfOk result (λ mode. bodies self.new.stack + credit mode ≤ bodies self.old.stack + 6) }
     {
         match args {
             [new, formals, body] => self.new_proc(new, formals, body),
-            [] => self.wrong(name),
-            [_] => self.wrong(name),
-            [_, _] => self.wrong(name),
-            [_, _, _, _, ..] => self.wrong(name),
+            _ => self.wrong(name),
         }
     }
 
     /// A new procedure, where the language has no command of its name.
     fn new_proc(&mut self, new: &Value, formals: &Value, body: &Value) -> Result<Mode, AllocError>
-        ensures rest { IfOk result (λ mode. (left : ℕ) → engine_rest self.new left mode ≡ new_proc (verb_of new.now) new.now formals.now body.now (frames_rest self.old.stack) (state_of self.old left)) }
+        ensures rest { AnyRestIs self.old result self.new (λ k st. new_proc (verb_of new.now) new.now formals.now body.now k st) }
         ensures potential { IfOk result (λ mode. bodies self.new.stack + credit mode ≤ bodies self.old.stack + 6) }
     {
         match verb_of(new.as_slice()) {
@@ -234,7 +227,7 @@ impl Engine {
         args: &[Value],
         depth: u32,
     ) -> Result<Mode, AllocError>
-        ensures rest { IfOk result (λ mode. engine_rest self.new (left_of meter.new) mode ≡ invoked (eval depth) Verb.Expr name.now args.now (frames_rest self.old.stack) (state_of self.old (left_of meter.old))) }
+        ensures rest { RestIs self.old meter.old result self.new meter.new (λ k st. invoked (eval depth) Verb.Expr name.now args.now k st) }
         ensures potential { IfOk result (λ mode. potential self.new (left_of meter.new) mode ≤ 8 * left_of meter.old + bodies self.old.stack + 6) }
     {
         match said(self.alloc, expr_text(self.alloc, name, args))? {
@@ -245,7 +238,7 @@ impl Engine {
 
     /// `eval word ..`.
     fn invoke_eval(&mut self, name: &[u8], args: &[Value], depth: u32) -> Result<Mode, AllocError>
-        ensures rest { IfOk result (λ mode. (left : ℕ) → engine_rest self.new left mode ≡ invoked (eval depth) Verb.Eval name.now args.now (frames_rest self.old.stack) (state_of self.old left)) }
+        ensures rest { AnyRestIs self.old result self.new (λ k st. invoked (eval depth) Verb.Eval name.now args.now k st) }
         ensures potential { IfOk result (λ mode. bodies self.new.stack + credit mode ≤ bodies self.old.stack + 6) }
     {
         match said(self.alloc, eval_text(self.alloc, name, args))? {
@@ -259,7 +252,7 @@ impl Engine {
 
     /// `catch script ?name?`.
     fn invoke_catch(&mut self, name: &[u8], args: &[Value], depth: u32) -> Result<Mode, AllocError>
-        ensures rest { IfOk result (λ mode. (left : ℕ) → engine_rest self.new left mode ≡ catch_command (eval depth) name.now args.now (frames_rest self.old.stack) (state_of self.old left)) }
+        ensures rest { AnyRestIs self.old result self.new (λ k st. catch_command (eval depth) name.now args.now k st) }
         ensures potential { IfOk result (λ mode. bodies self.new.stack + credit mode ≤ bodies self.old.stack + 6) }
     {
         let (script, variable) = match args {
@@ -276,7 +269,7 @@ impl Engine {
 
     /// `exit ?n?`.
     fn invoke_exit(&mut self, name: &[u8], args: &[Value]) -> Result<Mode, AllocError>
-        ensures rest { IfOk result (λ mode. (left : ℕ) → engine_rest self.new left mode ≡ on_said (exit_status name.now args.now) (frames_rest self.old.stack) (λ n st. Over (Stopped (Exit n)) st) (state_of self.old left)) }
+        ensures rest { AnyRestIs self.old result self.new (λ k st. on_said (exit_status name.now args.now) k (λ n st. Over (Stopped (Exit n)) st) st) }
         ensures potential { IfOk result (λ mode. bodies self.new.stack + credit mode ≤ bodies self.old.stack + 6) }
     {
         match said(self.alloc, exit_status(self.alloc, name, args))? {

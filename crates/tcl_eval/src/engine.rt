@@ -1,11 +1,11 @@
 //! What a run keeps, and how codes and values are handed to what waits for them.
 
-ghost use Rattle.std.specs.Prelude.{◌≡◌, ℕ, ◌+◌, ◌≤◌, ◌*◌, ◌∷◌, drop, IfOk};
+ghost use Rattle.std.specs.Prelude.{◌≡◌, ◌+◌, ◌≤◌, ◌*◌, ◌∷◌, drop, IfOk};
 ghost use Rattle.tcl_scripts.specs.Commands.{commands};
 ghost use Rattle.tcl_eval.specs.Steps.{left_of};
 ghost use Rattle.tcl_eval.specs.Meaning.{eval, sequence};
-ghost use Rattle.tcl_eval.specs.Rest.{engine_rest, onward_rest, frame_rest, frames_rest, state_of};
-ghost use Rattle.tcl_eval.specs.Work.{engine_work, onward_work, frame_work, frames_work, eval_work, sequence_work, Tick, onward_weight, bodies, credit, potential, again};
+ghost use Rattle.tcl_eval.specs.Rest.{onward_rest, frame_rest, state_of, AnyRestIs, RestIs};
+ghost use Rattle.tcl_eval.specs.Work.{engine_work, onward_work, frame_work, frames_work, eval_work, sequence_work, Tick, onward_weight, bodies, credit, potential, again, AnyWorkIs, WorkIs};
 
 use crate::frame::{End, Frame, Mode, Onward, Then};
 use crate::meter::Meter;
@@ -41,8 +41,8 @@ impl Engine {
 
     /// Starts a script.
     pub(crate) fn start(&mut self, script: Script, depth: u32) -> Result<Mode, AllocError>
-        ensures rest { IfOk result (λ mode. (left : ℕ) → engine_rest self.new left mode ≡ eval depth script (frames_rest self.old.stack) (state_of self.old left)) }
-        ensures work { IfOk result (λ mode. (left : ℕ) → engine_work self.new left mode ≡ eval_work depth script (frames_work self.old.stack) (state_of self.old left)) }
+        ensures rest { AnyRestIs self.old result self.new (λ k st. eval depth script k st) }
+        ensures work { AnyWorkIs self.old result self.new (λ k st. eval_work depth script k st) }
         ensures potential { IfOk result (λ mode. bodies self.new.stack + credit mode ≤ bodies self.old.stack) }
     {
         if depth == 0 {
@@ -58,8 +58,8 @@ impl Engine {
 
     /// Starts the script that a text is.
     pub(crate) fn start_text(&mut self, text: &[u8], depth: u32) -> Result<Mode, AllocError>
-        ensures rest { IfOk result (λ mode. (left : ℕ) → engine_rest self.new left mode ≡ eval depth (commands text.now) (frames_rest self.old.stack) (state_of self.old left)) }
-        ensures work { IfOk result (λ mode. (left : ℕ) → engine_work self.new left mode ≡ eval_work depth (commands text.now) (frames_work self.old.stack) (state_of self.old left)) }
+        ensures rest { AnyRestIs self.old result self.new (λ k st. eval depth (commands text.now) k st) }
+        ensures work { AnyWorkIs self.old result self.new (λ k st. eval_work depth (commands text.now) k st) }
         ensures potential { IfOk result (λ mode. bodies self.new.stack + credit mode ≤ bodies self.old.stack) }
     {
         let script = Script::read(self.alloc, text)?;
@@ -75,8 +75,8 @@ impl Engine {
         depth: u32,
         value: Value,
     ) -> Result<Mode, AllocError>
-        ensures rest { IfOk result (λ mode. engine_rest self.new (left_of meter.new) mode ≡ sequence (eval depth) (drop next script) (frames_rest self.old.stack) value (state_of self.old (left_of meter.old))) }
-        ensures work { IfOk result (λ mode. engine_work self.new (left_of meter.new) mode ≡ sequence_work (eval_work depth) (drop next script) (frames_work self.old.stack) value (state_of self.old (left_of meter.old))) }
+        ensures rest { RestIs self.old meter.old result self.new meter.new (λ k st. sequence (eval depth) (drop next script) k value st) }
+        ensures work { WorkIs self.old meter.old result self.new meter.new (λ k st. sequence_work (eval_work depth) (drop next script) k value st) }
         ensures potential { IfOk result (λ mode. potential self.new (left_of meter.new) mode ≤ 8 * left_of meter.old + bodies self.old.stack) }
     {
         match script.next(next) {
@@ -106,7 +106,7 @@ impl Engine {
         code: Code,
         value: Value,
     ) -> Result<Mode, AllocError>
-        ensures rest { IfOk result (λ mode. engine_rest self.new (left_of meter.new) mode ≡ frames_rest self.old.stack code value (state_of self.old (left_of meter.old))) }
+        ensures rest { RestIs self.old meter.old result self.new meter.new (λ k st. k code value st) }
         ensures work { IfOk result (λ mode. Tick (engine_work self.new (left_of meter.new) mode) ≡ frames_work self.old.stack code value (state_of self.old (left_of meter.old))) }
         ensures potential { IfOk result (λ mode. potential self.new (left_of meter.new) mode ≤ 8 * left_of meter.old + bodies self.old.stack + again code) }
     {
@@ -124,8 +124,8 @@ impl Engine {
         code: Code,
         value: Value,
     ) -> Result<Mode, AllocError>
-        ensures rest { IfOk result (λ mode. engine_rest self.new (left_of meter.new) mode ≡ frame_rest frame (frames_rest self.old.stack) code value (state_of self.old (left_of meter.old))) }
-        ensures work { IfOk result (λ mode. engine_work self.new (left_of meter.new) mode ≡ frame_work frame (frames_work self.old.stack) code value (state_of self.old (left_of meter.old))) }
+        ensures rest { RestIs self.old meter.old result self.new meter.new (λ k st. frame_rest frame k code value st) }
+        ensures work { WorkIs self.old meter.old result self.new meter.new (λ k st. frame_work frame k code value st) }
         ensures potential { IfOk result (λ mode. potential self.new (left_of meter.new) mode ≤ 8 * left_of meter.old + bodies (frame ∷ self.old.stack) + again code) }
     {
         match frame {
@@ -158,8 +158,8 @@ impl Engine {
         onward: Onward,
         value: Value,
     ) -> Result<Mode, AllocError>
-        ensures rest { IfOk result (λ mode. engine_rest self.new (left_of meter.new) mode ≡ onward_rest onward (frames_rest self.old.stack) value (state_of self.old (left_of meter.old))) }
-        ensures work { IfOk result (λ mode. engine_work self.new (left_of meter.new) mode ≡ onward_work onward (frames_work self.old.stack) value (state_of self.old (left_of meter.old))) }
+        ensures rest { RestIs self.old meter.old result self.new meter.new (λ k st. onward_rest onward k value st) }
+        ensures work { WorkIs self.old meter.old result self.new meter.new (λ k st. onward_work onward k value st) }
         ensures potential { IfOk result (λ mode. potential self.new (left_of meter.new) mode ≤ 8 * left_of meter.old + bodies self.old.stack + onward_weight onward) }
     {
         match onward {

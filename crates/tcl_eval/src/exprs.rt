@@ -1,16 +1,14 @@
 //! How expressions are evaluated.
 
-ghost use Rattle.std.specs.Prelude.{◌≡◌, ℕ, ◌+◌, ◌≤◌, ◌*◌, ◌∷◌, [], drop, IfOk, if◌then◌else◌};
+ghost use Rattle.std.specs.Prelude.{◌≡◌, ◌+◌, ◌≤◌, ◌*◌, ◌∷◌, [], IfOk, if◌then◌else◌};
 ghost use Rattle.tcl_subst.specs.Rests.{rest, told};
-ghost use Rattle.tcl_scripts.specs.Commands.{commands};
-ghost use Rattle.tcl_eval.specs.Advanced.{IsTold};
 ghost use Rattle.tcl_eval.specs.Evaluated.{fresh, with_operand};
 ghost use Rattle.tcl_commands.specs.Says.{Says};
 ghost use Rattle.tcl_commands.specs.Texts.{expected_number, expr_fault};
 ghost use Rattle.tcl_eval.specs.Steps.{left_of};
-ghost use Rattle.tcl_eval.specs.Meaning.{eval, fill_word, tested, arms, tree_of, on_said};
-ghost use Rattle.tcl_eval.specs.Rest.{engine_rest, frames_rest, state_of, goal_rest, evaluated, advanced_to, turns_left};
-ghost use Rattle.tcl_eval.specs.Work.{engine_work, frames_work, eval_work, word_work, goal_work, evaluated_work, advanced_work, decided_work, arms_work, bodies, credit, potential};
+ghost use Rattle.tcl_eval.specs.Meaning.{eval, fill_word, arms, tree_of, on_said};
+ghost use Rattle.tcl_eval.specs.Rest.{goal_rest, evaluated, advanced_to, turns_left, RestIs};
+ghost use Rattle.tcl_eval.specs.Work.{eval_work, word_work, goal_work, evaluated_work, advanced_work, decided_work, arms_work, bodies, potential, WorkIs};
 
 use crate::advance::Advance;
 use crate::engine::Engine;
@@ -34,8 +32,8 @@ impl Engine {
         goal: Goal,
         depth: u32,
     ) -> Result<Mode, AllocError>
-        ensures rest { IfOk result (λ mode. engine_rest self.new (left_of meter.new) mode ≡ evaluated depth evaluation goal (frames_rest self.old.stack) (state_of self.old (left_of meter.old))) }
-        ensures work { IfOk result (λ mode. engine_work self.new (left_of meter.new) mode ≡ evaluated_work (eval_work depth) evaluation goal (frames_work self.old.stack) (state_of self.old (left_of meter.old))) }
+        ensures rest { RestIs self.old meter.old result self.new meter.new (λ k st. evaluated depth evaluation goal k st) }
+        ensures work { WorkIs self.old meter.old result self.new meter.new (λ k st. evaluated_work (eval_work depth) evaluation goal k st) }
         ensures potential { IfOk result (λ mode. potential self.new (left_of meter.new) mode ≤ 8 * left_of meter.old + bodies self.old.stack) }
     {
         let step = evaluation.advance(self.alloc)?;
@@ -52,8 +50,8 @@ impl Engine {
         goal: Goal,
         depth: u32,
     ) -> Result<Mode, AllocError>
-        ensures rest { IfOk result (λ mode. engine_rest self.new (left_of meter.new) mode ≡ advanced_to depth step evaluation goal (frames_rest self.old.stack) (state_of self.old (left_of meter.old))) }
-        ensures work { IfOk result (λ mode. engine_work self.new (left_of meter.new) mode ≡ advanced_work (eval_work depth) step evaluation goal (frames_work self.old.stack) (state_of self.old (left_of meter.old))) }
+        ensures rest { RestIs self.old meter.old result self.new meter.new (λ k st. advanced_to depth step evaluation goal k st) }
+        ensures work { WorkIs self.old meter.old result self.new meter.new (λ k st. advanced_work (eval_work depth) step evaluation goal k st) }
         ensures potential { IfOk result (λ mode. potential self.new (left_of meter.new) mode ≤ 8 * left_of meter.old + bodies self.old.stack) }
     {
         match step {
@@ -83,8 +81,8 @@ impl Engine {
         goal: Goal,
         depth: u32,
     ) -> Result<Mode, AllocError>
-        ensures rest { IfOk result (λ mode. engine_rest self.new (left_of meter.new) mode ≡ fill_word (eval depth) (rest filler self.old.vars) (frames_rest self.old.stack) (λ v st. evaluated depth (with_operand v evaluation) goal (frames_rest self.old.stack) st) (state_of self.old (left_of meter.old))) }
-        ensures work { IfOk result (λ mode. engine_work self.new (left_of meter.new) mode ≡ word_work (eval_work depth) (rest filler self.old.vars) (frames_work self.old.stack) (λ v st. evaluated_work (eval_work depth) (with_operand v evaluation) goal (frames_work self.old.stack) st) (state_of self.old (left_of meter.old))) }
+        ensures rest { RestIs self.old meter.old result self.new meter.new (λ k st. fill_word (eval depth) (rest filler self.old.vars) k (λ v st. evaluated depth (with_operand v evaluation) goal k st) st) }
+        ensures work { WorkIs self.old meter.old result self.new meter.new (λ k st. word_work (eval_work depth) (rest filler self.old.vars) k (λ v st. evaluated_work (eval_work depth) (with_operand v evaluation) goal k st) st) }
         ensures potential { IfOk result (λ mode. potential self.new (left_of meter.new) mode ≤ 8 * left_of meter.old + bodies self.old.stack) }
     {
         let step = advanced(self.alloc, &mut filler, &self.vars)?;
@@ -101,8 +99,8 @@ impl Engine {
         goal: Goal,
         depth: u32,
     ) -> Result<Mode, AllocError>
-        ensures rest { IfOk result (λ mode. engine_rest self.new (left_of meter.new) mode ≡ fill_word (eval depth) (told (step, filler)) (frames_rest self.old.stack) (λ v st. evaluated depth (with_operand v evaluation) goal (frames_rest self.old.stack) st) (state_of self.old (left_of meter.old))) }
-        ensures work { IfOk result (λ mode. engine_work self.new (left_of meter.new) mode ≡ word_work (eval_work depth) (told (step, filler)) (frames_work self.old.stack) (λ v st. evaluated_work (eval_work depth) (with_operand v evaluation) goal (frames_work self.old.stack) st) (state_of self.old (left_of meter.old))) }
+        ensures rest { RestIs self.old meter.old result self.new meter.new (λ k st. fill_word (eval depth) (told (step, filler)) k (λ v st. evaluated depth (with_operand v evaluation) goal k st) st) }
+        ensures work { WorkIs self.old meter.old result self.new meter.new (λ k st. word_work (eval_work depth) (told (step, filler)) k (λ v st. evaluated_work (eval_work depth) (with_operand v evaluation) goal k st) st) }
         ensures potential { IfOk result (λ mode. potential self.new (left_of meter.new) mode ≤ 8 * left_of meter.old + bodies self.old.stack) }
     {
         match step {
@@ -133,8 +131,8 @@ impl Engine {
         goal: Goal,
         depth: u32,
     ) -> Result<Mode, AllocError>
-        ensures rest { IfOk result (λ mode. engine_rest self.new (left_of meter.new) mode ≡ goal_rest depth goal (frames_rest self.old.stack) value (state_of self.old (left_of meter.old))) }
-        ensures work { IfOk result (λ mode. engine_work self.new (left_of meter.new) mode ≡ goal_work (eval_work depth) goal (frames_work self.old.stack) value (state_of self.old (left_of meter.old))) }
+        ensures rest { RestIs self.old meter.old result self.new meter.new (λ k st. goal_rest depth goal k value st) }
+        ensures work { WorkIs self.old meter.old result self.new meter.new (λ k st. goal_work (eval_work depth) goal k value st) }
         ensures potential { IfOk result (λ mode. potential self.new (left_of meter.new) mode ≤ 8 * left_of meter.old + bodies self.old.stack) }
     {
         match goal {
@@ -171,8 +169,8 @@ impl Engine {
         holds: bool,
         depth: u32,
     ) -> Result<Mode, AllocError>
-        ensures rest { IfOk result (λ mode. engine_rest self.new (left_of meter.new) mode ≡ turns_left depth turning (frames_rest self.old.stack) holds (state_of self.old (left_of meter.old))) }
-        ensures work { IfOk result (λ mode. engine_work self.new (left_of meter.new) mode ≡ decided_work holds (frames_work self.old.stack) (state_of self.old (left_of meter.old))) }
+        ensures rest { RestIs self.old meter.old result self.new meter.new (λ k st. turns_left depth turning k holds st) }
+        ensures work { WorkIs self.old meter.old result self.new meter.new (λ k st. decided_work holds k st) }
         ensures potential { IfOk result (λ mode. potential self.new (left_of meter.new) mode ≤ 8 * left_of meter.old + bodies self.old.stack) }
     {
         if !holds {
@@ -210,8 +208,8 @@ impl Engine {
         mut left: Arms,
         depth: u32,
     ) -> Result<Mode, AllocError>
-        ensures rest { IfOk result (λ mode. engine_rest self.new (left_of meter.new) mode ≡ arms (eval depth) left.0 left.1 (frames_rest self.old.stack) (state_of self.old (left_of meter.old))) }
-        ensures work { IfOk result (λ mode. engine_work self.new (left_of meter.new) mode ≡ arms_work (eval_work depth) left.0 left.1 (frames_work self.old.stack) (state_of self.old (left_of meter.old))) }
+        ensures rest { RestIs self.old meter.old result self.new meter.new (λ k st. arms (eval depth) left.0 left.1 k st) }
+        ensures work { WorkIs self.old meter.old result self.new meter.new (λ k st. arms_work (eval_work depth) left.0 left.1 k st) }
         ensures potential { IfOk result (λ mode. potential self.new (left_of meter.new) mode ≤ 8 * left_of meter.old + bodies self.old.stack) }
     {
         match left.take() {
@@ -234,8 +232,8 @@ impl Engine {
         goal: Goal,
         depth: u32,
     ) -> Result<Mode, AllocError>
-        ensures rest { IfOk result (λ mode. engine_rest self.new (left_of meter.new) mode ≡ on_said (tree_of text) (frames_rest self.old.stack) (λ t st. evaluated depth (fresh t) goal (frames_rest self.old.stack) st) (state_of self.old (left_of meter.old))) }
-        ensures work { IfOk result (λ mode. engine_work self.new (left_of meter.new) mode ≡ on_said (tree_of text) (frames_work self.old.stack) (λ t st. evaluated_work (eval_work depth) (fresh t) goal (frames_work self.old.stack) st) (state_of self.old (left_of meter.old))) }
+        ensures rest { RestIs self.old meter.old result self.new meter.new (λ k st. on_said (tree_of text) k (λ t st. evaluated depth (fresh t) goal k st) st) }
+        ensures work { WorkIs self.old meter.old result self.new meter.new (λ k st. on_said (tree_of text) k (λ t st. evaluated_work (eval_work depth) (fresh t) goal k st) st) }
         ensures potential { IfOk result (λ mode. potential self.new (left_of meter.new) mode ≤ 8 * left_of meter.old + bodies self.old.stack) }
     {
         match said(self.alloc, read_test(self.alloc, &text))? {

@@ -1,11 +1,11 @@
 //! Loops: `while`, `for` and `foreach`.
 
-ghost use Rattle.std.specs.Prelude.{◌≡◌, ℕ, ◌+◌, ◌≤◌, ◌*◌, ◌∷◌, [], Some, IfOk};
+ghost use Rattle.std.specs.Prelude.{◌≡◌, ◌+◌, ◌≤◌, ◌*◌, ◌∷◌, [], Some, IfOk};
 ghost use Rattle.tcl_scripts.specs.Commands.{commands};
 ghost use Rattle.tcl_eval.specs.Steps.{left_of};
 ghost use Rattle.tcl_eval.specs.Meaning.{eval, on_ok, turn_end, advanced, loop as loop_of, each, tree_of, on_said};
-ghost use Rattle.tcl_eval.specs.Rest.{engine_rest, frames_rest, state_of, looped};
-ghost use Rattle.tcl_eval.specs.Work.{Now, engine_work, frames_work, eval_work, loop_work, next_work, each_work, bodies, credit, potential, again};
+ghost use Rattle.tcl_eval.specs.Rest.{looped, AnyRestIs, RestIs};
+ghost use Rattle.tcl_eval.specs.Work.{Now, eval_work, loop_work, next_work, each_work, bodies, credit, potential, again, AnyWorkIs, WorkIs};
 
 use crate::engine::Engine;
 use crate::evaluation::{Evaluation, Test};
@@ -26,8 +26,8 @@ impl Engine {
         turning: Turning,
         depth: u32,
     ) -> Result<Mode, AllocError>
-        ensures rest { IfOk result (λ mode. engine_rest self.new (left_of meter.new) mode ≡ looped depth turning (frames_rest self.old.stack) (state_of self.old (left_of meter.old))) }
-        ensures work { IfOk result (λ mode. engine_work self.new (left_of meter.new) mode ≡ loop_work (eval_work depth) turning.test (frames_work self.old.stack) (state_of self.old (left_of meter.old))) }
+        ensures rest { RestIs self.old meter.old result self.new meter.new (λ k st. looped depth turning k st) }
+        ensures work { WorkIs self.old meter.old result self.new meter.new (λ k st. loop_work (eval_work depth) turning.test k st) }
         ensures potential { IfOk result (λ mode. potential self.new (left_of meter.new) mode ≤ 8 * left_of meter.old + bodies self.old.stack) }
     {
         let test = turning.test.shared()?;
@@ -44,8 +44,8 @@ impl Engine {
         code: Code,
         value: Value,
     ) -> Result<Mode, AllocError>
-        ensures rest { IfOk result (λ mode. engine_rest self.new (left_of meter.new) mode ≡ turn_end (frames_rest self.old.stack) (λ st. advanced (eval depth) turning.next (frames_rest self.old.stack) (λ st. looped depth turning (frames_rest self.old.stack) st) st) code value (state_of self.old (left_of meter.old))) }
-        ensures work { IfOk result (λ mode. engine_work self.new (left_of meter.new) mode ≡ turn_end (frames_work self.old.stack) (λ st. next_work (eval_work depth) turning.next (frames_work self.old.stack) (λ st. loop_work (eval_work depth) turning.test (frames_work self.old.stack) st) st) code value (state_of self.old (left_of meter.old))) }
+        ensures rest { RestIs self.old meter.old result self.new meter.new (λ k st. turn_end k (λ st. advanced (eval depth) turning.next k (λ st. looped depth turning k st) st) code value st) }
+        ensures work { WorkIs self.old meter.old result self.new meter.new (λ k st. turn_end k (λ st. next_work (eval_work depth) turning.next k (λ st. loop_work (eval_work depth) turning.test k st) st) code value st) }
         ensures potential { IfOk result (λ mode. potential self.new (left_of meter.new) mode ≤ 8 * left_of meter.old + bodies self.old.stack + again code) }
     {
         match code {
@@ -63,8 +63,8 @@ impl Engine {
         turning: Turning,
         depth: u32,
     ) -> Result<Mode, AllocError>
-        ensures rest { IfOk result (λ mode. engine_rest self.new (left_of meter.new) mode ≡ advanced (eval depth) turning.next (frames_rest self.old.stack) (λ st. looped depth turning (frames_rest self.old.stack) st) (state_of self.old (left_of meter.old))) }
-        ensures work { IfOk result (λ mode. engine_work self.new (left_of meter.new) mode ≡ next_work (eval_work depth) turning.next (frames_work self.old.stack) (λ st. loop_work (eval_work depth) turning.test (frames_work self.old.stack) st) (state_of self.old (left_of meter.old))) }
+        ensures rest { RestIs self.old meter.old result self.new meter.new (λ k st. advanced (eval depth) turning.next k (λ st. looped depth turning k st) st) }
+        ensures work { WorkIs self.old meter.old result self.new meter.new (λ k st. next_work (eval_work depth) turning.next k (λ st. loop_work (eval_work depth) turning.test k st) st) }
         ensures potential { IfOk result (λ mode. potential self.new (left_of meter.new) mode ≤ 8 * left_of meter.old + bodies self.old.stack) }
     {
         match shared_next(&turning.next)? {
@@ -86,8 +86,8 @@ impl Engine {
         next: Option<Script>,
         depth: u32,
     ) -> Result<Mode, AllocError>
-        ensures rest { IfOk result (λ mode. engine_rest self.new (left_of meter.new) mode ≡ loop_of (eval depth) test body next (frames_rest self.old.stack) (state_of self.old (left_of meter.old))) }
-        ensures work { IfOk result (λ mode. engine_work self.new (left_of meter.new) mode ≡ loop_work (eval_work depth) test (frames_work self.old.stack) (state_of self.old (left_of meter.old))) }
+        ensures rest { RestIs self.old meter.old result self.new meter.new (λ k st. loop_of (eval depth) test body next k st) }
+        ensures work { WorkIs self.old meter.old result self.new meter.new (λ k st. loop_work (eval_work depth) test k st) }
         ensures potential { IfOk result (λ mode. potential self.new (left_of meter.new) mode ≤ 8 * left_of meter.old + bodies self.old.stack) }
     {
         let bound = meter.left();
@@ -109,8 +109,8 @@ impl Engine {
         body: Value,
         depth: u32,
     ) -> Result<Mode, AllocError>
-        ensures rest { IfOk result (λ mode. engine_rest self.new (left_of meter.new) mode ≡ on_said (tree_of test) (frames_rest self.old.stack) (λ t st. loop_of (eval depth) t (commands body) (Some (commands next)) (frames_rest self.old.stack) st) (state_of self.old (left_of meter.old))) }
-        ensures work { IfOk result (λ mode. engine_work self.new (left_of meter.new) mode ≡ on_said (tree_of test) (frames_work self.old.stack) (λ t st. loop_work (eval_work depth) t (frames_work self.old.stack) st) (state_of self.old (left_of meter.old))) }
+        ensures rest { RestIs self.old meter.old result self.new meter.new (λ k st. on_said (tree_of test) k (λ t st. loop_of (eval depth) t (commands body) (Some (commands next)) k st) st) }
+        ensures work { WorkIs self.old meter.old result self.new meter.new (λ k st. on_said (tree_of test) k (λ t st. loop_work (eval_work depth) t k st) st) }
         ensures potential { IfOk result (λ mode. potential self.new (left_of meter.new) mode ≤ 8 * left_of meter.old + bodies self.old.stack) }
     {
         match said(self.alloc, read_test(self.alloc, &test))? {
@@ -133,8 +133,8 @@ impl Engine {
         code: Code,
         value: Value,
     ) -> Result<Mode, AllocError>
-        ensures rest { IfOk result (λ mode. engine_rest self.new (left_of meter.new) mode ≡ turn_end (frames_rest self.old.stack) (λ st. each (eval depth) groups.names groups.left body (frames_rest self.old.stack) st) code value (state_of self.old (left_of meter.old))) }
-        ensures work { IfOk result (λ mode. engine_work self.new (left_of meter.new) mode ≡ turn_end (frames_work self.old.stack) (λ st. each_work groups.names groups.left (frames_work self.old.stack) st) code value (state_of self.old (left_of meter.old))) }
+        ensures rest { RestIs self.old meter.old result self.new meter.new (λ k st. turn_end k (λ st. each (eval depth) groups.names groups.left body k st) code value st) }
+        ensures work { WorkIs self.old meter.old result self.new meter.new (λ k st. turn_end k (λ st. each_work groups.names groups.left k st) code value st) }
         ensures potential { IfOk result (λ mode. potential self.new (left_of meter.new) mode ≤ 8 * left_of meter.old + bodies self.old.stack + again code) }
     {
         match code {
@@ -153,8 +153,8 @@ impl Engine {
         body: Script,
         depth: u32,
     ) -> Result<Mode, AllocError>
-        ensures rest { IfOk result (λ mode. engine_rest self.new (left_of meter.new) mode ≡ each (eval depth) groups.names groups.left body (frames_rest self.old.stack) (state_of self.old (left_of meter.old))) }
-        ensures work { IfOk result (λ mode. engine_work self.new (left_of meter.new) mode ≡ each_work groups.names groups.left (frames_work self.old.stack) (state_of self.old (left_of meter.old))) }
+        ensures rest { RestIs self.old meter.old result self.new meter.new (λ k st. each (eval depth) groups.names groups.left body k st) }
+        ensures work { WorkIs self.old meter.old result self.new meter.new (λ k st. each_work groups.names groups.left k st) }
         ensures potential { IfOk result (λ mode. potential self.new (left_of meter.new) mode ≤ 8 * left_of meter.old + bodies self.old.stack) }
     {
         if groups.is_done() {
@@ -177,8 +177,8 @@ impl Engine {
         code: Code,
         value: Value,
     ) -> Result<Mode, AllocError>
-        ensures rest { IfOk result (λ mode. (left : ℕ) → engine_rest self.new left mode ≡ on_ok (λ v st. eval depth body (turn_end (frames_rest self.old.stack) (λ st. each (eval depth) groups.names groups.left body (frames_rest self.old.stack) st)) st) (frames_rest self.old.stack) code value (state_of self.old left)) }
-        ensures work { IfOk result (λ mode. (left : ℕ) → engine_work self.new left mode ≡ on_ok (λ v st. Now) (frames_work self.old.stack) code value (state_of self.old left)) }
+        ensures rest { AnyRestIs self.old result self.new (λ k st. on_ok (λ v st. eval depth body (turn_end k (λ st. each (eval depth) groups.names groups.left body k st)) st) k code value st) }
+        ensures work { AnyWorkIs self.old result self.new (λ k st. on_ok (λ v st. Now) k code value st) }
         ensures potential { IfOk result (λ mode. bodies self.new.stack + credit mode ≤ bodies self.old.stack + 2) }
     {
         match code {

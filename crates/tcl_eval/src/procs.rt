@@ -1,11 +1,10 @@
 //! Procedures and `catch`.
 
-ghost use Rattle.std.specs.Prelude.{◌≡◌, ℕ, ◌+◌, ◌≤◌, ◌*◌, ◌∷◌, [], drop, codes, IfOk, ◌≢◌};
+ghost use Rattle.std.specs.Prelude.{◌≡◌, ◌+◌, ◌≤◌, ◌*◌, ◌∷◌, [], drop, IfOk, ◌≢◌};
 ghost use Rattle.tcl_commands.specs.Texts.{quoted, not_set};
-ghost use Rattle.tcl_scripts.specs.Commands.{commands};
-ghost use Rattle.tcl_eval.specs.Meaning.{eval, caught, digit, scope_end, left_scope, outside_loop, invalid_name, reserved, called, called_as, defined};
-ghost use Rattle.tcl_eval.specs.Rest.{engine_rest, frames_rest, state_of};
-ghost use Rattle.tcl_eval.specs.Work.{engine_work, frames_work, bodies, credit, again};
+ghost use Rattle.tcl_eval.specs.Meaning.{eval, caught, digit, scope_end, outside_loop, reserved, called, called_as, defined};
+ghost use Rattle.tcl_eval.specs.Rest.{AnyRestIs};
+ghost use Rattle.tcl_eval.specs.Work.{bodies, credit, again, AnyWorkIs};
 ghost use Rattle.tcl_subst.specs.Entries.{find};
 
 use crate::engine::Engine;
@@ -59,8 +58,8 @@ impl Engine {
         code: Code,
         value: Value,
     ) -> Result<Mode, AllocError>
-        ensures rest { IfOk result (λ mode. (left : ℕ) → engine_rest self.new left mode ≡ caught name (frames_rest self.old.stack) code value (state_of self.old left)) }
-        ensures work { IfOk result (λ mode. (left : ℕ) → engine_work self.new left mode ≡ caught name (frames_work self.old.stack) code value (state_of self.old left)) }
+        ensures rest { AnyRestIs self.old result self.new (λ k st. caught name k code value st) }
+        ensures work { AnyWorkIs self.old result self.new (λ k st. caught name k code value st) }
         ensures potential { IfOk result (λ mode. bodies self.new.stack + credit mode ≤ bodies self.old.stack) }
     {
         let Some(name) = name else {
@@ -77,8 +76,8 @@ impl Engine {
 
     /// Goes on behind the body of a procedure.
     pub(crate) fn scope_end(&mut self, code: Code, value: Value) -> Result<Mode, AllocError>
-        ensures rest { IfOk result (λ mode. (left : ℕ) → engine_rest self.new left mode ≡ scope_end (frames_rest self.old.stack) code value (state_of self.old left)) }
-        ensures work { IfOk result (λ mode. (left : ℕ) → engine_work self.new left mode ≡ scope_end (frames_work self.old.stack) code value (state_of self.old left)) }
+        ensures rest { AnyRestIs self.old result self.new (λ k st. scope_end k code value st) }
+        ensures work { AnyWorkIs self.old result self.new (λ k st. scope_end k code value st) }
         ensures potential { IfOk result (λ mode. bodies self.new.stack + credit mode ≤ bodies self.old.stack + again code) }
     {
         self.leave();
@@ -107,7 +106,7 @@ impl Engine {
 
     /// Calls the procedure of a name.
     pub(crate) fn call(&mut self, words: Values, depth: u32) -> Result<Mode, AllocError>
-        ensures rest { IfOk result (λ mode. (left : ℕ) → engine_rest self.new left mode ≡ called (eval depth) words (frames_rest self.old.stack) (state_of self.old left)) }
+        ensures rest { AnyRestIs self.old result self.new (λ k st. called (eval depth) words k st) }
         ensures potential { IfOk result (λ mode. bodies self.new.stack + credit mode ≤ bodies self.old.stack + 1) }
     {
         let Some((name, args)) = words.as_slice().split_first() else {
@@ -119,7 +118,7 @@ impl Engine {
 
     /// Calls the procedure of a name with these arguments.
     fn call_as(&mut self, name: &[u8], args: &[Value], depth: u32) -> Result<Mode, AllocError>
-        ensures rest { IfOk result (λ mode. (left : ℕ) → engine_rest self.new left mode ≡ called_as (eval depth) (find name.now self.old.procs) name.now args.now (frames_rest self.old.stack) (state_of self.old left)) }
+        ensures rest { AnyRestIs self.old result self.new (λ k st. called_as (eval depth) (find name.now self.old.procs) name.now args.now k st) }
         ensures potential { IfOk result (λ mode. bodies self.new.stack + credit mode ≤ bodies self.old.stack + 1) }
     {
         let Some(procedure) = self.procs.get(name) else {
@@ -148,7 +147,7 @@ impl Engine {
         body: Value,
         is_known: bool,
     ) -> Result<Mode, AllocError>
-        ensures rest { IfOk result (λ mode. (left : ℕ) → engine_rest self.new left mode ≡ defined name formals body is_known (frames_rest self.old.stack) (state_of self.old left)) }
+        ensures rest { AnyRestIs self.old result self.new (λ k st. defined name formals body is_known k st) }
         ensures potential { IfOk result (λ mode. bodies self.new.stack + credit mode ≤ bodies self.old.stack) }
     {
         if is_known {

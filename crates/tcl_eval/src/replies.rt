@@ -2,7 +2,7 @@
 
 ghost use Rattle.std.specs.Prelude.{◌≡◌, ℕ, ◌+◌, ◌<◌, ◌*◌, IfOk, false, ◌≤◌};
 ghost use Rattle.tcl_eval.specs.Asked.{WaitsAt, GoesDown, IsAskingOnPause};
-ghost use Rattle.tcl_eval.specs.Rest.{engine_rest, frames_rest, state_of};
+ghost use Rattle.tcl_eval.specs.Rest.{engine_rest, AnyRestIs};
 ghost use Rattle.tcl_eval.specs.Steps.{left_of};
 ghost use Rattle.tcl_eval.specs.Tree.{Stepped, follow};
 ghost use Rattle.tcl_eval.specs.Work.{potential, bodies, credit, again};
@@ -32,7 +32,7 @@ pub(crate) fn on(mode: Mode) -> Asked
 impl Engine {
     /// Begins a script that the host asked for, with at most so many more.
     fn host_body(&mut self, text: &Value, bound: u64, depth: u32) -> Result<Mode, AllocError>
-        ensures rest { IfOk result (λ mode. (left : ℕ) → engine_rest self.new left mode ≡ eval depth (commands text.now) (after_body (eval depth) (frames_rest self.old.stack) bound) (state_of self.old left)) }
+        ensures rest { AnyRestIs self.old result self.new (λ k st. eval depth (commands text.now) (after_body (eval depth) k bound) st) }
         ensures potential { IfOk result (λ mode. bodies self.new.stack + credit mode ≤ bodies self.old.stack + 4) }
     {
         let script = Script::read(self.alloc, text.as_slice())?;
@@ -165,7 +165,7 @@ impl Engine {
         bound: u64,
         depth: u32,
     ) -> Result<Mode, AllocError>
-        ensures rest { IfOk result (λ mode. (left : ℕ) → engine_rest self.new left mode ≡ after_script code (HostStep.Body text) (frames_rest self.old.stack) (next_body (eval depth) (frames_rest self.old.stack) bound) (state_of self.old left)) }
+        ensures rest { AnyRestIs self.old result self.new (λ k st. after_script code (HostStep.Body text) k (next_body (eval depth) k bound) st) }
         ensures potential { IfOk result (λ mode. bodies self.new.stack + credit mode < bodies self.old.stack + 3 + again code) }
     {
         match code {
@@ -177,7 +177,7 @@ impl Engine {
 
     /// One more script of the host, where one is left.
     fn next_body(&mut self, text: &Value, bound: u64, depth: u32) -> Result<Mode, AllocError>
-        ensures rest { IfOk result (λ mode. (left : ℕ) → engine_rest self.new left mode ≡ next_body (eval depth) (frames_rest self.old.stack) bound text.now (state_of self.old left)) }
+        ensures rest { AnyRestIs self.old result self.new (λ k st. next_body (eval depth) k bound text.now st) }
         ensures potential { IfOk result (λ mode. bodies self.new.stack + credit mode ≤ bodies self.old.stack + 4) }
     {
         if bound == 0 {

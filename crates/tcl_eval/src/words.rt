@@ -1,17 +1,16 @@
 //! How words are filled.
 
-ghost use Rattle.std.specs.Prelude.{◌≡◌, ◌≢◌, ℕ, ◌+◌, ◌≤◌, ◌*◌, ◌∷◌, [], drop, unwrap_or, IfOk, None, Some};
+ghost use Rattle.std.specs.Prelude.{◌≡◌, ◌≢◌, ◌+◌, ◌≤◌, ◌*◌, ◌∷◌, [], drop, unwrap_or, IfOk, None, Some};
 ghost use Rattle.tcl_subst.specs.Filling.{fill};
-ghost use Rattle.tcl_subst.specs.Recipes.{given, script_at, refused_name};
+ghost use Rattle.tcl_subst.specs.Recipes.{script_at, refused_name};
 ghost use Rattle.tcl_subst.specs.Rests.{rest, told};
-ghost use Rattle.tcl_subst.specs.Variables.{Variables};
 ghost use Rattle.tcl_commands.specs.Says.{Says};
 ghost use Rattle.tcl_commands.specs.Texts.{not_read};
 ghost use Rattle.tcl_eval.specs.Advanced.{Fills};
 ghost use Rattle.tcl_eval.specs.Steps.{left_of};
 ghost use Rattle.tcl_eval.specs.Meaning.{eval, fill_word, fill_words, spread, on_said};
-ghost use Rattle.tcl_eval.specs.Rest.{engine_rest, frames_rest, state_of, then_rest};
-ghost use Rattle.tcl_eval.specs.Work.{engine_work, frames_work, eval_work, word_work, words_work, then_work, then_weight, bodies, credit, potential};
+ghost use Rattle.tcl_eval.specs.Rest.{then_rest, RestIs};
+ghost use Rattle.tcl_eval.specs.Work.{eval_work, word_work, words_work, then_work, then_weight, bodies, potential, WorkIs};
 
 use crate::engine::Engine;
 use crate::evaluation::first;
@@ -35,8 +34,8 @@ impl Engine {
         then: Then,
         depth: u32,
     ) -> Result<Mode, AllocError>
-        ensures rest { IfOk result (λ mode. engine_rest self.new (left_of meter.new) mode ≡ then_rest depth then (frames_rest self.old.stack) done (state_of self.old (left_of meter.old))) }
-        ensures work { IfOk result (λ mode. engine_work self.new (left_of meter.new) mode ≡ then_work then (frames_work self.old.stack) done (state_of self.old (left_of meter.old))) }
+        ensures rest { RestIs self.old meter.old result self.new meter.new (λ k st. then_rest depth then k done st) }
+        ensures work { WorkIs self.old meter.old result self.new meter.new (λ k st. then_work then k done st) }
         ensures potential { IfOk result (λ mode. potential self.new (left_of meter.new) mode ≤ 8 * left_of meter.old + bodies self.old.stack + then_weight then) }
     {
         match then {
@@ -66,8 +65,8 @@ impl Engine {
         then: Then,
         depth: u32,
     ) -> Result<Mode, AllocError>
-        ensures rest { IfOk result (λ mode. engine_rest self.new (left_of meter.new) mode ≡ fill_words (eval depth) (drop next words) done (frames_rest self.old.stack) (then_rest depth then (frames_rest self.old.stack)) (state_of self.old (left_of meter.old))) }
-        ensures work { IfOk result (λ mode. engine_work self.new (left_of meter.new) mode ≡ words_work (eval_work depth) (drop next words) done (frames_work self.old.stack) (then_work then (frames_work self.old.stack)) (state_of self.old (left_of meter.old))) }
+        ensures rest { RestIs self.old meter.old result self.new meter.new (λ k st. fill_words (eval depth) (drop next words) done k (then_rest depth then k) st) }
+        ensures work { WorkIs self.old meter.old result self.new meter.new (λ k st. words_work (eval_work depth) (drop next words) done k (then_work then k) st) }
         ensures potential { IfOk result (λ mode. potential self.new (left_of meter.new) mode ≤ 8 * left_of meter.old + bodies self.old.stack + then_weight then) }
     {
         match words.next(next) {
@@ -102,8 +101,8 @@ impl Engine {
         then: Then,
         depth: u32,
     ) -> Result<Mode, AllocError>
-        ensures rest { IfOk result (λ mode. engine_rest self.new (left_of meter.new) mode ≡ fill_word (eval depth) (rest filler self.old.vars) (frames_rest self.old.stack) (λ v st. on_said (spread expand v done) (frames_rest self.old.stack) (λ done st. fill_words (eval depth) (drop next words) done (frames_rest self.old.stack) (then_rest depth then (frames_rest self.old.stack)) st) st) (state_of self.old (left_of meter.old))) }
-        ensures work { IfOk result (λ mode. engine_work self.new (left_of meter.new) mode ≡ word_work (eval_work depth) (rest filler self.old.vars) (frames_work self.old.stack) (λ v st. on_said (spread expand v done) (frames_work self.old.stack) (λ done st. words_work (eval_work depth) (drop next words) done (frames_work self.old.stack) (then_work then (frames_work self.old.stack)) st) st) (state_of self.old (left_of meter.old))) }
+        ensures rest { RestIs self.old meter.old result self.new meter.new (λ k st. fill_word (eval depth) (rest filler self.old.vars) k (λ v st. on_said (spread expand v done) k (λ done st. fill_words (eval depth) (drop next words) done k (then_rest depth then k) st) st) st) }
+        ensures work { WorkIs self.old meter.old result self.new meter.new (λ k st. word_work (eval_work depth) (rest filler self.old.vars) k (λ v st. on_said (spread expand v done) k (λ done st. words_work (eval_work depth) (drop next words) done k (then_work then k) st) st) st) }
         ensures potential { IfOk result (λ mode. potential self.new (left_of meter.new) mode ≤ 8 * left_of meter.old + bodies self.old.stack + then_weight then) }
     {
         let step = advanced(self.alloc, &mut filler, &self.vars)?;
@@ -123,8 +122,8 @@ impl Engine {
         then: Then,
         depth: u32,
     ) -> Result<Mode, AllocError>
-        ensures rest { IfOk result (λ mode. engine_rest self.new (left_of meter.new) mode ≡ fill_word (eval depth) (told (step, filler)) (frames_rest self.old.stack) (λ v st. on_said (spread expand v done) (frames_rest self.old.stack) (λ done st. fill_words (eval depth) (drop next words) done (frames_rest self.old.stack) (then_rest depth then (frames_rest self.old.stack)) st) st) (state_of self.old (left_of meter.old))) }
-        ensures work { IfOk result (λ mode. engine_work self.new (left_of meter.new) mode ≡ word_work (eval_work depth) (told (step, filler)) (frames_work self.old.stack) (λ v st. on_said (spread expand v done) (frames_work self.old.stack) (λ done st. words_work (eval_work depth) (drop next words) done (frames_work self.old.stack) (then_work then (frames_work self.old.stack)) st) st) (state_of self.old (left_of meter.old))) }
+        ensures rest { RestIs self.old meter.old result self.new meter.new (λ k st. fill_word (eval depth) (told (step, filler)) k (λ v st. on_said (spread expand v done) k (λ done st. fill_words (eval depth) (drop next words) done k (then_rest depth then k) st) st) st) }
+        ensures work { WorkIs self.old meter.old result self.new meter.new (λ k st. word_work (eval_work depth) (told (step, filler)) k (λ v st. on_said (spread expand v done) k (λ done st. words_work (eval_work depth) (drop next words) done k (then_work then k) st) st) st) }
         ensures potential { IfOk result (λ mode. potential self.new (left_of meter.new) mode ≤ 8 * left_of meter.old + bodies self.old.stack + then_weight then) }
     {
         match step {
@@ -159,8 +158,8 @@ impl Engine {
         then: Then,
         depth: u32,
     ) -> Result<Mode, AllocError>
-        ensures rest { IfOk result (λ mode. engine_rest self.new (left_of meter.new) mode ≡ on_said (spread expand value done) (frames_rest self.old.stack) (λ done st. fill_words (eval depth) (drop next words) done (frames_rest self.old.stack) (then_rest depth then (frames_rest self.old.stack)) st) (state_of self.old (left_of meter.old))) }
-        ensures work { IfOk result (λ mode. engine_work self.new (left_of meter.new) mode ≡ on_said (spread expand value done) (frames_work self.old.stack) (λ done st. words_work (eval_work depth) (drop next words) done (frames_work self.old.stack) (then_work then (frames_work self.old.stack)) st) (state_of self.old (left_of meter.old))) }
+        ensures rest { RestIs self.old meter.old result self.new meter.new (λ k st. on_said (spread expand value done) k (λ done st. fill_words (eval depth) (drop next words) done k (then_rest depth then k) st) st) }
+        ensures work { WorkIs self.old meter.old result self.new meter.new (λ k st. on_said (spread expand value done) k (λ done st. words_work (eval_work depth) (drop next words) done k (then_work then k) st) st) }
         ensures potential { IfOk result (λ mode. potential self.new (left_of meter.new) mode ≤ 8 * left_of meter.old + bodies self.old.stack + then_weight then) }
     {
         match said(self.alloc, spread(self.alloc, expand, value, done))? {
