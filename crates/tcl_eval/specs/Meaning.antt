@@ -8,10 +8,9 @@ use Rattle.tcl_expr.specs.Truth.{word_text, truth_of}
 use Rattle.tcl_expr.specs.Tree.{Tree as Expression, number, word, operand, unary, binary, lazy, choice}
 use Rattle.tcl_expr.specs.Value.{prefixed, combined, decides, on_truth, bit, bit_text}
 use Rattle.tcl_expr.specs.Grammar.{parsed}
-use Rattle.tcl_subst.specs.declared.faults.SubstFault.{SubstFault}
 use Rattle.tcl_subst.specs.Entries.{find, with_entry}
 use Rattle.tcl_subst.specs.Filling.{Fill, Full, Asks, Failed, fill}
-use Rattle.tcl_subst.specs.Variables.{Variables, with_value}
+use Rattle.tcl_subst.specs.Variables.{with_value}
 use Rattle.tcl_subst.specs.Writes.{set_to}
 use Rattle.tcl_commands.specs.declared.code.Code.{Code}
 use Rattle.tcl_commands.specs.declared.code.Code.TheVariants.{Ok, Error, Return, Break, Continue, Again, AgainLater}

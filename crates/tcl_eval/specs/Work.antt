@@ -1,6 +1,6 @@
 -- How many transitions a machine makes before a step is begun, the host is asked, or it is over. It shows that a run comes to that, and says
 -- nothing of what a script means.
-use Rattle.std.specs.Prelude.{◌≡◌, Result, IfOk, ℕ, zero, suc, ◌+◌, ◌*◌, Bool, true, false, Option, Some, None, codes, List, [], ◌∷◌, drop, if◌then◌else◌}
+use Rattle.std.specs.Prelude.{◌≡◌, Result, IfOk, ℕ, zero, suc, ◌+◌, ◌*◌, Bool, true, false, Option, Some, None, List, [], ◌∷◌, drop, if◌then◌else◌}
 use Rattle.tcl_words.specs.Pieces.{Spelled}
 use Rattle.tcl_expr.specs.Tree.{Tree as Expression}
 use Rattle.tcl_subst.specs.Filling.{Fill as Filled, fill}

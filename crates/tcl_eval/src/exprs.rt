@@ -145,7 +145,8 @@ impl Engine {
                 None => self.no_truth(&value),
                 Some(true) => self.start_text(body.as_slice(), depth),
                 Some(false) => {
-                    self.stack.push(Frame::Onward(Onward::Arms { arms, depth }))?;
+                    self.stack
+                        .push(Frame::Onward(Onward::Arms { arms, depth }))?;
                     Ok(Mode::Give(Code::Ok, Value::new(self.alloc)))
                 }
             },

@@ -70,7 +70,8 @@ impl Engine {
         match shared_next(&turning.next)? {
             None => self.turn(meter, turning, depth),
             Some(script) => {
-                self.stack.push(Frame::Onward(Onward::Next { turning, depth }))?;
+                self.stack
+                    .push(Frame::Onward(Onward::Next { turning, depth }))?;
                 let mode = self.start(script, depth)?;
                 Ok(mode)
             }

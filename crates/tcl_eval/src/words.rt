@@ -127,7 +127,9 @@ impl Engine {
         ensures potential { IfOk result (λ mode. potential self.new (left_of meter.new) mode ≤ 8 * left_of meter.old + bodies self.old.stack + then_weight then) }
     {
         match step {
-            FillStep::Value(value) => self.fill_past(meter, value, words, next, expand, done, then, depth),
+            FillStep::Value(value) => self.fill_past(
+                meter, value, words, next, expand, done, then, depth,
+            ),
             FillStep::NeedScript(number) => {
                 let text = script_text(self.alloc, &filler, number)?;
                 self.stack.push(Frame::Onward(Onward::Fill {

@@ -1,4 +1,4 @@
-use Rattle.std.proofs.Common.{ℕ, [], ◌∷◌, ◌∙◌, ap, refl}
+use Rattle.std.proofs.Common.{[], ◌∷◌, ◌∙◌, ap, refl}
 use Rattle.std.proofs.lemmas.Result.{IfOk-weaker}
 use Rattle.tcl_eval.specs.declared.frame.Asked.{Asked}
 use Rattle.tcl_eval.specs.declared.frame.Mode.TheVariants.{Begin, AfterWords, AfterBody, Define}
@@ -31,7 +31,7 @@ returns-in_ok-mode-in-Define-clause-leads g c =
     let goes_on = c.on-in-Define.ensures in (
       a.0 ∷ [],
       leads_reply g.H.Host.answers (engine_rest c.args.self.now) c.args.mode (Define c.in-Define.name c.in-Define.formals c.in-Define.body) left _ a.0 _ _ c.in-Define.is a.1
-      (ap (λ (x : Asked). engine_rest c.ask_known.new.self left x.mode) goes_on ∙ a.2 left),
+          (ap (λ (x : Asked). engine_rest c.ask_known.new.self left x.mode) goes_on ∙ a.2 left),
       pauses_never _ _ _ goes_on,
     )
 
