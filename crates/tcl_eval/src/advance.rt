@@ -6,7 +6,7 @@ use tcl_values::Value;
 
 /// What an evaluation came to.
 #[derive(Drop)]
-pub enum Advance {
+pub(crate) enum Advance {
     /// The value.
     Value(Value),
     /// An operand's value is needed: this fills it.

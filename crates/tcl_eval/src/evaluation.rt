@@ -39,7 +39,7 @@ impl Model for Test {
 
 impl Test {
     /// The expression that a text is.
-    pub fn parse(alloc: Global, text: &[u8]) -> Result<Test, ExprFault>
+    pub(crate) fn parse(alloc: Global, text: &[u8]) -> Result<Test, ExprFault>
         ensures { Gives result (parsed text.now) }
     {
         let expr = parse(alloc, text)?;
@@ -49,7 +49,7 @@ impl Test {
     }
 
     /// The same expression. Nothing is copied.
-    pub fn shared(&self) -> Result<Test, AllocError>
+    pub(crate) fn shared(&self) -> Result<Test, AllocError>
         ensures { IfOk result (λ t. t ≡ self.now) }
     {
         Ok(Test {
@@ -80,7 +80,7 @@ impl Model for Evaluation {
 
 impl Evaluation {
     /// The evaluation of an expression, with no operand worked out yet.
-    pub fn new(alloc: Global, test: Test) -> Evaluation
+    pub(crate) fn new(alloc: Global, test: Test) -> Evaluation
         ensures { result ≡ fresh test }
     {
         Evaluation {
@@ -90,7 +90,7 @@ impl Evaluation {
     }
 
     /// Takes the value of the operand that was needed.
-    pub fn give(&mut self, alloc: Global, value: Value) -> Result<(), AllocError>
+    pub(crate) fn give(&mut self, alloc: Global, value: Value) -> Result<(), AllocError>
         ensures { OnOk result (self.new ≡ with_operand value self.old) }
     {
         let text = value.into_text(alloc)?;
@@ -98,7 +98,7 @@ impl Evaluation {
     }
 
     /// Goes on until the value is known, a fault is met or an operand is needed.
-    pub fn advance(&mut self, alloc: Global) -> Result<Advance, AllocError>
+    pub(crate) fn advance(&mut self, alloc: Global) -> Result<Advance, AllocError>
         ensures told { IfOk result (λ a. IsTold a self.old) }
         ensures same { self.new ≡ self.old }
     {

@@ -26,7 +26,6 @@ mod said;
 mod values;
 mod words;
 
-pub use advance::Advance;
 pub use ending::Ending;
 pub use engine::Engine;
 pub use evaluation::{Evaluation, Test};
