@@ -16,7 +16,7 @@ use tcl_values::{Elements, Value};
 use tcl_words::{ListFault, Text, Texts};
 
 /// The elements of the list that a value is.
-pub(crate) fn list_of(alloc: Global, value: &Value) -> Result<Elements, Complaint>
+pub fn list_of(alloc: Global, value: &Value) -> Result<Elements, Complaint>
     ensures { Says result (list_of value.now) }
 {
     match value.elements(alloc) {
@@ -27,7 +27,7 @@ pub(crate) fn list_of(alloc: Global, value: &Value) -> Result<Elements, Complain
 }
 
 /// The number that a text is.
-pub(crate) fn as_number(alloc: Global, text: &[u8]) -> Result<i64, Complaint>
+pub fn as_number(alloc: Global, text: &[u8]) -> Result<i64, Complaint>
     ensures { Says result (as_number text.now) }
 {
     match read_number(text) {
@@ -54,7 +54,7 @@ pub(crate) fn limited(alloc: Global, value: Value) -> Result<Value, Complaint>
 }
 
 /// The texts of values, in order.
-pub(crate) fn texts_of(alloc: Global, values: &[Value]) -> Result<Texts, AllocError>
+pub fn texts_of(alloc: Global, values: &[Value]) -> Result<Texts, AllocError>
     ensures { IfOk result (λ t. t ≡ values.now) }
 {
     let mut texts = Texts::new(alloc);

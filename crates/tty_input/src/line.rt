@@ -66,6 +66,13 @@ impl Line {
         }
     }
 
+    /// The terminal's modes.
+    pub fn modes(&self) -> Modes
+        ensures { result ≡ self.now.modes }
+    {
+        self.modes
+    }
+
     /// Sends bytes to the terminal: what it echoes, and what it hands over.
     ///
     /// Under `icanon` bytes are handed over line by line; the bytes 7F and 15 edit the line, and 04
