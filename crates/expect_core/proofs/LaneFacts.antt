@@ -1,0 +1,65 @@
+-- A lane that grows, and another one, or the same.
+use Rattle.std.proofs.Common.{◌≡◌, ℕ, zero, suc, ◌<◌, List, [], ◌∷◌, length, ◌⊎◌, inl, inr, refl, ap, arith}
+use Rattle.child_events.specs.declared.event.Answer.{Answer}
+use Rattle.child_events.specs.Queue.{Queued}
+use Rattle.expect_core.specs.declared.lanes.Lane.{Lane}
+use Rattle.expect_core.specs.Lanes.{no_lane, lane_of, with_lane, with_items, with_answers, grown}
+
+pub record Same (i j : ℕ) (g : Lane → Lane) (lanes : List Lane) : Type 0 where
+  pub here : lane_of i (grown g j lanes) ≡ g (lane_of i lanes)
+  pub put : (x : Lane) → with_lane i (g x) (grown g j lanes) ≡ grown g j (with_lane i x lanes)
+
+pub record Apart (i j : ℕ) (g : Lane → Lane) (lanes : List Lane) : Type 0 where
+  pub here : lane_of i (grown g j lanes) ≡ lane_of i lanes
+  pub put : (x : Lane) → with_lane i x (grown g j lanes) ≡ grown g j (with_lane i x lanes)
+
+further : (i j : ℕ) (g : Lane → Lane) (l : Lane) (ls : List Lane) → Same i j g ls ⊎ Apart i j g ls → Same (suc i) (suc j) g (l ∷ ls) ⊎ Apart (suc i) (suc j) g (l ∷ ls)
+further i j g l ls (inl s) = inl (record { here = s.here; put = λ x. ap (λ (ls : List Lane). l ∷ ls) (s.put x) })
+further i j g l ls (inr s) = inr (record { here = s.here; put = λ x. ap (λ (ls : List Lane). l ∷ ls) (s.put x) })
+
+pub parted : (i j : ℕ) (g : Lane → Lane) (lanes : List Lane) → Same i j g lanes ⊎ Apart i j g lanes
+parted i j g [] = inr (record { here = refl; put = λ x. refl })
+parted zero zero g (l ∷ ls) = inl (record { here = refl; put = λ x. refl })
+parted zero (suc j) g (l ∷ ls) = inr (record { here = refl; put = λ x. refl })
+parted (suc i) zero g (l ∷ ls) = inr (record { here = refl; put = λ x. refl })
+parted (suc i) (suc j) g (l ∷ ls) = further i j g l ls (parted i j g ls)
+
+-- there is no lane at a place
+pub record IsBeyond (i : ℕ) (lanes : List Lane) : Type 0 where
+  pub put : (x : Lane) → with_lane i x lanes ≡ lanes
+  pub none : lane_of i lanes ≡ no_lane
+
+beyond_more : (i : ℕ) (l : Lane) (ls : List Lane) → (i < length ls) ⊎ IsBeyond i ls → (suc i < length (l ∷ ls)) ⊎ IsBeyond (suc i) (l ∷ ls)
+beyond_more i l ls (inl lt) = inl (omega arith)
+beyond_more i l ls (inr b) = inr (record { put = λ x. ap (λ (ls : List Lane). l ∷ ls) (b.put x); none = b.none })
+
+pub within : (i : ℕ) (lanes : List Lane) → (i < length lanes) ⊎ IsBeyond i lanes
+within i [] = inr (record { put = λ x. refl; none = refl })
+within zero (l ∷ ls) = inl (omega arith)
+within (suc i) (l ∷ ls) = beyond_more i l ls (within i ls)
+
+pub items_twice : (i : ℕ) (l k : List Queued) (lanes : List Lane) → with_items i k (with_items i l lanes) ≡ with_items i k lanes
+items_twice i l k [] = refl
+items_twice zero l k (x ∷ xs) = refl
+items_twice (suc i) l k (x ∷ xs) = ap (λ (ls : List Lane). x ∷ ls) (items_twice i l k xs)
+
+pub answers_twice : (i : ℕ) (l k : List (ℕ × Answer)) (lanes : List Lane) → with_answers i k (with_answers i l lanes) ≡ with_answers i k lanes
+answers_twice i l k [] = refl
+answers_twice zero l k (x ∷ xs) = refl
+answers_twice (suc i) l k (x ∷ xs) = ap (λ (ls : List Lane). x ∷ ls) (answers_twice i l k xs)
+
+-- what is put is there
+pub items_put : (i : ℕ) (l : List Queued) (lanes : List Lane) → i < length lanes → (lane_of i (with_items i l lanes)).items ≡ l
+items_put i l [] lt = absurd (let no : i < 0 = lt in omega arith)
+items_put zero l (x ∷ xs) lt = refl
+items_put (suc i) l (x ∷ xs) lt = items_put i l xs (omega (arith, lt))
+
+pub answers_put : (i : ℕ) (l : List (ℕ × Answer)) (lanes : List Lane) → i < length lanes → (lane_of i (with_answers i l lanes)).answers ≡ l
+answers_put i l [] lt = absurd (let no : i < 0 = lt in omega arith)
+answers_put zero l (x ∷ xs) lt = refl
+answers_put (suc i) l (x ∷ xs) lt = answers_put i l xs (omega (arith, lt))
+
+pub grown-length : (g : Lane → Lane) (j : ℕ) (lanes : List Lane) → length (grown g j lanes) ≡ length lanes
+grown-length g j [] = refl
+grown-length g zero (x ∷ xs) = refl
+grown-length g (suc j) (x ∷ xs) = ap suc (grown-length g j xs)

@@ -1,0 +1,12 @@
+pub mod Times
+pub mod LaneFacts
+pub mod Growing
+pub mod Listening
+pub mod Answering
+pub mod Waiting
+pub mod Echoes
+pub mod EachCall
+pub mod Moments
+pub mod Goodness
+pub mod Pushing
+pub mod Steps

@@ -1,0 +1,67 @@
+-- What came from each child and was not taken yet, and how an event adds to it.
+use Rattle.std.specs.Prelude.{ℕ, ◌-◌, ◌==◌, max, List, [], ◌∷◌, ◌++◌, replicate, Bool, true, false, if◌then◌else◌, slice_set, slice_index_or}
+use Rattle.child_events.specs.declared.event.Answer.{Answer}
+use Rattle.child_events.specs.declared.event.What.{What}
+use Rattle.child_events.specs.declared.event.What.TheVariants as what
+use Rattle.child_events.specs.declared.event.Item.{Item}
+use Rattle.child_events.specs.declared.event.Item.TheVariants as item
+use Rattle.child_events.specs.declared.event.Event.{Event}
+use Rattle.child_events.specs.declared.event.Event.TheVariants as event
+use Rattle.child_events.specs.Queue.{Queued, came}
+use Rattle.child_events.specs.World.{moment_of}
+use Rattle.expect_core.specs.declared.lanes.Lane.{Lane}
+use Rattle.expect_core.specs.declared.dialogue.Dialogue.{Dialogue}
+
+abbrev pub no_lane : Lane
+no_lane = record { items = []; answers = []; over = false }
+
+abbrev pub lane_of : ℕ → List Lane → Lane
+lane_of i lanes = slice_index_or lanes i no_lane
+
+abbrev pub with_lane : ℕ → Lane → List Lane → List Lane
+with_lane i lane lanes = slice_set lanes i lane
+
+abbrev pub with_items : ℕ → List Queued → List Lane → List Lane
+with_items i items lanes = with_lane i (record (lane_of i lanes) { items = items }) lanes
+
+abbrev pub with_answers : ℕ → List (ℕ × Answer) → List Lane → List Lane
+with_answers i answers lanes = with_lane i (record (lane_of i lanes) { answers = answers }) lanes
+
+-- An item more. Behind an end or a read failure nothing comes.
+abbrev pub with_item : ℕ → Item → Bool → Lane → Lane
+with_item m i ends lane = if lane.over then lane else record lane { items = lane.items ++ came (m, i) ∷ []; over = ends }
+
+-- what an event of a child adds
+abbrev pub lane_with : ℕ → What → Lane → Lane
+lane_with m (what.Out piece) lane = with_item m (item.Out piece) false lane
+lane_with m what.Eof lane = with_item m item.Eof true lane
+lane_with m (what.ReadFail cause) lane = with_item m (item.ReadFail cause) true lane
+lane_with m (what.Answer a) lane = record lane { answers = lane.answers ++ (m, a) ∷ [] }
+
+abbrev pub grown : (Lane → Lane) → ℕ → List Lane → List Lane
+grown g i lanes = with_lane i (g (lane_of i lanes)) lanes
+
+-- child c, from 1, has the lane at c - 1; number 0 has none
+abbrev pub place : ℕ → ℕ
+place c = if c == 0 then 16 else c - 1
+
+-- the lanes behind an event that came at a moment
+abbrev pub arrived : Event → ℕ → List Lane → List Lane
+arrived (event.Child c m w) h lanes = grown (lane_with h w) (place c) lanes
+arrived (event.Tick m) h lanes = lanes
+
+-- An event more: its moment is raised to the greatest one before it.
+abbrev pub offered : Event → Dialogue → Dialogue
+offered e st = record st {
+  horizon = max st.horizon (moment_of e);
+  lanes = arrived e (max st.horizon (moment_of e)) st.lanes;
+}
+
+-- events more, one after another
+abbrev pub extended : List Event → Dialogue → Dialogue
+extended [] st = st
+extended (e ∷ es) st = extended es (offered e st)
+
+-- children 1 to 16, from which nothing came
+unfoldable pub no_lanes : List Lane
+no_lanes = replicate 16 no_lane

@@ -1,0 +1,23 @@
+-- What holds of all calls.
+use Rattle.std.specs.Prelude.{◌≡◌, ℕ, Option}
+use Rattle.child_events.specs.declared.event.Event.{Event}
+use Rattle.tcl_eval.specs.Tree.{Call}
+use Rattle.expect_core.specs.declared.dialogue.Dialogue.{Dialogue}
+use Rattle.expect_core.specs.Answered.{Outcome}
+use Rattle.expect_core.specs.Lanes.{offered}
+use Rattle.expect_core.specs.Calls.{outcome, onward, fresh}
+use Rattle.expect_core.specs.Good.{Good}
+
+-- the dialogue behind a call
+abbrev pub behind_call : Outcome → Dialogue
+behind_call (step, vars, st) = st
+
+-- A call with an event more comes to what it came to, with the event behind it; or, where it waited, to what it comes to when it goes on.
+abbrev pub GoesOn : Type 0
+GoesOn = (e : Event) (call : Call) (st : Dialogue) → Good st → outcome call (offered e st) ≡ onward e (outcome call st)
+
+-- Nothing is later than the greatest moment: at the start, with an event more, and behind each call.
+pub record StaysGood : Type 0 where
+  pub begins : (limit : Option ℕ) → Good (fresh limit)
+  pub offered : (e : Event) (st : Dialogue) → Good st → Good (offered e st)
+  pub called : (call : Call) (st : Dialogue) → Good st → Good (behind_call (outcome call st))

@@ -1,0 +1,91 @@
+-- What commands change.
+use Rattle.std.specs.Prelude.{ℕ, ◌+◌, max, min, List, [], ◌∷◌, ◌++◌, true, false, slice_set, slice_index_or, if◌then◌else◌}
+use Rattle.circular_buffer.specs.Buffer.{keep_last}
+use Rattle.tty_output.specs.declared.modes.Modes.{Modes}
+use Rattle.tty_output.specs.Modes.{sane}
+use Rattle.tty_output.specs.Output.{shown}
+use Rattle.tty_input.specs.Sends.{Waits}
+use Rattle.expect_core.specs.declared.request.Act.{Act}
+use Rattle.expect_core.specs.declared.child.Standing.{Standing}
+use Rattle.expect_core.specs.declared.child.Standing.TheVariants as standing
+use Rattle.expect_core.specs.declared.child.Child.{Child}
+use Rattle.expect_core.specs.declared.own.Own.{Own}
+use Rattle.expect_core.specs.Held.{Held}
+
+-- a child that is asked for, by its id, its terminal's modes, and how many bytes are kept of its output
+abbrev pub child_as : List ℕ → Modes → ℕ → Child
+child_as id modes size = record {
+  id = id;
+  standing = standing.Unborn;
+  waited = false;
+  line = record { modes = modes; waiting = []; ended = false };
+  kept = record { bytes = []; size = size };
+  sent = 0;
+}
+
+-- what stands where there is no child
+abbrev pub nobody : Child
+nobody = child_as [] sane 0
+
+abbrev pub child_in : ℕ → List Child → Child
+child_in i children = slice_index_or children i nobody
+
+abbrev pub child_of : ℕ → Own → Child
+child_of i o = child_in i o.children
+
+abbrev pub with_child : ℕ → Child → Own → Own
+with_child i child o = record o { children = slice_set o.children i child }
+
+abbrev pub standing_as : Standing → ℕ → Own → Own
+standing_as s i o = with_child i (record (child_of i o) { standing = s }) o
+
+-- its end was asked for
+abbrev pub awaited_once : ℕ → Own → Own
+awaited_once i o = with_child i (record (child_of i o) { waited = true }) o
+
+abbrev pub with_line : ℕ → Waits → Own → Own
+with_line i line o = with_child i (record (child_of i o) { line = line }) o
+
+abbrev pub with_held : ℕ → Held → Own → Own
+with_held i held o = with_child i (record (child_of i o) { kept = held }) o
+
+abbrev pub bytes_of : ℕ → Own → List ℕ
+bytes_of i o = (child_of i o).kept.bytes
+
+abbrev pub with_bytes : ℕ → List ℕ → Own → Own
+with_bytes i bytes o = with_held i (record (child_of i o).kept { bytes = bytes }) o
+
+-- the last bytes alone, as many as are kept
+abbrev pub trimmed : ℕ → Own → Own
+trimmed i o = with_bytes i (keep_last (child_of i o).kept.size (bytes_of i o)) o
+
+-- another number of bytes is kept from now on
+abbrev pub resized : ℕ → ℕ → Own → Own
+resized i size o = with_held i (record { bytes = keep_last size (bytes_of i o); size = size }) o
+
+-- so many bytes more were accepted
+abbrev pub accepted : ℕ → ℕ → Own → Own
+accepted i n o = with_child i (record (child_of i o) { sent = min ((child_of i o).sent + n) 18446744073709551615 }) o
+
+-- the clock goes to a moment, and never back
+abbrev pub at_moment : ℕ → Own → Own
+at_moment m o = record o { clock = max o.clock m }
+
+abbrev pub told : List ℕ → Own → Own
+told text o = record o { transcript = o.transcript ++ text }
+
+-- while output is logged
+abbrev pub logged : List ℕ → Own → Own
+logged text o = if o.log_user then told text o else o
+
+-- a request to the child at a place, whose number is one more
+abbrev pub asked : ℕ → Act → Own → Own
+asked i act o = record o { requests = o.requests ++ record { child = i + 1; act = act } ∷ [] }
+
+-- a piece of a child's output as its terminal shows it
+abbrev pub seen : ℕ → List ℕ → Own → List ℕ
+seen i piece o = shown (child_of i o).line.modes piece
+
+-- a piece was taken
+abbrev pub received : ℕ → List ℕ → Own → Own
+received i piece o = with_bytes i (bytes_of i o ++ seen i piece o) (logged (seen i piece o) o)

@@ -1,0 +1,387 @@
+//! The children that a script asked for.
+
+ghost use Rattle.std.specs.Prelude.{◌≡◌, ◌<◌, ◌≤◌, ◌+◌, ◌-◌, ◌++◌, ◌∷◌, [], min, length, take, drop, position, true, slice_set, IfOk, IfSome, OnOk};
+ghost use Rattle.circular_buffer.specs.Buffer.{keep_last};
+ghost use Rattle.exp_match.specs.Decide.{decide};
+ghost use Rattle.tty_input.specs.Sends.{handed_by, line_after, echo_of};
+ghost use Rattle.tty_output.specs.Output.{shown};
+ghost use Rattle.expect_core.specs.Heard.{both};
+ghost use Rattle.expect_core.specs.Ids.{is_born, is_open as is_open_of, has_id};
+ghost use Rattle.expect_core.specs.Owned.{child_as, child_in};
+
+use crate::kept::{BOTH, Kept};
+use crate::place::Place;
+use exp_match::{Chosen, PatternList};
+use std::alloc::{AllocError, Global};
+use std::marker::Model;
+use tcl_words::Text;
+use tty_input::{Actions, Line};
+use tty_output::{Modes, map_output, strip_nul};
+
+/// Whether a child has an id, and whether commands can still speak to it.
+#[derive(Clone, Copy, Debug, PartialEq, Eq)]
+pub enum Standing {
+    /// It was asked for, but not started: it has no id.
+    Unborn,
+    /// It was started.
+    Open,
+    /// It was let go.
+    Closed,
+}
+
+impl Standing {
+    /// Whether the child has an id.
+    fn is_born(self) -> bool
+        ensures { result ≡ is_born self }
+    {
+        match self {
+            Standing::Unborn => false,
+            Standing::Open => true,
+            Standing::Closed => true,
+        }
+    }
+
+    /// Whether commands can speak to the child.
+    pub(crate) fn is_open(self) -> bool
+        ensures { result ≡ is_open_of self }
+    {
+        match self {
+            Standing::Unborn => false,
+            Standing::Open => true,
+            Standing::Closed => false,
+        }
+    }
+}
+
+/// A child that was asked for.
+#[derive(Drop)]
+pub struct Child {
+    /// Its id.
+    pub id: Text,
+    /// Whether it was started, or let go.
+    pub standing: Standing,
+    /// A `wait` has asked for its end.
+    pub waited: bool,
+    /// Its terminal's input.
+    pub line: Line,
+    /// Its output that no expect has taken.
+    pub kept: Kept,
+    /// How many bytes of its writes were accepted. It counts to 18,446,744,073,709,551,615 and no further.
+    pub sent: u64,
+}
+
+impl Child {
+    /// Whether it has this id.
+    fn has_id(&self, id: &[u8]) -> bool
+        ensures { result ≡ has_id id.now self.now }
+    {
+        self.standing.is_born() && self.id.as_slice() == id
+    }
+}
+
+/// The children in the order in which they were asked for. A contract sees a list.
+#[derive(Drop)]
+pub struct Children {
+    pub(crate) list: Vec<Child>,
+}
+
+impl Model for Children {
+    ghost use Rattle.std.specs.Prelude.{List};
+    ghost use Rattle.expect_core.specs.declared.child.Child.{Child};
+
+    ghost Value = { List Child };
+
+    ghost view = { λ t. t.list.items };
+
+    ghost use Rattle.std.specs.Prelude.{◌≤◌, length};
+
+    ghost invariant = { λ t. length t.list.items ≤ 16 };
+}
+
+/// What a terminal with these modes shows of a child's output.
+fn shown(alloc: Global, modes: Modes, piece: &[u8]) -> Result<Text, AllocError>
+    ensures { IfOk result (λ t. t ≡ shown modes piece.now) }
+{
+    let mut text = Text::from_slice(alloc, piece)?;
+    strip_nul(&mut text);
+    map_output(alloc, modes, text.as_slice())
+}
+
+impl Children {
+    /// No children. It allocates nothing.
+    pub(crate) fn new(alloc: Global) -> Children
+        ensures { result ≡ [] }
+    {
+        Children {
+            list: Vec::new(alloc),
+        }
+    }
+
+    /// How many there are.
+    pub(crate) fn len(&self) -> usize
+        ensures { result ≡ length self.now }
+    {
+        self.list.len()
+    }
+
+    /// A child more, where there are fewer than 16, with this id, these modes of its terminal, and so many bytes kept of its output.
+    pub(crate) fn push(
+        &mut self,
+        alloc: Global,
+        id: Text,
+        modes: Modes,
+        size: usize,
+    ) -> Result<(), AllocError>
+        requires { length self.old < 16 }
+        ensures { OnOk result (self.new ≡ self.old ++ child_as id modes size ∷ []) }
+    {
+        self.list.push(Child {
+            id,
+            standing: Standing::Unborn,
+            waited: false,
+            line: Line::new(alloc, modes),
+            kept: Kept::new(alloc, size)?,
+            sent: 0,
+        })?;
+        Ok(())
+    }
+
+    /// Where the first child with this id stands.
+    fn position(&self, id: &[u8]) -> Option<usize>
+        ensures found { result ≡ position (has_id id.now) self.now }
+        ensures within { IfSome result (λ n. n < length self.now) }
+    {
+        self.list.iter().position(|child| child.has_id(id))
+    }
+
+    /// How many there are, which is no more than 16.
+    fn count(&self) -> usize
+        ensures value { result ≡ length self.now }
+        ensures few { result ≤ 16 }
+    {
+        self.list.len()
+    }
+
+    /// The place of the child that has an id.
+    pub(crate) fn find(&self, id: &[u8]) -> Option<Place>
+        ensures { result ≡ position (has_id id.now) self.now }
+    {
+        let count = self.count();
+        match self.position(id) {
+            Some(at) if at < count => Place::new(at),
+            _ => None,
+        }
+    }
+
+    /// Whether a child was started, or let go.
+    pub(crate) fn standing(&self, i: Place) -> Standing
+        ensures { result ≡ (child_in i self.now).standing }
+    {
+        let i = i.index();
+        if i < self.list.len() {
+            self.list[i].standing
+        } else {
+            Standing::Unborn
+        }
+    }
+
+    /// A child was started, or let go.
+    pub(crate) fn set_standing(&mut self, i: Place, standing: Standing)
+        ensures { self.new ≡ slice_set self.old i (record (child_in i self.old) { standing = standing }) }
+    {
+        let i = i.index();
+        if i < self.list.len() {
+            self.list[i].standing = standing;
+        }
+    }
+
+    /// A child's id.
+    pub(crate) fn id(&self, i: Place) -> &[u8]
+        ensures { result.now ≡ (child_in i self.now).id }
+    {
+        let i = i.index();
+        if i < self.list.len() {
+            self.list[i].id.as_slice()
+        } else {
+            &[]
+        }
+    }
+
+    /// Whether a `wait` has asked for the child's end.
+    pub(crate) fn is_waited(&self, i: Place) -> bool
+        ensures { result ≡ (child_in i self.now).waited }
+    {
+        let i = i.index();
+        if i < self.list.len() {
+            self.list[i].waited
+        } else {
+            false
+        }
+    }
+
+    /// A `wait` asks for the child's end.
+    pub(crate) fn set_waited(&mut self, i: Place)
+        ensures { self.new ≡ slice_set self.old i (record (child_in i self.old) { waited = true }) }
+    {
+        let i = i.index();
+        if i < self.list.len() {
+            self.list[i].waited = true;
+        }
+    }
+
+    /// So many bytes more of a child's writes were accepted.
+    pub(crate) fn accept(&mut self, i: Place, count: u64)
+        ensures { self.new ≡ slice_set self.old i (record (child_in i self.old) { sent = min ((child_in i self.old).sent + count) 18446744073709551615 }) }
+    {
+        let i = i.index();
+        if i < self.list.len() {
+            self.list[i].sent = self.list[i].sent.saturating_add(count);
+        }
+    }
+
+    /// Sends bytes to a child's terminal: what it echoes, and what it hands over.
+    pub(crate) fn send(
+        &mut self,
+        alloc: Global,
+        i: Place,
+        bytes: &[u8],
+    ) -> Result<(Text, Actions), AllocError>
+        ensures sent { IfOk result (λ r. r ≡ (echo_of (child_in i self.old).line bytes.now, (handed_by (child_in i self.old).line bytes.now).actions)) }
+        ensures line { OnOk result (self.new ≡ slice_set self.old i (record (child_in i self.old) { line = line_after (child_in i self.old).line bytes.now })) }
+    {
+        let i = i.index();
+        if i < self.list.len() {
+            let child = &mut self.list[i];
+            return child.line.send(bytes);
+        }
+        Line::new(alloc, Modes::sane()).send(bytes)
+    }
+
+    /// The modes of a child's terminal.
+    fn modes(&self, i: Place) -> Modes
+        ensures { result ≡ (child_in i self.now).line.modes }
+    {
+        let i = i.index();
+        if i < self.list.len() {
+            self.list[i].line.modes()
+        } else {
+            Modes::sane()
+        }
+    }
+
+    /// A piece of a child's output as its terminal shows it.
+    pub(crate) fn seen(&self, alloc: Global, i: Place, piece: &[u8]) -> Result<Text, AllocError>
+        ensures { IfOk result (λ t. t ≡ shown (child_in i self.now).line.modes piece.now) }
+    {
+        shown(alloc, self.modes(i), piece)
+    }
+}
+
+impl Children {
+    /// How many bytes are kept of a child's output.
+    pub(crate) fn size(&self, i: Place) -> usize
+        ensures { result ≡ (child_in i self.now).kept.size }
+    {
+        let i = i.index();
+        if i < self.list.len() {
+            self.list[i].kept.size()
+        } else {
+            0
+        }
+    }
+
+    /// How many bytes of a child are kept now.
+    pub(crate) fn count_kept(&self, i: Place) -> usize
+        ensures { result ≡ length (child_in i self.now).kept.bytes }
+    {
+        let i = i.index();
+        if i < self.list.len() {
+            self.list[i].kept.len()
+        } else {
+            0
+        }
+    }
+
+    /// Puts bytes behind those that are kept of a child.
+    pub(crate) fn keep(&mut self, i: Place, bytes: &[u8]) -> Result<(), AllocError>
+        ensures { OnOk result (self.new ≡ slice_set self.old i (record (child_in i self.old) { kept = record (child_in i self.old).kept { bytes = (child_in i self.old).kept.bytes ++ bytes.now } })) }
+    {
+        let i = i.index();
+        if i < self.list.len() {
+            let child = &mut self.list[i];
+            child.kept.add(bytes)?;
+        }
+        Ok(())
+    }
+
+    /// Keeps the last bytes of a child alone.
+    pub(crate) fn trim(&mut self, i: Place)
+        ensures { self.new ≡ slice_set self.old i (record (child_in i self.old) { kept = record (child_in i self.old).kept { bytes = keep_last (child_in i self.old).kept.size (child_in i self.old).kept.bytes } }) }
+    {
+        let i = i.index();
+        if i < self.list.len() {
+            let child = &mut self.list[i];
+            child.kept.trim();
+        }
+    }
+
+    /// Keeps another number of bytes of a child from now on.
+    pub(crate) fn resize(&mut self, i: Place, size: usize) -> Result<(), AllocError>
+        ensures { OnOk result (self.new ≡ slice_set self.old i (record (child_in i self.old) { kept = record { bytes = keep_last size (child_in i self.old).kept.bytes; size = size } })) }
+    {
+        let i = i.index();
+        if i < self.list.len() {
+            let child = &mut self.list[i];
+            child.kept.resize(size)?;
+        }
+        Ok(())
+    }
+
+    /// Drops so many of a child's first bytes, or all.
+    pub(crate) fn take(&mut self, i: Place, count: usize)
+        ensures { self.new ≡ slice_set self.old i (record (child_in i self.old) { kept = record (child_in i self.old).kept { bytes = drop count (child_in i self.old).kept.bytes } }) }
+    {
+        let i = i.index();
+        if i < self.list.len() {
+            let child = &mut self.list[i];
+            child.kept.take(count);
+        }
+    }
+
+    /// Tests a child's bytes against patterns.
+    pub(crate) fn choose(
+        &mut self,
+        alloc: Global,
+        i: Place,
+        list: &PatternList,
+    ) -> Result<Chosen, AllocError>
+        ensures same { self.new ≡ self.old }
+        ensures chosen { IfOk result (λ c. c ≡ decide list.now.entries both (child_in i self.old).kept.bytes (child_in i self.old).kept.size) }
+    {
+        let i = i.index();
+        if i < self.list.len() {
+            let child = &mut self.list[i];
+            return child.kept.choose(alloc, list);
+        }
+        list.choose(alloc, &BOTH, &[], 0)
+    }
+
+    /// A child's bytes from a place to another one, as far as they are there.
+    pub(crate) fn part(
+        &mut self,
+        alloc: Global,
+        i: Place,
+        from: usize,
+        to: usize,
+    ) -> Result<Text, AllocError>
+        ensures same { self.new ≡ self.old }
+        ensures part { IfOk result (λ t. t ≡ take (to - from) (drop from (child_in i self.old).kept.bytes)) }
+    {
+        let i = i.index();
+        if i < self.list.len() {
+            let child = &mut self.list[i];
+            return child.kept.part(alloc, from, to);
+        }
+        Ok(Text::new(alloc))
+    }
+}

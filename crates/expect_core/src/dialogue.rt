@@ -1,0 +1,202 @@
+//! A script's dialogue with its children.
+
+ghost use Rattle.std.specs.Prelude.{◌≡◌, map, IfOk, OnOk, IsTrue, None};
+ghost use Rattle.child_events.specs.declared.event.Answer.{Answer};
+ghost use Rattle.tcl_subst.specs.Variables.{Variables};
+ghost use Rattle.expect_core.specs.Good.{Good};
+ghost use Rattle.expect_core.specs.Lanes.{offered};
+ghost use Rattle.expect_core.specs.Answered.{Outcome, failure as failure_of, after_answer, awaited as awaited_of};
+ghost use Rattle.expect_core.specs.Calls.{fresh};
+ghost use Rattle.expect_core.specs.declared.phase.Purpose.{Purpose};
+ghost use Rattle.expect_core.specs.declared.dialogue.Dialogue.{Dialogue};
+
+use crate::answers::is_within;
+use crate::child::Children;
+use crate::lanes::Lanes;
+use crate::own::Own;
+use crate::phase::{Phase, Purpose};
+use crate::place::Place;
+use crate::request::{Request, Requests};
+use crate::settings::Settings;
+use child_events::{Answer, Cause, Event, What};
+use std::alloc::{AllocError, Global};
+use tcl_commands::Code;
+use tcl_eval::{Ending, HostStep, Pile};
+use tcl_values::Value;
+use tcl_words::Text;
+
+/// The host of a script: its children, and what came from them and was not taken yet.
+#[derive(Drop)]
+pub struct Dialogue {
+    /// The last moment, where there is one.
+    pub(crate) limit: Option<u64>,
+    /// The greatest moment so far.
+    pub(crate) horizon: u64,
+    /// What came, and was not taken yet.
+    pub(crate) lanes: Lanes,
+    /// What the commands change.
+    pub(crate) own: Own,
+    /// What a call that waits was doing.
+    pub(crate) phase: Phase,
+    /// No memory was refused.
+    pub(crate) lives: bool,
+}
+
+/// Why a request failed. An answer to another kind of request counts as a failure.
+pub(crate) fn failure(answer: Answer) -> Option<Cause>
+    ensures { result ≡ failure_of answer }
+{
+    match answer {
+        Answer::Ok => None,
+        Answer::Fail(cause) => Some(cause),
+        Answer::Exit(_) => Some(Cause::Other),
+        Answer::Killed => Some(Cause::Other),
+    }
+}
+
+/// A command is done, with this value.
+pub(crate) fn done(value: Value) -> HostStep
+    ensures { result ≡ HostStep.Done Code.Ok value }
+{
+    HostStep::Done(Code::Ok, value)
+}
+
+/// A command is an error with this text.
+pub(crate) fn failed(alloc: Global, text: Text) -> Result<HostStep, AllocError>
+    ensures { IfOk result (λ s. s ≡ HostStep.Fail text) }
+{
+    Ok(HostStep::Fail(Value::from_text(alloc, text)?))
+}
+
+impl Dialogue {
+    /// One to which nothing has come.
+    pub fn new(alloc: Global, settings: &Settings) -> Result<Dialogue, AllocError>
+        ensures { IfOk result (λ d. d ≡ fresh settings.now.limit_ms) }
+    {
+        Ok(Dialogue {
+            limit: settings.limit_ms,
+            horizon: 0,
+            lanes: Lanes::new(alloc)?,
+            own: Own {
+                clock: 0,
+                transcript: Text::new(alloc),
+                requests: Requests::new(alloc),
+                children: Children::new(alloc),
+                log_user: true,
+                size: 2000,
+                plans: Pile::new(alloc),
+            },
+            phase: Phase::Idle,
+            lives: true,
+        })
+    }
+
+    /// Puts what came behind what is there. Its moment is raised to the greatest one before it.
+    ///
+    /// Where memory is refused, the dialogue doesn't live on, and nothing is said of it any more.
+    pub fn offer(&mut self, event: Event)
+        ensures { Good self.old → IsTrue self.new.lives → IsTrue self.old.lives × (self.new ≡ offered event self.old) }
+    {
+        if !self.lives {
+            return;
+        }
+        match event {
+            Event::Tick { moment } => self.horizon = self.horizon.max(moment),
+            Event::Child {
+                child,
+                moment,
+                what,
+            } => {
+                if self.add(child, moment, what).is_err() {
+                    self.lives = false;
+                }
+            }
+        }
+    }
+
+    /// Adds what an event of a child brings.
+    fn add(&mut self, child: u8, moment: u64, what: What) -> Result<(), AllocError>
+        ensures { Good self.old → OnOk result (self.new ≡ offered (Event.Child child moment what) self.old) }
+    {
+        self.horizon = self.horizon.max(moment);
+        self.lanes.add(child, self.horizon, what)?;
+        Ok(())
+    }
+
+    /// What the script wrote, and the output that it took.
+    pub fn transcript(&self) -> &[u8]
+        ensures { result.now ≡ self.now.own.transcript }
+    {
+        self.own.transcript.as_slice()
+    }
+
+    /// What the script asked of its children, in order.
+    pub fn requests(&self) -> &[Request]
+        ensures { result.now ≡ self.now.own.requests }
+    {
+        self.own.requests.as_slice()
+    }
+
+    /// Copies of what the script asked of its children, in order.
+    pub fn requests_copied(&self, alloc: Global) -> Result<Requests, AllocError>
+        ensures { IfOk result (λ r. r ≡ self.now.own.requests) }
+    {
+        self.own.requests.copied(alloc)
+    }
+
+    /// For each child that was asked for, how many bytes of its writes were accepted.
+    pub fn sent(&self, alloc: Global) -> Result<Vec<u64>, AllocError>
+        ensures { IfOk result (λ v. v.items ≡ map (λ child. child.sent) self.now.own.children) }
+    {
+        let mut counts = Vec::new(alloc);
+        for child in &self.own.children.list {
+            counts.push(child.sent)?;
+        }
+        Ok(counts)
+    }
+
+    /// Whether no memory was refused to it.
+    pub fn lives(&self) -> bool
+        ensures { result ≡ self.now.lives }
+    {
+        let Dialogue { lives, .. } = self;
+        *lives
+    }
+
+    /// Where memory comes from.
+    pub(crate) fn alloc(&self) -> Global {
+        *self.lanes.list.allocator()
+    }
+
+    /// Says what is under way from now on.
+    pub(crate) fn set_phase(&mut self, phase: Phase)
+        ensures { self.new ≡ record self.old { phase = phase } }
+    {
+        self.phase = phase;
+    }
+
+    /// The next answer of the child at a place, to whose moment the clock goes.
+    pub(crate) fn next_answer(&mut self, i: Place) -> Option<Answer>
+        ensures { (why : Purpose) (more : Answer → Dialogue → Outcome) (vars : Variables) → awaited_of i why more vars self.old ≡ after_answer i why more vars result self.new }
+    {
+        match self.lanes.take_answer(i, self.limit) {
+            Some((moment, answer)) => {
+                self.own.advance(moment);
+                Some(answer)
+            }
+            None => None,
+        }
+    }
+
+    /// There is no answer yet: the call waits, unless the last moment has passed.
+    pub(crate) fn wait_for(&mut self, i: Place, why: Purpose) -> HostStep
+        ensures { (more : Answer → Dialogue → Outcome) (vars : Variables) → after_answer i why more vars None self.old ≡ (result, vars, self.new) }
+    {
+        if is_within(self.horizon, self.limit) {
+            self.set_phase(Phase::Answer(i, why));
+            HostStep::Wait
+        } else {
+            HostStep::Stop(Ending::TimeLimit)
+        }
+    }
+}

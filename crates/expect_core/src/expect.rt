@@ -1,0 +1,466 @@
+//! `expect`.
+
+ghost use Rattle.std.specs.Prelude.{◌≡◌, ◌++◌, ◌∷◌, [], drop, IfOk, OnOk, take};
+ghost use Rattle.std.specs.Fmt.{decimal as decimal_of};
+ghost use Rattle.expect_core.specs.Owned.{bytes_of, child_of};
+ghost use Rattle.expect_core.specs.Expecting.{acting, acting_at as acting_there, again as again_of, all_met as all_met_of, before as before_of, behind as behind_of, by_heard as by_heard_of, closing as closing_of, ended, end_of as end_told, entry_of, expecting as expecting_of, group_pairs as group_pairs_of, groups_from, listening as listening_of, looking as looking_of, matched as matched_of, meeting as meeting_of, met_pairs as met_pairs_of, places, text_pair, with_index as index_text};
+ghost use Rattle.expect_core.specs.Calls.{settled};
+
+use crate::dialogue::{Dialogue, done, failed, failure};
+use crate::ids::if_open;
+use crate::kept::BOTH;
+use crate::listen::{Times, listen, look};
+use crate::own::{Own, deadline_from};
+use crate::phase::{Heard, Phase, Purpose};
+use crate::place::Place;
+use crate::plan::Plan;
+use crate::planning::plan_of;
+use crate::request::Act;
+use crate::said::said;
+use crate::scoped::set_all;
+use crate::settings::Pairs;
+use crate::texts::{decimal, with_cause};
+use child_events::{Answer, Queue};
+use exp_match::Spans;
+use std::alloc::{AllocError, Global};
+use tcl_commands::Code;
+use tcl_eval::{Ending, HostStep};
+use tcl_subst::Vars;
+use tcl_values::Value;
+use tcl_words::Text;
+
+impl Plan {
+    /// The action of an entry.
+    fn action(&self, index: usize) -> &[u8]
+        ensures { result.now ≡ (entry_of index self.now).action }
+    {
+        let entries = self.list.entries.as_slice();
+        if index < entries.len() {
+            entries[index].action.as_slice()
+        } else {
+            &[]
+        }
+    }
+
+    /// Whether `-indices` and `-notransfer` stand before an entry's pattern.
+    fn marks(&self, index: usize) -> (bool, bool)
+        ensures { result ≡ ((entry_of index self.now).indices, (entry_of index self.now).notransfer) }
+    {
+        let entries = self.list.entries.as_slice();
+        if index < entries.len() {
+            (entries[index].indices, entries[index].notransfer)
+        } else {
+            (false, false)
+        }
+    }
+}
+
+/// The name of an element of `expect_out`.
+fn with_index(alloc: Global, index: &[u8]) -> Result<Text, AllocError>
+    ensures { IfOk result (λ t. t ≡ index_text index.now) }
+{
+    let mut text = Text::from_slice(alloc, b"expect_out(")?;
+    text.extend(index)?;
+    text.push(b')')?;
+    Ok(text)
+}
+
+/// The name of an element of `expect_out` that tells of a group.
+fn group_index(alloc: Global, group: usize, what: &[u8]) -> Result<Text, AllocError>
+    ensures { IfOk result (λ t. t ≡ index_text (decimal_of group ++ what.now)) }
+{
+    let mut index = decimal(alloc, group)?;
+    index.extend(what)?;
+    with_index(alloc, index.as_slice())
+}
+
+/// The place before an exclusive end.
+fn before(alloc: Global, end: usize) -> Result<Text, AllocError>
+    ensures { IfOk result (λ t. t ≡ before_of end) }
+{
+    if end == 0 {
+        Text::from_slice(alloc, b"-1")
+    } else {
+        decimal(alloc, end - 1)
+    }
+}
+
+/// Where a group starts and ends.
+fn push_places(
+    alloc: Global,
+    pairs: &mut Pairs,
+    group: usize,
+    span: (usize, usize),
+) -> Result<(), AllocError>
+    ensures { OnOk result (pairs.new ≡ pairs.old ++ places group span) }
+{
+    let (start, end) = span;
+    pairs.push(
+        group_index(alloc, group, b",start")?,
+        decimal(alloc, start)?,
+    )?;
+    pairs.push(group_index(alloc, group, b",end")?, before(alloc, end)?)?;
+    Ok(())
+}
+
+impl Own {
+    /// The bytes of a group that took part.
+    fn push_text(
+        &mut self,
+        alloc: Global,
+        pairs: &mut Pairs,
+        i: Place,
+        group: usize,
+        span: (usize, usize),
+    ) -> Result<(), AllocError>
+        ensures same { self.new ≡ self.old }
+        ensures pushed { OnOk result (pairs.new ≡ pairs.old ++ text_pair (bytes_of i self.old) group span ∷ []) }
+    {
+        let text = self.children.part(alloc, i, span.0, span.1)?;
+        pairs.push(group_index(alloc, group, b",string")?, text)
+    }
+
+    /// The places and the bytes of a group that took part.
+    fn push_whole(
+        &mut self,
+        alloc: Global,
+        pairs: &mut Pairs,
+        i: Place,
+        group: usize,
+        span: (usize, usize),
+    ) -> Result<(), AllocError>
+        ensures same { self.new ≡ self.old }
+        ensures pushed { OnOk result (pairs.new ≡ pairs.old ++ (places group span ++ text_pair (bytes_of i self.old) group span ∷ [])) }
+    {
+        push_places(alloc, pairs, group, span)?;
+        self.push_text(alloc, pairs, i, group, span)?;
+        Ok(())
+    }
+
+    /// What is stored of a group, where it took part.
+    fn push_group(
+        &mut self,
+        alloc: Global,
+        pairs: &mut Pairs,
+        i: Place,
+        indices: bool,
+        group: usize,
+        span: Option<(usize, usize)>,
+    ) -> Result<(), AllocError>
+        ensures same { self.new ≡ self.old }
+        ensures pushed { OnOk result (pairs.new ≡ pairs.old ++ group_pairs_of indices (bytes_of i self.old) group span) }
+    {
+        match span {
+            None => Ok(()),
+            Some(span) => {
+                if indices {
+                    self.push_whole(alloc, pairs, i, group, span)
+                } else {
+                    self.push_text(alloc, pairs, i, group, span)
+                }
+            }
+        }
+    }
+
+    /// What is stored of the groups that took part.
+    fn push_groups(
+        &mut self,
+        alloc: Global,
+        pairs: &mut Pairs,
+        i: Place,
+        indices: bool,
+        spans: &Spans,
+    ) -> Result<(), AllocError>
+        ensures same { self.new ≡ self.old }
+        ensures pushed { OnOk result (pairs.new ≡ pairs.old ++ groups_from indices (bytes_of i self.old) 0 spans.now) }
+    {
+        'groups: for group in 0..spans.len() {
+            self.push_group(alloc, pairs, i, indices, group, spans[group])?;
+        }
+        Ok(())
+    }
+
+    /// The id, and so many of the bytes, are stored.
+    fn push_met(
+        &mut self,
+        alloc: Global,
+        pairs: &mut Pairs,
+        i: Place,
+        count: usize,
+    ) -> Result<(), AllocError>
+        ensures same { self.new ≡ self.old }
+        ensures pushed { OnOk result (pairs.new ≡ pairs.old ++ met_pairs_of (child_of i self.old).id (take count (bytes_of i self.old))) }
+    {
+        let id = Text::from_slice(alloc, self.children.id(i))?;
+        pairs.push(with_index(alloc, b"spawn_id")?, id)?;
+        let met = self.children.part(alloc, i, 0, count)?;
+        pairs.push(with_index(alloc, b"buffer")?, met)?;
+        Ok(())
+    }
+}
+
+/// Where a match ends.
+fn end_of(spans: &Spans) -> usize
+    ensures { result ≡ end_told spans.now }
+{
+    match spans[0] {
+        Some((_, end)) => end,
+        None => 0,
+    }
+}
+
+impl Dialogue {
+    /// An action is evaluated, and the expect kept meanwhile.
+    fn act(
+        &mut self,
+        alloc: Global,
+        vars: &Vars,
+        plan: Plan,
+        index: usize,
+    ) -> Result<HostStep, AllocError>
+        ensures { IfOk result (λ s. acting plan (entry_of index plan).action vars.now self.old ≡ (s, vars.now, self.new)) }
+    {
+        let action = Value::from_slice(alloc, plan.action(index))?;
+        self.own.plans.push(plan)?;
+        Ok(HostStep::Body(action))
+    }
+
+    /// The action of a keyword, if one is listed.
+    fn act_at(
+        &mut self,
+        alloc: Global,
+        vars: &Vars,
+        plan: Plan,
+        index: Option<usize>,
+    ) -> Result<HostStep, AllocError>
+        ensures { IfOk result (λ s. acting_there plan index vars.now self.old ≡ (s, vars.now, self.new)) }
+    {
+        match index {
+            Some(index) => self.act(alloc, vars, plan, index),
+            None => Ok(done(Value::new(alloc))),
+        }
+    }
+}
+
+impl Dialogue {
+    /// Bytes that are met are stored, and so many of them leave the buffer.
+    fn meet(
+        &mut self,
+        alloc: Global,
+        vars: &mut Vars,
+        plan: Plan,
+        index: usize,
+        pairs: Pairs,
+        count: usize,
+    ) -> Result<HostStep, AllocError>
+        ensures { IfOk result (λ s. meeting_of plan index pairs (drop count (bytes_of plan.child self.old.own)) vars.old self.old ≡ (s, vars.new, self.new)) }
+    {
+        if let Some(text) = set_all(alloc, vars, pairs.as_slice())? {
+            return Ok(HostStep::Fail(text));
+        }
+        self.own.children.take(plan.child, count);
+        self.act(alloc, vars, plan, index)
+    }
+
+    /// A pattern matches.
+    fn on_match(
+        &mut self,
+        alloc: Global,
+        vars: &mut Vars,
+        plan: Plan,
+        index: usize,
+        spans: &Spans,
+    ) -> Result<HostStep, AllocError>
+        ensures { IfOk result (λ s. matched_of plan index spans.now vars.old self.old ≡ (s, vars.new, self.new)) }
+    {
+        let (indices, notransfer) = plan.marks(index);
+        let end = end_of(spans);
+        let mut pairs = Pairs::new(alloc);
+        self.own
+            .push_groups(alloc, &mut pairs, plan.child, indices, spans)?;
+        self.own.push_met(alloc, &mut pairs, plan.child, end)?;
+        let taken = if notransfer { 0 } else { end };
+        self.meet(alloc, vars, plan, index, pairs, taken)
+    }
+
+    /// All kept bytes are met by a keyword, if it is listed.
+    fn on_all_met(
+        &mut self,
+        alloc: Global,
+        vars: &mut Vars,
+        plan: Plan,
+        index: Option<usize>,
+    ) -> Result<HostStep, AllocError>
+        ensures { IfOk result (λ s. all_met_of plan index vars.old self.old ≡ (s, vars.new, self.new)) }
+    {
+        let Some(index) = index else {
+            return Ok(done(Value::new(alloc)));
+        };
+        let count = self.own.children.count_kept(plan.child);
+        let mut pairs = Pairs::new(alloc);
+        self.own.push_met(alloc, &mut pairs, plan.child, count)?;
+        self.meet(alloc, vars, plan, index, pairs, count)
+    }
+
+    /// The output ended, and the child was let go, or not.
+    pub(crate) fn on_ended(
+        &mut self,
+        alloc: Global,
+        vars: &mut Vars,
+        i: Place,
+        plan: Plan,
+        answer: Answer,
+    ) -> Result<HostStep, AllocError>
+        ensures { IfOk result (λ s. ended plan i vars.old answer self.old ≡ (s, vars.new, self.new)) }
+    {
+        self.shut(i);
+        if let Some(cause) = failure(answer) {
+            return failed(alloc, with_cause(alloc, b"close failed", cause)?);
+        }
+        let index = plan.list.at_end(&BOTH);
+        self.on_all_met(alloc, vars, plan, index)
+    }
+
+    /// Lets a child go, and goes on with the answer.
+    pub(crate) fn close(
+        &mut self,
+        alloc: Global,
+        vars: &mut Vars,
+        i: Place,
+        why: Purpose,
+    ) -> Result<HostStep, AllocError>
+        ensures { IfOk result (λ s. closing_of i why (settled i why vars.old) vars.old self.old ≡ (s, vars.new, self.new)) }
+    {
+        self.own.ask(i, Act::Close)?;
+        self.answered(alloc, vars, i, why)
+    }
+
+    /// Ends a wait for a pattern, or keeps it.
+    fn conclude(
+        &mut self,
+        alloc: Global,
+        vars: &mut Vars,
+        plan: Plan,
+        heard: Heard,
+    ) -> Result<HostStep, AllocError>
+        ensures { IfOk result (λ s. by_heard_of plan vars.old heard self.old ≡ (s, vars.new, self.new)) }
+    {
+        match heard {
+            Heard::Match(index, spans) => self.on_match(alloc, vars, plan, index, &spans),
+            Heard::Full => {
+                let index = plan.list.at_full(&BOTH);
+                self.on_all_met(alloc, vars, plan, index)
+            }
+            Heard::TimedOut(deadline) => {
+                self.own.clock = deadline;
+                let index = plan.list.at_timeout();
+                self.act_at(alloc, vars, plan, index)
+            }
+            Heard::OverLimit => Ok(HostStep::Stop(Ending::TimeLimit)),
+            Heard::NotYet => {
+                self.set_phase(Phase::Expect(plan));
+                Ok(HostStep::Wait)
+            }
+            Heard::Ended => self.close(alloc, vars, plan.child, Purpose::End(plan)),
+            Heard::Failed(cause) => self.close(alloc, vars, plan.child, Purpose::Fail(cause)),
+        }
+    }
+
+    /// Goes on with a wait for a pattern.
+    pub(crate) fn listening(
+        &mut self,
+        alloc: Global,
+        vars: &mut Vars,
+        plan: Plan,
+    ) -> Result<HostStep, AllocError>
+        ensures { IfOk result (λ s. listening_of plan vars.old self.old ≡ (s, vars.new, self.new)) }
+    {
+        let mut items = self.lanes.take_items(plan.child);
+        let times = Times {
+            limit: self.limit,
+            horizon: self.horizon,
+        };
+        let heard = listen(alloc, times, &plan, &mut items, &mut self.own)?;
+        self.lanes.put_items(plan.child, items);
+        self.conclude(alloc, vars, plan, heard)
+    }
+
+    /// Begins a wait for a pattern.
+    pub(crate) fn looking(
+        &mut self,
+        alloc: Global,
+        vars: &mut Vars,
+        plan: Plan,
+    ) -> Result<HostStep, AllocError>
+        ensures { IfOk result (λ s. looking_of plan vars.old self.old ≡ (s, vars.new, self.new)) }
+    {
+        let mut items = self.lanes.take_items(plan.child);
+        let times = Times {
+            limit: self.limit,
+            horizon: self.horizon,
+        };
+        let heard = look(alloc, times, &plan, &mut items, &mut self.own)?;
+        self.lanes.put_items(plan.child, items);
+        self.conclude(alloc, vars, plan, heard)
+    }
+
+    /// `expect` with these arguments.
+    pub(crate) fn expect(
+        &mut self,
+        alloc: Global,
+        vars: &mut Vars,
+        args: &[Value],
+    ) -> Result<HostStep, AllocError>
+        ensures { IfOk result (λ s. expecting_of args.now vars.old self.old ≡ (s, vars.new, self.new)) }
+    {
+        match said(alloc, plan_of(alloc, args, vars, &self.own))? {
+            Ok(plan) => self.looking(alloc, vars, plan),
+            Err(text) => Ok(HostStep::Fail(text)),
+        }
+    }
+
+    /// An expect once more, behind its action.
+    fn expect_again(
+        &mut self,
+        alloc: Global,
+        vars: &mut Vars,
+        mut plan: Plan,
+        deadline: Option<u128>,
+    ) -> Result<HostStep, AllocError>
+        ensures { IfOk result (λ s. again_of plan deadline self.old.own.plans vars.old self.old ≡ (s, vars.new, self.new)) }
+    {
+        match said(alloc, if_open(alloc, plan.child, &self.own))? {
+            Ok(_) => {
+                plan.deadline = deadline;
+                self.looking(alloc, vars, plan)
+            }
+            Err(text) => Ok(HostStep::Fail(text)),
+        }
+    }
+
+    /// Goes on behind an action, which ended with this code and value.
+    pub(crate) fn behind(
+        &mut self,
+        alloc: Global,
+        vars: &mut Vars,
+        code: Code,
+        value: &Value,
+    ) -> Result<HostStep, AllocError>
+        ensures { IfOk result (λ s. behind_of code value.now self.old.own.plans vars.old self.old ≡ (s, vars.new, self.new)) }
+    {
+        let Some(plan) = self.own.plans.pop() else {
+            return Ok(HostStep::Done(code, value.shared(alloc)?));
+        };
+        match code {
+            Code::Again => {
+                let deadline = deadline_from(self.own.clock, plan.span);
+                self.expect_again(alloc, vars, plan, deadline)
+            }
+            Code::AgainLater => {
+                let deadline = plan.deadline;
+                self.expect_again(alloc, vars, plan, deadline)
+            }
+            _ => Ok(HostStep::Done(code, value.shared(alloc)?)),
+        }
+    }
+}

@@ -1,0 +1,123 @@
+//! The bytes of a child that no expect has taken.
+
+ghost use Rattle.std.specs.Prelude.{◌≡◌, ◌-◌, ◌++◌, [], length, drop, take, IfOk, OnOk};
+ghost use Rattle.circular_buffer.specs.Buffer.{keep_last};
+ghost use Rattle.exp_match.specs.Decide.{decide};
+ghost use Rattle.expect_core.specs.Heard.{both};
+
+use exp_match::{Chosen, PatternList};
+use match_buffer::Buffer;
+use std::alloc::{AllocError, Global};
+use std::marker::Model;
+use tcl_words::Text;
+
+/// The groups of the one process that an expect names.
+pub(crate) const BOTH: [usize; 2] = [0, 1];
+
+/// Bytes that no expect has taken, and how many of them are kept.
+#[derive(Drop)]
+pub struct Kept {
+    buffer: Buffer,
+}
+
+impl Model for Kept {
+    ghost use Rattle.expect_core.specs.Held.{Held};
+
+    ghost Value = { Held };
+
+    ghost view = { λ k. record { bytes = k.buffer.ring.items; size = k.buffer.size } };
+}
+
+/// At most so many bytes of a text's front.
+pub(crate) fn front(bytes: &[u8], most: usize) -> &[u8]
+    ensures { result.now ≡ take most bytes.now }
+{
+    if bytes.len() <= most {
+        bytes
+    } else {
+        bytes.split_at(most).0
+    }
+}
+
+/// A text without so many bytes of its front.
+pub(crate) fn behind(bytes: &[u8], count: usize) -> &[u8]
+    ensures { result.now ≡ drop count bytes.now }
+{
+    if bytes.len() <= count {
+        &[]
+    } else {
+        bytes.split_at(count).1
+    }
+}
+
+impl Kept {
+    /// No bytes, of which so many are kept.
+    pub(crate) fn new(alloc: Global, size: usize) -> Result<Kept, AllocError>
+        ensures { IfOk result (λ k. k ≡ record { bytes = []; size = size }) }
+    {
+        Ok(Kept {
+            buffer: Buffer::new(alloc, size)?,
+        })
+    }
+
+    /// How many bytes are kept.
+    pub(crate) fn size(&self) -> usize
+        ensures { result ≡ self.now.size }
+    {
+        self.buffer.size
+    }
+
+    /// How many bytes there are.
+    pub(crate) fn len(&self) -> usize
+        ensures { result ≡ length self.now.bytes }
+    {
+        self.buffer.ring().len()
+    }
+
+    /// Puts bytes behind the others.
+    pub(crate) fn add(&mut self, bytes: &[u8]) -> Result<(), AllocError>
+        ensures { OnOk result (self.new ≡ record self.old { bytes = self.old.bytes ++ bytes.now }) }
+    {
+        self.buffer.add(bytes)
+    }
+
+    /// Keeps the last bytes alone.
+    pub(crate) fn trim(&mut self)
+        ensures { self.new ≡ record self.old { bytes = keep_last self.old.size self.old.bytes } }
+    {
+        self.buffer.trim();
+    }
+
+    /// Keeps another number of bytes from now on.
+    pub(crate) fn resize(&mut self, size: usize) -> Result<(), AllocError>
+        ensures { OnOk result (self.new ≡ record { bytes = keep_last size self.old.bytes; size = size }) }
+    {
+        self.buffer.resize(size)
+    }
+
+    /// Drops so many bytes of the front, or all.
+    pub(crate) fn take(&mut self, count: usize)
+        ensures { self.new ≡ record self.old { bytes = drop count self.old.bytes } }
+    {
+        let count = count.min(self.buffer.ring.len());
+        self.buffer.take(count);
+    }
+
+    /// Tests the bytes against patterns.
+    pub(crate) fn choose(&mut self, alloc: Global, list: &PatternList) -> Result<Chosen, AllocError>
+        ensures same { self.new ≡ self.old }
+        ensures chosen { IfOk result (λ c. c ≡ decide list.now.entries both self.old.bytes self.old.size) }
+    {
+        let size = self.buffer.size;
+        list.choose(alloc, &BOTH, self.buffer.bytes(), size)
+    }
+
+    /// The bytes from a place to another one, as far as they are there.
+    pub(crate) fn part(&mut self, alloc: Global, from: usize, to: usize) -> Result<Text, AllocError>
+        ensures same { self.new ≡ self.old }
+        ensures part { IfOk result (λ t. t ≡ take (to - from) (drop from self.old.bytes)) }
+    {
+        let bytes = behind(self.buffer.bytes(), from);
+        Text::from_slice(alloc, front(bytes, to.saturating_sub(from)))
+    }
+}

@@ -1,0 +1,166 @@
+//! What came to a script from its children, and was not taken yet.
+
+ghost use Rattle.std.specs.Prelude.{◌≡◌, [], IfOk, OnOk};
+ghost use Rattle.child_events.specs.Queue.{with_echo};
+ghost use Rattle.expect_core.specs.Answered.{first_answer};
+ghost use Rattle.expect_core.specs.Good.{ItemsBy, LanesBy};
+ghost use Rattle.expect_core.specs.Lanes.{no_lane, no_lanes, lane_of, with_items, with_answers, with_item, lane_with, grown, place as place_of};
+
+use crate::answers::Answers;
+use crate::place::{MOST_CHILDREN, Place};
+use child_events::{Answer, Item, Queue, What};
+use std::alloc::{AllocError, Global};
+use std::marker::Model;
+use std::mem;
+
+/// What came from one child, and was not taken yet.
+#[derive(Debug, Drop)]
+pub struct Lane {
+    /// Its output, its end, and the echo of what was sent to it.
+    pub items: Queue,
+    /// What requests to it came to.
+    pub answers: Answers,
+    /// Its output ended, or reading it failed: nothing comes behind.
+    pub over: bool,
+}
+
+impl Lane {
+    /// A child from which nothing came. It allocates nothing.
+    fn new(alloc: Global) -> Lane
+        ensures { result ≡ no_lane }
+    {
+        Lane {
+            items: Queue::new(alloc),
+            answers: Answers::new(alloc),
+            over: false,
+        }
+    }
+
+    /// Puts an item behind the others, and says whether it is the last.
+    #[tactic(auto, using(crate::proofs::Pushing::pushed_behind))]
+    fn push(&mut self, moment: u64, item: Item, ends: bool) -> Result<(), AllocError>
+        ensures { ItemsBy moment self.old.items → OnOk result (self.new ≡ with_item moment item ends self.old) }
+    {
+        if self.over {
+            return Ok(());
+        }
+        self.items.push(moment, item)?;
+        self.over = ends;
+        Ok(())
+    }
+
+    /// Adds what an event brings, at a moment that is no earlier than any before.
+    fn add(&mut self, moment: u64, what: What) -> Result<(), AllocError>
+        ensures { ItemsBy moment self.old.items → OnOk result (self.new ≡ lane_with moment what self.old) }
+    {
+        match what {
+            What::Out(piece) => self.push(moment, Item::Out(piece), false),
+            What::Eof => self.push(moment, Item::Eof, true),
+            What::ReadFail(cause) => self.push(moment, Item::ReadFail(cause), true),
+            What::Answer(answer) => self.answers.push(moment, answer),
+        }
+    }
+}
+
+/// The lanes of children 1 to 16. A contract sees a list.
+#[derive(Debug, Drop)]
+pub struct Lanes {
+    pub(crate) list: Vec<Lane>,
+}
+
+impl Model for Lanes {
+    ghost use Rattle.std.specs.Prelude.{List};
+    ghost use Rattle.expect_core.specs.declared.lanes.Lane.{Lane};
+
+    ghost Value = { List Lane };
+
+    ghost view = { λ t. t.list.items };
+}
+
+/// The place of a child with this number, which counts from 1.
+fn place(child: u8) -> usize
+    ensures { result ≡ place_of child }
+{
+    if child == 0 {
+        MOST_CHILDREN
+    } else {
+        usize::from(child - 1)
+    }
+}
+
+impl Lanes {
+    /// Children from which nothing came.
+    #[tactic(auto, unfolding(crate::specs::Lanes::no_lanes))]
+    pub(crate) fn new(alloc: Global) -> Result<Lanes, AllocError>
+        ensures { IfOk result (λ l. l ≡ no_lanes) }
+    {
+        let mut list = Vec::new(alloc);
+        for _ in 0..MOST_CHILDREN {
+            list.push(Lane::new(alloc))?;
+        }
+        Ok(Lanes { list })
+    }
+
+    /// Adds what an event of a child brings, at a moment that is no earlier than any before.
+    #[tactic(auto, using(crate::proofs::Moments::items_by))]
+    pub(crate) fn add(&mut self, child: u8, moment: u64, what: What) -> Result<(), AllocError>
+        ensures { LanesBy moment self.old → OnOk result (self.new ≡ grown (lane_with moment what) (place_of child) self.old) }
+    {
+        let at = place(child);
+        if at < self.list.len() {
+            let lane = &mut self.list[at];
+            lane.add(moment, what)?;
+        }
+        Ok(())
+    }
+
+    /// Takes the first answer of the child at a place, where it came in time.
+    pub(crate) fn take_answer(&mut self, i: Place, limit: Option<u64>) -> Option<(u64, Answer)>
+        ensures taken { result ≡ (first_answer limit (lane_of i self.old).answers).0 }
+        ensures left { self.new ≡ with_answers i (first_answer limit (lane_of i self.old).answers).1 self.old }
+    {
+        let i = i.index();
+        if i < self.list.len() {
+            let lane = &mut self.list[i];
+            return lane.answers.take(limit);
+        }
+        None
+    }
+
+    /// Takes all items of the child at a place out.
+    pub(crate) fn take_items(&mut self, i: Place) -> Queue
+        ensures taken { result ≡ (lane_of i self.old).items }
+        ensures left { self.new ≡ with_items i [] self.old }
+    {
+        let none = Queue::new(*self.list.allocator());
+        let i = i.index();
+        if i < self.list.len() {
+            let lane = &mut self.list[i];
+            return mem::replace(&mut lane.items, none);
+        }
+        none
+    }
+
+    /// Puts all items of the child at a place back.
+    pub(crate) fn put_items(&mut self, i: Place, items: Queue)
+        ensures { self.new ≡ with_items i items self.old }
+    {
+        let i = i.index();
+        if i < self.list.len() {
+            let lane = &mut self.list[i];
+            lane.items = items;
+        }
+    }
+
+    /// Puts the echo of what was sent to the child at a place among its items.
+    pub(crate) fn echo(&mut self, i: Place, moment: u64, bytes: &[u8]) -> Result<(), AllocError>
+        ensures { OnOk result (self.new ≡ with_items i (with_echo moment bytes.now (lane_of i self.old).items) self.old) }
+    {
+        let i = i.index();
+        if i < self.list.len() {
+            let lane = &mut self.list[i];
+            lane.items.insert_echo(moment, bytes)?;
+        }
+        Ok(())
+    }
+}

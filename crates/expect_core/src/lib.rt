@@ -1,0 +1,35 @@
+//! The commands of Expect, as the host of a script: its children, and what came from them and was not taken yet.
+#![tactic(auto)]
+
+mod answers;
+mod child;
+mod dialogue;
+mod expect;
+mod flags;
+mod host;
+mod ids;
+mod kept;
+mod lanes;
+mod laws;
+mod listen;
+mod name;
+mod order;
+mod others;
+mod own;
+mod phase;
+mod place;
+mod plan;
+mod planning;
+mod request;
+mod said;
+mod scoped;
+mod send;
+mod settings;
+mod settle;
+mod spawn;
+mod texts;
+
+pub use dialogue::Dialogue;
+pub use laws::dialogue_laws;
+pub use request::{Act, Request, Requests};
+pub use settings::{Pairs, Settings};

@@ -1,0 +1,16 @@
+//! The commands of Expect by their names.
+
+/// A command of Expect.
+#[derive(Clone, Copy, Debug, PartialEq, Eq)]
+pub enum Name {
+    Spawn,
+    Send,
+    SendUser,
+    Expect,
+    ExpContinue,
+    Close,
+    Wait,
+    MatchMax,
+    LogUser,
+    Puts,
+}

@@ -1,0 +1,115 @@
+//! What a spawn is to start.
+
+ghost use Rattle.std.specs.Prelude.{◌≡◌, [], slice_index_or};
+ghost use Rattle.tty_output.specs.Modes.{read as read_modes};
+ghost use Rattle.tcl_commands.specs.Says.{Says};
+ghost use Rattle.expect_core.specs.Spawning.{modes_in, modes_by as modes_by_of, modes_of as modes_named, order_of as order_meant, order_by, ordered};
+
+use crate::flags::{Switch, Takes, flags_of};
+use crate::scoped::optional;
+use crate::texts::bad_stty;
+use std::alloc::Global;
+use tcl_commands::{Complaint, list_of, texts_of, wrong_args};
+use tcl_subst::Vars;
+use tcl_values::Value;
+use tcl_words::{Text, Texts};
+use tty_output::Modes;
+
+/// What a spawn is to start.
+#[derive(Drop)]
+pub struct Order {
+    /// Nothing is written to the transcript.
+    pub quiet: bool,
+    /// The program and its arguments.
+    pub words: Texts,
+    /// The modes of the child's terminal.
+    pub modes: Modes,
+}
+
+/// The text at an index.
+fn text_at(texts: &[Text], at: usize) -> &[u8]
+    ensures { result.now ≡ slice_index_or texts.now at [] }
+{
+    if at < texts.len() {
+        texts[at].as_slice()
+    } else {
+        &[]
+    }
+}
+
+/// The modes that words of stty(1) leave.
+fn modes_in(alloc: Global, words: &[Text]) -> Result<Modes, Complaint>
+    ensures { Says result (modes_in words.now (read_modes words.now)) }
+{
+    match Modes::read(words) {
+        Ok(modes) => Ok(modes),
+        Err(bad) => Err(Complaint::Said(bad_stty(alloc, text_at(words, bad.at))?)),
+    }
+}
+
+/// The modes that a list of words leaves.
+fn modes_by(alloc: Global, list: Option<Value>) -> Result<Modes, Complaint>
+    ensures { Says result (modes_by_of list) }
+{
+    match list {
+        None => Ok(Modes::sane()),
+        Some(list) => {
+            let elements = list_of(alloc, &list)?;
+            modes_in(alloc, elements.as_slice())
+        }
+    }
+}
+
+/// The modes of a child's terminal: those that the variable `stty_init` lists, if it is there.
+fn modes_of(alloc: Global, vars: &Vars) -> Result<Modes, Complaint>
+    ensures { Says result (modes_named vars.now) }
+{
+    modes_by(alloc, optional(alloc, vars, b"stty_init")?)
+}
+
+const TAKES: Takes = Takes {
+    own: Some(Switch::NoEcho),
+    id: false,
+    end: true,
+};
+
+/// What is started, by its words.
+fn started(alloc: Global, quiet: bool, words: &[Value], vars: &Vars) -> Result<Order, Complaint>
+    ensures { Says result (order_by quiet words.now vars.now) }
+{
+    let modes = modes_of(alloc, vars)?;
+    Ok(Order {
+        quiet,
+        words: texts_of(alloc, words)?,
+        modes,
+    })
+}
+
+/// What is started, where there is a program.
+fn ordered(
+    alloc: Global,
+    name: &[u8],
+    quiet: bool,
+    words: &[Value],
+    vars: &Vars,
+) -> Result<Order, Complaint>
+    ensures { Says result (ordered name.now quiet words.now vars.now) }
+{
+    if words.is_empty() {
+        return Err(Complaint::Said(wrong_args(alloc, name)?));
+    }
+    started(alloc, quiet, words, vars)
+}
+
+/// What the arguments of a spawn say.
+pub(crate) fn order_of(
+    alloc: Global,
+    name: &[u8],
+    args: &[Value],
+    vars: &Vars,
+) -> Result<Order, Complaint>
+    ensures { Says result (order_meant name.now args.now vars.now) }
+{
+    let (flags, at) = flags_of(alloc, name, TAKES, args)?;
+    ordered(alloc, name, flags.on, &args[at..], vars)
+}

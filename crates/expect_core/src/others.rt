@@ -1,0 +1,468 @@
+//! The other commands of Expect, and `puts`.
+
+ghost use Rattle.std.specs.Prelude.{◌≡◌, IfOk, ◌++◌, ◌∷◌, [], if◌then◌else◌, ℕ, List};
+ghost use Rattle.std.specs.Fmt.{decimal as decimal_of};
+ghost use Rattle.tcl_commands.specs.Says.{Says};
+ghost use Rattle.tcl_commands.specs.Texts.{wrong_args};
+ghost use Rattle.tcl_commands.specs.Said.{Said};
+ghost use Rattle.expect_core.specs.Others.{again_code, close_of as close_meant, closing_of, continued as continued_of, continuing, if_unwaited, logging as logging_of, logging_as, no_channel as no_channel_text, put_of as put_meant, puts_to as puts_to_of, size_args as size_meant, size_at as size_there, size_by as size_told, size_default, size_of as size_named, sizing as sizing_of, sizing_by, to_user as user_text, wait_of as wait_meant, waiting, writing, waiting_at};
+
+use crate::dialogue::{Dialogue, done, failed};
+use crate::flags::{
+    Flags, Switch, Takes, bad_flag, bare, flags_of, is, is_flag, with_option, with_text,
+};
+use crate::ids::{open_to, spoken_to};
+use crate::own::Own;
+use crate::phase::Purpose;
+use crate::place::Place;
+use crate::request::Act;
+use crate::said::said;
+use crate::texts::{bad_size, decimal, waited_for};
+use std::alloc::{AllocError, Global};
+use tcl_commands::{Code, Complaint, bad_option, wrong_args};
+use tcl_eval::HostStep;
+use tcl_expr::read_number;
+use tcl_subst::Vars;
+use tcl_values::Value;
+use tcl_words::Text;
+
+/// A word that is neither a flag nor a channel of `puts`.
+fn no_channel(alloc: Global, word: &[u8]) -> Result<Text, AllocError>
+    ensures { IfOk result (λ t. t ≡ no_channel_text word.now) }
+{
+    if is_flag(word) {
+        bad_flag(alloc, word)
+    } else {
+        bad_option(alloc, word)
+    }
+}
+
+/// A text with a newline behind it, or without.
+fn ended(alloc: Global, line: bool, text: &[u8]) -> Result<Text, AllocError>
+    ensures { IfOk result (λ t. t ≡ (if line then text.now ++ 10 ∷ [] else text.now)) }
+{
+    let mut text = Text::from_slice(alloc, text)?;
+    if line {
+        text.push(b'\n')?;
+    }
+    Ok(text)
+}
+
+/// What `puts` writes to a channel, with a newline behind it, or without.
+fn puts_to(alloc: Global, line: bool, channel: &[u8], text: &[u8]) -> Result<Text, Complaint>
+    ensures { Says result (puts_to_of line channel.now text.now) }
+{
+    if is(channel, b"stdout") {
+        return Ok(ended(alloc, line, text)?);
+    }
+    Err(Complaint::Said(no_channel(alloc, channel)?))
+}
+
+/// What `puts` writes that has two arguments.
+fn puts_two(alloc: Global, name: &[u8], word: &[u8], text: &[u8]) -> Result<Text, Complaint>
+    ensures { Says result (put_meant name.now (word.now ∷ text.now ∷ [])) }
+{
+    if is(word, b"-nonewline") {
+        return Ok(Text::from_slice(alloc, text)?);
+    }
+    puts_to(alloc, true, word, text)
+}
+
+/// What `puts` writes that has three arguments.
+fn puts_three(
+    alloc: Global,
+    name: &[u8],
+    word: &[u8],
+    channel: &[u8],
+    text: &[u8],
+) -> Result<Text, Complaint>
+    ensures { Says result (put_meant name.now (word.now ∷ channel.now ∷ text.now ∷ [])) }
+{
+    if is(word, b"-nonewline") {
+        return puts_to(alloc, false, channel, text);
+    }
+    Err(Complaint::Said(wrong_args(alloc, name)?))
+}
+
+/// What `puts` writes whose first arguments are these.
+fn puts_behind(
+    alloc: Global,
+    name: &[u8],
+    word: &[u8],
+    second: &[u8],
+    others: &[Value],
+) -> Result<Text, Complaint>
+    ensures { Says result (put_meant name.now (word.now ∷ second.now ∷ others.now)) }
+{
+    match others {
+        [] => puts_two(alloc, name, word, second),
+        [text] => puts_three(alloc, name, word, second, text.as_slice()),
+        _ => Err(Complaint::Said(wrong_args(alloc, name)?)),
+    }
+}
+
+/// What `puts` writes.
+fn put_of(alloc: Global, name: &[u8], args: &[Value]) -> Result<Text, Complaint>
+    ensures { Says result (put_meant name.now args.now) }
+{
+    match args {
+        [] => Err(Complaint::Said(wrong_args(alloc, name)?)),
+        [text] => Ok(ended(alloc, true, text.as_slice())?),
+        [word, second, others @ ..] => {
+            puts_behind(alloc, name, word.as_slice(), second.as_slice(), others)
+        }
+    }
+}
+
+/// What `send_user` writes.
+fn to_user(alloc: Global, name: &[u8], args: &[Value]) -> Result<Text, Complaint>
+    ensures { Says result (user_text name.now args.now) }
+{
+    let takes = Takes {
+        own: None,
+        id: false,
+        end: true,
+    };
+    let (_, at) = flags_of(alloc, name, takes, args)?;
+    let text = with_text(alloc, name, &args[at..])?;
+    Ok(Text::from_slice(alloc, text.as_slice())?)
+}
+
+/// The code of an `exp_continue`.
+fn continued(alloc: Global, name: &[u8], args: &[Value]) -> Result<Code, Complaint>
+    ensures { Says result (continued_of name.now args.now) }
+{
+    let takes = Takes {
+        own: Some(Switch::Timer),
+        id: false,
+        end: false,
+    };
+    let (flags, at) = flags_of(alloc, name, takes, args)?;
+    bare(alloc, name, &args[at..])?;
+    Ok(code_of(&flags))
+}
+
+/// The code by which an action goes back to its expect.
+fn code_of(flags: &Flags) -> Code
+    ensures { result ≡ again_code flags.now }
+{
+    if flags.on {
+        Code::AgainLater
+    } else {
+        Code::Again
+    }
+}
+
+const ID_ALONE: Takes = Takes {
+    own: None,
+    id: true,
+    end: false,
+};
+
+/// The child that a `close` lets go.
+fn close_of(
+    alloc: Global,
+    name: &[u8],
+    args: &[Value],
+    vars: &Vars,
+    own: &Own,
+) -> Result<Place, Complaint>
+    ensures { Says result (close_meant name.now args.now vars.now own.now) }
+{
+    let (flags, at) = flags_of(alloc, name, ID_ALONE, args)?;
+    bare(alloc, name, &args[at..])?;
+    open_to(alloc, &flags.id, vars, own)
+}
+
+/// The child, where no `wait` has asked for its end.
+fn unwaited(alloc: Global, i: Place, own: &Own) -> Result<Place, Complaint>
+    ensures { Says result (if_unwaited i own.now) }
+{
+    if own.children.is_waited(i) {
+        return Err(Complaint::Said(waited_for(alloc, own.children.id(i))?));
+    }
+    Ok(i)
+}
+
+/// The child that a `wait` waits for.
+fn wait_of(
+    alloc: Global,
+    name: &[u8],
+    args: &[Value],
+    vars: &Vars,
+    own: &Own,
+) -> Result<Place, Complaint>
+    ensures { Says result (wait_meant name.now args.now vars.now own.now) }
+{
+    let (flags, at) = flags_of(alloc, name, ID_ALONE, args)?;
+    bare(alloc, name, &args[at..])?;
+    let i = spoken_to(alloc, &flags.id, vars, own)?;
+    unwaited(alloc, i, own)
+}
+
+/// How many bytes a text says that are kept.
+fn size_of(alloc: Global, text: &[u8]) -> Result<usize, Complaint>
+    ensures { Says result (size_named text.now) }
+{
+    size_by(alloc, text, read_number(text))
+}
+
+/// A number of bytes from 1 to 1,000,000.
+fn size_by(alloc: Global, text: &[u8], number: Option<i64>) -> Result<usize, Complaint>
+    ensures { Says result (size_told text.now number) }
+{
+    match number {
+        Some(size) if 1 <= size && size <= 1_000_000 => Ok(size as usize),
+        _ => Err(Complaint::Said(bad_size(alloc, text)?)),
+    }
+}
+
+/// The flags of a `match_max`, and the size that it sets, if it sets one.
+fn size_args(
+    alloc: Global,
+    name: &[u8],
+    args: &[Value],
+) -> Result<(Flags, Option<Value>), Complaint>
+    ensures { Says result (size_meant name.now args.now) }
+{
+    let takes = Takes {
+        own: Some(Switch::Default),
+        id: true,
+        end: false,
+    };
+    let (flags, at) = flags_of(alloc, name, takes, args)?;
+    let size = with_option(alloc, name, &args[at..])?;
+    Ok((flags, size))
+}
+
+/// A command has too few or too many arguments.
+fn wrong_call(alloc: Global, name: &[u8]) -> Result<HostStep, AllocError>
+    ensures { IfOk result (λ s. s ≡ HostStep.Fail (wrong_args name.now)) }
+{
+    failed(alloc, wrong_args(alloc, name)?)
+}
+
+/// A count as a command's value.
+fn told(alloc: Global, count: usize) -> Result<HostStep, AllocError>
+    ensures { IfOk result (λ s. s ≡ HostStep.Done Code.Ok (decimal_of count)) }
+{
+    Ok(done(Value::from_text(alloc, decimal(alloc, count)?)?))
+}
+
+impl Dialogue {
+    /// Writes a text to the transcript, or is an error.
+    fn write(
+        &mut self,
+        alloc: Global,
+        vars: &Vars,
+        text: Result<Text, Complaint>,
+    ) -> Result<HostStep, AllocError>
+        ensures { (meant : Said (List ℕ)) → Says text meant → IfOk result (λ s. writing meant vars.now self.old ≡ (s, vars.now, self.new)) }
+    {
+        match said(alloc, text)? {
+            Ok(text) => {
+                self.own.tell(text.as_slice())?;
+                Ok(done(Value::new(alloc)))
+            }
+            Err(text) => Ok(HostStep::Fail(text)),
+        }
+    }
+
+    /// `puts ?-nonewline? ?stdout? text`.
+    pub(crate) fn puts(
+        &mut self,
+        alloc: Global,
+        vars: &Vars,
+        name: &[u8],
+        args: &[Value],
+    ) -> Result<HostStep, AllocError>
+        ensures { IfOk result (λ s. writing (put_meant name.now args.now) vars.now self.old ≡ (s, vars.now, self.new)) }
+    {
+        self.write(alloc, vars, put_of(alloc, name, args))
+    }
+
+    /// `send_user ?--? text`.
+    pub(crate) fn send_user(
+        &mut self,
+        alloc: Global,
+        vars: &Vars,
+        name: &[u8],
+        args: &[Value],
+    ) -> Result<HostStep, AllocError>
+        ensures { IfOk result (λ s. writing (user_text name.now args.now) vars.now self.old ≡ (s, vars.now, self.new)) }
+    {
+        self.write(alloc, vars, to_user(alloc, name, args))
+    }
+
+    /// `exp_continue ?-continue_timer?`.
+    pub(crate) fn exp_continue(
+        &mut self,
+        alloc: Global,
+        vars: &Vars,
+        name: &[u8],
+        args: &[Value],
+    ) -> Result<HostStep, AllocError>
+        ensures { IfOk result (λ s. continuing name.now args.now vars.now self.old ≡ (s, vars.now, self.new)) }
+    {
+        match said(alloc, continued(alloc, name, args))? {
+            Ok(code) => Ok(HostStep::Done(code, Value::new(alloc))),
+            Err(text) => Ok(HostStep::Fail(text)),
+        }
+    }
+
+    /// `close ?-i id?`.
+    pub(crate) fn close_child(
+        &mut self,
+        alloc: Global,
+        vars: &mut Vars,
+        name: &[u8],
+        args: &[Value],
+    ) -> Result<HostStep, AllocError>
+        ensures { IfOk result (λ s. closing_of name.now args.now vars.old self.old ≡ (s, vars.new, self.new)) }
+    {
+        match said(alloc, close_of(alloc, name, args, vars, &self.own))? {
+            Ok(i) => self.close(alloc, vars, i, Purpose::Close),
+            Err(text) => Ok(HostStep::Fail(text)),
+        }
+    }
+
+    /// Asks for a child's end, and goes on with the answer.
+    fn wait_at(&mut self, alloc: Global, vars: &mut Vars, i: Place) -> Result<HostStep, AllocError>
+        ensures { IfOk result (λ s. waiting_at i vars.old self.old ≡ (s, vars.new, self.new)) }
+    {
+        self.own.children.set_waited(i);
+        self.own.ask(i, Act::Wait)?;
+        self.answered(alloc, vars, i, Purpose::Wait)
+    }
+
+    /// `wait ?-i id?`.
+    pub(crate) fn wait(
+        &mut self,
+        alloc: Global,
+        vars: &mut Vars,
+        name: &[u8],
+        args: &[Value],
+    ) -> Result<HostStep, AllocError>
+        ensures { IfOk result (λ s. waiting name.now args.now vars.old self.old ≡ (s, vars.new, self.new)) }
+    {
+        match said(alloc, wait_of(alloc, name, args, vars, &self.own))? {
+            Ok(i) => self.wait_at(alloc, vars, i),
+            Err(text) => Ok(HostStep::Fail(text)),
+        }
+    }
+}
+
+impl Dialogue {
+    /// The number of bytes kept of children to come is told, or set.
+    fn size_for_all(
+        &mut self,
+        alloc: Global,
+        vars: &Vars,
+        size: &Option<Value>,
+    ) -> Result<HostStep, AllocError>
+        ensures { IfOk result (λ s. size_default size.now vars.now self.old ≡ (s, vars.now, self.new)) }
+    {
+        let Some(text) = size else {
+            return told(alloc, self.own.size);
+        };
+        match said(alloc, size_of(alloc, text.as_slice()))? {
+            Ok(size) => {
+                self.own.size = size;
+                Ok(done(Value::new(alloc)))
+            }
+            Err(text) => Ok(HostStep::Fail(text)),
+        }
+    }
+
+    /// The number of bytes kept of a child is told, or set.
+    fn size_of_child(
+        &mut self,
+        alloc: Global,
+        vars: &Vars,
+        i: Place,
+        size: &Option<Value>,
+    ) -> Result<HostStep, AllocError>
+        ensures { IfOk result (λ s. size_there i size.now vars.now self.old ≡ (s, vars.now, self.new)) }
+    {
+        let Some(text) = size else {
+            return told(alloc, self.own.children.size(i));
+        };
+        match said(alloc, size_of(alloc, text.as_slice()))? {
+            Ok(size) => {
+                self.own.children.resize(i, size)?;
+                Ok(done(Value::new(alloc)))
+            }
+            Err(text) => Ok(HostStep::Fail(text)),
+        }
+    }
+
+    /// The number of bytes kept of children to come, or of one child, is told, or set.
+    fn size_by_flags(
+        &mut self,
+        alloc: Global,
+        vars: &Vars,
+        flags: &Flags,
+        size: &Option<Value>,
+    ) -> Result<HostStep, AllocError>
+        ensures { IfOk result (λ s. sizing_by (flags.now, size.now) vars.now self.old ≡ (s, vars.now, self.new)) }
+    {
+        if flags.on {
+            return self.size_for_all(alloc, vars, size);
+        }
+        match said(alloc, open_to(alloc, &flags.id, vars, &self.own))? {
+            Ok(i) => self.size_of_child(alloc, vars, i, size),
+            Err(text) => Ok(HostStep::Fail(text)),
+        }
+    }
+
+    /// `match_max ?-d? ?-i id? ?size?`.
+    pub(crate) fn match_max(
+        &mut self,
+        alloc: Global,
+        vars: &Vars,
+        name: &[u8],
+        args: &[Value],
+    ) -> Result<HostStep, AllocError>
+        ensures { IfOk result (λ s. sizing_of name.now args.now vars.now self.old ≡ (s, vars.now, self.new)) }
+    {
+        match said(alloc, size_args(alloc, name, args))? {
+            Ok((flags, size)) => self.size_by_flags(alloc, vars, &flags, &size),
+            Err(text) => Ok(HostStep::Fail(text)),
+        }
+    }
+
+    /// What the word of a `log_user` says.
+    fn log_as(&mut self, alloc: Global, vars: &Vars, word: &[u8]) -> Result<HostStep, AllocError>
+        ensures { IfOk result (λ s. logging_as word.now vars.now self.old ≡ (s, vars.now, self.new)) }
+    {
+        if is(word, b"0") {
+            self.own.log_user = false;
+            return Ok(done(Value::new(alloc)));
+        }
+        if is(word, b"1") {
+            self.own.log_user = true;
+            return Ok(done(Value::new(alloc)));
+        }
+        if is(word, b"-info") {
+            let told: &[u8] = if self.own.log_user { b"1" } else { b"0" };
+            return Ok(done(Value::from_slice(alloc, told)?));
+        }
+        failed(alloc, bad_option(alloc, word)?)
+    }
+
+    /// `log_user 0`, `1` or `-info`.
+    pub(crate) fn log_user(
+        &mut self,
+        alloc: Global,
+        vars: &Vars,
+        name: &[u8],
+        args: &[Value],
+    ) -> Result<HostStep, AllocError>
+        ensures { IfOk result (λ s. logging_of name.now args.now vars.now self.old ≡ (s, vars.now, self.new)) }
+    {
+        match args {
+            [word] => self.log_as(alloc, vars, word.as_slice()),
+            _ => wrong_call(alloc, name),
+        }
+    }
+}

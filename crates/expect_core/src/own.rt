@@ -1,0 +1,93 @@
+//! What the commands of a script change.
+
+ghost use Rattle.std.specs.Prelude.{◌≡◌, OnOk};
+ghost use Rattle.expect_core.specs.Heard.{deadline_from as deadline_of};
+ghost use Rattle.expect_core.specs.Owned.{at_moment, told, logged, asked, received};
+
+use crate::child::Children;
+use crate::place::Place;
+use crate::plan::{Plan, Span};
+use crate::request::{Act, Request, Requests};
+use std::alloc::{AllocError, Global};
+use tcl_eval::Pile;
+use tcl_words::Text;
+
+/// What the commands of a script change.
+#[derive(Drop)]
+pub struct Own {
+    /// The moment of the last item, answer or timeout that was taken.
+    pub clock: u64,
+    /// What the script wrote, and the output that it took.
+    pub transcript: Text,
+    /// What it asked of its children.
+    pub requests: Requests,
+    /// The children that it asked for.
+    pub children: Children,
+    /// Whether output goes to the transcript.
+    pub log_user: bool,
+    /// How many bytes are kept of children that are spawned from now on.
+    pub size: usize,
+    /// The expects whose actions are evaluated, the innermost first.
+    pub plans: Pile<Plan>,
+}
+
+/// The last moment that is in time, of a wait that begins at a moment.
+pub(crate) fn deadline_from(clock: u64, span: Span) -> Option<u128>
+    ensures { result ≡ deadline_of clock span }
+{
+    match span {
+        Span::Never => None,
+        Span::Seconds(count) => Some(u128::from(clock) + u128::from(count) * 1000),
+    }
+}
+
+impl Own {
+    /// The clock goes to a moment, and never back.
+    pub(crate) fn advance(&mut self, moment: u64)
+        ensures { self.new ≡ at_moment moment self.old }
+    {
+        self.clock = self.clock.max(moment);
+    }
+
+    /// Writes to the transcript.
+    pub(crate) fn tell(&mut self, text: &[u8]) -> Result<(), AllocError>
+        ensures { OnOk result (self.new ≡ told text.now self.old) }
+    {
+        self.transcript.extend(text)
+    }
+
+    /// Writes to the transcript while output is logged.
+    pub(crate) fn log(&mut self, text: &[u8]) -> Result<(), AllocError>
+        ensures { OnOk result (self.new ≡ logged text.now self.old) }
+    {
+        if self.log_user {
+            self.tell(text)
+        } else {
+            Ok(())
+        }
+    }
+
+    /// Asks something of the child at a place.
+    pub(crate) fn ask(&mut self, i: Place, act: Act) -> Result<(), AllocError>
+        ensures { OnOk result (self.new ≡ asked i act self.old) }
+    {
+        self.requests.push(Request {
+            child: i.number(),
+            act,
+        })
+    }
+
+    /// A piece of a child's output was taken.
+    pub(crate) fn receive(
+        &mut self,
+        alloc: Global,
+        i: Place,
+        piece: &[u8],
+    ) -> Result<(), AllocError>
+        ensures { OnOk result (self.new ≡ received i piece.now self.old) }
+    {
+        let text = self.children.seen(alloc, i, piece)?;
+        self.log(text.as_slice())?;
+        self.children.keep(i, text.as_slice())
+    }
+}

@@ -1,0 +1,146 @@
+//! Texts of errors, ids and what a spawn writes.
+
+ghost use Rattle.std.specs.Prelude.{◌≡◌, IfOk};
+ghost use Rattle.std.specs.Fmt.{decimal};
+ghost use Rattle.expect_core.specs.Texts.{id_at as id_of, spawn_line as line_of, with_cause as cause_behind, not_executed as not_executed_text, program_of as program_text, bad_stty as bad_stty_text, no_such_id as no_such_id_text, not_open as not_open_text, waited_for as waited_for_text, bad_size as bad_size_text, bad_expect_flag as bad_flag_text, bad_regular as bad_regular_text, number_of_cause as number_of};
+
+use crate::place::Place;
+use child_events::{Cause, cause_name};
+use std::alloc::{AllocError, Global};
+use tcl_commands::quoted;
+use tcl_words::Text;
+
+/// A number in decimal digits.
+pub(crate) fn decimal(alloc: Global, number: usize) -> Result<Text, AllocError>
+    ensures { IfOk result (λ t. t ≡ decimal number) }
+{
+    Ok(Text {
+        bytes: format!(in alloc; "{number}")?.into_bytes(),
+    })
+}
+
+/// The id of the child at a place.
+pub(crate) fn id_at(alloc: Global, i: Place) -> Result<Text, AllocError>
+    ensures { IfOk result (λ t. t ≡ id_of i) }
+{
+    let mut text = Text::from_slice(alloc, b"exp")?;
+    text.extend(decimal(alloc, usize::from(i.number()))?.as_slice())?;
+    Ok(text)
+}
+
+/// What a spawn writes to the transcript.
+pub(crate) fn spawn_line(alloc: Global, words: &[Text]) -> Result<Text, AllocError>
+    ensures { IfOk result (λ t. t ≡ line_of words.now) }
+{
+    let mut line = Text::from_slice(alloc, b"spawn")?;
+    for word in words {
+        line.push(b' ')?;
+        line.extend(word.as_slice())?;
+    }
+    line.extend(b"\r\n")?;
+    Ok(line)
+}
+
+/// The same text with a cause behind it.
+fn caused(mut text: Text, cause: Cause) -> Result<Text, AllocError>
+    ensures { IfOk result (λ t. t ≡ cause_behind text cause) }
+{
+    text.extend(b": ")?;
+    text.extend(cause_name(cause))?;
+    Ok(text)
+}
+
+/// A text with a cause behind it.
+pub(crate) fn with_cause(alloc: Global, front: &[u8], cause: Cause) -> Result<Text, AllocError>
+    ensures { IfOk result (λ t. t ≡ cause_behind front.now cause) }
+{
+    caused(Text::from_slice(alloc, front)?, cause)
+}
+
+/// The first of the words of a spawn.
+fn program_of(words: &[Text]) -> &[u8]
+    ensures { result.now ≡ program_text words.now }
+{
+    match words {
+        [] => &[],
+        [program, ..] => program.as_slice(),
+    }
+}
+
+/// A program was not started.
+pub(crate) fn not_executed(alloc: Global, words: &[Text], cause: Cause) -> Result<Text, AllocError>
+    ensures { IfOk result (λ t. t ≡ not_executed_text words.now cause) }
+{
+    caused(
+        quoted(alloc, b"couldn't execute ", program_of(words))?,
+        cause,
+    )
+}
+
+/// A word of `stty_init` is unknown.
+pub(crate) fn bad_stty(alloc: Global, word: &[u8]) -> Result<Text, AllocError>
+    ensures { IfOk result (λ t. t ≡ bad_stty_text word.now) }
+{
+    quoted(alloc, b"bad stty_init word ", word)
+}
+
+/// No child has this id.
+pub(crate) fn no_such_id(alloc: Global, id: &[u8]) -> Result<Text, AllocError>
+    ensures { IfOk result (λ t. t ≡ no_such_id_text id.now) }
+{
+    quoted(alloc, b"no such spawn id ", id)
+}
+
+/// A child was let go.
+pub(crate) fn not_open(alloc: Global, id: &[u8]) -> Result<Text, AllocError>
+    ensures { IfOk result (λ t. t ≡ not_open_text id.now) }
+{
+    let mut text = Text::from_slice(alloc, b"spawn id ")?;
+    text.extend(id)?;
+    text.extend(b" not open")?;
+    Ok(text)
+}
+
+/// A child's end was asked for before.
+pub(crate) fn waited_for(alloc: Global, id: &[u8]) -> Result<Text, AllocError>
+    ensures { IfOk result (λ t. t ≡ waited_for_text id.now) }
+{
+    let mut text = Text::from_slice(alloc, b"spawn id ")?;
+    text.extend(id)?;
+    text.extend(b" already waited for")?;
+    Ok(text)
+}
+
+/// A text is no number of bytes that may be kept.
+pub(crate) fn bad_size(alloc: Global, size: &[u8]) -> Result<Text, AllocError>
+    ensures { IfOk result (λ t. t ≡ bad_size_text size.now) }
+{
+    quoted(alloc, b"bad match_max size ", size)
+}
+
+/// An argument of `expect` is no flag that may stand there.
+pub(crate) fn bad_expect_flag(alloc: Global, word: &[u8]) -> Result<Text, AllocError>
+    ensures { IfOk result (λ t. t ≡ bad_flag_text word.now) }
+{
+    quoted(alloc, b"bad expect flag ", word)
+}
+
+/// An argument of `expect` is no regular pattern.
+pub(crate) fn bad_regular(alloc: Global, pattern: &[u8]) -> Result<Text, AllocError>
+    ensures { IfOk result (λ t. t ≡ bad_regular_text pattern.now) }
+{
+    quoted(alloc, b"bad regular expression ", pattern)
+}
+
+/// How POSIX numbers a cause.
+pub(crate) fn number_of_cause(cause: Cause) -> usize
+    ensures { result ≡ number_of cause }
+{
+    match cause {
+        Cause::NotFound => 2,
+        Cause::Denied => 13,
+        Cause::Broken => 32,
+        Cause::Memory => 12,
+        Cause::Other => 5,
+    }
+}
