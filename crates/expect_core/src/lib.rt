@@ -21,7 +21,6 @@ mod place;
 mod plan;
 mod planning;
 mod request;
-mod said;
 mod scoped;
 mod send;
 mod settings;

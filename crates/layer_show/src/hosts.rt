@@ -136,15 +136,10 @@ fn told(alloc: Global, code: Code, value: &Value) -> Result<HostStep, AllocError
     Ok(HostStep::Done(Code::Ok, listed(alloc, &both)?))
 }
 
-/// `keep NAME VALUE`.
-fn keep(
-    alloc: Global,
-    vars: &mut Vars,
-    name: &Value,
-    value: &Value,
-) -> Result<HostStep, AllocError> {
-    let value = value.shared(alloc)?;
-    match vars.set(name.as_slice(), value) {
+/// `keep NAME TEXT`.
+fn keep(alloc: Global, vars: &mut Vars, name: &[u8], text: &Value) -> Result<HostStep, AllocError> {
+    let value = text.shared(alloc)?;
+    match vars.set(name, value) {
         Ok(()) => Ok(done(alloc, Code::Ok)),
         Err(SubstFault::Memory) => Err(AllocError),
         Err(_) => failed(alloc, b"not kept"),
@@ -222,7 +217,7 @@ impl SmallHost {
             [name] => self.alone(name.as_slice()),
             [name, arg] => self.with_one(name.as_slice(), arg),
             [name, first, second] if name.as_slice() == b"keep".as_slice() => {
-                keep(self.alloc, vars, first, second)
+                keep(self.alloc, vars, first.as_slice(), second)
             }
             _ => failed(self.alloc, b"too many words"),
         }

@@ -35,6 +35,7 @@ pub use texts::{
     bad_index, bad_list, bad_option, expected_number, expr_fault, not_read, not_set, not_unset,
     quoted, too_deep, too_long, word_fault, wrong_args,
 };
+pub use told::said;
 pub use values::{as_number, list_of, texts_of};
 pub use verbs::{Plain, Verb, verb_of};
 

@@ -1,4 +1,4 @@
-//! A value or an error as what a command comes to.
+//! What a call gave, told apart: a value, the text of an error, or want of memory.
 
 ghost use Rattle.std.specs.Prelude.{◌≡◌, ℕ, List, IfOk};
 ghost use Rattle.tcl_commands.specs.Said.{Said as Meant, told};
@@ -16,13 +16,27 @@ use tcl_words::Text;
 /// A value ends a command, and so does the text of an error. Want of memory is passed on.
 pub(crate) fn told(
     alloc: Global,
-    said: Result<Value, Complaint>,
+    given: Result<Value, Complaint>,
 ) -> Result<(Code, Value), AllocError>
-    ensures { (meant : Meant (List ℕ)) (vars : Variables) → Says said meant → IfOk result (λ r. told meant vars ≡ (r.0, r.1, vars)) }
+    ensures { (meant : Meant (List ℕ)) (vars : Variables) → Says given meant → IfOk result (λ r. told meant vars ≡ (r.0, r.1, vars)) }
 {
-    match said {
+    match given {
         Ok(value) => Ok((Code::Ok, value)),
         Err(Complaint::Said(text)) => error(alloc, text),
+        Err(Complaint::Memory) => Err(AllocError),
+    }
+}
+
+/// What a call gave, or the text of its error as a value. Want of memory is passed on.
+pub fn said<T: Drop>(
+    alloc: Global,
+    given: Result<T, Complaint>,
+) -> Result<Result<T, Value>, AllocError>
+    ensures { (meant : Meant T) → Says given meant → IfOk result (λ r. meant ≡ r) }
+{
+    match given {
+        Ok(x) => Ok(Ok(x)),
+        Err(Complaint::Said(text)) => Ok(Err(Value::from_text(alloc, text)?)),
         Err(Complaint::Memory) => Err(AllocError),
     }
 }

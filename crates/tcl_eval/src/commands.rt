@@ -18,11 +18,11 @@ use crate::exprs::read_test;
 use crate::frame::{End, Frame, Goal, Mode, Onward};
 use crate::meter::Meter;
 use crate::procs::reserved;
-use crate::said::said;
 use crate::values::Values;
 use std::alloc::AllocError;
 use tcl_commands::{
-    Code, Verb, arms_of, each_of, eval_text, exit_status, expr_text, plain, verb_of, wrong_args,
+    Code, Verb, arms_of, each_of, eval_text, exit_status, expr_text, plain, said, verb_of,
+    wrong_args,
 };
 use tcl_scripts::Script;
 use tcl_values::Value;

@@ -22,7 +22,6 @@ mod pile;
 mod procedure;
 mod procs;
 mod replies;
-mod said;
 mod values;
 mod words;
 

@@ -12,9 +12,8 @@ use crate::evaluation::{Evaluation, Test};
 use crate::exprs::read_test;
 use crate::frame::{End, Frame, Goal, Mode, Onward, Turning};
 use crate::meter::Meter;
-use crate::said::said;
 use std::alloc::AllocError;
-use tcl_commands::{Code, Groups};
+use tcl_commands::{Code, Groups, said};
 use tcl_scripts::Script;
 use tcl_values::Value;
 
