@@ -8,5 +8,8 @@ pub mod Echoes
 pub mod EachCall
 pub mod Moments
 pub mod Goodness
+pub mod Fronts
 pub mod Pushing
 pub mod Steps
+pub mod Apart
+pub mod Worlds

@@ -71,6 +71,7 @@ settled i purpose.Wait vars = waited i vars
 settled i (purpose.End p) vars = ended p i vars
 settled i (purpose.Fail c) vars = broken i c vars
 
+-- Only a call that waits is resumed, and that leaves another phase than `Idle`: its line is never read, and is there so that there is one.
 abbrev pub resuming : Phase → Variables → Dialogue → Outcome
 resuming phase.Idle vars st = failed [] vars st
 resuming (phase.Answer i why) vars st = awaited i why (settled i why vars) vars st
@@ -79,6 +80,7 @@ resuming (phase.Expect p) vars st = listening p vars st
 abbrev pub resumed : Variables → Dialogue → Outcome
 resumed vars st = resuming st.phase vars (idle st)
 
+-- The reply to `Knows` is no step, and is told by `IsReply` alone: that line here is never read.
 abbrev pub outcome : Call → Dialogue → Outcome
 outcome (Begin words vars) st = begun words vars (idle st)
 outcome (Resume vars) st = resumed vars st

@@ -1,7 +1,8 @@
 -- What holds of all calls.
-use Rattle.std.specs.Prelude.{◌≡◌, ℕ, Option}
+use Rattle.std.specs.Prelude.{◌≡◌, ℕ, List, ◌++◌, Option}
 use Rattle.child_events.specs.declared.event.Event.{Event}
 use Rattle.tcl_eval.specs.Tree.{Call}
+use Rattle.expect_core.specs.declared.own.Own.{Own}
 use Rattle.expect_core.specs.declared.dialogue.Dialogue.{Dialogue}
 use Rattle.expect_core.specs.Answered.{Outcome}
 use Rattle.expect_core.specs.Lanes.{offered}
@@ -21,3 +22,16 @@ pub record StaysGood : Type 0 where
   pub begins : (limit : Option ℕ) → Good (fresh limit)
   pub offered : (e : Event) (st : Dialogue) → Good st → Good (offered e st)
   pub called : (call : Call) (st : Dialogue) → Good st → Good (behind_call (outcome call st))
+
+-- the first list is a front of the second
+pub record IsFront {X : Type 0} (first second : List X) : Type 0 where
+  pub more : List X
+  pub joined : second ≡ first ++ more
+
+-- what was asked and told before is a front of what is asked and told behind it
+abbrev pub Keeps : Own → Own → Type 0
+Keeps old new = IsFront old.requests new.requests × IsFront old.transcript new.transcript
+
+-- No call takes back what was asked and told.
+abbrev pub StaysTold : Type 0
+StaysTold = (call : Call) (st : Dialogue) → Keeps st.own (behind_call (outcome call st)).own

@@ -17,3 +17,5 @@ pub mod Calls
 pub mod Good
 pub mod Replies
 pub mod Laws
+pub mod Worlds
+pub mod Apart

@@ -95,7 +95,8 @@ impl Dialogue {
     ///
     /// Where memory is refused, the dialogue doesn't live on, and nothing is said of it any more.
     pub fn offer(&mut self, event: Event)
-        ensures { Good self.old → IsTrue self.new.lives → IsTrue self.old.lives × (self.new ≡ offered event self.old) }
+        ensures lived { IsTrue self.new.lives → IsTrue self.old.lives }
+        ensures came { Good self.old → IsTrue self.new.lives → self.new ≡ offered event self.old }
     {
         if !self.lives {
             return;

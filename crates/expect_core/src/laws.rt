@@ -1,10 +1,23 @@
 //! What holds of all calls of a dialogue.
 
-ghost use Rattle.expect_core.specs.Laws.{GoesOn, StaysGood};
+ghost use Rattle.expect_core.specs.Apart.{CallsOne, StaysOfOne, EventsOne};
+ghost use Rattle.expect_core.specs.Laws.{GoesOn, StaysGood, StaysTold};
+ghost use Rattle.expect_core.specs.Worlds.{HoldsWorlds};
 
-/// A call sees all that has come, and it makes no difference whether that came before the call or while it waits. It does nothing when it
-/// runs.
+/// A call sees all that has come, and it makes no difference whether that came before the call or while it waits. What was asked and told
+/// stays. What came and was not taken is what the events say of each child. It does nothing when it runs.
 pub fn dialogue_laws()
     ensures goes_on { GoesOn }
     ensures stays_good { StaysGood }
+    ensures stays_told { StaysTold }
+    ensures holds_worlds { HoldsWorlds }
+{}
+
+/// The children of a script are kept apart. A call leaves each child alone but the one that it speaks to: what came from it and was not
+/// taken yet, its terminal's input, the bytes that are kept of its output, and what was asked of it stay the same, and nothing that is
+/// under way comes to be about it. An event changes what came from its own child alone. It does nothing when it runs.
+pub fn children_apart()
+    ensures calls { CallsOne }
+    ensures waits { StaysOfOne }
+    ensures events { EventsOne }
 {}

@@ -29,6 +29,6 @@ mod spawn;
 mod texts;
 
 pub use dialogue::Dialogue;
-pub use laws::dialogue_laws;
+pub use laws::{children_apart, dialogue_laws};
 pub use request::{Act, Request, Requests};
 pub use settings::{Pairs, Settings};

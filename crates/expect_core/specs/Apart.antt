@@ -1,0 +1,119 @@
+-- The children of a script are kept apart: a call leaves each child alone but the one that it speaks to, and an event each but its own.
+use Rattle.std.specs.Prelude.{◌≡◌, ◌≢◌, ℕ, ◌+◌, ◌<◌, ◌==◌, List, [], ◌∷◌, length, true, false, if◌then◌else◌, Option, Some, None, Ok, Err}
+use Rattle.std.specs.List.{filter}
+use Rattle.child_events.specs.declared.event.Event.{Event}
+use Rattle.child_events.specs.declared.event.Event.TheVariants as event
+use Rattle.exp_match.specs.Arguments.{patterns_of}
+use Rattle.tcl_subst.specs.Variables.{Variables}
+use Rattle.tcl_commands.specs.declared.code.Code.{Code}
+use Rattle.tcl_commands.specs.declared.code.Code.TheVariants as code
+use Rattle.tcl_commands.specs.Said.{Said, ◌>>=◌}
+use Rattle.tcl_eval.specs.Tree.{Call, Begin, Resume, AfterWords, AfterBody, Knows}
+use Rattle.expect_core.specs.declared.flags.Switch.TheVariants.{Default}
+use Rattle.expect_core.specs.declared.flags.Takes.{Takes}
+use Rattle.expect_core.specs.declared.name.Name.{Name}
+use Rattle.expect_core.specs.declared.name.Name.TheVariants as name
+use Rattle.expect_core.specs.declared.request.Request.{Request}
+use Rattle.expect_core.specs.declared.plan.Plan.{Plan}
+use Rattle.expect_core.specs.declared.phase.Purpose.TheVariants as purpose
+use Rattle.expect_core.specs.declared.phase.Phase.{Phase}
+use Rattle.expect_core.specs.declared.phase.Phase.TheVariants as phase
+use Rattle.expect_core.specs.declared.own.Own.{Own}
+use Rattle.expect_core.specs.declared.dialogue.Dialogue.{Dialogue}
+use Rattle.expect_core.specs.Lanes.{lane_of, place, offered}
+use Rattle.expect_core.specs.Owned.{child_of}
+use Rattle.expect_core.specs.Flags.{flags_of}
+use Rattle.expect_core.specs.Ids.{spoken_to}
+use Rattle.expect_core.specs.Sending.{takes}
+use Rattle.expect_core.specs.Expecting.{patterns_by, only_id}
+use Rattle.expect_core.specs.Others.{id_alone}
+use Rattle.expect_core.specs.Calls.{name_of, outcome, fresh}
+use Rattle.expect_core.specs.Laws.{behind_call}
+
+-- what was asked of the child at a place
+abbrev pub asked_of : ℕ → List Request → List Request
+asked_of j requests = filter (λ r. r.child == j + 1) requests
+
+-- What there is of the child at a place is the same: what came from it, what the script has of it, and what was asked of it.
+abbrev pub Untouched : ℕ → Dialogue → Dialogue → Type 0
+Untouched j old new =
+    (lane_of j new.lanes ≡ lane_of j old.lanes) × (child_of j new.own ≡ child_of j old.own) × (asked_of j new.own.requests ≡ asked_of j old.own.requests)
+
+-- The child that a call speaks to, at its place; an error stands for none. A command speaks to the child with the id behind its `-i` or,
+-- without it, to the one that was spawned last.
+
+abbrev pub by_flags : Takes → List ℕ → List (List ℕ) → Variables → Own → Said ℕ
+by_flags takes word args vars o = flags_of word takes args >>= λ f. spoken_to f.0.id vars o
+
+-- `match_max -d` speaks to none
+abbrev pub by_size : List ℕ → List (List ℕ) → Variables → Own → Said ℕ
+by_size word args vars o =
+    flags_of word (record { own = Some Default; id = true; end = false }) args >>= λ f. if f.0.on then Err [] else spoken_to f.0.id vars o
+
+abbrev pub by_patterns : List (List ℕ) → Variables → Own → Said ℕ
+by_patterns args vars o = patterns_by args (patterns_of args) >>= λ list. only_id list.ids >>= λ id. spoken_to id vars o
+
+abbrev pub named_by : Option Name → List ℕ → List (List ℕ) → Variables → Own → Said ℕ
+named_by (Some name.Send) word args vars o = by_flags takes word args vars o
+named_by (Some name.Expect) word args vars o = by_patterns args vars o
+named_by (Some name.Close) word args vars o = by_flags id_alone word args vars o
+named_by (Some name.Wait) word args vars o = by_flags id_alone word args vars o
+named_by (Some name.MatchMax) word args vars o = by_size word args vars o
+named_by other word args vars o = Err []
+
+abbrev pub under_way : Phase → Said ℕ
+under_way phase.Idle = Err []
+under_way (phase.Answer i why) = Ok i
+under_way (phase.Expect p) = Ok p.child
+
+-- behind an action `exp_continue` goes back to the child of its expect
+abbrev pub on_top : Code → List Plan → Said ℕ
+on_top code.Again (p ∷ ps) = Ok p.child
+on_top code.AgainLater (p ∷ ps) = Ok p.child
+on_top c ps = Err []
+
+abbrev pub speaks_to : Call → Dialogue → Said ℕ
+speaks_to (Begin [] vars) st = Err []
+speaks_to (Begin (word ∷ args) vars) st = named_by (name_of word) word args vars st.own
+speaks_to (Resume vars) st = under_way st.phase
+speaks_to (AfterWords words vars) st = by_patterns words vars st.own
+speaks_to (AfterBody c value vars) st = on_top c st.own.plans
+speaks_to (Knows word) st = Err []
+
+-- A wait is for one child: an expect awaits the answer of its own child alone.
+abbrev pub IsOfOne : Phase → Type 0
+IsOfOne (phase.Answer i (purpose.End p)) = p.child ≡ i
+IsOfOne other = Unit {0}
+
+-- none of these expects is of the child at a place
+abbrev pub NoneIsOf : ℕ → List Plan → Type 0
+NoneIsOf j [] = Unit {0}
+NoneIsOf j (p ∷ ps) = (p.child ≢ j) × NoneIsOf j ps
+
+-- nothing that is under way is about the child at a place: no call that waits, and no expect whose action is evaluated
+abbrev pub IsAside : ℕ → Dialogue → Type 0
+IsAside j st = (under_way st.phase ≢ Ok j) × NoneIsOf j st.own.plans
+
+-- A call leaves each child alone that was there before it, but the one that it speaks to, and nothing of it comes to be about another one.
+abbrev pub CallsOne : Type 0
+CallsOne =
+    (call : Call) (st : Dialogue) → IsOfOne st.phase → (j : ℕ) → speaks_to call st ≢ Ok j → j < length st.own.children →
+    let new = behind_call (outcome call st) in
+    Untouched j st new × (j < length new.own.children) × (IsAside j st → IsAside j new)
+
+-- Each wait is for one child: at the start, with an event more, and behind each call.
+pub record StaysOfOne : Type 0 where
+  pub begins : (limit : Option ℕ) → IsOfOne (fresh limit).phase
+  pub offered : (e : Event) (st : Dialogue) → IsOfOne st.phase → IsOfOne (offered e st).phase
+  pub called : (call : Call) (st : Dialogue) → IsOfOne st.phase → IsOfOne (behind_call (outcome call st)).phase
+
+-- the place of the child that an event comes from
+abbrev pub comes_from : Event → Option ℕ
+comes_from (event.Child c m w) = Some (place c)
+comes_from (event.Tick m) = None
+
+-- An event leaves each child alone but its own, and of that it changes what came from it.
+abbrev pub EventsOne : Type 0
+EventsOne =
+    (e : Event) (st : Dialogue) → ((offered e st).own ≡ st.own) × ((offered e st).phase ≡ st.phase)
+    × ((j : ℕ) → comes_from e ≢ Some j → Untouched j st (offered e st))
