@@ -1,138 +1,363 @@
 """The rules of one script over its events, written once more and by themselves.
 
-Nothing here is shared with the program or its definitions: commands are tuples, and what a script does is
-simulated as the manual pages and docs/ tell it. `Dialogue.run` gives the ending and the text of an error.
+Nothing here is shared with the program or its definitions: what a script does is simulated as the manual pages and
+docs/ tell it. `Dialogue.run` gives the ending and the text of an error, `Dialogue.report` the whole report.
 """
 
+import re
+from typing import NamedTuple, Optional
+
+from events import ITEMS
+from language import AGAIN, AGAIN_IN_TIME, Interpreter, Stopped, Thrown, elements, failed, is_number, number
+from patterns import BadFlag, BadRegular, read_arguments
+from terminal import BadMode, Terminal
+
 FOREVER = float("inf")
+LONGEST = 9_000_000_000_000
 KEPT = 2000
+LARGEST = 1_000_000
 CHILDREN = 16
+PIECE = 4096
+
+LIST = re.compile(rb"[ \t\v\f\r]*\n")
+WAIT_CODES = {b"notfound": 2, b"denied": 13, b"broken": 32, b"memory": 12, b"other": 5}
 
 
-class Stopped(Exception):
-    """The script ends here, whatever stands around the command."""
+class Item(NamedTuple):
+    """What a child's list holds: an event that came from it, or an echo."""
+
+    kind: str
+    moment: int
+    what: Optional[bytes]
+    is_echo: bool = False
 
 
-class Failed(Exception):
-    """An error, with its text."""
+class Child:
+    def __init__(self, number, terminal, size):
+        self.number, self.terminal, self.size = number, terminal, size
+        self.kept, self.is_closed, self.is_waited_for = b"", False, False
+
+    @property
+    def id(self):
+        return b"exp%d" % self.number
 
 
-class Dialogue:
-    def __init__(self, events, limit, steps):
-        """Events as (kind, child, moment, what) in order; a time limit in milliseconds or None; a step bound."""
+class Dialogue(Interpreter):
+    def __init__(self, events, limit=None, steps=1_000_000):
+        """A script's own events in order; a time limit in milliseconds; a bound on steps."""
+        super().__init__(steps)
         self.limit = FOREVER if limit is None else limit
-        self.steps_left = steps
-        self.horizon = 0
-        self.items, self.answers, ended = {}, {}, set()
-        for kind, child, moment, what in events:
-            self.horizon = max(self.horizon, moment)
-            stamped = (self.horizon, kind, what)
-            if kind == "tick" or (kind in ("out", "end", "fail") and child in ended):
-                continue
-            if kind in ("end", "fail"):
-                ended.add(child)
-            queue = self.items if kind in ("out", "end", "fail") else self.answers
-            queue.setdefault(child, []).append(stamped)
-        self.clock, self.steps = 0, 0
-        self.transcript = b""
-        self.current = None
-        self.kept, self.sent, self.closed = {}, {}, set()
+        self.set(b"timeout", b"10")
+        self.clock, self.horizon = 0, 0
+        self.items = {number: [] for number in range(1, CHILDREN + 1)}
+        self.answers = {number: [] for number in range(1, CHILDREN + 1)}
+        for event in events:
+            self.happens(event)
+        self.children, self.sent, self.current_size, self.shows = {}, {}, KEPT, True
+        self.awaited = None
 
-    def run(self, commands):
-        try:
-            self.evaluate(commands)
-        except Stopped as stop:
-            return stop.args[0], b""
-        except Failed as error:
-            return "error", error.args[0]
-        return "exit:0", b""
+    def happens(self, event):
+        self.horizon = max(self.horizon, event.moment)
+        if event.kind == "tick":
+            return
+        items = self.items[event.child]
+        item = Item(event.kind, self.horizon, event.what)
+        if event.kind not in ITEMS:
+            self.answers[event.child].append(item)
+        elif not items or items[-1].kind == "out":
+            items.append(item)
 
-    def evaluate(self, commands):
-        for name, *words in commands:
-            if self.steps_left == 0:
-                raise Stopped("steplimit")
-            self.steps_left -= 1
-            self.steps += 1
-            getattr(self, name)(*words)
+    # waiting
 
-    def wait(self, queue, deadline):
+    def wait(self, queue, deadline, awaited):
         """The next of a queue, or None where the deadline has passed."""
-        if queue and queue[0][0] <= min(deadline, self.limit):
-            moment, kind, what = queue.pop(0)
-            self.clock = max(self.clock, moment)
-            return kind, what
-        if self.horizon <= min(deadline, self.limit):
+        soonest = min(deadline, self.limit)
+        if queue and queue[0].moment <= soonest:
+            item = queue.pop(0)
+            self.clock = max(self.clock, item.moment)
+            return item
+        if self.horizon <= soonest:
+            self.awaited = awaited
             raise Stopped("waiting")
         if deadline > self.limit:
             raise Stopped("timelimit")
         self.clock = deadline
         return None
 
-    def asked(self, child):
+    def request(self, child, act):
+        """The answer to what is asked of a child."""
+        return self.wait(self.answers[child.number], FOREVER, (act, child.number, FOREVER))
+
+    def refusal(self, child, act):
         """The cause for which a request failed, or None."""
-        kind, what = self.wait(self.answers.setdefault(child, []), FOREVER)
-        return {"ok": None, "bad": what}.get(kind, b"other")
+        answer = self.request(child, act)
+        return {"ok": None, "bad": answer.what}.get(answer.kind, b"other")
 
-    def child(self):
-        if self.current is None:
-            raise Failed(b'can\'t read "spawn_id": no such variable')
-        if self.current in self.closed:
-            raise Failed(b"spawn id exp%d not open" % self.current)
-        return self.current
+    # words of commands
 
-    def puts(self, text):
-        self.transcript += text + b"\n"
+    def flags(self, name, words, known):
+        """The flags in front with their words, and the words behind them. A flag of `known` takes a word or none."""
+        given, words = {}, list(words)
+        while words and words[0].startswith(b"-"):
+            flag = words.pop(0)
+            if flag not in known:
+                raise failed(b"bad flag", flag)
+            if flag == b"--":
+                break
+            if known[flag]:
+                self.counted(name, words, 1, FOREVER)
+            given[flag] = words.pop(0) if known[flag] else b""
+        return given, words
 
-    def spawn(self, program):
-        child = len(self.kept) + 1
-        if child > CHILDREN:
-            raise Failed(b"too many spawned children")
-        self.kept[child], self.sent[child] = b"", 0
-        self.transcript += b"spawn " + program + b"\r\n"
-        cause = self.asked(child)
+    def named(self, name):
+        """The child of an id, or of the current one."""
+        if name is None:
+            name = self.seen(b"spawn_id")
+        if name is None:
+            self.get(b"spawn_id")
+        if name not in self.children:
+            raise failed(b"no such spawn id", name)
+        return self.children[name]
+
+    def opened(self, name):
+        return self.still_open(self.named(name))
+
+    def still_open(self, child):
+        if child.is_closed:
+            raise failed(b"spawn id %s not open" % child.id)
+        return child
+
+    # commands
+
+    def do_spawn(self, words):
+        given, words = self.flags(b"spawn", words, {b"-noecho": False, b"--": False})
+        self.counted(b"spawn", words, 1, FOREVER)
+        terminal = self.terminal()
+        child = Child(len(self.sent) + 1, terminal, self.current_size)
+        if child.number > CHILDREN:
+            raise failed(b"too many spawned children")
+        self.sent[child.number] = 0
+        if self.shows and b"-noecho" not in given:
+            self.transcript += b"spawn " + b" ".join(words) + b"\r\n"
+        cause = self.refusal(child, "spawn")
         if cause is not None:
-            raise Failed(b'couldn\'t execute "%s": %s' % (program, cause))
-        self.current = child
+            raise failed(b'couldn\'t execute "%s": %s' % (words[0][:200], cause))
+        self.children[child.id] = child
+        self.set(b"spawn_id", child.id)
+        return b"%d" % child.number
 
-    def send(self, text):
-        child = self.child()
-        if not text:
-            return
-        cause = self.asked(child)
+    def terminal(self):
+        modes = elements(self.seen(b"stty_init") or b"")
+        try:
+            return Terminal(modes, is_number)
+        except BadMode as fault:
+            raise failed(b"bad stty_init word", fault.args[0]) from None
+
+    def do_send(self, words, name=b"send"):
+        given, words = self.flags(name, words, {b"-i": True, b"--": False})
+        self.counted(name, words, 1, 1)
+        child = self.opened(given.get(b"-i"))
+        echo, actions = child.terminal.send(words[0])
+        self.place_echo(self.items[child.number], echo)
+        for text in actions:
+            cause = self.refusal(child, "end" if text is None else "write")
+            if cause is not None:
+                raise failed((b"end" if text is None else b"write") + b" failed: " + cause)
+            self.sent[child.number] += len(text or b"")
+        return b""
+
+    def do_exp_send(self, words):
+        return self.do_send(words, b"exp_send")
+
+    def place_echo(self, items, echo):
+        """Puts an echo before the first item that came at the clock or later, in pieces."""
+        later = (at for at, item in enumerate(items) if not item.is_echo and item.moment >= self.clock)
+        place = next(later, len(items))
+        pieces = [echo[at : at + PIECE] for at in range(0, len(echo), PIECE)]
+        items[place:place] = [Item("out", self.clock, piece, is_echo=True) for piece in pieces]
+
+    def do_send_user(self, words):
+        _, words = self.flags(b"send_user", words, {b"--": False})
+        self.counted(b"send_user", words, 1, 1)
+        self.transcript += words[0]
+        return b""
+
+    def do_close(self, words):
+        given, words = self.flags(b"close", words, {b"-i": True})
+        self.counted(b"close", words, 0, 0)
+        self.closed(self.opened(given.get(b"-i")))
+        return b""
+
+    def closed(self, child):
+        cause = self.refusal(child, "close")
+        child.is_closed = True
         if cause is not None:
-            raise Failed(b"write failed: " + cause)
-        self.sent[child] += len(text)
+            raise failed(b"close failed: " + cause)
 
-    def expect(self, seconds, cases):
-        """Cases as (kind, pattern, action), an action being commands."""
-        child = self.child()
-        deadline = FOREVER if seconds < 0 else self.clock + 1000 * seconds
+    def do_wait(self, words):
+        given, words = self.flags(b"wait", words, {b"-i": True})
+        self.counted(b"wait", words, 0, 0)
+        child = self.named(given.get(b"-i"))
+        if child.is_waited_for:
+            raise failed(b"spawn id %s already waited for" % child.id)
+        child.is_waited_for = True
+        answer = self.request(child, "wait")
+        front = b"%d %s " % (child.number, child.id)
+        if answer.kind == "exit":
+            return front + b"0 " + answer.what
+        if answer.kind == "killed":
+            return front + b"0 -1 CHILDKILLED unknown unknown"
+        return front + b"-1 %d" % WAIT_CODES[answer.what if answer.kind == "bad" else b"other"]
+
+    def do_match_max(self, words):
+        given, words = self.flags(b"match_max", words, {b"-d": False, b"-i": True})
+        self.counted(b"match_max", words, 0, 1)
+        child = None if b"-d" in given else self.opened(given.get(b"-i"))
+        if not words:
+            return b"%d" % (child.size if child else self.current_size)
+        if not is_number(words[0]) or not 1 <= int(words[0]) <= LARGEST:
+            raise failed(b"bad match_max size", words[0])
+        if child:
+            child.size = int(words[0])
+            child.kept = child.kept[-child.size :]
+        else:
+            self.current_size = int(words[0])
+        return b""
+
+    def do_log_user(self, words):
+        self.counted(b"log_user", words, 1, 1)
+        if words[0] == b"-info":
+            return b"%d" % self.shows
+        if words[0] not in (b"0", b"1"):
+            raise failed(b"bad option", words[0])
+        self.shows = words[0] == b"1"
+        return b""
+
+    def do_exp_continue(self, words):
+        given, words = self.flags(b"exp_continue", words, {b"-continue_timer": False})
+        self.counted(b"exp_continue", words, 0, 0)
+        raise Thrown(AGAIN_IN_TIME if given else AGAIN)
+
+    # expect
+
+    def do_expect(self, words):
+        try:
+            cases, name, seconds = read_arguments(self.arguments(words))
+        except BadFlag as fault:
+            raise failed(b"bad expect flag", fault.args[0]) from None
+        except BadRegular as fault:
+            raise failed(b"bad regular expression", fault.args[0]) from None
+        child = self.opened(name)
+        time = self.time(seconds)
+        deadline = self.clock + time
         while True:
-            for kind, pattern, action in cases:
-                if kind == "-ex" and pattern in self.kept[child]:
-                    behind = self.kept[child].index(pattern) + len(pattern)
-                    self.kept[child] = self.kept[child][behind:]
-                    return self.evaluate(action)
-            self.kept[child] = self.kept[child][-KEPT:]
-            came = self.wait(self.items.setdefault(child, []), deadline)
-            if came is None:
-                return self.chosen(cases, "timeout")
-            kind, what = came
-            if kind != "out":
-                return self.ended(child, kind, what, cases)
-            self.kept[child] += what
-            self.transcript += what
-
-    def ended(self, child, kind, cause, cases):
-        unclosed = self.asked(child)
-        self.closed.add(child)
-        if kind == "fail":
-            raise Failed(b"read failed: " + cause)
-        if unclosed is not None:
-            raise Failed(b"close failed: " + unclosed)
-        self.chosen(cases, "eof")
-
-    def chosen(self, cases, keyword):
-        for kind, _, action in cases:
-            if kind in (keyword, "default"):
+            action = self.action(child, cases, deadline)
+            try:
                 return self.evaluate(action)
+            except Thrown as thrown:
+                if thrown.code not in (AGAIN, AGAIN_IN_TIME):
+                    raise
+                if thrown.code == AGAIN:
+                    deadline = self.clock + time
+            self.still_open(child)
+
+    def arguments(self, words):
+        """The words of the list where there is one, else the words themselves."""
+        if len(words) != 1 or not LIST.match(words[0]):
+            return words
+        found = []
+        for command in self.commands(words[0]):
+            found += self.fill(command)
+        return found
+
+    def time(self, seconds):
+        """How long an expect waits, in milliseconds."""
+        if seconds is None:
+            seconds = self.seen(b"timeout")
+        seconds = 10 if seconds is None else number(seconds)
+        return 1000 * seconds if 0 <= seconds <= LONGEST else FOREVER
+
+    def action(self, child, cases, deadline):
+        """Waits for what a case is about; its action."""
+        while True:
+            case = self.met(child, cases)
+            if case:
+                return case.action
+            came = self.wait(self.items[child.number], deadline, ("item", child.number, deadline))
+            if came is None:
+                return self.first(cases, "timeout")[1]
+            if came.kind != "out":
+                return self.ended(child, came, cases)
+            output = child.terminal.show(came.what)
+            child.kept += output
+            self.transcript += output if self.shows else b""
+
+    def met(self, child, cases):
+        """The case that the kept bytes meet, which is then recorded; without one the last bytes are kept."""
+        for case in cases:
+            spans = case.spans(child.kept)
+            if spans:
+                self.matched(child, case, spans)
+                return case
+        for case in cases:
+            if case.kind == "full_buffer" and len(child.kept) >= child.size:
+                self.emptied(child)
+                return case
+        child.kept = child.kept[-child.size :]
+        return None
+
+    def matched(self, child, case, spans):
+        for group, span in enumerate(spans[:10]):
+            if span is None:
+                continue
+            start, end = span
+            if b"-indices" in case.marks:
+                self.found(b"%d,start" % group, b"%d" % start)
+                self.found(b"%d,end" % group, b"%d" % (end - 1))
+            self.found(b"%d,string" % group, child.kept[start:end])
+        self.taken(child, spans[0][1], stays=b"-notransfer" in case.marks)
+
+    def emptied(self, child):
+        self.taken(child, len(child.kept))
+
+    def taken(self, child, end, stays=False):
+        self.found(b"spawn_id", child.id)
+        self.found(b"buffer", child.kept[:end])
+        if not stays:
+            child.kept = child.kept[end:]
+
+    def found(self, index, value):
+        self.set(b"expect_out(%s)" % index, value)
+
+    def first(self, cases, keyword):
+        """Whether a keyword or `default` is listed, and the action of the first of them."""
+        for case in cases:
+            if case.kind in (keyword, "default"):
+                return True, case.action
+        return False, b""
+
+    def ended(self, child, came, cases):
+        try:
+            self.closed(child)
+        except Thrown:
+            if came.kind == "end":
+                raise
+        if came.kind == "fail":
+            raise failed(b"read failed: " + came.what)
+        is_listed, action = self.first(cases, "eof")
+        if is_listed:
+            self.emptied(child)
+        return action
+
+    # report
+
+    def report(self, script, source, shows_variables):
+        ending, fault = self.run(source)
+        sent, text = sum(self.sent.values()), self.transcript
+        head = "script %d end=%s steps=%d sent=%d transcript=%d\n" % (script, ending, self.steps, sent, len(text))
+        made = head.encode() + text + b"\n"
+        if ending == "error":
+            made += b"error %d\n" % len(fault) + fault + b"\n"
+        values = self.scopes[0].values if shows_variables else {}
+        lines = ("var %s %s\n" % (name.hex() or "-", values[name].hex() or "-") for name in sorted(values))
+        return made + "".join(lines).encode()

@@ -2,7 +2,7 @@
 use Rattle.std.specs.Prelude.{◌≡◌, ℕ, ◌+◌, List, [], ◌∷◌, ◌⊎◌, length, slice_get, Some, None, Result, Ok, Err}
 use Rattle.child_events.specs.declared.event.HallEvent.{HallEvent}
 use Rattle.child_events.specs.World.{own}
-use Rattle.session.specs.declared.report.Ending.TheVariants.{Memory}
+use Rattle.tcl_eval.specs.declared.ending.Ending.TheVariants.{Memory}
 use Rattle.session.specs.declared.report.Report.{Report}
 use Rattle.session.specs.Meaning.{meaning}
 use Rattle.dialogue_sched.specs.declared.script.Script.{Script}

@@ -47,9 +47,13 @@ pub struct Hall {
 
 impl Model for Hall {
     ghost use Rattle.std.specs.Prelude.{List, ◌≤◌, length};
+    ghost use Rattle.std.specs.Coded.{codes};
     ghost use Rattle.session.specs.Left.{Kept};
+    ghost use Rattle.session.specs.contracts.session.Session as session;
 
     ghost Value = { List Kept };
+
+    ghost coded = { Prim.hlevel (codes, session.the_row.coded) };
 
     ghost view = { λ h. h.sessions.items };
 

@@ -96,7 +96,7 @@ fn requests_once(rt: HostRuntime) -> Result<(), Fail> {
     assert!(rt; matches!(report.ending, Ending::Exit(0)) && hall.request(1).is_none());
     assert_eq!(rt;
         report.transcript.as_slice(),
-        b"spawn p\r\nbdone\n".as_slice()
+        b"spawn p\r\na\r\nbdone\n".as_slice()
     );
     assert_eq!(rt; report.sent.as_slice(), [2].as_slice());
     Ok(())

@@ -2,8 +2,8 @@
 use Rattle.std.specs.Prelude.{ℕ, ◌+◌, List, [], ◌∷◌, ◌++◌, length, sum, codes, Bool, true, false, ◌&&◌, ◌==◌, if◌then◌else◌}
 use Rattle.std.specs.Fmt.{decimal}
 use Rattle.child_events.specs.Log.{hex_text}
-use Rattle.session.specs.declared.report.Ending.{Ending}
-use Rattle.session.specs.declared.report.Ending.TheVariants.{Exit, Error, StepLimit, TimeLimit, Memory, Waiting}
+use Rattle.tcl_eval.specs.declared.ending.Ending.{Ending}
+use Rattle.tcl_eval.specs.declared.ending.Ending.TheVariants.{Exit, Error, StepLimit, TimeLimit, Memory, Waiting}
 use Rattle.session.specs.declared.report.Report.{Report}
 
 -- a label and a number behind it; closed, so that the text of a line stays in pieces

@@ -2,6 +2,7 @@
 
 ghost use Rattle.std.specs.Prelude.{◌≡◌, ◌≤◌, ◌*◌};
 
+use crate::help;
 use clap::{Arg, ArgAction, ArgMatches, Command, Error, value_parser};
 use session::STEPS_LIMIT;
 use std::alloc::{AllocError, Global};
@@ -29,7 +30,7 @@ fn replay_command<'a>(alloc: Global) -> Result<Command<'a>, AllocError> {
     let limit = Arg::new(alloc, "limit")
         .long("limit")
         .value_name("S")
-        .help("End each script behind this many seconds of its time")
+        .help("End each script that still waits when this many seconds are over")
         .value_parser(value_parser!(u64).range(1..=SECONDS_LIMIT));
     let steps = Arg::new(alloc, "steps")
         .long("steps")
@@ -38,11 +39,11 @@ fn replay_command<'a>(alloc: Global) -> Result<Command<'a>, AllocError> {
         .value_parser(value_parser!(u64).range(1..=STEPS_LIMIT as i64));
     let vars = Arg::new(alloc, "vars")
         .long("vars")
-        .help("Show the global variables of each script")
+        .help("Show the global variables of each script, in hexadecimal")
         .action(ArgAction::SetTrue);
     let log = Arg::new(alloc, "log")
         .value_name("LOG")
-        .help("The file of the events")
+        .help("The file of the log")
         .required(true);
     let sources = Arg::new(alloc, "sources")
         .value_name("FILE")
@@ -52,6 +53,7 @@ fn replay_command<'a>(alloc: Global) -> Result<Command<'a>, AllocError> {
         .action(ArgAction::Append);
     Command::new(alloc, "replay")
         .about("Runs scripts over a log of events, and prints their reports")
+        .after_help(help::REPLAY)
         .arg(limit)?
         .arg(steps)?
         .arg(vars)?
@@ -63,6 +65,7 @@ fn command<'a>(alloc: Global) -> Result<Command<'a>, AllocError> {
     Command::new(alloc, "exprun")
         .bin_name("exprun")?
         .about("Runs Expect scripts against children whose events are given")
+        .after_help(help::PROGRAM)
         .subcommand_required(true)
         .subcommand(replay_command(alloc)?)
 }

@@ -6,6 +6,7 @@ mod complaint;
 mod devices;
 mod fault;
 mod files;
+mod help;
 mod replaying;
 #[cfg(test)]
 mod rows;

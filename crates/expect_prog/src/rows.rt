@@ -46,9 +46,9 @@ fn writes(
     Ok(answer == Ok(well) && written.as_slice() == wanted)
 }
 
-const DIALOGUE: &[u8] = b"spawn p; send \"a\\n\"; expect -ex b; puts done";
+const CAT: &[u8] = b"spawn cat; send \"hi\\r\"; expect \"hi\\r\\nhi\\r\\n\"";
 
-const LATE: &[u8] = b"spawn p; expect -timeout 1 -ex x {puts got} timeout {puts late}";
+const LATE: &[u8] = b"spawn p; set timeout 1; expect x {puts got} timeout {puts late}";
 
 #[test]
 fn one_script(rt: HostRuntime) -> Result<(), Fail> {
@@ -63,11 +63,11 @@ fn one_script(rt: HostRuntime) -> Result<(), Fail> {
     )?;
     let dialogue = writes(
         alloc,
-        &[DIALOGUE],
+        &[CAT],
         None,
-        b"ok 1 1 1\nok 1 1 2\nout 1 1 3 620a\n",
+        b"ok 1 1 5\nok 1 1 10\nout 1 1 20 68690a\n",
         true,
-        b"script 1 end=exit:0 steps=4 sent=2 transcript=16\nspawn p\r\nb\ndone\n\n",
+        b"script 1 end=exit:0 steps=3 sent=3 transcript=19\nspawn cat\r\nhi\r\nhi\r\n\n",
     )?;
     let malformed = writes(
         alloc,
@@ -86,12 +86,7 @@ fn one_script(rt: HostRuntime) -> Result<(), Fail> {
         b"script 1 end=exit:0 steps=2 sent=0 transcript=11\nspawn cat\r\n\n",
     )?;
     assert!(rt; nothing && dialogue && malformed && ended);
-    let (answer, written) = replayed(
-        alloc,
-        &[DIALOGUE],
-        None,
-        b"ok 1 1 5\nok 1 1 10\nout 1 1 20 6869",
-    )?;
+    let (answer, written) = replayed(alloc, &[CAT], None, b"ok 1 1 5\nok 1 1 10\nout 1 1 20 6869")?;
     assert_eq!(rt; answer, Err(ReplayFault::Log(LogFault::Shape(3))));
     assert!(rt; written.is_empty());
     Ok(())
@@ -100,9 +95,9 @@ fn one_script(rt: HostRuntime) -> Result<(), Fail> {
 #[test]
 fn deadlines(rt: HostRuntime) -> Result<(), Fail> {
     let alloc = rt.alloc();
-    let got = b"script 1 end=exit:0 steps=3 sent=0 transcript=14\nspawn p\r\nxgot\n\n";
-    let late = b"script 1 end=exit:0 steps=3 sent=0 transcript=14\nspawn p\r\nlate\n\n";
-    let waiting = b"script 1 end=waiting steps=2 sent=0 transcript=9\nspawn p\r\n\n";
+    let got = b"script 1 end=exit:0 steps=4 sent=0 transcript=14\nspawn p\r\nxgot\n\n";
+    let late = b"script 1 end=exit:0 steps=4 sent=0 transcript=14\nspawn p\r\nlate\n\n";
+    let waiting = b"script 1 end=waiting steps=3 sent=0 transcript=9\nspawn p\r\n\n";
     let at = writes(
         alloc,
         &[LATE],
@@ -129,8 +124,15 @@ fn deadlines(rt: HostRuntime) -> Result<(), Fail> {
     )?;
     let tick_past = writes(alloc, &[LATE], None, b"ok 1 1 100\ntick 1101\n", true, late)?;
     assert!(rt; at && past && tick_at && tick_past);
+    Ok(())
+}
+
+#[test]
+fn time_limits(rt: HostRuntime) -> Result<(), Fail> {
+    let alloc = rt.alloc();
+    let source = b"spawn p; expect x".as_slice();
     let limited = b"script 1 end=timelimit steps=2 sent=0 transcript=9\nspawn p\r\n\n";
-    let source = b"spawn p; expect -ex x".as_slice();
+    let waiting = b"script 1 end=waiting steps=2 sent=0 transcript=9\nspawn p\r\n\n";
     let over = writes(
         alloc,
         &[source],
@@ -155,11 +157,11 @@ fn deadlines(rt: HostRuntime) -> Result<(), Fail> {
 fn two_scripts(rt: HostRuntime) -> Result<(), Fail> {
     let both = writes(
         rt.alloc(),
-        &[DIALOGUE, DIALOGUE],
+        &[CAT, CAT],
         None,
-        b"ok 1 1 1\nok 2 1 1\nbad 1 1 2 broken\nok 2 1 2\nout 2 1 3 620a\n",
+        b"ok 1 1 5\nok 2 1 5\nbad 1 1 10 broken\nok 2 1 10\nout 2 1 20 68690a\n",
         false,
-        b"script 1 end=error steps=2 sent=0 transcript=9\nspawn p\r\n\nerror 20\nwrite failed: broken\nscript 2 end=exit:0 steps=4 sent=2 transcript=16\nspawn p\r\nb\ndone\n\n",
+        b"script 1 end=error steps=2 sent=0 transcript=11\nspawn cat\r\n\nerror 20\nwrite failed: broken\nscript 2 end=exit:0 steps=3 sent=3 transcript=19\nspawn cat\r\nhi\r\nhi\r\n\n",
     )?;
     assert!(rt; both);
     Ok(())

@@ -16,7 +16,8 @@ const SOURCE: &[u8] = b"spawn p; send \"a\\n\"; expect -ex b; puts done";
 
 const LOG: &[u8] = b"ok 1 1 1\nok 1 1 2\nout 1 1 3 620a\n";
 
-const REPORT: &[u8] = b"script 1 end=exit:0 steps=4 sent=2 transcript=16\nspawn p\r\nb\ndone\n\n";
+const REPORT: &[u8] =
+    b"script 1 end=exit:0 steps=4 sent=2 transcript=20\nspawn p\r\na\r\nb\r\ndone\n\n";
 
 fn scripts(alloc: Global) -> Result<Vec<Script>, AllocError> {
     let mut scripts = Vec::new(alloc);

@@ -1,35 +1,78 @@
--- What a session says after events and after a request was handed out.
-use Rattle.std.proofs.Common.{◌≡◌, ℕ, zero, suc, ◌+◌, ◌<◌, List, [], ◌∷◌, ◌++◌, length, drop, Some, None, refl, sym, ap, ◌∙◌, arith}
-use Rattle.std.specs.Prelude.{IsTrue, slice_get, ◌≤◌, OnOk, Result, Ok, Err, Bool}
+-- What a session says, before and behind events.
+use Rattle.std.proofs.Common.{◌≡◌, ℕ, zero, suc, ◌+◌, false, List, [], ◌∷◌, ◌++◌, length, drop, Some, None, refl, sym, ap, ◌∙◌, arith}
+use Rattle.std.specs.Prelude.{IsTrue, map, slice_get, ◌≤◌}
 use Rattle.std.proofs.lemmas.List.{drop-drop}
 use Rattle.child_events.specs.declared.event.Event.{Event}
-use Rattle.child_events.specs.declared.world.World.{World}
-use Rattle.child_events.specs.World.{grown, grown_all}
-use Rattle.session.specs.declared.request.Request.{Request}
+use Rattle.tcl_subst.specs.Report.{values_of}
+use Rattle.tcl_subst.specs.Variables.{Variables}
+use Rattle.tcl_eval.specs.declared.ending.Ending.{Ending}
+use Rattle.tcl_eval.specs.declared.engine.Engine.{Engine}
+use Rattle.tcl_eval.specs.declared.frame.Mode.{Mode}
+use Rattle.tcl_eval.specs.declared.frame.Mode.TheVariants.{Ended}
+use Rattle.tcl_eval.specs.Rest.{engine_rest}
+use Rattle.tcl_eval.specs.Suspended.{IsOver}
+use Rattle.expect_core.specs.declared.own.Own.{Own}
+use Rattle.expect_core.specs.declared.request.Request.{Request}
+use Rattle.expect_core.specs.declared.dialogue.Dialogue.{Dialogue}
+use Rattle.expect_core.specs.Lanes.{offered, extended}
 use Rattle.session.specs.declared.report.Report.{Report}
 use Rattle.session.specs.declared.session.Session.TheInside.{Inside}
-use Rattle.session.specs.Meaning.{report_in}
 use Rattle.session.specs.Left.{Kept, left, Fed, HandsOut}
-use Rattle.session.specs.Sound.{Sound, kept_of, Renewed}
+use Rattle.session.specs.Play.{said, ending_of, fault_of, play}
+use Rattle.session.specs.Shown.{shown, Ran}
+use Rattle.session.specs.Sound.{Sound, kept_of}
 
-pub grown_more : (w : World) (xs ys : List Event) → grown_all w (xs ++ ys) ≡ grown_all (grown_all w xs) ys
-grown_more w [] ys = refl
-grown_more w (x ∷ xs) ys = grown_more (grown w x) xs ys
+pub own_extended : (es : List Event) (d : Dialogue) → (extended es d).own ≡ d.own
+own_extended [] d = refl
+own_extended (e ∷ es) d = own_extended es (offered e d)
 
--- the world that has grown by these events, where memory was found for it and for what it comes to
-pub fed : {E : Type 0} (a : Inside) (es : List Event) (computed : Result (Report × List Request) E) (w : World) (lives : Bool) (report : Report) (requests : List Request) →
-    IsTrue a.lives → OnOk computed (w ≡ grown_all a.world es) → Renewed computed lives report requests → Fed (kept_of a) es (record (kept_of a) { world = w; lives = lives })
+pub extended_append : (es later : List Event) (d : Dialogue) → extended later (extended es d) ≡ extended (es ++ later) d
+extended_append [] later d = refl
+extended_append (e ∷ es) later d = extended_append es later (offered e d)
+
+said_by : Ending → List ℕ → ℕ → Variables → Own → Report
+said_by e fault steps vars o = record {
+  ending = e;
+  fault = fault;
+  transcript = o.transcript;
+  vars = values_of vars.globals;
+  requests = o.requests;
+  sent = map (λ child. child.sent) o.children;
+  steps = steps;
+}
+
+pub said_extended : (e : Ending) (fault : List ℕ) (steps : ℕ) (vars : Variables) (es : List Event) (d : Dialogue) → said e fault steps vars (extended es d) ≡ said e fault steps vars d
+unfolding said_by
+said_extended e fault steps vars es d = ap (said_by e fault steps vars) (own_extended es d)
+
+-- a run that is over says the same whatever comes
+over_says : (bound : ℕ) (engine : Engine) (mode : Mode) (steps : ℕ) (d : Dialogue) (xs ys : List Event) → IsOver mode → play bound (engine_rest engine steps mode) (extended xs d) ≡ play bound (engine_rest engine steps mode) (extended ys d)
+over_says bound engine (Ended e) steps d xs ys over = said_extended (ending_of e) (fault_of e) _ engine.vars xs d ∙ sym (said_extended (ending_of e) (fault_of e) _ engine.vars ys d)
+over_says bound engine _ steps d xs ys over = absurd over
+
+pub passed_over : (k : Kept) (es : List Event) → IsOver k.mode → Fed k es k
 unfolding left
-fed a es (Ok fresh) w lives report requests was grown renewed = record {
+passed_over k es over = record {
   handed = refl;
-  lived = λ h. was;
-  says = λ h later. ap (report_in a.source a.settings) (ap (λ (v : World). grown_all v later) grown ∙ sym (grown_more a.world es later));
+  lived = λ h. h;
+  says = λ h later. over_says k.bound k.engine k.mode k.steps k.dialogue later (es ++ later) over;
 }
-fed a es (Err e) w lives report requests was grown renewed = record {
-  handed = refl;
-  lived = λ h. was;
-  says = λ h later. let spent = renewed.0 in absurd (cc);
+
+pub fed : (k k' : Kept) (es : List Event) (before : Dialogue) → k'.handed ≡ k.handed → k'.bound ≡ k.bound → IsTrue k.lives → (IsTrue before.lives → before ≡ extended es k.dialogue) → (IsTrue k'.lives → Ran k.engine k.mode k.steps before k'.engine k'.mode k'.steps k'.dialogue) → Fed k es k'
+unfolding left
+fed k k' es before handed bound lives came ran = record {
+  handed = handed;
+  lived = λ h. lives;
+  says = λ h later.
+      (ran h).says k'.bound later
+      ∙ ap (λ (d : Dialogue). play k'.bound (engine_rest k.engine k.steps k.mode) (extended later d)) (came (ran h).lived)
+      ∙ ap (λ (d : Dialogue). play k'.bound (engine_rest k.engine k.steps k.mode) d) (extended_append es later k.dialogue)
+      ∙ ap (λ (n : ℕ). play n (engine_rest k.engine k.steps k.mode) (extended (es ++ later) k.dialogue)) bound;
 }
+
+shown_requests : (bound : ℕ) (engine : Engine) (mode : Mode) (steps : ℕ) (d : Dialogue) → (shown bound engine mode steps d).requests ≡ d.own.requests
+shown_requests bound engine (Ended e) steps d = refl
+shown_requests bound engine _ steps d = refl
 
 first_of : (xs : List Request) (n : ℕ) → slice_get xs n ≡ slice_get (drop n xs) 0
 first_of [] zero = refl
@@ -37,54 +80,58 @@ first_of [] (suc n) = refl
 first_of (x ∷ xs) zero = refl
 first_of (x ∷ xs) (suc n) = first_of xs n
 
-pub now_left : (k : Kept) → left k [] ≡ report_in k.source k.settings k.world
-unfolding left
-now_left k = refl
-
--- what lies ready at the count is what the report has there
-ready_at : (a : Inside) → Sound a → IsTrue a.lives → slice_get a.requests a.handed ≡ slice_get (left (kept_of a) []).requests a.handed
-ready_at a sound lives =
-    first_of a.requests a.handed ∙ ap (λ (rs : List Request). slice_get rs 0) (sound.ready lives)
-    ∙ sym (first_of (report_in a.source a.settings a.world).requests a.handed)
-    ∙ sym (ap (λ (r : Report). slice_get r.requests a.handed) (now_left (kept_of a)))
-
 past : (rs : List Request) (n : ℕ) → length rs ≤ n → slice_get rs n ≡ None
 past [] zero le = refl
 past [] (suc n) le = refl
 past (r ∷ rs) zero le = absurd (omega (arith, le))
 past (r ∷ rs) (suc n) le = past rs n (omega (arith, le))
 
-pub hands_none : (a : Inside) → Sound a → length a.requests ≤ a.handed → HandsOut (kept_of a) None (kept_of a)
-hands_none a sound over = record {
+-- what the report has at a place is what was asked for there
+asked_at : (a : Inside) → Sound a → IsTrue a.lives → slice_get (left (kept_of a) []).requests a.handed ≡ slice_get a.dialogue.own.requests a.handed
+unfolding left
+asked_at a sound lives =
+    ap (λ (r : Report). slice_get r.requests a.handed) (sound.shows lives)
+    ∙ ap (λ (rs : List Request). slice_get rs a.handed) (shown_requests a.bound a.machine.engine a.machine.mode _ a.dialogue)
+
+-- what lies ready first is what was asked for at the count
+ready_at : (a : Inside) → Sound a → IsTrue a.lives → slice_get a.dialogue.own.requests a.handed ≡ slice_get a.ready.items 0
+ready_at a sound lives = first_of a.dialogue.own.requests a.handed ∙ sym (ap (λ (rs : List Request). slice_get rs 0) (sound.ready lives))
+
+hands_nothing : (a : Inside) → Sound a → (IsTrue a.lives → slice_get a.dialogue.own.requests a.handed ≡ None) → HandsOut (kept_of a) None (kept_of a)
+hands_nothing a sound none = record {
   lives = refl;
   says = λ later. refl;
-  next = λ lives. sym (past a.requests a.handed over) ∙ ready_at a sound lives;
+  next = λ lives. sym (asked_at a sound lives ∙ none lives);
   spent = λ spent. refl;
   counted = refl;
 }
 
-nothing : (rs : List Request) (n : ℕ) → rs ≡ [] → slice_get rs n ≡ None
-nothing [] zero e = refl
-nothing [] (suc n) e = refl
-nothing (r ∷ rs) n e = absurd (cc)
+-- all were handed out
+pub hands_past : (a : Inside) → Sound a → length a.dialogue.own.requests ≤ a.handed → HandsOut (kept_of a) None (kept_of a)
+hands_past a sound over = hands_nothing a sound (λ lives. past a.dialogue.own.requests a.handed over)
 
-pub hands_some : (a : Inside) (r : Request) → Sound a → slice_get a.requests a.handed ≡ Some r → HandsOut (kept_of a) (Some r) (record (kept_of a) { handed = a.handed + 1 })
+-- none lies ready
+pub hands_none : (a : Inside) → Sound a → a.ready.items ≡ [] → HandsOut (kept_of a) None (kept_of a)
+hands_none a sound empty = hands_nothing a sound (λ lives. ready_at a sound lives ∙ ap (λ (rs : List Request). slice_get rs 0) empty)
+
+-- the first that lies ready
+pub hands_some : (a : Inside) (r : Request) (rest : List Request) → Sound a → a.ready.items ≡ r ∷ rest → HandsOut (kept_of a) (Some r) (record (kept_of a) { handed = a.handed + 1 })
 unfolding left
-hands_some a r sound here = record {
+hands_some a r rest sound here = record {
   lives = refl;
   says = λ later. refl;
-  next = λ lives. sym here ∙ ready_at a sound lives;
-  spent = λ spent. let none : slice_get a.requests a.handed ≡ None = nothing a.requests a.handed (sound.spent spent) in absurd (cc);
+  next = λ lives. sym (asked_at a sound lives ∙ ready_at a sound lives ∙ ap (λ (rs : List Request). slice_get rs 0) here);
+  spent = λ spent. let none : a.ready.items ≡ [] = sound.spent spent in absurd (cc);
   counted = refl;
 }
 
 -- behind the request that was handed out the others still lie ready
-pub sound_on : (a : Inside) (rest : List Request) → Sound a → a.handed < length a.requests → drop (a.handed + 1) rest ≡ drop (a.handed + 1) a.requests → length rest ≡ length a.requests → Sound (record a { requests = rest; handed = a.handed + 1 })
-sound_on a rest sound here same len = record {
-  report = sound.report;
-  ready = λ lives. same ∙ next a.requests (report_in a.source a.settings a.world).requests a.handed (sound.ready lives);
-  spent = λ spent. let none : length a.requests ≡ 0 = ap length (sound.spent spent) in absurd (omega (arith, none, here));
-}
-  where
-    next : (xs ys : List Request) (n : ℕ) → drop n xs ≡ drop n ys → drop (n + 1) xs ≡ drop (n + 1) ys
-    next xs ys n h = sym (drop-drop 1 n xs) ∙ ap (drop 1) h ∙ drop-drop 1 n ys
+pub ready_on : (a : Inside) (r : Request) (rest : List Request) → Sound a → a.ready.items ≡ r ∷ rest → IsTrue a.lives → rest ≡ drop (a.handed + 1) a.dialogue.own.requests
+ready_on a r rest sound here lives = ap (drop 1) (sym here ∙ sound.ready lives) ∙ drop-drop 1 a.handed a.dialogue.own.requests
+
+pub none_spent : (a : Inside) (r : Request) (rest : List Request) → Sound a → a.ready.items ≡ r ∷ rest → a.lives ≡ false → rest ≡ []
+none_spent a r rest sound here spent = let none : a.ready.items ≡ [] = sound.spent spent in absurd (cc)
+
+pub none_in : (rs : List Request) → length rs ≡ 0 → rs ≡ []
+none_in [] none = refl
+none_in (r ∷ rs) none = absurd (omega (arith, none))

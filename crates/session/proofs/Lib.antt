@@ -1,8 +1,3 @@
-pub mod Items
+pub mod Suspending
 pub mod Lefts
-pub mod Places
-pub mod Further
-pub mod Follows
 pub mod Grows
-pub mod GrowsOn
-pub mod Charges

@@ -1,10 +1,10 @@
 -- More events only make a waiting script go on: what was asked stays asked, and an ending stays.
 use Rattle.std.specs.Prelude.{◌≡◌, ◌≢◌, ℕ, List, ◌++◌}
 use Rattle.child_events.specs.declared.event.Event.{Event}
-use Rattle.session.specs.declared.report.Ending.TheVariants.{Waiting}
+use Rattle.tcl_eval.specs.declared.ending.Ending.TheVariants.{Waiting}
+use Rattle.expect_core.specs.declared.request.Request.{Request}
+use Rattle.expect_core.specs.declared.settings.Settings.{Settings}
 use Rattle.session.specs.declared.report.Report.{Report}
-use Rattle.session.specs.declared.request.Request.{Request}
-use Rattle.session.specs.declared.settings.Settings.{Settings}
 use Rattle.session.specs.Meaning.{meaning}
 
 -- the first report's requests and transcript are fronts of the second's

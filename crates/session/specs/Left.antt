@@ -1,24 +1,29 @@
 -- A session by what it still says: the report for whatever comes.
 use Rattle.std.specs.Prelude.{◌≡◌, ℕ, List, [], ◌++◌, Bool, false, IsTrue, Option, None, is_some, slice_get, ◌+◌, if◌then◌else◌}
 use Rattle.child_events.specs.declared.event.Event.{Event}
-use Rattle.child_events.specs.declared.world.World.{World}
-use Rattle.child_events.specs.World.{grown_all}
-use Rattle.session.specs.declared.request.Request.{Request}
-use Rattle.session.specs.declared.settings.Settings.{Settings}
+use Rattle.tcl_eval.specs.declared.engine.Engine.{Engine}
+use Rattle.tcl_eval.specs.declared.frame.Mode.{Mode}
+use Rattle.tcl_eval.specs.Rest.{engine_rest}
+use Rattle.expect_core.specs.declared.request.Request.{Request}
+use Rattle.expect_core.specs.declared.dialogue.Dialogue.{Dialogue}
+use Rattle.expect_core.specs.Lanes.{extended}
 use Rattle.session.specs.declared.report.Report.{Report}
-use Rattle.session.specs.Meaning.{report_in}
+use Rattle.session.specs.Play.{play}
 
--- What a plain session keeps. One that was refused memory doesn't live, and nothing is promised of it.
+-- What a session keeps: its machine, the steps that are left, and its dialogue, without the events that were taken. One that was refused
+-- memory doesn't live, and nothing is promised of it.
 pub record Kept : Type 0 where
-  pub source : List ℕ
-  pub settings : Settings
-  pub world : World
+  pub bound : ℕ
+  pub engine : Engine
+  pub mode : Mode
+  pub steps : ℕ
+  pub dialogue : Dialogue
   pub handed : ℕ
   pub lives : Bool
 
 -- the report that the session, as it stands, gives for later events
 unfoldable pub left : Kept → List Event → Report
-left k later = report_in k.source k.settings (grown_all k.world later)
+left k later = play k.bound (engine_rest k.engine k.steps k.mode) (extended later k.dialogue)
 
 -- from old to new these events came, unless memory was refused
 pub record Fed (old : Kept) (events : List Event) (new : Kept) : Type 0 where

@@ -1,22 +1,16 @@
-//! One script that is fed its events one by one.
+//! One script with its children: its commands over their events, its requests, its report.
+//!
+//! What a script means over all its events is defined in `specs/Meaning`. A session keeps no event that was taken.
 #![tactic(auto)]
 
-mod args;
-mod command;
-mod eval;
-mod expect;
-mod number;
-mod outcome;
-mod plan;
+mod first;
+mod laws;
 mod report;
-mod request;
 mod session;
-mod settings;
-mod state;
-mod texts;
-mod wait;
+mod show;
 
-pub use report::{Counts, Ending, Report};
-pub use request::{Act, Request, Requests};
+pub use expect_core::{Act, Pairs, Request, Requests, Settings};
+pub use laws::growth;
+pub use report::{Counts, Report};
 pub use session::{NewFault, SOURCE_LIMIT, STEPS_LIMIT, Session};
-pub use settings::{Pairs, Settings};
+pub use tcl_eval::Ending;

@@ -1,29 +1,12 @@
-//! How a script ends, and what came of it.
+//! What came of a script.
 
 ghost use Rattle.std.specs.Prelude.{◌≡◌, [], IfOk};
 
-use crate::request::Requests;
-use crate::settings::Pairs;
+use expect_core::{Pairs, Requests};
 use std::alloc::{AllocError, Global};
 use std::marker::Model;
+use tcl_eval::Ending;
 use tcl_words::Text;
-
-/// How a script ended, or that it waits.
-#[derive(Clone, Copy, Debug, PartialEq, Eq)]
-pub enum Ending {
-    /// At its end or by `exit`, with this status.
-    Exit(u8),
-    /// By an error that nothing caught.
-    Error,
-    /// A step more was begun than the settings allow.
-    StepLimit,
-    /// The last moment of the settings has passed.
-    TimeLimit,
-    /// It was refused memory.
-    Memory,
-    /// It has not ended: it waits for an event.
-    Waiting,
-}
 
 /// Numbers in order, seen as a list.
 #[derive(Debug, Drop)]
@@ -63,7 +46,7 @@ pub struct Report {
     pub fault: Text,
     /// What it wrote, and the output of its children that it took.
     pub transcript: Text,
-    /// The global variables that have a value, in byte order of names. There are none yet.
+    /// The global variables that have a value, in byte order of names.
     pub vars: Pairs,
     /// What it asked of its children, in order.
     pub requests: Requests,

@@ -1,21 +1,25 @@
 //! A script that is fed its events one by one.
 
-ghost use Rattle.std.specs.Prelude.{◌≡◌, ◌<◌, ◌≤◌, ◌↔◌, ◌≢◌, [], ◌∷◌, List, length, map, IfOk, OnOk, IsTrue, IsErrOf, false};
+ghost use Rattle.std.specs.Prelude.{◌≡◌, ◌<◌, ◌≤◌, ◌↔◌, ◌≢◌, ◌++◌, [], ◌∷◌, List, length, drop, IfOk, OnOk, IsTrue, IsErrOf, false};
+ghost use Rattle.std.specs.Bool.{OnFalse};
 ghost use Rattle.child_events.specs.declared.event.Event.{Event};
-ghost use Rattle.child_events.specs.World.{grown_all};
-ghost use Rattle.session.specs.Meaning.{meaning, report_in, eval as eval_of, scene_in, fresh, report_of, ending_of, fault_of};
+ghost use Rattle.tcl_eval.specs.Steps.{left_of};
+ghost use Rattle.tcl_eval.specs.Suspended.{IsOver};
+ghost use Rattle.expect_core.specs.Good.{Good};
+ghost use Rattle.expect_core.specs.Lanes.{extended};
 ghost use Rattle.session.specs.Left.{left, Fed, HandsOut};
+ghost use Rattle.session.specs.Meaning.{meaning, steps_of, tree_of};
+ghost use Rattle.session.specs.Shown.{Ran};
 
-use crate::eval::{VALUE_LIMIT, eval};
-use crate::outcome::Flow;
-use crate::report::{Counts, Ending, Report};
-use crate::request::{Act, Request, Requests};
-use crate::settings::{Pairs, Settings};
-use crate::state::{Child, Children, State};
-use crate::wait::Stage;
-use child_events::{Event, World};
+use crate::first::first_variables;
+use crate::report::Report;
+use crate::show::{ending_of, shown};
+use child_events::Event;
+use expect_core::{Dialogue, Request, Settings};
 use std::alloc::{AllocError, Global};
+use std::collections::VecDeque;
 use std::marker::Model;
+use tcl_eval::{Ending, Machine, Meter, Mode, Pause};
 use tcl_words::Text;
 
 /// Why there is no session.
@@ -27,27 +31,13 @@ pub enum NewFault {
 }
 
 /// How many bytes a source may have.
-pub const SOURCE_LIMIT: usize = VALUE_LIMIT;
-
-fn fresh_state(alloc: Global) -> State
-    ensures { result ≡ fresh }
-{
-    State {
-        clock: 0,
-        steps: 0,
-        transcript: Text::new(alloc),
-        requests: Requests::new(alloc),
-        children: Children::new(alloc),
-        current: None,
-    }
-}
+pub const SOURCE_LIMIT: usize = 1_048_576;
 
 /// How many steps may be begun at the most.
 pub const STEPS_LIMIT: u64 = 1_000_000_000_000;
 
 fn bounded(steps: u64) -> u64
-    ensures value { result ≡ steps_of steps }
-    ensures most { result ≤ 1000000000000 }
+    ensures { result ≡ steps_of steps }
 {
     if steps < STEPS_LIMIT {
         steps
@@ -56,188 +46,119 @@ fn bounded(steps: u64) -> u64
     }
 }
 
-ghost use Rattle.session.specs.Meaning.{steps_of};
-
-/// Evaluates a source anew in a world.
-fn evaluate(
-    alloc: Global,
-    source: &[u8],
-    settings: &Settings,
-    world: &World,
-) -> Result<(Flow, State), AllocError>
-    ensures { IfOk result (λ r. eval_of (scene_in settings.now world.now) 200 source.now fresh ≡ (r.0, r.1)) }
+fn is_memory(pause: &Pause) -> bool
+    ensures { OnFalse result (pause.now ≢ Pause.Memory) }
 {
-    let stage = Stage {
-        world,
-        steps: bounded(settings.steps),
-        limit: settings.limit_ms,
-    };
-    let mut state = fresh_state(alloc);
-    let flow = eval(alloc, &stage, &mut state, 200, source)?;
-    Ok((flow, state))
-}
-
-fn sent_counts(alloc: Global, children: &[Child]) -> Result<Counts, AllocError>
-    ensures { IfOk result (λ c. c ≡ map (λ child. child.sent) children.now) }
-{
-    let mut list = Vec::new(alloc);
-    for child in children {
-        list.push(child.sent)?;
-    }
-    Ok(Counts { list })
-}
-
-fn ending_from(flow: &Flow) -> Ending
-    ensures { result ≡ ending_of flow.now }
-{
-    match flow {
-        Flow::Done => Ending::Exit(0),
-        Flow::Error(_) => Ending::Error,
-        Flow::Stop(ending) => *ending,
-    }
-}
-
-fn report_from(alloc: Global, flow: Flow, state: State) -> Result<Report, AllocError>
-    ensures { IfOk result (λ r. r ≡ report_of (flow, state)) }
-{
-    let ending = ending_from(&flow);
-    let sent = sent_counts(alloc, state.children.as_slice())?;
-    let fault = match flow {
-        Flow::Error(text) => text,
-        Flow::Done | Flow::Stop(_) => Text::new(alloc),
-    };
-    Ok(Report {
-        ending,
-        fault,
-        transcript: state.transcript,
-        vars: Pairs::new(alloc),
-        requests: state.requests,
-        sent,
-        steps: state.steps,
-    })
-}
-
-/// The report of a source in a world.
-#[tactic(auto, unfolding(crate::specs::Meaning::report_in))]
-fn reported(
-    alloc: Global,
-    source: &[u8],
-    settings: &Settings,
-    world: &World,
-) -> Result<Report, AllocError>
-    ensures { IfOk result (λ r. r ≡ report_in source.now settings.now world.now) }
-{
-    let (flow, state) = evaluate(alloc, source, settings, world)?;
-    report_from(alloc, flow, state)
-}
-
-/// The report, and copies of its requests to hand out.
-fn computed(
-    alloc: Global,
-    source: &[u8],
-    settings: &Settings,
-    world: &World,
-) -> Result<(Report, Requests), AllocError>
-    ensures report { IfOk result (λ r. r.0 ≡ report_in source.now settings.now world.now) }
-    ensures requests { IfOk result (λ r. r.1 ≡ (report_in source.now settings.now world.now).requests) }
-{
-    let report = reported(alloc, source, settings, world)?;
-    let requests = report.requests.copied(alloc)?;
-    Ok((report, requests))
-}
-
-fn add_all(world: &mut World, events: Vec<Event>) -> Result<(), AllocError>
-    ensures { OnOk result (world.new ≡ grown_all world.old events.items) }
-{
-    for event in events {
-        world.add(event)?;
-    }
-    Ok(())
+    matches!(pause, Pause::Memory)
 }
 
 /// Whether nothing more can happen.
-fn is_over(ending: Ending) -> bool
-    ensures { IsTrue result ↔ (ending ≢ Ending.Waiting) }
+fn is_over(mode: &Mode) -> bool
+    ensures { IsTrue result → IsOver mode.now }
 {
-    !matches!(ending, Ending::Waiting)
-}
-
-/// An event more, and then the report and its requests.
-fn grow(
-    alloc: Global,
-    source: &[u8],
-    settings: &Settings,
-    world: &mut World,
-    event: Event,
-) -> Result<(Report, Requests), AllocError>
-    ensures world { OnOk result (world.new ≡ grown_all world.old (event ∷ [])) }
-    ensures report { IfOk result (λ r. r.0 ≡ report_in source.now settings.now world.new) }
-    ensures requests { IfOk result (λ r. r.1 ≡ (report_in source.now settings.now world.new).requests) }
-{
-    world.add(event)?;
-    computed(alloc, source, settings, world)
-}
-
-/// Events more, and then the report and its requests.
-fn grow_all(
-    alloc: Global,
-    source: &[u8],
-    settings: &Settings,
-    world: &mut World,
-    events: Vec<Event>,
-) -> Result<(Report, Requests), AllocError>
-    ensures world { OnOk result (world.new ≡ grown_all world.old events.items) }
-    ensures report { IfOk result (λ r. r.0 ≡ report_in source.now settings.now world.new) }
-    ensures requests { IfOk result (λ r. r.1 ≡ (report_in source.now settings.now world.new).requests) }
-{
-    add_all(world, events)?;
-    computed(alloc, source, settings, world)
-}
-
-/// Puts what was computed in the place of what was known; the answer says whether memory was found for it.
-fn renewed(
-    alloc: Global,
-    computed: Result<(Report, Requests), AllocError>,
-    report: &mut Report,
-    requests: &mut Requests,
-) -> bool
-    ensures { Renewed computed result report.new requests.new }
-{
-    match computed {
-        Ok(fresh) => {
-            *report = fresh.0;
-            *requests = fresh.1;
-            true
-        }
-        Err(_) => {
-            *requests = Requests::new(alloc);
-            false
-        }
+    match mode {
+        Mode::Ended(_) => true,
+        _ => false,
     }
 }
 
-ghost use Rattle.session.specs.Sound.{Renewed};
+/// Runs on to the next pause, and says whether no memory was refused.
+fn run_on(machine: &mut Machine<Dialogue>, dialogue: &mut Dialogue, meter: &mut Meter) -> bool
+    requires { IsTrue dialogue.old.lives → Good dialogue.old }
+    ensures { IsTrue result → Ran machine.old.engine machine.old.mode (left_of meter.old) dialogue.old machine.new.engine machine.new.mode (left_of meter.new) dialogue.new }
+{
+    let pause = machine.run(dialogue, meter);
+    if is_memory(&pause) {
+        return false;
+    }
+    dialogue.lives()
+}
 
-/// A script with all that has happened to it. It keeps its events, and evaluates its source anew at each feed.
+/// The requests from a place on.
+fn rest_of(requests: &[Request], from: usize) -> &[Request]
+    ensures { result.now ≡ drop from requests.now }
+{
+    if requests.len() <= from {
+        &[]
+    } else {
+        requests.split_at(from).1
+    }
+}
+
+/// Copies of requests.
+fn copies(alloc: Global, requests: &[Request]) -> Result<VecDeque<Request>, AllocError>
+    ensures { IfOk result (λ r. r.items ≡ requests.now) }
+{
+    let mut made = VecDeque::new(alloc);
+    for request in requests {
+        made.push_back(request.copied(alloc)?)?;
+    }
+    Ok(made)
+}
+
+/// Runs on to the next pause, and lays the requests ready that are to be handed out. The answer says whether no memory was refused;
+/// where some was, no request lies ready.
+fn go_on(
+    alloc: Global,
+    machine: &mut Machine<Dialogue>,
+    dialogue: &mut Dialogue,
+    meter: &mut Meter,
+    handed: usize,
+    ready: &mut VecDeque<Request>,
+) -> bool
+    requires { IsTrue dialogue.old.lives → Good dialogue.old }
+    ensures ran { IsTrue result → Ran machine.old.engine machine.old.mode (left_of meter.old) dialogue.old machine.new.engine machine.new.mode (left_of meter.new) dialogue.new }
+    ensures ready { IsTrue result → ready.new.items ≡ drop handed dialogue.new.own.requests }
+    ensures spent { result ≡ false → ready.new.items ≡ [] }
+{
+    if run_on(machine, dialogue, meter) {
+        if let Ok(copied) = copies(alloc, rest_of(dialogue.requests(), handed)) {
+            *ready = copied;
+            return true;
+        }
+    }
+    *ready = VecDeque::new(alloc);
+    false
+}
+
+/// Puts events behind what came, one after another.
+fn offer_all(dialogue: &mut Dialogue, events: Vec<Event>)
+    ensures lived { IsTrue dialogue.new.lives → IsTrue dialogue.old.lives }
+    ensures came { Good dialogue.old → IsTrue dialogue.new.lives → dialogue.new ≡ extended events.items dialogue.old }
+{
+    'events: for event in events {
+        dialogue.offer(event);
+    }
+}
+
+/// One script and what is left of it. Events that were taken are not kept.
 #[derive(Drop)]
 pub struct Session {
     alloc: Global,
-    source: Text,
-    settings: Settings,
-    world: World,
-    report: Report,
-    /// The requests of the report; those that were handed out are no longer of use.
-    requests: Requests,
+    /// How many steps may be begun.
+    bound: u64,
+    machine: Machine<Dialogue>,
+    dialogue: Dialogue,
+    meter: Meter,
+    /// Copies of the requests that are to be handed out.
+    ready: VecDeque<Request>,
+    /// How many requests were handed out.
     handed: usize,
-    /// No growth was refused to it.
+    /// No memory was refused to it.
     lives: bool,
 }
 
 impl Model for Session {
     ghost use Rattle.session.specs.Left.{Kept};
     ghost use Rattle.session.specs.Sound.{Sound, kept_of};
+    ghost use Rattle.std.specs.Coded.{codes};
+    ghost use Rattle.tcl_eval.specs.contracts.engine.Engine as e;
+    ghost use Rattle.tcl_eval.specs.contracts.frame.Mode as m;
+    ghost use Rattle.expect_core.specs.contracts.dialogue.Dialogue as d;
 
     ghost Value = { Kept };
+
+    ghost coded = { Prim.hlevel (codes, e.the_row.coded, m.the_row.coded, d.the_row.coded) };
 
     ghost view = { kept_of };
 
@@ -245,8 +166,37 @@ impl Model for Session {
 }
 
 impl Session {
+    fn open(alloc: Global, source: &[u8], settings: &Settings) -> Result<Session, AllocError>
+        ensures left { IfOk result (λ s. IsTrue s.lives → (later : List Event) → left s later ≡ meaning source.now settings.now later) }
+        ensures handed { IfOk result (λ s. s.handed ≡ 0) }
+    {
+        let vars = first_variables(alloc, settings.env.as_slice())?;
+        let mut machine = Machine::new(alloc, source, vars)?;
+        let mut dialogue = Dialogue::new(alloc, settings)?;
+        let bound = bounded(settings.steps);
+        let mut meter = Meter::new(bound);
+        let mut ready = VecDeque::new(alloc);
+        let lives = go_on(
+            alloc,
+            &mut machine,
+            &mut dialogue,
+            &mut meter,
+            0,
+            &mut ready,
+        );
+        Ok(Session {
+            alloc,
+            bound,
+            machine,
+            dialogue,
+            meter,
+            ready,
+            handed: 0,
+            lives,
+        })
+    }
+
     /// A session that has run to its first wait.
-    #[tactic(auto, unfolding(crate::specs::Left::left))]
     pub fn new(alloc: Global, source: Text, settings: Settings) -> Result<Session, NewFault>
         ensures left { IfOk result (λ s. IsTrue s.lives → (later : List Event) → left s later ≡ meaning source settings later) }
         ensures handed { IfOk result (λ s. s.handed ≡ 0) }
@@ -255,28 +205,10 @@ impl Session {
         if source.len() > SOURCE_LIMIT {
             return Err(NewFault::SourceTooLong);
         }
-        let Ok(world) = World::new(alloc) else {
-            return Err(NewFault::Memory);
-        };
-        let (lives, report, requests) = match computed(
-            alloc,
-            source.as_slice(),
-            &settings,
-            &world,
-        ) {
-            Ok((report, requests)) => (true, report, requests),
-            Err(_) => (false, Report::of_memory(alloc), Requests::new(alloc)),
-        };
-        Ok(Session {
-            alloc,
-            source,
-            settings,
-            world,
-            report,
-            requests,
-            handed: 0,
-            lives,
-        })
+        match Session::open(alloc, source.as_slice(), &settings) {
+            Ok(session) => Ok(session),
+            Err(_) => Err(NewFault::Memory),
+        }
     }
 
     /// Goes on with an event. A session that has ended passes it over.
@@ -286,50 +218,56 @@ impl Session {
         if !self.lives {
             return;
         }
-        if is_over(self.report.ending) {
+        if is_over(&self.machine.mode) {
             return;
         }
-        let grown = grow(
+        self.dialogue.offer(event);
+        self.lives = go_on(
             self.alloc,
-            self.source.as_slice(),
-            &self.settings,
-            &mut self.world,
-            event,
+            &mut self.machine,
+            &mut self.dialogue,
+            &mut self.meter,
+            self.handed,
+            &mut self.ready,
         );
-        self.lives = renewed(self.alloc, grown, &mut self.report, &mut self.requests);
     }
 
-    /// Goes on with events, one after another, and evaluates its source but once: the requests that
-    /// they open lie ready behind the last one. A session that has ended passes them over.
+    /// Goes on with events, one after another: the requests that they open lie ready behind the last one. A session that has ended passes
+    /// them over.
     pub fn feed_all(&mut self, events: Vec<Event>)
         ensures { Fed self.old events.items self.new }
     {
         if !self.lives {
             return;
         }
-        if is_over(self.report.ending) {
+        if is_over(&self.machine.mode) {
             return;
         }
-        let grown = grow_all(
+        offer_all(&mut self.dialogue, events);
+        self.lives = go_on(
             self.alloc,
-            self.source.as_slice(),
-            &self.settings,
-            &mut self.world,
-            events,
+            &mut self.machine,
+            &mut self.dialogue,
+            &mut self.meter,
+            self.handed,
+            &mut self.ready,
         );
-        self.lives = renewed(self.alloc, grown, &mut self.report, &mut self.requests);
     }
 
     /// The next request, once.
     pub fn next_request(&mut self) -> Option<Request>
         ensures { HandsOut self.old result self.new }
     {
-        if self.handed >= self.requests.len() {
+        if self.handed >= self.dialogue.requests().len() {
             return None;
         }
-        let request = self.requests.take_out(self.handed);
-        self.handed += 1;
-        Some(request)
+        match self.ready.pop_front() {
+            Some(request) => {
+                self.handed += 1;
+                Some(request)
+            }
+            None => None,
+        }
     }
 
     /// How it ended, or that it waits.
@@ -338,10 +276,12 @@ impl Session {
         ensures lives { IsTrue self.now.lives → result ≡ (left self.now []).ending }
         ensures spent { self.now.lives ≡ false → result ≡ Ending.Memory }
     {
-        if self.lives {
-            self.report.ending
-        } else {
-            Ending::Memory
+        if !self.lives {
+            return Ending::Memory;
+        }
+        match &self.machine.mode {
+            Mode::Ended(end) => ending_of(end),
+            _ => Ending::Waiting,
         }
     }
 
@@ -354,15 +294,13 @@ impl Session {
         if !self.lives {
             return Ok(Report::of_memory(self.alloc));
         }
-        self.report.copied(self.alloc)
+        shown(
+            self.alloc,
+            self.bound,
+            &self.machine.engine,
+            &self.machine.mode,
+            self.meter.left(),
+            &self.dialogue,
+        )
     }
 }
-
-/// More events only make a waiting script go on. So each request of a report is handed out once, in order, whenever
-/// the events that come later are known.
-pub fn growth()
-    ensures stays { EndingStays }
-    ensures grows { OnlyGrows }
-{}
-
-ghost use Rattle.session.specs.Growth.{EndingStays, OnlyGrows};

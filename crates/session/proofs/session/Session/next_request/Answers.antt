@@ -1,16 +1,14 @@
-use Rattle.std.proofs.Common.{◌≤◌, ◌<◌, length, arith}
-use Rattle.session.proofs.Lefts.{hands_none, hands_some, sound_on}
+use Rattle.std.proofs.Common.{◌≤◌, length, arith, ap}
+use Rattle.session.proofs.Lefts.{hands_past, hands_none, hands_some, none_in}
 use Rattle.session.proofs.session.Session.next_request.Goals as goal
 
-pub returns-then-self-len : goal.returns-then-self-len
-returns-then-self-len c =
-    let over : length c.self.inside.requests ≤ c.self.inside.handed = omega (arith, c.len.ensures, c.if-self-len.true) in
-    rw (← c.self.view_is) (hands_none c.self.inside c.self.invariant over)
+pub returns-then-self-requests : goal.returns-then-self-requests
+returns-then-self-requests c =
+    let over : length c.self.inside.dialogue.own.requests ≤ c.self.inside.handed = omega (arith, ap length c.requests.ensures, c.if-self-requests.true) in
+    rw (← c.self.view_is) (hands_past c.self.inside c.self.invariant over)
 
-pub invariant_of-self : goal.invariant_of-self
-invariant_of-self c =
-    let here : c.self.inside.handed < length c.self.inside.requests = omega (arith, c.len.ensures, c.if-self-len.false) in
-    sound_on c.self.inside c.take_out-request.new.self c.self.invariant here c.take_out-request.ensures.behind c.take_out-request.ensures.len
+pub returns-in-None : goal.returns-in-None
+returns-in-None c = rw (← c.self.view_is) (hands_none c.self.inside c.self.invariant (none_in c.self.inside.ready.items (omega (arith, c.in-None.ensures.cases.0, c.self.inside.ready.ok.0))))
 
-pub returns : goal.returns
-returns c = rw (← c.self.view_is) (hands_some c.self.inside c.take_out-request.result c.self.invariant c.take_out-request.ensures.taken)
+pub returns-in-Some : goal.returns-in-Some
+returns-in-Some c = rw (← c.self.view_is) (hands_some c.self.inside c.in-Some.request _ c.self.invariant c.in-Some.ensures.items)

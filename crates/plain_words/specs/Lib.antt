@@ -1,4 +1,0 @@
-pub mod Script
-pub mod Reading
-pub mod Turns
-pub mod Command

@@ -1,0 +1,18 @@
+use Rattle.std.proofs.Common.{◌≡◌, ◌≢◌, Bool, true, false, subst}
+use Rattle.std.specs.Prelude.{IsTrue}
+use Rattle.std.specs.Bool.{OnFalse}
+use Rattle.tcl_eval.specs.Steps.{left_of}
+use Rattle.tcl_eval.specs.declared.machine.Pause.TheVariants as pause
+use Rattle.session.proofs.Suspending.{ran}
+use Rattle.session.proofs.session.run_on.Goals as goal
+
+unless : {P : Type 0} (b : Bool) → b ≡ false → OnFalse b P → P
+unless true h p = cc
+unless false h p = p
+
+pub returns : goal.returns
+returns c = λ h.
+    let differs : c.run-pause.result ≢ pause.Memory = unless c.is_memory.result c.if-is_memory.false c.is_memory.ensures in
+    ran c.run-pause.result c.args.machine.now.engine c.args.machine.now.mode (left_of c.args.meter.now) c.args.dialogue.now c.run-pause.new.self.engine c.run-pause.new.self.mode (left_of c.run-pause.new.meter) c.run-pause.new.host c.requires differs
+    (subst (λ (b : Bool). IsTrue b) c.lives.ensures h)
+    (c.run-pause.ensures.leads differs)

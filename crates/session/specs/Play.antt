@@ -1,0 +1,89 @@
+-- What a script's tree comes to with a dialogue.
+use Rattle.std.specs.Prelude.{ℕ, ◌-◌, List, [], map, codes}
+use Rattle.tcl_subst.specs.Report.{values_of}
+use Rattle.tcl_subst.specs.Variables.{Variables}
+use Rattle.tcl_commands.specs.declared.code.Code.{Code}
+use Rattle.tcl_commands.specs.declared.code.Code.TheVariants.{Ok, Error, Return, Break, Continue, Again, AgainLater}
+use Rattle.tcl_eval.specs.declared.ending.Ending.{Ending}
+use Rattle.tcl_eval.specs.declared.ending.Ending.TheVariants as ending
+use Rattle.tcl_eval.specs.declared.frame.End.{End}
+use Rattle.tcl_eval.specs.declared.frame.End.TheVariants as end
+use Rattle.tcl_eval.specs.declared.host.HostStep.TheVariants.{Done, Fail, Body, Words, Wait, Stop, Unknown, Memory}
+use Rattle.tcl_eval.specs.Tree.{Call, Begin, Resume, AfterWords, AfterBody, Knows, Reply, Stepped, Known, Tree, Over, Ask}
+use Rattle.tcl_eval.specs.Meaning.{outside_loop}
+use Rattle.expect_core.specs.declared.dialogue.Dialogue.{Dialogue}
+use Rattle.expect_core.specs.Answered.{Outcome}
+use Rattle.expect_core.specs.Calls.{outcome, knows}
+use Rattle.session.specs.declared.report.Report.{Report}
+
+abbrev pub said : Ending → List ℕ → ℕ → Variables → Dialogue → Report
+said e fault steps vars st = record {
+  ending = e;
+  fault = fault;
+  transcript = st.own.transcript;
+  vars = values_of vars.globals;
+  requests = st.own.requests;
+  sent = map (λ child. child.sent) st.own.children;
+  steps = steps;
+}
+
+-- A script's end: code 2 is one too, and another code than 0 is an error.
+abbrev pub ending_at : Code → Ending
+ending_at Ok = ending.Exit 0
+ending_at Return = ending.Exit 0
+ending_at Error = ending.Error
+ending_at Break = ending.Error
+ending_at Continue = ending.Error
+ending_at Again = ending.Error
+ending_at AgainLater = ending.Error
+
+abbrev pub fault_at : Code → List ℕ → List ℕ
+fault_at Ok value = []
+fault_at Return value = []
+fault_at Error value = value
+fault_at Break value = outside_loop (codes "break")
+fault_at Continue value = outside_loop (codes "continue")
+fault_at Again value = codes "exp_continue outside of expect"
+fault_at AgainLater value = codes "exp_continue outside of expect"
+
+abbrev pub fault_if : Ending → List ℕ
+fault_if e = []
+
+abbrev pub ending_of : End → Ending
+ending_of (end.Finished c value) = ending_at c
+ending_of (end.Stopped e) = e
+ending_of end.StepLimit = ending.StepLimit
+ending_of end.Memory = ending.Memory
+
+abbrev pub fault_of : End → List ℕ
+fault_of (end.Finished c value) = fault_at c value
+fault_of (end.Stopped e) = []
+fault_of end.StepLimit = []
+fault_of end.Memory = []
+
+abbrev pub over_with : End → ℕ → Variables → Dialogue → Report
+over_with e steps vars st = said (ending_of e) (fault_of e) steps vars st
+
+-- a call that waits waits for ever, where no more events come
+abbrev pub behind : ℕ → (Reply → Dialogue → Report) → Outcome → Report
+behind steps more (Wait, vars, st) = said ending.Waiting [] steps vars st
+behind steps more (Done c v, vars, st) = more (Stepped (Done c v) vars) st
+behind steps more (Fail t, vars, st) = more (Stepped (Fail t) vars) st
+behind steps more (Body t, vars, st) = more (Stepped (Body t) vars) st
+behind steps more (Words t, vars, st) = more (Stepped (Words t) vars) st
+behind steps more (Stop e, vars, st) = more (Stepped (Stop e) vars) st
+behind steps more (Unknown, vars, st) = more (Stepped Unknown vars) st
+behind steps more (Memory, vars, st) = more (Stepped Memory vars) st
+
+-- what a call is answered, and what follows
+abbrev pub asking : ℕ → (Reply → Dialogue → Report) → Call → Dialogue → Report
+asking steps more (Knows word) st = more (Known (knows word)) st
+asking steps more (Begin words vars) st = behind steps more (outcome (Begin words vars) st)
+asking steps more (Resume vars) st = behind steps more (outcome (Resume vars) st)
+asking steps more (AfterWords words vars) st = behind steps more (outcome (AfterWords words vars) st)
+asking steps more (AfterBody c value vars) st = behind steps more (outcome (AfterBody c value vars) st)
+
+-- The report of a tree and a dialogue: each call sees all that its dialogue has.
+abbrev pub play : ℕ → Tree → Dialogue → Report
+play bound (Over e s) st = over_with e (bound - s.left) s.vars st
+play bound (Ask call left go) st = asking (bound - left) (λ r. play bound (go r)) call st

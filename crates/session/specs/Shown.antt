@@ -1,0 +1,25 @@
+-- What a machine that has paused shows.
+use Rattle.std.specs.Prelude.{◌≡◌, ℕ, ◌-◌, List, [], IsTrue}
+use Rattle.child_events.specs.declared.event.Event.{Event}
+use Rattle.tcl_eval.specs.declared.ending.Ending.TheVariants as ending
+use Rattle.tcl_eval.specs.declared.engine.Engine.{Engine}
+use Rattle.tcl_eval.specs.declared.frame.Mode.{Mode}
+use Rattle.tcl_eval.specs.declared.frame.Mode.TheVariants.{Ended}
+use Rattle.tcl_eval.specs.Rest.{engine_rest}
+use Rattle.expect_core.specs.declared.dialogue.Dialogue.{Dialogue}
+use Rattle.expect_core.specs.Lanes.{extended}
+use Rattle.expect_core.specs.Good.{Good}
+use Rattle.session.specs.declared.report.Report.{Report}
+use Rattle.session.specs.Play.{said, over_with, play}
+
+-- the report that a machine shows
+abbrev pub shown : ℕ → Engine → Mode → ℕ → Dialogue → Report
+shown bound engine (Ended e) left st = over_with e (bound - left) engine.vars st
+shown bound engine _ left st = said ending.Waiting [] (bound - left) engine.vars st
+
+-- A run to a pause: the report for whatever comes stays, and now the report is what the pause shows.
+pub record Ran (old : Engine) (was : Mode) (had : ℕ) (before : Dialogue) (new : Engine) (is : Mode) (has : ℕ) (after : Dialogue) : Type 0 where
+  pub lived : IsTrue before.lives
+  pub good : Good after
+  pub says : (bound : ℕ) (later : List Event) → play bound (engine_rest new has is) (extended later after) ≡ play bound (engine_rest old had was) (extended later before)
+  pub shows : (bound : ℕ) → play bound (engine_rest new has is) after ≡ shown bound new is has after

@@ -1,0 +1,122 @@
+//! What a machine that has paused shows.
+
+ghost use Rattle.std.specs.Prelude.{◌≡◌, ◌-◌, map, IfOk};
+ghost use Rattle.tcl_subst.specs.Report.{values_of};
+ghost use Rattle.session.specs.Play.{ending_at as ending_told, ending_of as ending_meant, fault_at as fault_told, fault_of as fault_meant, said as said_of};
+ghost use Rattle.session.specs.Shown.{shown as shown_of};
+
+use crate::report::{Counts, Report};
+use expect_core::{Dialogue, Pairs};
+use std::alloc::{AllocError, Global};
+use tcl_eval::{Code, End, Ending, Engine, Mode};
+use tcl_subst::Vars;
+use tcl_values::Value;
+use tcl_words::Text;
+
+fn ending_at(code: Code) -> Ending
+    ensures { result ≡ ending_told code }
+{
+    match code {
+        Code::Ok => Ending::Exit(0),
+        Code::Return => Ending::Exit(0),
+        Code::Error => Ending::Error,
+        Code::Break => Ending::Error,
+        Code::Continue => Ending::Error,
+        Code::Again => Ending::Error,
+        Code::AgainLater => Ending::Error,
+    }
+}
+
+fn fault_at(alloc: Global, code: Code, value: &Value) -> Result<Text, AllocError>
+    ensures { IfOk result (λ t. t ≡ fault_told code value.now) }
+{
+    match code {
+        Code::Ok => Ok(Text::new(alloc)),
+        Code::Return => Ok(Text::new(alloc)),
+        Code::Error => Text::from_slice(alloc, value.as_slice()),
+        Code::Break => Text::from_slice(alloc, b"invoked \"break\" outside of a loop"),
+        Code::Continue => Text::from_slice(alloc, b"invoked \"continue\" outside of a loop"),
+        Code::Again => Text::from_slice(alloc, b"exp_continue outside of expect"),
+        Code::AgainLater => Text::from_slice(alloc, b"exp_continue outside of expect"),
+    }
+}
+
+/// How a script ended.
+pub(crate) fn ending_of(end: &End) -> Ending
+    ensures { result ≡ ending_meant end.now }
+{
+    match end {
+        End::Finished(code, _) => ending_at(*code),
+        End::Stopped(ending) => *ending,
+        End::StepLimit => Ending::StepLimit,
+        End::Memory => Ending::Memory,
+    }
+}
+
+fn fault_of(alloc: Global, end: &End) -> Result<Text, AllocError>
+    ensures { IfOk result (λ t. t ≡ fault_meant end.now) }
+{
+    match end {
+        End::Finished(code, value) => fault_at(alloc, *code, value),
+        End::Stopped(_) => Ok(Text::new(alloc)),
+        End::StepLimit => Ok(Text::new(alloc)),
+        End::Memory => Ok(Text::new(alloc)),
+    }
+}
+
+fn said(
+    alloc: Global,
+    ending: Ending,
+    fault: Text,
+    steps: u64,
+    vars: &Vars,
+    dialogue: &Dialogue,
+) -> Result<Report, AllocError>
+    ensures { IfOk result (λ r. r ≡ said_of ending fault steps vars.now dialogue.now) }
+{
+    Ok(Report {
+        ending,
+        fault,
+        transcript: Text::from_slice(alloc, dialogue.transcript())?,
+        vars: Pairs {
+            list: vars.globals()?,
+        },
+        requests: dialogue.requests_copied(alloc)?,
+        sent: Counts {
+            list: dialogue.sent(alloc)?,
+        },
+        steps,
+    })
+}
+
+/// The report that a machine shows.
+pub(crate) fn shown(
+    alloc: Global,
+    bound: u64,
+    engine: &Engine,
+    mode: &Mode,
+    left: u64,
+    dialogue: &Dialogue,
+) -> Result<Report, AllocError>
+    ensures { IfOk result (λ r. r ≡ shown_of bound engine.now mode.now left dialogue.now) }
+{
+    let steps = bound.saturating_sub(left);
+    match mode {
+        Mode::Ended(end) => said(
+            alloc,
+            ending_of(end),
+            fault_of(alloc, end)?,
+            steps,
+            &engine.vars,
+            dialogue,
+        ),
+        _ => said(
+            alloc,
+            Ending::Waiting,
+            Text::new(alloc),
+            steps,
+            &engine.vars,
+            dialogue,
+        ),
+    }
+}

@@ -1,0 +1,328 @@
+"""Draws scripts, and what happens to their children while they run."""
+
+from dialogue import FOREVER, Dialogue
+from events import ANSWERS, Event
+
+CAUSES = [b"notfound", b"denied", b"broken", b"memory", b"other"]
+TIMES = [0, 1, 1, 2, 3, 10, -1]
+SIZES = [1, 2, 5, 5, 8, 2000]
+DEEPEST = 3
+
+MODES = [b"raw", b"-echo", b"-echo", b"-icanon", b"-icrnl", b"-opost", b"-onlcr", b"cooked", b"sane", b"rows 24"]
+EDITED = [b"\r", b"\r", b"\r", b"\n", b"\x7f", b"\x7f", b"\x15", b"\x04", b"\x04"]
+TYPED = [b"a", b"b", b"ab", b"c", b"A", b"\0", b"-", b"[", *EDITED]
+PRINTED = [b"a", b"b", b"a", b"b", b"c", b"ab", b"A", b"B", b"\n", b"\r\n", b"\0", b".", b"[]", b"*"]
+
+EXACT = [b"a", b"b", b"c", b"ab", b"ba", b"A", b"\r\n", b"\n", b"\b", b"."]
+CLASSES = [b"[ab]", b"[c-a]", b"[-b]", b"[]", b"[", b"]"]
+GLOB = [b"a", b"b", b"c", b"A", b"*", b"*", b"*", b"?", b"?", b"\\a", b"\\*", b"\r\n", *CLASSES]
+GROUPS = [b"(a)", b"(b+)", b"(a|b)", b"(c)?", rb"(\.)"]
+REGULAR = [b"a", b"b", b"c", b"A", b".", b".*", b"[ab]", b"[^a]", b"b{2}", rb"\r\n", rb"\w", *GROUPS]
+MALFORMED = [b"a**", b"(a", b"a{2", b"[a"]
+MARKS = [(b"-nocase", 0.3), (b"-indices", 0.2), (b"-notransfer", 0.1)]
+
+SHOWN = [b"buffer", b"buffer", b"0,string", b"0,string", b"1,string", b"0,start", b"1,end", b"spawn_id"]
+ASKED = [b"match_max", b"match_max -d", b"log_user -info", b"wait", b"set spawn_id", b"set timeout"]
+ENDS = [b"break", b"continue", b"{return r}", b"{set n got}", b"{error no}", b"{exit 3}", b"{}"]
+
+# Commands that are refused as they stand.
+REFUSED = [
+    b"send -x a",
+    b"send",
+    b"exp_send a b",
+    b"send -i",
+    b"close now",
+    b"wait -nowait",
+    b"match_max 0",
+    b"match_max -5",
+    b"match_max many",
+    b"log_user 2",
+    b"log_user",
+    b"send_user -x",
+    b"spawn",
+    b"spawn -x p",
+    b"exp_continue now",
+    b"exp_continue",
+    b"expect -x",
+    b"expect -ex",
+    b"expect a null",
+    b"expect null",
+    b"expect -nocase",
+    b"expect -timeout soon a",
+    b"close -i exp9",
+    b"wait -i p",
+    b"interact",
+]
+
+
+def quoted(text):
+    """A text as a word in quotes."""
+    marked = b""
+    for byte in text:
+        front = b"\\" if byte in b'\\"$[{}' else b""
+        marked += b"\\%03o" % byte if byte < 0x20 else front + bytes([byte])
+    return b'"' + marked + b'"'
+
+
+class Script:
+    """Draws one script.
+
+    With `any_bytes` its children print bytes past ASCII, and it has no regular pattern.
+    """
+
+    def __init__(self, rng):
+        self.rng = rng
+        self.any_bytes = rng.random() < 0.2
+        self.has_two = rng.random() < 0.5
+        self.has_again = rng.random() < 0.2
+
+    def chance(self, part):
+        return self.rng.random() < part
+
+    def some(self, choices, least, most):
+        return [self.rng.choice(choices) for _ in range(self.rng.randrange(least, most + 1))]
+
+    def written(self, text):
+        """A text as a word, in quotes, braces or as it is."""
+        if text.isalnum() and self.chance(0.5):
+            return text
+        if any(byte in b"\\{}" for byte in text) or self.chance(0.5):
+            return quoted(text)
+        return b"{" + text + b"}"
+
+    def source(self):
+        lines = []
+        if self.chance(0.05):
+            lines.append(b"# spawn {")
+        if self.chance(0.3):
+            lines.append(self.stty_init())
+        if self.chance(0.6):
+            lines.append(b"set timeout %d" % self.rng.choice(TIMES))
+        if self.chance(0.1):
+            lines.append(b"log_user 0")
+        if self.chance(0.2):
+            lines.append(b"match_max -d %d" % self.rng.choice(SIZES))
+        if self.has_again:
+            lines.append(b"proc again {} {exp_continue}")
+        if self.chance(0.97):
+            lines.append(b"spawn p")
+        if self.chance(0.01):
+            lines.append(b"foreach x {2 3 4 5 6 7 8 9 10 11 12 13 14 15 16} {spawn -noecho p}")
+        if self.has_two:
+            lines += [b"set a $spawn_id", self.rng.choice([b"spawn q", b"spawn -noecho q r", b"spawn -- q"])]
+        return b"\n".join([*lines, *self.commands(5, 12, 0)])
+
+    def commands(self, least, most, depth):
+        return [self.wrapped(self.command(depth)) for _ in range(self.rng.randrange(least, most + 1))]
+
+    def body(self, depth):
+        return b"{" + b"; ".join(self.commands(1, 2, depth + 1)) + b"}"
+
+    def wrapped(self, command):
+        """A command as it is, one whose value is shown, or one whose errors are caught."""
+        drawn = self.rng.random()
+        if drawn < 0.05:
+            return b"puts <[" + command + b"]>"
+        return command if drawn < 0.17 else b'puts "[catch {' + command + b'} m] $m"'
+
+    def command(self, depth):
+        makers, weights = zip(*self.MAKERS)
+        return self.rng.choices(makers, weights)[0](self, depth)
+
+    def stty_init(self):
+        words = self.some(MODES, 1, 3)
+        if self.chance(0.05):
+            words.append(self.rng.choice([b"bogus", b"cols", b"rows x"]))
+        return b"set stty_init {" + b" ".join(words) + b"}"
+
+    def id(self):
+        """A flag that names a child, or none."""
+        if self.chance(0.04):
+            return b" -i " + self.rng.choice([b"exp9", b"p", b"$b"])
+        if self.chance(0.6 if self.has_two else 0.9):
+            return b""
+        return b" -i " + self.rng.choice([b"$a", b"$a", b"exp1", b"exp2"] if self.has_two else [b"exp1"])
+
+    def send(self, _depth):
+        text = b"".join(self.some(TYPED, 0, 5))
+        if self.chance(0.03):
+            text = b"x" * 5000 + text
+        name = self.rng.choice([b"send", b"send", b"exp_send"])
+        return name + self.id() + (b" -- " if self.chance(0.2) else b" ") + self.written(text)
+
+    def expect(self, depth):
+        front = self.id()
+        if self.chance(0.1):
+            return b"expect" + front + b" " + self.written(b"".join(self.some(EXACT, 1, 3)))
+        if self.chance(0.3):
+            front += b" -timeout %d" % self.rng.choice(TIMES)
+        cases = [self.case(depth) for _ in range(self.rng.choice([0, 1, 2, 2, 3, 3, 4]))]
+        if cases and self.chance(0.1):
+            cases[-1] = self.front()
+        if self.chance(0.3):
+            return b"expect {\n" + b"\n".join([front, *self.some([b"", b'# a "remark'], 0, 1), *cases]) + b"\n}"
+        return b" ".join([b"expect" + front, *cases])
+
+    def case(self, depth):
+        case = self.front() + b" " + self.action(depth)
+        return b"{*}{" + case + b"}" if self.chance(0.05) else case
+
+    def front(self):
+        """A pattern with its flags, or a keyword."""
+        if self.chance(0.35):
+            return self.rng.choice([b"eof", b"eof", b"timeout", b"timeout", b"default", b"full_buffer"])
+        marks = [mark for mark, part in MARKS if self.chance(part)]
+        kinds = [self.exact, self.glob] if self.any_bytes else [self.exact, self.glob, self.regular]
+        return b" ".join([*marks, self.rng.choice(kinds)()])
+
+    def exact(self):
+        return self.rng.choice([b"-ex ", b"-exact "]) + self.written(b"".join(self.some(EXACT, 0, 2)))
+
+    def glob(self):
+        glob = self.bound(b"".join(self.some(GLOB, 0, 3)))
+        return self.rng.choice([b"-gl ", b"-glob ", b"", b""]) + self.written(glob)
+
+    def regular(self):
+        pieces = self.some(REGULAR, 1, 3) + (self.some(MALFORMED, 1, 1) if self.chance(0.03) else [])
+        return self.rng.choice([b"-re ", b"-regexp "]) + self.written(self.bound(b"".join(pieces)))
+
+    def bound(self, pattern):
+        return (b"^" if self.chance(0.1) else b"") + pattern + (b"$" if self.chance(0.1) else b"")
+
+    def action(self, depth):
+        drawn = self.rng.random()
+        if drawn < 0.15:
+            return b"again" if self.has_again else b"exp_continue"
+        if drawn < 0.3:
+            return b"{exp_continue -continue_timer}" if drawn < 0.2 else b"{send a\\r; exp_continue -continue_timer}"
+        if drawn < 0.55:
+            return b"{puts " + self.value() + b"}"
+        if drawn < 0.65:
+            return self.rng.choice(ENDS)
+        if drawn < 0.75 or depth >= DEEPEST:
+            return b"{puts %d}" % self.rng.randrange(10)
+        return self.body(depth)
+
+    def value(self):
+        return b"<$expect_out(" + self.rng.choice(SHOWN) + b")>"
+
+    def look(self, _depth):
+        return b"puts " + (b"<[" + self.rng.choice(ASKED) + b"]>" if self.chance(0.4) else self.value())
+
+    def change(self, _depth):
+        return self.rng.choice(
+            [
+                b"set timeout %d" % self.rng.choice(TIMES),
+                b"match_max" + self.id() + b" %d" % self.rng.choice(SIZES),
+                b"match_max -d %d" % self.rng.choice(SIZES),
+                b"log_user %d" % self.rng.randrange(2),
+                b"send_user " + self.written(b"".join(self.some(EXACT, 0, 2))),
+                b"set a $spawn_id",
+                b"set spawn_id $a",
+                self.stty_init(),
+            ]
+        )
+
+    def spawn(self, _depth):
+        return self.rng.choice([b"spawn p", b"spawn -noecho p", b"spawn -- p {a b}", b"spawn nosuch -x"])
+
+    def close(self, _depth):
+        return b"close" + self.id()
+
+    def wait(self, _depth):
+        return b"wait" + self.id()
+
+    def refused(self, _depth):
+        return self.rng.choice(REFUSED)
+
+    def loop(self, depth):
+        return b"foreach x {1 2} " + self.body(depth) if depth < DEEPEST else b"break"
+
+    def procedure(self, depth):
+        if depth >= DEEPEST:
+            return b"return r"
+        front = self.rng.choice([b"", b"global spawn_id a; ", b"global expect_out; ", b"set timeout 1; ", b"spawn p; "])
+        back = self.rng.choice([b"", b"; return r"])
+        return b"proc f {} {" + front + self.body(depth)[1:-1] + back + b"}; f"
+
+    def shown(self, _depth):
+        """Shows all bytes that are kept, and maybe cuts them before."""
+        front = self.rng.choice([b"", b"match_max %d; " % self.rng.choice(SIZES)])
+        return front + b"expect * {puts <$expect_out(buffer)>}"
+
+    MAKERS = [
+        (send, 9),
+        (expect, 11),
+        (look, 3),
+        (change, 3),
+        (spawn, 1),
+        (close, 1),
+        (wait, 2),
+        (refused, 1),
+        (loop, 1),
+        (procedure, 2),
+        (shown, 2),
+    ]
+
+
+class Children:
+    """Draws events that mostly fit what a script waits for."""
+
+    def __init__(self, rng, source, any_bytes):
+        self.rng, self.source = rng, source
+        self.printed = [*PRINTED, b"\xff", b"\xe9"] if any_bytes else PRINTED
+
+    def events(self, limit, bound):
+        found = []
+        for _ in range(self.rng.randrange(5, 50)):
+            dialogue = Dialogue(found, limit, bound)
+            if dialogue.run(self.source)[0] != "waiting":
+                break
+            found += self.next(dialogue)
+        if self.rng.random() < 0.1:
+            found = found[: self.rng.randrange(len(found) + 1)]
+        return found
+
+    def next(self, dialogue):
+        """An event that a waiting script has use for, and now and then others before it."""
+        act, child, deadline = dialogue.awaited
+        moment = dialogue.horizon + self.rng.choice([-200, -1, 0, 0, 0, 0, 1, 1, 10, 200, 700])
+        if deadline != FOREVER and self.rng.random() < 0.25:
+            moment = deadline + self.rng.randrange(2)
+        moment = max(0, moment)
+        others = []
+        while self.rng.random() < 0.3:
+            others.append(self.other(moment))
+        return [*others, Event(*self.item(child, moment) if act == "item" else self.answer(act, child, moment))]
+
+    def other(self, moment):
+        child = self.rng.choice([1, 1, 1, 2, 2, 3])
+        kind = self.rng.choice(["out"] * 20 + ["ok"] * 12 + ["tick", "tick", "end", "bad"])
+        return Event("tick", 0, moment) if kind == "tick" else Event(kind, child, moment, self.what(kind))
+
+    def item(self, child, moment):
+        kind = self.rng.choice(["out"] * 20 + ["end"] * 2 + ["fail"] + ["tick"] * 3)
+        return ("tick", 0, moment) if kind == "tick" else (kind, child, moment, self.what(kind))
+
+    def answer(self, act, child, moment):
+        usual = ["exit", "exit", "killed", "bad"] if act == "wait" else ["ok"]
+        rare = ["bad", "bad", *ANSWERS]
+        kind = self.rng.choice(rare if self.rng.random() < 0.05 else usual)
+        return kind, child, moment, self.what(kind)
+
+    def what(self, kind):
+        if kind == "out":
+            if self.rng.random() < 0.03:
+                return b"x" * self.rng.choice([1999, 2000, 2500, 4096])
+            return b"".join(self.rng.choice(self.printed) for _ in range(self.rng.randrange(0, 6)))
+        if kind == "exit":
+            return b"%d" % self.rng.randrange(256)
+        return self.rng.choice(CAUSES) if kind in ("fail", "bad") else None
+
+
+def draw(rng):
+    """A script, its events, a time limit in milliseconds or None, and a bound on steps."""
+    script = Script(rng)
+    source = script.source()
+    limit, bound = rng.choice([None, None, None, None, 2000, 3000]), rng.choice([9, 70, 70, 70, 70, 200])
+    return source, Children(rng, source, script.any_bytes).events(limit, bound), limit, bound

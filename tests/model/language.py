@@ -1,0 +1,344 @@
+"""Scripts of the language, as far as the model goes: variables, lists, `catch`, procedures and loops."""
+
+import re
+
+from words import Malformed, Reader, Script, Variable, read_list, read_script, write_list
+
+ERROR, RETURN, BREAK, CONTINUE, AGAIN, AGAIN_IN_TIME = range(1, 7)
+
+NUMBER = re.compile(rb"0|-?[1-9][0-9]*")
+OPERATOR = re.compile(rb"\s*(<=|<|>|==|\+|-)")
+OPERATIONS = {
+    b"<=": lambda a, b: a <= b,
+    b"<": lambda a, b: a < b,
+    b">": lambda a, b: a > b,
+    b"==": lambda a, b: a == b,
+    b"+": lambda a, b: a + b,
+    b"-": lambda a, b: a - b,
+}
+
+# How many scripts may be evaluated within one another.
+NESTED = 200
+
+# The other commands of the language.
+LEFT_OUT = b"unset append lrange for eval string info".split()
+
+
+class NotSimulated(Exception):
+    """The model doesn't know this of the language."""
+
+
+class Stopped(Exception):
+    """The script ends here, whatever stands around the command."""
+
+
+class Thrown(Exception):
+    """A code that isn't 0, and its value."""
+
+    def __init__(self, code, value=b""):
+        super().__init__(code, value)
+        self.code, self.value = code, value
+
+
+def failed(text, quoted=None):
+    """An error; `quoted` stands behind its text where it is given."""
+    return Thrown(ERROR, text if quoted is None else text + b' "%s"' % quoted[:200])
+
+
+def is_number(text):
+    return bool(NUMBER.fullmatch(text)) and -(2**63) <= int(text) < 2**63
+
+
+def number(text):
+    if not is_number(text):
+        raise failed(b"expected number but got", text)
+    return int(text)
+
+
+def elements(text):
+    try:
+        return read_list(text)
+    except Malformed as fault:
+        raise failed(fault.args[0]) from None
+
+
+def array_of(name):
+    """The array of an element's name; another name is its own."""
+    return name.split(b"(")[0] if name.endswith(b")") else name
+
+
+class Scope:
+    def __init__(self):
+        self.values, self.links = {}, set()
+
+    def refuse(self, act, name):
+        """An array has no value of its own, and what has one has no elements."""
+        array = array_of(name)
+        if array != name and array in self.values:
+            raise Thrown(ERROR, b'can\'t %s "%s": variable isn\'t array' % (act, name[:200]))
+        if array == name and any(array_of(other) == name != other for other in self.values):
+            raise Thrown(ERROR, b'can\'t %s "%s": variable is array' % (act, name[:200]))
+
+    def value(self, name):
+        """The value of a variable, or None."""
+        self.refuse(b"read", name)
+        return self.values.get(name)
+
+
+class Interpreter:
+    def __init__(self, bound):
+        self.bound, self.steps = bound, 0
+        self.scopes, self.depth = [Scope()], 0
+        self.procedures = {}
+        self.transcript = b""
+
+    def run(self, source):
+        """How a script ends, and the text of its error."""
+        try:
+            self.evaluate(source)
+        except Stopped as stop:
+            return stop.args[0], b""
+        except Thrown as thrown:
+            if thrown.code == RETURN:
+                return "exit:0", b""
+            return "error", self.astray(thrown).value
+        return "exit:0", b""
+
+    def astray(self, thrown):
+        """What a code is where nothing takes it."""
+        if thrown.code in (BREAK, CONTINUE):
+            return failed(b'invoked "%s" outside of a loop' % {BREAK: b"break", CONTINUE: b"continue"}[thrown.code])
+        if thrown.code in (AGAIN, AGAIN_IN_TIME):
+            return failed(b"exp_continue outside of expect")
+        return thrown
+
+    def evaluate(self, source):
+        """The value of a script's last command."""
+        if self.depth == NESTED:
+            raise failed(b"too many nested evaluations")
+        self.depth += 1
+        try:
+            value = b""
+            for words in self.commands(source):
+                value = self.command(self.fill(words))
+            return value
+        finally:
+            self.depth -= 1
+
+    def commands(self, source):
+        """The words of one command after another; a malformed one is an error in its turn."""
+        commands, fault = read_script(source)
+        yield from commands
+        if fault is not None:
+            raise failed(fault)
+
+    def fill(self, words):
+        filled = []
+        for word in words:
+            value = b"".join(map(self.part, word.parts))
+            filled += elements(value) if word.expand else [value]
+        return filled
+
+    def part(self, part):
+        if isinstance(part, Script):
+            return self.evaluate(part.source)
+        if isinstance(part, Variable):
+            index = None if part.index is None else b"".join(map(self.part, part.index))
+            return self.get(part.name if index is None else b"%s(%s)" % (part.name, index))
+        return part.bytes
+
+    def step(self):
+        if self.steps == self.bound:
+            raise Stopped("steplimit")
+        self.steps += 1
+
+    def command(self, words):
+        self.step()
+        if not words:
+            return b""
+        name, *words = words
+        known = getattr(self, "do_" + name.decode("latin-1"), None)
+        if known:
+            return known(words)
+        if name in self.procedures:
+            return self.call(name, words)
+        if name in LEFT_OUT:
+            raise NotSimulated(name)
+        raise failed(b"invalid command name", name)
+
+    def counted(self, name, words, least, most):
+        if not least <= len(words) <= most:
+            raise failed(b"wrong # args for", name)
+
+    # variables
+
+    def scope_of(self, name):
+        return self.scopes[0] if array_of(name) in self.scopes[-1].links else self.scopes[-1]
+
+    def get(self, name):
+        value = self.scope_of(name).value(name)
+        if value is None:
+            raise Thrown(ERROR, b'can\'t read "%s": no such variable' % name[:200])
+        return value
+
+    def set(self, name, value):
+        scope = self.scope_of(name)
+        scope.refuse(b"set", name)
+        scope.values[name] = value
+
+    def seen(self, name):
+        """What a command of Expect reads: the variable of this scope, else the global one, else None."""
+        value = self.scope_of(name).value(name)
+        return self.scopes[0].value(name) if value is None else value
+
+    def do_set(self, words):
+        if len(words) > 1:
+            self.set(*words)
+        return self.get(words[0])
+
+    def do_incr(self, words):
+        (name,) = words
+        value = self.scope_of(name).value(name)
+        self.set(name, b"%d" % ((0 if value is None else number(value)) + 1))
+        return self.get(name)
+
+    def do_lappend(self, words):
+        name, *values = words
+        self.set(name, write_list(elements(self.scope_of(name).value(name) or b"") + values))
+        return self.get(name)
+
+    def do_global(self, words):
+        if len(self.scopes) > 1:
+            self.scopes[-1].links.update(words)
+        return b""
+
+    # control
+
+    def do_list(self, words):
+        return write_list(words)
+
+    def do_llength(self, words):
+        return b"%d" % len(elements(words[0]))
+
+    def do_lindex(self, words):
+        found, at = elements(words[0]), number(words[1])
+        return found[at] if 0 <= at < len(found) else b""
+
+    def do_puts(self, words):
+        if len(words) != 1:
+            raise NotSimulated(b"puts with flags")
+        self.transcript += words[0] + b"\n"
+        return b""
+
+    def do_catch(self, words):
+        try:
+            code, value = 0, self.evaluate(words[0])
+        except Thrown as thrown:
+            code, value = thrown.code, thrown.value
+        if len(words) > 1:
+            self.set(words[1], value)
+        return b"%d" % code
+
+    def do_error(self, words):
+        raise Thrown(ERROR, words[0])
+
+    def do_return(self, words):
+        raise Thrown(RETURN, *words)
+
+    def do_break(self, _words):
+        raise Thrown(BREAK)
+
+    def do_continue(self, _words):
+        raise Thrown(CONTINUE)
+
+    def do_exit(self, words):
+        raise Stopped("exit:%d" % number(*words or [b"0"]))
+
+    def do_if(self, words):
+        condition, body, *rest = words
+        if self.is_true(condition):
+            return self.evaluate(body)
+        return self.evaluate(rest[-1]) if rest else b""
+
+    def do_while(self, words):
+        condition, body = words
+        while self.is_true(condition):
+            self.step()
+            if not self.turn(body):
+                break
+        return b""
+
+    def do_foreach(self, words):
+        name, values, body = words
+        for value in elements(values):
+            self.step()
+            self.set(name, value)
+            if not self.turn(body):
+                break
+        return b""
+
+    def turn(self, body):
+        """Evaluates a loop's body; whether the loop goes on."""
+        try:
+            self.evaluate(body)
+        except Thrown as thrown:
+            if thrown.code not in (BREAK, CONTINUE):
+                raise
+            return thrown.code == CONTINUE
+        return True
+
+    def do_proc(self, words):
+        name, formals, body = words
+        self.procedures[name] = elements(formals), body
+        return b""
+
+    def call(self, name, words):
+        formals, body = self.procedures[name]
+        self.counted(name, words, len(formals), len(formals))
+        self.scopes.append(Scope())
+        try:
+            self.scopes[-1].values.update(zip(formals, words))
+            return self.evaluate(body)
+        except Thrown as thrown:
+            if thrown.code == RETURN:
+                return thrown.value
+            raise self.astray(thrown) if thrown.code in (BREAK, CONTINUE) else thrown
+        finally:
+            self.scopes.pop()
+
+    # expressions
+
+    def do_expr(self, words):
+        return self.expression(b" ".join(words))
+
+    def is_true(self, condition):
+        return number(self.expression(condition)) != 0
+
+    def expression(self, text):
+        """The value of an operand, or of two with an operator between them."""
+        reader = Reader(text)
+        left = self.operand(reader)
+        operator = OPERATOR.match(text, reader.at)
+        if operator is None:
+            return self.at_the_end(reader, left)
+        reader.at = operator.end()
+        right = self.operand(reader)
+        return self.at_the_end(reader, b"%d" % OPERATIONS[operator[1]](number(left), number(right)))
+
+    def at_the_end(self, reader, value):
+        """The value, behind which nothing may stand."""
+        if reader.text[reader.at :].strip():
+            raise NotSimulated(reader.text)
+        return value
+
+    def operand(self, reader):
+        reader.blanks()
+        if reader.peek() == b"[":
+            return self.part(reader.bracket())
+        if reader.peek() == b"$":
+            return self.part(reader.variable())
+        literal = NUMBER.match(reader.text, reader.at)
+        if literal is None:
+            raise NotSimulated(reader.text)
+        reader.at = literal.end()
+        return literal[0]
