@@ -4,6 +4,8 @@
 mod command_line;
 mod complaint;
 mod devices;
+#[cfg(test)]
+mod dialogues;
 mod fault;
 mod files;
 mod help;
