@@ -166,3 +166,27 @@ fn two_scripts(rt: HostRuntime) -> Result<(), Fail> {
     assert!(rt; both);
     Ok(())
 }
+
+#[test]
+fn other_orders(rt: HostRuntime) -> Result<(), Fail> {
+    let wanted =
+        b"script 1 end=error steps=2 sent=0 transcript=11\nspawn cat\r\n\nerror 20\nwrite failed: broken\nscript 2 end=exit:0 steps=3 sent=3 transcript=19\nspawn cat\r\nhi\r\nhi\r\n\nscript 3 end=waiting steps=1 sent=0 transcript=11\nspawn cat\r\n\n".as_slice();
+    let one_first = writes(
+        rt.alloc(),
+        &[CAT, CAT, CAT],
+        None,
+        b"out 3 1 99999 7a\nok 1 1 5\nout 3 1 99999 7a\nbad 1 1 10 broken\nout 3 1 99999 7a\nok 2 1 5\nout 3 1 99999 7a\nok 2 1 10\nout 3 1 99999 7a\nout 2 1 20 68690a\n",
+        false,
+        wanted,
+    )?;
+    let two_first = writes(
+        rt.alloc(),
+        &[CAT, CAT, CAT],
+        None,
+        b"out 3 1 99999 7a\nok 2 1 5\nout 3 1 99999 7a\nok 2 1 10\nout 3 1 99999 7a\nout 2 1 20 68690a\nout 3 1 99999 7a\nok 1 1 5\nout 3 1 99999 7a\nbad 1 1 10 broken\n",
+        false,
+        wanted,
+    )?;
+    assert!(rt; one_first && two_first);
+    Ok(())
+}
