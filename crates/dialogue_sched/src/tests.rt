@@ -124,3 +124,30 @@ fn opening(rt: HostRuntime) -> Result<(), Fail> {
     assert!(rt; too_many && too_long);
     Ok(())
 }
+
+const LOOP: &[u8] = b"for {set i 0} {$i < 10000} {incr i} {append a x}; spawn p; expect zz";
+
+/// Whether a script that waits behind a long loop still waits when so many pieces of output came, one after another.
+fn waits(alloc: Global, pieces: usize) -> Result<bool, Fail> {
+    let mut hall = hall(alloc, &[LOOP])?;
+    hall.step(answered(1, 1, 1)).ok().ok_or("refused")?;
+    for _ in 0..pieces {
+        hall.step(output(alloc, 1)?).ok().ok_or("refused")?;
+    }
+    let report = hall.report(1).ok().ok_or("no report")?;
+    let told = report.transcript.len().checked_sub(9) == Some(pieces);
+    Ok(matches!(report.ending, Ending::Waiting) && report.steps == 30_004 && told)
+}
+
+// tests/growths counts how often this test and the next one ask for memory.
+#[test]
+fn one_piece(rt: HostRuntime) -> Result<(), Fail> {
+    assert!(rt; waits(rt.alloc(), 1)?);
+    Ok(())
+}
+
+#[test]
+fn eleven_pieces(rt: HostRuntime) -> Result<(), Fail> {
+    assert!(rt; waits(rt.alloc(), 11)?);
+    Ok(())
+}
