@@ -6,7 +6,7 @@ use Rattle.std.proofs.lemmas.Bool.Decides.{nat_tests}
 use Rattle.child_events.specs.declared.event.Item.{Item}
 use Rattle.child_events.specs.declared.event.Item.TheVariants as item
 use Rattle.child_events.specs.declared.slot.Slot.{Slot}
-use Rattle.child_events.specs.Queue.{Queued, came, echo, last_moment, pushed, put, cut_into, pieces, echoes, joined, Rises, latest, place}
+use Rattle.child_events.specs.Queue.{Queued, came, echo, how_many_came, last_moment, pushed, put, cut_into, pieces, echoes, joined, Rises, latest, place}
 
 -- the echoes before an item, it, and what is behind
 abbrev slot_list : Slot → List Queued → List Queued
@@ -25,6 +25,19 @@ moment_is m [] last = ap (last_moment m) (sym (append-nil (map echo last))) ∙ 
 moment_is m (s ∷ ss) last =
     ap (last_moment m) (joined_slot s ss (map echo last))
     ∙ (moment_of_echoes m s.echoes.items (came (s.moment, s.item) ∷ (joined ss ++ map echo last)) ∙ moment_is s.moment ss last)
+
+-- echoes don't count
+came_behind_echoes : (es : List (ℕ × Item)) (qs : List Queued) → how_many_came (map echo es ++ qs) ≡ how_many_came qs
+came_behind_echoes [] qs = refl
+came_behind_echoes (e ∷ es) qs = came_behind_echoes es qs
+
+-- each slot has one item that came from the child
+pub came_in_slots : (ss : List Slot) (last : List (ℕ × Item)) → how_many_came (joined ss ++ map echo last) ≡ length ss
+came_in_slots [] last = ap how_many_came (sym (append-nil (map echo last))) ∙ came_behind_echoes last []
+came_in_slots (s ∷ ss) last =
+    ap how_many_came (joined_slot s ss (map echo last))
+    ∙ came_behind_echoes s.echoes.items (came (s.moment, s.item) ∷ (joined ss ++ map echo last))
+    ∙ ap suc (came_in_slots ss last)
 
 joined_more : (ss : List Slot) (s : Slot) → joined (ss ++ s ∷ []) ≡ joined ss ++ map echo s.echoes.items ++ came (s.moment, s.item) ∷ []
 joined_more [] s = refl

@@ -54,6 +54,11 @@ echoes t bytes = map (λ p. (t, item.Out p)) (pieces bytes)
 abbrev pub with_echo : ℕ → List ℕ → List Queued → List Queued
 with_echo t bytes qs = put t (map echo (echoes t bytes)) qs
 
+-- how many of them came from the child
+abbrev pub how_many_came : List Queued → ℕ
+how_many_came [] = 0
+how_many_came (q ∷ qs) = if q.echoed then how_many_came qs else suc (how_many_came qs)
+
 -- the items of the child with the echoes before each, as one list
 abbrev pub joined : List Slot → List Queued
 joined [] = []

@@ -1,7 +1,7 @@
 //! What comes to a script from one child, and the echo of what is sent to it.
 
 ghost use Rattle.std.specs.Prelude.{◌≡◌, ◌++◌, [], map, drop, length, OnOk, OnErr, IfOk};
-ghost use Rattle.child_events.specs.Queue.{first, pushed, with_echo, echoes, latest, place, Rises};
+ghost use Rattle.child_events.specs.Queue.{first, pushed, with_echo, how_many_came, echoes, latest, place, Rises};
 ghost use Rattle.child_events.specs.World.{item_view};
 
 use crate::event::Item;
@@ -121,6 +121,13 @@ impl Queue {
         };
         slot.echoes.append(&mut made)?;
         Ok(())
+    }
+
+    /// How many items that came from the child are there. The echoes among them are not counted, and nothing is walked along.
+    pub fn count_came(&self) -> usize
+        ensures { result ≡ how_many_came self.now }
+    {
+        self.slots.len()
     }
 
     /// The next item and its moment, which stay.

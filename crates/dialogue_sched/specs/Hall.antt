@@ -1,9 +1,11 @@
 -- What a hall's calls say.
 use Rattle.std.specs.Prelude.{◌≡◌, ℕ, ◌+◌, ◌-◌, nat_lt, length, List, [], ◌∷◌, slice_get, slice_set, false, IsTrue, Option, Some, None, Result, Ok, Err, MatchOption, if◌then◌else◌}
 use Rattle.child_events.specs.declared.event.Event.{Event}
+use Rattle.tcl_eval.specs.declared.ending.Ending.{Ending}
 use Rattle.tcl_eval.specs.declared.ending.Ending.TheVariants.{Memory}
 use Rattle.session.specs.declared.report.Report.{Report}
 use Rattle.expect_core.specs.declared.request.Request.{Request}
+use Rattle.expect_core.specs.Lanes.{untaken_of}
 use Rattle.session.specs.Meaning.{meaning}
 use Rattle.session.specs.Left.{Kept, left, HandsOut}
 use Rattle.dialogue_sched.specs.declared.script.Script.{Script}
@@ -29,6 +31,11 @@ AllBegin scripts ks = Paired Begins scripts ks
 pub record Reports (k : Kept) (r : Report) : Type 0 where
   pub lives : IsTrue k.lives → r ≡ left k []
   pub spent : k.lives ≡ false → r.ending ≡ Memory
+
+-- how a script ended, or that it waits
+pub record Ends (k : Kept) (e : Ending) : Type 0 where
+  pub lives : IsTrue k.lives → e ≡ (left k []).ending
+  pub spent : k.lives ≡ false → e ≡ Memory
 
 -- the session of a number, counted from 1
 abbrev pub session_at : ℕ → List Kept → Option Kept
@@ -66,3 +73,13 @@ abbrev pub Reported : ℕ → List Kept → Result Report ReportFault → Type 0
 Reported n ks (Ok r) = MatchOption (session_at n ks) ⊥ (λ k. Reports k r)
 Reported n ks (Err reports.NoSuchScript) = session_at n ks ≡ None
 Reported n ks (Err reports.Memory) = Unit {0}
+
+-- the ending of the script of a number
+abbrev pub EndsAt : ℕ → List Kept → Option Ending → Type 0
+EndsAt n ks None = session_at n ks ≡ None
+EndsAt n ks (Some e) = MatchOption (session_at n ks) ⊥ (λ k. Ends k e)
+
+-- how many items of a child a script has not taken
+abbrev pub untaken_by : Option Kept → ℕ → ℕ
+untaken_by None c = 0
+untaken_by (Some k) c = untaken_of c k.dialogue.lanes

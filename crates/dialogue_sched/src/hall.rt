@@ -4,10 +4,12 @@ ghost use Rattle.std.specs.Prelude.{◌≡◌, ◌<◌, ◌≤◌, length, vec_l
 ghost use Rattle.child_events.specs.declared.event.Event.TheVariants as events;
 ghost use Rattle.dialogue_sched.specs.Feeding.{AllFed, FedAt};
 
+use crate::fault::opening_fault;
 use crate::refusal::{HallRefusal, refusal};
 use crate::script::Script;
 use child_events::{Event, HallEvent, own_event};
-use session::{NewFault, Report, Request, Session};
+use expect_core::sooner;
+use session::{Ending, Report, Request, Session};
 use std::alloc::{AllocError, AllocFailed, Global};
 use std::marker::Model;
 
@@ -130,14 +132,16 @@ ghost use Rattle.dialogue_sched.specs.Feeding.{FedAllAt};
 ghost use Rattle.dialogue_sched.specs.Took.{AllTook};
 
 impl Hall {
-    ghost use Rattle.dialogue_sched.specs.Hall.{Opens, Stepped, Requested, Reported};
+    ghost use Rattle.dialogue_sched.specs.Hall.{Opens, Stepped, Requested, Reported, EndsAt, session_at, untaken_by};
+    ghost use Rattle.dialogue_sched.specs.Deadlines.{soonest, AllQuietUntil};
+    ghost use Rattle.std.specs.Prelude.{MatchOption, Some, None};
 
     /// A hall of these scripts, to which nothing has happened.
     pub fn new(alloc: Global, scripts: Vec<Script>) -> Result<Hall, HallFault>
         ensures { Opens scripts.items result }
     {
-        if scripts.len() > 64 {
-            return Err(HallFault::TooManyScripts);
+        if let Some(fault) = opening_fault(scripts.as_slice()) {
+            return Err(fault);
         }
         let mut sessions = Vec::new(alloc);
         for script in scripts {
@@ -146,10 +150,7 @@ impl Hall {
                 Ok(session) => {
                     sessions.push(session)?;
                 }
-                Err(NewFault::SourceTooLong) => {
-                    return Err(HallFault::SourceTooLong(sessions.len() + 1));
-                }
-                Err(NewFault::Memory) => return Err(HallFault::Memory),
+                Err(_) => return Err(HallFault::Memory),
             }
         }
         Ok(Hall { sessions })
@@ -215,17 +216,59 @@ impl Hall {
         session.next_request()
     }
 
+    /// The session of a script, where there is such a script.
+    fn session(&self, script: usize) -> Option<&Session>
+        ensures { MatchOption result (session_at script self.now ≡ None) (λ s. session_at script self.now ≡ Some s.now) }
+    {
+        if script == 0 || script > self.sessions.len() {
+            return None;
+        }
+        Some(&self.sessions[script - 1])
+    }
+
     /// What came of a script so far.
     pub fn report(&self, script: usize) -> Result<Report, ReportFault>
         ensures { Reported script self.now result }
     {
-        if script == 0 || script > self.sessions.len() {
+        let Some(session) = self.session(script) else {
             return Err(ReportFault::NoSuchScript);
-        }
-        let session = &self.sessions[script - 1];
+        };
         match session.report() {
             Ok(report) => Ok(report),
             Err(_) => Err(ReportFault::Memory),
         }
+    }
+
+    /// How a script ended; `Waiting` where it goes on, None where there is no such script. It costs the same whatever the script did.
+    pub fn ending(&self, script: usize) -> Option<Ending>
+        ensures { EndsAt script self.now result }
+    {
+        let session = self.session(script)?;
+        Some(session.ending())
+    }
+
+    /// How many items that came from a script's child no command has taken yet: pieces of its output, its end, a failure to read it. The
+    /// echo of what was sent to it is none of them. A child or a script that isn't there has none. It costs the same however many there are.
+    pub fn untaken(&self, script: usize, child: u8) -> usize
+        ensures { result ≡ untaken_by (session_at script self.now) child }
+    {
+        match self.session(script) {
+            Some(session) => session.untaken(child),
+            None => 0,
+        }
+    }
+
+    /// The last moment in milliseconds to which all scripts go on waiting where only time passes; None where no script waits for the time.
+    /// A tick no later than that changes nothing in what any of them says.
+    pub fn deadline(&self) -> Option<u64>
+        ensures value { result ≡ soonest self.now }
+        ensures quiet { AllQuietUntil self.now result }
+    {
+        let mut last = None;
+        for i in 0..self.sessions.len() {
+            let session = &self.sessions[i];
+            last = sooner(last, session.deadline());
+        }
+        last
     }
 }

@@ -9,6 +9,8 @@ pub mod EachCall
 pub mod Moments
 pub mod Goodness
 pub mod Fronts
+pub mod Numbered
+pub mod Asleep
 pub mod Pushing
 pub mod Steps
 pub mod Apart

@@ -7,7 +7,7 @@ use Rattle.child_events.specs.declared.event.Item.{Item}
 use Rattle.child_events.specs.declared.event.Item.TheVariants as item
 use Rattle.child_events.specs.declared.event.Event.{Event}
 use Rattle.child_events.specs.declared.event.Event.TheVariants as event
-use Rattle.child_events.specs.Queue.{Queued, came}
+use Rattle.child_events.specs.Queue.{Queued, came, how_many_came}
 use Rattle.child_events.specs.World.{moment_of}
 use Rattle.expect_core.specs.declared.lanes.Lane.{Lane}
 use Rattle.expect_core.specs.declared.dialogue.Dialogue.{Dialogue}
@@ -44,6 +44,10 @@ grown g i lanes = with_lane i (g (lane_of i lanes)) lanes
 -- child c, from 1, has the lane at c - 1; number 0 has none
 abbrev pub place : ℕ → ℕ
 place c = if c == 0 then 16 else c - 1
+
+-- how many items that came from child c were not taken yet; a child without a lane has none
+abbrev pub untaken_of : ℕ → List Lane → ℕ
+untaken_of c lanes = how_many_came (lane_of (place c) lanes).items
 
 -- the lanes behind an event that came at a moment
 abbrev pub arrived : Event → ℕ → List Lane → List Lane

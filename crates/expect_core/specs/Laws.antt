@@ -1,13 +1,18 @@
 -- What holds of all calls.
 use Rattle.std.specs.Prelude.{◌≡◌, ℕ, List, ◌++◌, Option}
 use Rattle.child_events.specs.declared.event.Event.{Event}
+use Rattle.child_events.specs.declared.event.Event.TheVariants.{Tick}
+use Rattle.tcl_subst.specs.Variables.{Variables}
+use Rattle.tcl_eval.specs.declared.host.HostStep.TheVariants.{Wait}
 use Rattle.tcl_eval.specs.Tree.{Call}
 use Rattle.expect_core.specs.declared.own.Own.{Own}
 use Rattle.expect_core.specs.declared.dialogue.Dialogue.{Dialogue}
 use Rattle.expect_core.specs.Answered.{Outcome}
 use Rattle.expect_core.specs.Lanes.{offered}
-use Rattle.expect_core.specs.Calls.{outcome, onward, fresh}
+use Rattle.expect_core.specs.Calls.{outcome, resumed, onward, fresh}
 use Rattle.expect_core.specs.Good.{Good}
+use Rattle.expect_core.specs.Numbered.{Numbered}
+use Rattle.expect_core.specs.Deadlines.{IsWithin, deadline_of}
 
 -- the dialogue behind a call
 abbrev pub behind_call : Outcome → Dialogue
@@ -35,3 +40,14 @@ Keeps old new = IsFront old.requests new.requests × IsFront old.transcript new.
 -- No call takes back what was asked and told.
 abbrev pub StaysTold : Type 0
 StaysTold = (call : Call) (st : Dialogue) → Keeps st.own (behind_call (outcome call st)).own
+
+-- Each request names a child from 1 to 16: at the start, with an event more, and behind each call.
+pub record StaysNumbered : Type 0 where
+  pub begins : (limit : Option ℕ) → Numbered (fresh limit)
+  pub offered : (e : Event) (st : Dialogue) → Numbered st → Numbered (offered e st)
+  pub called : (call : Call) (st : Dialogue) → Numbered st → Numbered (behind_call (outcome call st))
+
+-- A call that waits goes on waiting, and nothing else changes, where time passes no further than to its deadline.
+abbrev pub WaitsOn : Type 0
+WaitsOn = (call : Call) (st : Dialogue) (vars : Variables) (new : Dialogue) → outcome call st ≡ (Wait, vars, new) →
+    (m : ℕ) → IsWithin m (deadline_of new) → resumed vars (offered (Tick m) new) ≡ (Wait, vars, offered (Tick m) new)

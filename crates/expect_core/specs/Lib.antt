@@ -15,6 +15,8 @@ pub mod Expecting
 pub mod Others
 pub mod Calls
 pub mod Good
+pub mod Numbered
+pub mod Deadlines
 pub mod Replies
 pub mod Laws
 pub mod Worlds

@@ -4,7 +4,7 @@ ghost use Rattle.std.specs.Prelude.{◌≡◌, map, IfOk, OnOk, IsTrue, None};
 ghost use Rattle.child_events.specs.declared.event.Answer.{Answer};
 ghost use Rattle.tcl_subst.specs.Variables.{Variables};
 ghost use Rattle.expect_core.specs.Good.{Good};
-ghost use Rattle.expect_core.specs.Lanes.{offered};
+ghost use Rattle.expect_core.specs.Lanes.{offered, untaken_of};
 ghost use Rattle.expect_core.specs.Answered.{Outcome, failure as failure_of, after_answer, awaited as awaited_of};
 ghost use Rattle.expect_core.specs.Calls.{fresh};
 ghost use Rattle.expect_core.specs.declared.phase.Purpose.{Purpose};
@@ -122,6 +122,14 @@ impl Dialogue {
         self.horizon = self.horizon.max(moment);
         self.lanes.add(child, self.horizon, what)?;
         Ok(())
+    }
+
+    /// How many items that came from a child no command has taken yet: pieces of its output, its end, a failure to read it. The echo of what
+    /// was sent to it is none of them. A child that isn't there has none. It costs the same however many there are.
+    pub fn untaken(&self, child: u8) -> usize
+        ensures { result ≡ untaken_of child self.now.lanes }
+    {
+        self.lanes.untaken(child)
     }
 
     /// What the script wrote, and the output that it took.

@@ -4,7 +4,7 @@ ghost use Rattle.std.specs.Prelude.{◌≡◌, [], IfOk, OnOk};
 ghost use Rattle.child_events.specs.Queue.{with_echo};
 ghost use Rattle.expect_core.specs.Answered.{first_answer};
 ghost use Rattle.expect_core.specs.Good.{ItemsBy, LanesBy};
-ghost use Rattle.expect_core.specs.Lanes.{no_lane, no_lanes, lane_of, with_items, with_answers, with_item, lane_with, grown, place as place_of};
+ghost use Rattle.expect_core.specs.Lanes.{no_lane, no_lanes, lane_of, with_items, with_answers, with_item, lane_with, grown, untaken_of, place as place_of};
 
 use crate::answers::Answers;
 use crate::place::{MOST_CHILDREN, Place};
@@ -112,6 +112,17 @@ impl Lanes {
             lane.add(moment, what)?;
         }
         Ok(())
+    }
+
+    /// How many items that came from a child were not taken yet.
+    pub(crate) fn untaken(&self, child: u8) -> usize
+        ensures { result ≡ untaken_of child self.now }
+    {
+        let at = place(child);
+        if at < self.list.len() {
+            return self.list[at].items.count_came();
+        }
+        0
     }
 
     /// Takes the first answer of the child at a place, where it came in time.

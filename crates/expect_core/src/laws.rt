@@ -1,16 +1,19 @@
 //! What holds of all calls of a dialogue.
 
 ghost use Rattle.expect_core.specs.Apart.{CallsOne, StaysOfOne, EventsOne};
-ghost use Rattle.expect_core.specs.Laws.{GoesOn, StaysGood, StaysTold};
+ghost use Rattle.expect_core.specs.Laws.{GoesOn, StaysGood, StaysNumbered, StaysTold, WaitsOn};
 ghost use Rattle.expect_core.specs.Worlds.{HoldsWorlds};
 
 /// A call sees all that has come, and it makes no difference whether that came before the call or while it waits. What was asked and told
-/// stays. What came and was not taken is what the events say of each child. It does nothing when it runs.
+/// stays, and each request names a child from 1 to 16. What came and was not taken is what the events say of each child. A call that waits
+/// goes on waiting where time passes no further than to its deadline. It does nothing when it runs.
 pub fn dialogue_laws()
     ensures goes_on { GoesOn }
     ensures stays_good { StaysGood }
     ensures stays_told { StaysTold }
+    ensures stays_numbered { StaysNumbered }
     ensures holds_worlds { HoldsWorlds }
+    ensures waits_on { WaitsOn }
 {}
 
 /// The children of a script are kept apart. A call leaves each child alone but the one that it speaks to: what came from it and was not

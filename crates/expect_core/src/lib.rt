@@ -3,6 +3,7 @@
 
 mod answers;
 mod child;
+mod deadline;
 mod dialogue;
 mod expect;
 mod flags;
@@ -28,6 +29,7 @@ mod settle;
 mod spawn;
 mod texts;
 
+pub use deadline::sooner;
 pub use dialogue::Dialogue;
 pub use laws::{children_apart, dialogue_laws};
 pub use request::{Act, Request, Requests};

@@ -1,6 +1,6 @@
 //! What a script asks of its children.
 
-ghost use Rattle.std.specs.Prelude.{◌≡◌, ◌++◌, ◌∷◌, [], length, IfOk, OnOk};
+ghost use Rattle.std.specs.Prelude.{◌≡◌, ◌++◌, ◌∷◌, ◌↔◌, [], length, IfOk, IsTrue, OnOk};
 
 use std::alloc::{AllocError, Global};
 use std::marker::Model;
@@ -22,6 +22,20 @@ pub enum Act {
 }
 
 impl Act {
+    /// Whether another one asks for the same.
+    pub fn is_same(&self, other: &Act) -> bool
+        ensures { IsTrue result ↔ (self.now ≡ other.now) }
+    {
+        match (self, other) {
+            (Act::Spawn(words), Act::Spawn(others)) => words.is_same(others),
+            (Act::Write(text), Act::Write(other)) => text.is_same(other),
+            (Act::End, Act::End) => true,
+            (Act::Close, Act::Close) => true,
+            (Act::Wait, Act::Wait) => true,
+            _ => false,
+        }
+    }
+
     /// The same once more.
     pub fn copied(&self, alloc: Global) -> Result<Act, AllocError>
         ensures { IfOk result (λ a. a ≡ self.now) }
@@ -46,6 +60,13 @@ pub struct Request {
 }
 
 impl Request {
+    /// Whether another one asks the same of the same child.
+    pub fn is_same(&self, other: &Request) -> bool
+        ensures { IsTrue result ↔ (self.now ≡ other.now) }
+    {
+        self.child == other.child && self.act.is_same(&other.act)
+    }
+
     /// The same once more.
     pub fn copied(&self, alloc: Global) -> Result<Request, AllocError>
         ensures { IfOk result (λ r. r ≡ self.now) }

@@ -1,4 +1,5 @@
 pub mod Report
 pub mod Devices
 pub mod Replay
+pub mod Drive
 pub mod Complaint

@@ -1,11 +1,13 @@
 //! Faults as lines on standard error.
 
 ghost use Rattle.std.specs.Prelude.{◌≡◌};
-ghost use Rattle.expect_prog.specs.Complaint.{LogLine, RunLine, FaultLine, refusal_number as number_of};
+ghost use Rattle.expect_prog.specs.Complaint.{LogLine, OpeningLine, RunLine, FaultLine, DriveLine, refusal_number as number_of};
 
-use crate::command_line::Order;
+use crate::command_line::{Replay, Run};
+use crate::driving::DriveFault;
 use crate::fault::ReplayFault;
 use child_events::LogFault;
+use child_serve::ServeFault;
 use dialogue_sched::{HallFault, HallRefusal, RunFault};
 use std::alloc::{AllocError, AllocFailed};
 use thiserror::Error;
@@ -27,6 +29,8 @@ pub enum Complaint<'a> {
     SourceTooLong(&'a str),
     #[error("cannot write")]
     Unwritten,
+    #[error("cannot start a thread")]
+    NoThread,
     #[error("out of memory")]
     Memory,
 }
@@ -80,7 +84,20 @@ impl<'a> Complaint<'a> {
         }
     }
 
-    fn of_run(fault: RunFault, order: &Order<'a>) -> Complaint<'a>
+    fn of_opening(fault: HallFault, sources: &[&'a str]) -> Complaint<'a>
+        ensures { OpeningLine fault result }
+    {
+        match fault {
+            HallFault::TooManyScripts => Complaint::TooManyScripts,
+            HallFault::SourceTooLong(script) => {
+                let path = sources.get(script.saturating_sub(1));
+                Complaint::SourceTooLong(path.copied().unwrap_or(""))
+            }
+            HallFault::Memory => Complaint::Memory,
+        }
+    }
+
+    fn of_run(fault: RunFault, order: &Replay<'a>) -> Complaint<'a>
         ensures { RunLine fault result }
     {
         match fault {
@@ -88,18 +105,15 @@ impl<'a> Complaint<'a> {
                 event: at as u128 + 1,
                 number: refusal_number(refusal),
             },
-            RunFault::New(HallFault::TooManyScripts) => Complaint::TooManyScripts,
-            RunFault::New(HallFault::SourceTooLong(script)) => {
-                let path = order.sources.get(script.saturating_sub(1));
-                Complaint::SourceTooLong(path.copied().unwrap_or(""))
+            RunFault::New(fault) => {
+                Complaint::of_opening(fault, order.scripts.sources.as_slice())
             }
-            RunFault::New(HallFault::Memory) => Complaint::Memory,
             RunFault::Memory => Complaint::Memory,
         }
     }
 
     /// The complaint of a fault in an order's replay.
-    pub fn of(fault: ReplayFault, order: &Order<'a>) -> Complaint<'a>
+    pub fn of(fault: ReplayFault, order: &Replay<'a>) -> Complaint<'a>
         ensures { FaultLine fault result }
     {
         match fault {
@@ -108,6 +122,22 @@ impl<'a> Complaint<'a> {
             ReplayFault::Run(fault) => Complaint::of_run(fault, order),
             ReplayFault::Write => Complaint::Unwritten,
             ReplayFault::Memory => Complaint::Memory,
+        }
+    }
+
+    /// The complaint of a fault in an order's run.
+    pub fn of_drive(fault: DriveFault, order: &Run<'a>) -> Complaint<'a>
+        ensures { DriveLine fault result }
+    {
+        match fault {
+            DriveFault::Serve(ServeFault::New(fault)) => {
+                Complaint::of_opening(fault, order.scripts.sources.as_slice())
+            }
+            DriveFault::Serve(ServeFault::NoThread) => Complaint::NoThread,
+            DriveFault::Serve(ServeFault::Memory) => Complaint::Memory,
+            DriveFault::WriteLog => Complaint::Unwritten,
+            DriveFault::Write => Complaint::Unwritten,
+            DriveFault::Memory => Complaint::Memory,
         }
     }
 }

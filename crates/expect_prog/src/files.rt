@@ -1,6 +1,6 @@
 //! The files of a replay.
 
-use crate::command_line::Order;
+use crate::command_line::{Replay, Scripts};
 use crate::complaint::Complaint;
 use crate::devices::{ReadFault, read_all};
 use crate::replaying::replay;
@@ -14,7 +14,7 @@ use std::rt::Files;
 use tcl_words::Text;
 
 /// A file that is opened to be read.
-fn opened<'a, R: Files>(rt: &R, path: &'a str) -> Result<R::File, Complaint<'a>> {
+pub fn opened<'a, R: Files>(rt: &R, path: &'a str) -> Result<R::File, Complaint<'a>> {
     match fs::open(rt, path) {
         Ok(file) => Ok(file),
         Err(e) => {
@@ -37,10 +37,11 @@ fn source<'a, R: Files>(rt: &R, alloc: Global, path: &'a str) -> Result<Text, Co
     }
 }
 
-fn scripts<'a, R: Files>(
+/// The scripts of an order: their sources are read in order, and the first that can't be read is complained of.
+pub fn scripts<'a, R: Files>(
     rt: &R,
     alloc: Global,
-    order: &Order<'a>,
+    order: &Scripts<'a>,
 ) -> Result<Vec<Script>, Complaint<'a>> {
     let mut scripts = Vec::new(alloc);
     for path in &order.sources {
@@ -64,12 +65,12 @@ fn scripts<'a, R: Files>(
 pub fn replay_files<'a, R: Files + Print>(
     rt: &R,
     alloc: Global,
-    order: &Order<'a>,
+    order: &Replay<'a>,
 ) -> Result<bool, Complaint<'a>> {
-    let scripts = scripts(rt, alloc, order)?;
+    let scripts = scripts(rt, alloc, &order.scripts)?;
     let mut log = Counted::new(opened(rt, order.log)?);
     let mut out = Counted::new(io::writer(rt));
-    match replay(alloc, &mut log, scripts, order.vars, &mut out) {
+    match replay(alloc, &mut log, scripts, order.scripts.vars, &mut out) {
         Ok(well) => Ok(well),
         Err(fault) => Err(Complaint::of(fault, order)),
     }

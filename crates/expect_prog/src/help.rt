@@ -8,7 +8,8 @@ Several scripts run side by side; none changes another.
 The status is 0 where each script ended with exit:0, 1 where one ended otherwise,
 and 2 at a fault, which is a line on standard error.
 
-`exprun replay --help` says what a log and a report are, with an example.";
+`exprun run --help` says how programs are run, `exprun replay --help` what a log and a
+report are, each with an example.";
 
 /// Behind the help of `replay`.
 pub const REPLAY: &str = "\
@@ -48,3 +49,34 @@ Then `exprun replay log cat.exp` prints
     hi
 
 where the terminal showed the first hi when it was sent, and cat wrote the second.";
+
+/// Behind the help of `run`.
+pub const RUN: &str = "\
+Each script spawns its own programs, over pipes: a program is looked for in the folders of
+PATH, and is told that it has no terminal. What it writes on standard error goes to the
+standard error of exprun; `spawn sh -c {exec 2>&1; ..}` joins it to the dialogue.
+
+The scripts run side by side, and none changes another. With --workers they are shared out
+among threads in turn: of two workers the first has scripts 1, 3, .. A script that computes
+for long delays those of its own worker alone.
+
+When a script has ended, the input of its programs ends and what they still write is
+dropped. exprun ends when their outputs have ended: a program that is silent and stays
+holds it, so `close` it, give it a time limit, or let it end with its input.
+
+Example: cat.exp is
+
+    spawn cat
+    send \"hi\\r\"
+    expect \"hi\\r\\nhi\\r\\n\"
+
+Then `exprun run cat.exp` prints
+
+    script 1 end=exit:0 steps=3 sent=3 transcript=19
+    spawn cat
+    hi
+    hi
+
+where the terminal showed the first hi when it was sent, and cat wrote the second. With
+`--record log` the run writes what happened, and `exprun replay log cat.exp` prints the
+same report again.";

@@ -6,19 +6,22 @@ mod complaint;
 mod devices;
 #[cfg(test)]
 mod dialogues;
+mod driving;
 mod fault;
 mod files;
 mod help;
 mod replaying;
 #[cfg(test)]
 mod rows;
+mod running;
 #[cfg(test)]
 mod tests;
 mod texts;
 
-use crate::command_line::read_words;
+use crate::command_line::{Order, read_words};
 use crate::complaint::Complaint;
 use crate::files::replay_files;
+use crate::running::run_files;
 use std::alloc::Global;
 use std::env;
 use std::env::Env;
@@ -68,7 +71,11 @@ fn main(rt: HostRuntime) -> ExitCode {
         Ok(order) => order,
         Err(error) => return show(&rt, &error),
     };
-    match replay_files(&rt, rt.alloc(), &order) {
+    let outcome = match &order {
+        Order::Replay(replay) => replay_files(&rt, rt.alloc(), replay),
+        Order::Run(run) => run_files(rt, rt.alloc(), run),
+    };
+    match outcome {
         Ok(true) => ExitCode::SUCCESS,
         Ok(false) => ExitCode::from(ENDED_OTHERWISE),
         Err(complaint) => complain(&rt, &complaint),

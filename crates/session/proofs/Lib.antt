@@ -1,3 +1,5 @@
 pub mod Suspending
 pub mod Lefts
 pub mod Grows
+pub mod Numbering
+pub mod Quieting

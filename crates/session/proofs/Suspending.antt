@@ -22,11 +22,14 @@ use Rattle.expect_core.specs.Lanes.{offered, extended}
 use Rattle.expect_core.specs.Answered.{Outcome}
 use Rattle.expect_core.specs.Calls.{outcome, resumed, onward, IsReply, fresh}
 use Rattle.expect_core.specs.Good.{Good}
+use Rattle.expect_core.specs.Deadlines.{IsWithin, deadline_of}
+use Rattle.expect_core.proofs.Asleep.{waits_on}
 use Rattle.expect_core.proofs.EachCall.{outcome_onward}
 use Rattle.expect_core.proofs.Moments.{good_offered}
 use Rattle.expect_core.proofs.Goodness.{GoodAfter, outcome_good, good_fresh}
 use Rattle.session.specs.declared.report.Report.{Report}
 use Rattle.session.specs.Play.{said, behind, asking, play}
+use Rattle.session.specs.Quiet.{Quiet, deadline_in}
 use Rattle.session.specs.Shown.{shown, Ran}
 
 -- an event that says nothing
@@ -179,13 +182,14 @@ leads_play (r ∷ rs) (Ask call left go) d t' d' g l lives =
     let more = leads_play rs t l.0 t' d' step.good l.2 lives in
     (more.0, λ bound es. step.same bound es ∙ more.1 bound es)
 
--- a tree that has asked and waits
+-- a tree that has asked and waits, and goes on waiting up to the deadline
 pub record Waiting (t : Tree) (d : Dialogue) : Type 0 where
   pub vars : Variables
   pub left : ℕ
   pub go : Reply → Tree
   pub tree : t ≡ Ask (Resume vars) left go
   pub waits : resumed vars d ≡ (Wait, vars, d)
+  pub waits_on : (m : ℕ) → IsWithin m (deadline_of d) → resumed vars (offered (event.Tick m) d) ≡ (Wait, vars, offered (event.Tick m) d)
 
 told_waits : (call : Call) (left : ℕ) (go : Reply → Tree) (s : HostStep) (vars : Variables) (d mid : Dialogue) (t' : Tree) (d' : Dialogue) → Good d → outcome call d ≡ (s, vars, mid) → s ≡ Wait → answered s vars left go ≡ t' → mid ≡ d' → Waiting t' d'
 told_waits call left go s vars d mid t' d' g e w same there = record {
@@ -193,8 +197,12 @@ told_waits call left go s vars d mid t' d' g e w same there = record {
   left = left;
   go = go;
   tree = sym same ∙ ap (λ (x : HostStep). answered x vars left go) w;
-  waits = subst (λ (x : Dialogue). resumed vars x ≡ (Wait, vars, x)) there (again call d vars mid g (e ∙ ap (λ (x : HostStep). let y : Outcome = (x, vars, mid) in y) w));
+  waits = subst (λ (x : Dialogue). resumed vars x ≡ (Wait, vars, x)) there (again call d vars mid g came);
+  waits_on = subst (λ (x : Dialogue). (m : ℕ) → IsWithin m (deadline_of x) → resumed vars (offered (event.Tick m) x) ≡ (Wait, vars, offered (event.Tick m) x)) there (waits_on call d vars mid came);
 }
+  where
+    came : outcome call d ≡ (Wait, vars, mid)
+    came = e ∙ ap (λ (x : HostStep). let y : Outcome = (x, vars, mid) in y) w
 
 last_waits : (call : Call) (left : ℕ) (go : Reply → Tree) (r : Reply) (d mid : Dialogue) (t' : Tree) (d' : Dialogue) → Good d → IsReply d call r mid → IsTrue mid.lives → EndsInWait (r ∷ []) → follow (Ask call left go) r ≡ t' → mid ≡ d' → Waiting t' d'
 last_waits (Begin words w) left go (Stepped s vars) d mid t' d' g a lives ends same there = told_waits (Begin words w) left go s vars d mid t' d' g (a lives).1 ends same there
@@ -254,6 +262,12 @@ shown_asking bound engine (WordsMode words depth r) n d a = refl
 shown_asking bound engine (BodyMode c v b depth r) n d a = refl
 shown_asking bound engine _ n d a = absurd a
 
+deadline_asking : (mode : Mode) (d : Dialogue) → IsAsking mode → deadline_in mode d ≡ deadline_of d
+deadline_asking (BeginMode words depth r) d a = refl
+deadline_asking (WordsMode words depth r) d a = refl
+deadline_asking (BodyMode c v b depth r) d a = refl
+deadline_asking _ d a = absurd a
+
 shows_waiting : (bound : ℕ) (engine : Engine) (mode : Mode) (n : ℕ) (d : Dialogue) → IsAsking mode → Waiting (engine_rest engine n mode) d → play bound (engine_rest engine n mode) d ≡ shown bound engine mode n d
 unfolding left_in vars_in
 shows_waiting bound engine mode n d a w =
@@ -262,6 +276,20 @@ shows_waiting bound engine mode n d a w =
     ∙ ap (λ (k : ℕ). said ending.Waiting [] (bound - k) w.vars d) (sym (ap left_in w.tree) ∙ left_asking engine mode n a)
     ∙ ap (λ (v : Variables). said ending.Waiting [] (bound - n) v d) (sym (ap vars_in w.tree) ∙ vars_asking engine mode n a)
     ∙ shown_asking bound engine mode n d a
+
+quiet_asking : (engine : Engine) (mode : Mode) (n : ℕ) (d : Dialogue) → IsAsking mode → Waiting (engine_rest engine n mode) d → Quiet engine mode n d
+quiet_asking engine mode n d a w = record {
+  tick = λ bound m le.
+      let reply : Outcome → Report = behind (bound - w.left) (λ r. play bound (w.go r)) in
+      ap (λ (t : Tree). play bound t (offered (event.Tick m) d)) w.tree
+      ∙ ap reply (w.waits_on m (subst (IsWithin m) (deadline_asking mode d a) le))
+      ∙ sym (ap (λ (t : Tree). play bound t d) w.tree ∙ ap reply w.waits);
+}
+
+quiet_over : (engine : Engine) (mode : Mode) (e : End) (n : ℕ) (d : Dialogue) → mode ≡ Ended e → Quiet engine mode n d
+quiet_over engine mode e n d is = record {
+  tick = λ bound m le. subst (λ (x : Mode). play bound (engine_rest engine n x) (offered (event.Tick m) d) ≡ play bound (engine_rest engine n x) d) (sym is) refl;
+}
 
 shows_over : (bound : ℕ) (engine : Engine) (mode : Mode) (e : End) (n : ℕ) (d : Dialogue) → mode ≡ Ended e → play bound (engine_rest engine n mode) d ≡ shown bound engine mode n d
 shows_over bound engine mode e n d is = subst (λ (m : Mode). play bound (engine_rest engine n m) d ≡ shown bound engine m n d) (sym is) refl
@@ -273,6 +301,13 @@ shows_pause (pause.Stopped e) replies t d engine mode n d' g differs l lives p b
 shows_pause pause.StepLimit replies t d engine mode n d' g differs l lives p bound = shows_over bound engine mode _ n d' p
 shows_pause pause.Memory replies t d engine mode n d' g differs l lives p bound = absurd (differs refl)
 
+quiet_pause : (why : Pause) (replies : List Reply) (t : Tree) (d : Dialogue) (engine : Engine) (mode : Mode) (n : ℕ) (d' : Dialogue) → Good d → why ≢ pause.Memory → Leads IsReply replies t d (engine_rest engine n mode) d' → IsTrue d'.lives → IsPauseOf why mode replies → Quiet engine mode n d'
+quiet_pause pause.Waits replies t d engine mode n d' g differs l lives p = quiet_asking engine mode n d' p.1 (leads_waiting replies t d (engine_rest engine n mode) d' g l lives p.0)
+quiet_pause (pause.Finished c v) replies t d engine mode n d' g differs l lives p = quiet_over engine mode _ n d' p
+quiet_pause (pause.Stopped e) replies t d engine mode n d' g differs l lives p = quiet_over engine mode _ n d' p
+quiet_pause pause.StepLimit replies t d engine mode n d' g differs l lives p = quiet_over engine mode _ n d' p
+quiet_pause pause.Memory replies t d engine mode n d' g differs l lives p = absurd (differs refl)
+
 -- a run, from what the machine's run ensures
 pub ran : (why : Pause) (old : Engine) (was : Mode) (had : ℕ) (d : Dialogue) (new : Engine) (is : Mode) (has : ℕ) (d' : Dialogue) → (IsTrue d.lives → Good d) → why ≢ pause.Memory → IsTrue d'.lives → ((replies : List Reply) × Leads IsReply replies (engine_rest old had was) d (engine_rest new has is) d' × IsPauseOf why is replies) → Ran old was had d new is has d'
 ran why old was had d new is has d' good differs lives h =
@@ -283,6 +318,7 @@ ran why old was had d new is has d' good differs lives h =
       good = led.0;
       says = λ bound later. sym (led.1 bound later);
       shows = shows_pause why h.0 (engine_rest old had was) d new is has d' (good lived) differs h.1 lives h.2;
+      quiet = quiet_pause why h.0 (engine_rest old had was) d new is has d' (good lived) differs h.1 lives h.2;
     }
 
 pub good_new : (limit : Option ℕ) (d : Dialogue) → d ≡ fresh limit → Good d

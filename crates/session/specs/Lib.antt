@@ -2,6 +2,8 @@ pub mod First
 pub mod Play
 pub mod Meaning
 pub mod Growth
+pub mod Requests
 pub mod Left
+pub mod Quiet
 pub mod Shown
 pub mod Sound

@@ -11,15 +11,17 @@ use Rattle.expect_core.specs.Lanes.{extended}
 use Rattle.expect_core.specs.Good.{Good}
 use Rattle.session.specs.declared.report.Report.{Report}
 use Rattle.session.specs.Play.{said, over_with, play}
+use Rattle.session.specs.Quiet.{Quiet}
 
 -- the report that a machine shows
 abbrev pub shown : ℕ → Engine → Mode → ℕ → Dialogue → Report
 shown bound engine (Ended e) left st = over_with e (bound - left) engine.vars st
 shown bound engine _ left st = said ending.Waiting [] (bound - left) engine.vars st
 
--- A run to a pause: the report for whatever comes stays, and now the report is what the pause shows.
+-- A run to a pause: the report for whatever comes stays, now the report is what the pause shows, and it stays so up to the deadline.
 pub record Ran (old : Engine) (was : Mode) (had : ℕ) (before : Dialogue) (new : Engine) (is : Mode) (has : ℕ) (after : Dialogue) : Type 0 where
   pub lived : IsTrue before.lives
   pub good : Good after
   pub says : (bound : ℕ) (later : List Event) → play bound (engine_rest new has is) (extended later after) ≡ play bound (engine_rest old had was) (extended later before)
   pub shows : (bound : ℕ) → play bound (engine_rest new has is) after ≡ shown bound new is has after
+  pub quiet : Quiet new is has after

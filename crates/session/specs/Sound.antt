@@ -6,6 +6,7 @@ use Rattle.expect_core.specs.Good.{Good}
 use Rattle.session.specs.declared.session.Session.TheInside.{Inside}
 use Rattle.session.specs.Left.{Kept}
 use Rattle.session.specs.Play.{play}
+use Rattle.session.specs.Quiet.{Quiet}
 use Rattle.session.specs.Shown.{shown}
 
 abbrev pub kept_of : Inside → Kept
@@ -19,10 +20,11 @@ kept_of a = record {
   lives = a.lives;
 }
 
--- The report now is what the machine shows, nothing is later than the greatest moment, and the requests behind those that were handed out
--- lie ready.
+-- The report now is what the machine shows, up to the deadline; nothing is later than the greatest moment; and the requests behind those
+-- that were handed out lie ready.
 pub record Sound (a : Inside) : Type 0 where
   pub shows : IsTrue a.lives → play a.bound (engine_rest a.machine.engine (left_of a.meter) a.machine.mode) a.dialogue ≡ shown a.bound a.machine.engine a.machine.mode (left_of a.meter) a.dialogue
+  pub quiet : IsTrue a.lives → Quiet a.machine.engine a.machine.mode (left_of a.meter) a.dialogue
   pub good : IsTrue a.lives → Good a.dialogue
   pub ready : IsTrue a.lives → a.ready.items ≡ drop a.handed a.dialogue.own.requests
   pub spent : a.lives ≡ false → a.ready.items ≡ []

@@ -1,10 +1,18 @@
-//! What more events can change.
+//! What holds of the reports of all scripts.
 
 ghost use Rattle.session.specs.Growth.{EndingStays, OnlyGrows};
+ghost use Rattle.session.specs.Requests.{AllNameAChild, StaysAsking};
 
 /// More events only make a waiting script go on. So each request of a report is handed out once, in order, whenever the events that come
 /// later are known. It does nothing when it runs.
 pub fn growth()
     ensures stays { EndingStays }
     ensures grows { OnlyGrows }
+{}
+
+/// Each request of a report names a child from 1 to 16, as an event does that answers it. So does each request that a session hands out,
+/// from its start on and whatever it was fed. It does nothing when it runs.
+pub fn request_law()
+    ensures asked { AllNameAChild }
+    ensures handed { StaysAsking }
 {}

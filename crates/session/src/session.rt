@@ -6,9 +6,10 @@ ghost use Rattle.child_events.specs.declared.event.Event.{Event};
 ghost use Rattle.tcl_eval.specs.Steps.{left_of};
 ghost use Rattle.tcl_eval.specs.Suspended.{IsOver};
 ghost use Rattle.expect_core.specs.Good.{Good};
-ghost use Rattle.expect_core.specs.Lanes.{extended};
+ghost use Rattle.expect_core.specs.Lanes.{extended, untaken_of};
 ghost use Rattle.session.specs.Left.{left, Fed, HandsOut};
 ghost use Rattle.session.specs.Meaning.{meaning, steps_of, tree_of};
+ghost use Rattle.session.specs.Quiet.{QuietUntil, waits_until};
 ghost use Rattle.session.specs.Shown.{Ran};
 
 use crate::first::first_variables;
@@ -283,6 +284,31 @@ impl Session {
             Mode::Ended(end) => ending_of(end),
             _ => Ending::Waiting,
         }
+    }
+
+    /// The last moment in milliseconds to which it goes on waiting where only time passes: the lesser of the deadline of the expect that
+    /// waits and the last moment of the settings. None where neither is there, or it has ended. A tick no later than that changes nothing
+    /// in what it says.
+    #[tactic(auto, unfolding(crate::specs::Left::left))]
+    pub fn deadline(&self) -> Option<u64>
+        ensures value { result ≡ waits_until self.now }
+        ensures quiet { IsTrue self.now.lives → QuietUntil self.now result }
+    {
+        if !self.lives {
+            return None;
+        }
+        match &self.machine.mode {
+            Mode::Ended(_) => None,
+            _ => self.dialogue.deadline(),
+        }
+    }
+
+    /// How many items that came from a child no command has taken yet: pieces of its output, its end, a failure to read it. The echo of what
+    /// was sent to it is none of them. A child that isn't there has none. It costs the same however many there are.
+    pub fn untaken(&self, child: u8) -> usize
+        ensures { result ≡ untaken_of child self.now.dialogue.lanes }
+    {
+        self.dialogue.untaken(child)
     }
 
     /// What came of it so far.

@@ -1,6 +1,6 @@
 //! Texts: bytes that need not be UTF-8, and lists of texts.
 
-ghost use Rattle.std.specs.Prelude.{◌≡◌, ◌++◌, ◌∷◌, [], length, IfOk, OnOk, OnErr};
+ghost use Rattle.std.specs.Prelude.{◌≡◌, ◌++◌, ◌∷◌, ◌↔◌, [], length, IfOk, IsTrue, OnOk, OnErr};
 
 use std::alloc::{AllocError, Global};
 use std::marker::Model;
@@ -71,6 +71,13 @@ impl Text {
         Ok(())
     }
 
+    /// Whether another text has the same bytes.
+    pub fn is_same(&self, other: &Text) -> bool
+        ensures { IsTrue result ↔ (self.now ≡ other.now) }
+    {
+        self.as_slice() == other.as_slice()
+    }
+
     /// An equal text.
     pub fn copied(&self, alloc: Global) -> Result<Text, AllocError>
         ensures { IfOk result (λ t. t ≡ self.now) }
@@ -125,6 +132,21 @@ impl Texts {
     {
         self.list.push(text)?;
         Ok(())
+    }
+
+    /// Whether another list has the same texts in the same order.
+    pub fn is_same(&self, other: &Texts) -> bool
+        ensures { IsTrue result ↔ (self.now ≡ other.now) }
+    {
+        if self.len() != other.len() {
+            return false;
+        }
+        for i in 0..self.len() {
+            if !self.list[i].is_same(&other.list[i]) {
+                return false;
+            }
+        }
+        true
     }
 
     /// Equal texts in the same order.

@@ -1,0 +1,14 @@
+use Rattle.std.proofs.Common.{◌≡◌, refl, Option, Some, None, false, sym}
+use Rattle.std.specs.Prelude.{is_some}
+use Rattle.expect_core.specs.declared.request.Request.{Request}
+use Rattle.child_desk.proofs.Kept.{keeps_asked}
+use Rattle.child_desk.proofs.line.ask_next.Goals as goal
+
+none_from : (o : Option Request) → is_some o ≡ false → o ≡ None
+none_from None h = refl
+none_from (Some r) h = absurd (cc)
+
+pub returns : goal.returns
+returns g c =
+    keeps_asked g.K.Keeper.told c.args.at c.args.line.now c.request.result c.args.book.now _ c.requires.0
+    (none_from c.args.line.now.awaited (sym (c.if-is_some.ensures))) c.request.ensures refl refl

@@ -1,0 +1,40 @@
+-- A hall, and the record of what it took.
+use Rattle.std.specs.Prelude.{◌≡◌, ℕ, ◌+◌, ◌≤◌, nat_lt, List, [], ◌∷◌, ◌++◌, length, Bool, true, false, None, Result, Ok, Err, if◌then◌else◌}
+use Rattle.std.specs.List.{AllByRecursion}
+use Rattle.std.specs.declared.alloc.AllocError.{AllocError}
+use Rattle.child_events.specs.declared.event.HallEvent.{HallEvent}
+use Rattle.child_events.specs.declared.event.HallEvent.TheVariants as hall
+use Rattle.dialogue_sched.specs.Refusal.{refusal_of}
+use Rattle.dialogue_sched.specs.Took.{AllTook}
+use Rattle.child_desk.specs.declared.book.Book.{Book}
+
+abbrev pub moment_in : HallEvent → ℕ
+moment_in (hall.Child s c m x) = m
+moment_in (hall.Tick m) = m
+
+-- no moment is below the one before it, and the first is not below this one
+abbrev pub AscendsFrom : ℕ → List HallEvent → Type 0
+AscendsFrom least [] = Unit {0}
+AscendsFrom least (e ∷ es) = (least ≤ moment_in e) × AscendsFrom (moment_in e) es
+
+-- moments don't go back
+abbrev pub Ascends : List HallEvent → Type 0
+Ascends es = AscendsFrom 0 es
+
+-- a hall of so many scripts takes each of these events, and none is later than this moment
+abbrev pub AllTaken : ℕ → ℕ → List HallEvent → Type 0
+AllTaken scripts last es = AllByRecursion (λ e. (refusal_of scripts e ≡ None) × (moment_in e ≤ last)) es
+
+-- a record whose moments don't go back, up to the book's stamp, of events that its hall takes
+pub record IsRecord (book : Book) : Type 0 where
+  pub ascends : Ascends book.log.items
+  pub taken : AllTaken (length book.hall) book.stamp book.log.items
+
+-- the hall took the event and the record has it, or the hall refuses it and nothing changed
+abbrev pub Enters : HallEvent → Bool → Book → Book → Type 0
+Enters e true old new = (refusal_of (length old.hall) e ≡ None) × AllTook 1 (e ∷ []) old.hall new.hall × (new.log.items ≡ old.log.items ++ e ∷ []) × (new.stamp ≡ old.stamp)
+Enters e false old new = new ≡ old
+
+-- the later of the stamp and a moment, but for what is past the last moment
+abbrev pub stamped : ℕ → ℕ → ℕ
+stamped stamp now = if nat_lt stamp now then (if nat_lt 9000000000000000 now then stamp else now) else stamp

@@ -1,0 +1,4 @@
+pub mod Told
+pub mod Book
+pub mod Line
+pub mod Ends

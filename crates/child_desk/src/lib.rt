@@ -1,0 +1,12 @@
+//! A worker's desk: a hall with the ends of its scripts' rings, and the record of what came.
+#![tactic(auto)]
+
+mod book;
+mod desk;
+mod ends;
+mod line;
+
+pub use book::Book;
+pub use desk::Desk;
+pub use ends::Ends;
+pub use line::Line;

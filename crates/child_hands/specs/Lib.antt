@@ -1,0 +1,3 @@
+pub mod Pumped
+pub mod Started
+pub mod Handed

@@ -1,0 +1,111 @@
+//! Reads what a child writes, and puts it in pieces.
+
+ghost use Rattle.std.specs.Prelude.{◌≡◌, ◌+◌, ◌^◌, ◌<◌, ◌≤◌, [], ◌∷◌, ◌++◌, IfSome, ℕ, List, Option};
+ghost use Rattle.feed_rings.specs.Ends.{put_items, all_put, SameIn};
+ghost use Rattle.child_keeper.specs.declared.items.Item.TheVariants.{ReadFail};
+ghost use Rattle.child_hands.specs.Pumped.{PumpsAllBut, IsRead, FailsOnlyFor};
+
+use child_events::{Cause, Counted};
+use child_keeper::{Item, Keeper, Piece};
+use feed_rings::{Bell, FeedIn, Finished, put_waiting};
+use std::alloc::Global;
+use std::io::{ErrorKind, Read};
+use std::sync::Wait;
+
+/// How often a child's output is read at most.
+const READS: u64 = 1 << 40;
+
+/// How many bytes are read at once.
+const SIZE: usize = 4096;
+
+/// Reads pieces to the end or a failure, and puts them. None where the taking end of the ring is gone.
+///
+/// An interrupted read is tried again. A refused piece ends the list with the cause `Memory`, and a failed read, or the last
+/// of all reads that it may make, with `Other`. The bell is the one from which the ring was made to put.
+pub fn pump<K: Keeper, R: Read, W: Wait>(
+    rt: &W,
+    alloc: Global,
+    bell: &Bell,
+    script: u8,
+    child: u8,
+    device: &mut Counted<R>,
+    feed: FeedIn<Item<K>>,
+) -> Option<Finished<Item<K>>>
+    requires counts { (device.old.failures ≡ 0) × (device.old.calls ≡ 0) }
+    requires empty { put_items feed ≡ [] }
+    ensures read { IsRead script child (R.remaining device.old.device) feed result }
+    ensures failure { IfSome result (λ f. FailsOnlyFor device.new (all_put f)) }
+{
+    let mut feed = feed;
+    let last = put_pieces(rt, alloc, bell, script, child, device, &mut feed)?;
+    if !put_waiting(rt, bell, &mut feed, last) {
+        return None;
+    }
+    feed.finish()
+}
+
+/// Puts the pieces, and gives the last item.
+fn put_pieces<K: Keeper, R: Read, W: Wait>(
+    rt: &W,
+    alloc: Global,
+    bell: &Bell,
+    script: u8,
+    child: u8,
+    device: &mut Counted<R>,
+    feed: &mut FeedIn<Item<K>>,
+) -> Option<Item<K>>
+    requires { (device.old.failures ≡ 0) × (device.old.calls ≡ 0) }
+    ensures ring { SameIn feed.old feed.new }
+    ensures list { IfSome result (λ x. PumpsAllBut script child (R.remaining device.old.device) device.new (put_items feed.old) (put_items feed.new) x) }
+{
+    let mut buf = [0u8; SIZE];
+    for _ in 0..READS {
+        match device.read(&mut buf) {
+            Ok(0) => return Some(Item::End { script, child }),
+            Ok(n) => {
+                let Ok(piece) = Piece::new(alloc, &buf[..n]) else {
+                    return Some(read_failure(script, child, Cause::Memory));
+                };
+                if !put_waiting(
+                    rt,
+                    bell,
+                    feed,
+                    Item::Out {
+                        script,
+                        child,
+                        piece,
+                    },
+                ) {
+                    return None;
+                }
+            }
+            Err(e) => match e.kind() {
+                ErrorKind::Interrupted => continue,
+                _ => return Some(read_failure(script, child, Cause::Other)),
+            },
+        }
+    }
+    Some(read_failure(script, child, Cause::Other))
+}
+
+/// Puts a read failure in place of what a reader would have put. None where the ring has no room for it.
+pub fn give_up<K: Keeper>(script: u8, child: u8, feed: FeedIn<Item<K>>) -> Option<Finished<Item<K>>>
+    requires { put_items feed ≡ [] }
+    ensures { (bytes : Option (List ℕ)) → IsRead script child bytes feed result }
+{
+    let mut feed = feed;
+    match feed.put(read_failure(script, child, Cause::Other)) {
+        Ok(()) => feed.finish(),
+        Err(_) => None,
+    }
+}
+
+fn read_failure<K: Keeper>(script: u8, child: u8, cause: Cause) -> Item<K>
+    ensures { result ≡ ReadFail script child cause }
+{
+    Item::ReadFail {
+        script,
+        child,
+        cause,
+    }
+}

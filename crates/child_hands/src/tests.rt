@@ -1,0 +1,154 @@
+//! A hand over a keeper in memory, and a reader by itself.
+
+use crate::pump::pump;
+use crate::thread::start_hand;
+use crate::work::{Fresh, Outcome, Work};
+use child_events::{Answer, Cause, Counted};
+use child_keeper::Item;
+use expect_core::{Act, Request};
+use feed_rings::{Bell, FeedIn, feed_pair, take_waiting};
+use keeper::{LINE, Line, Liner, Turnstile};
+use std::io;
+use std::io::{ErrorKind, Read};
+use std::sync::Arc;
+use std::test::Fail;
+use tcl_words::{Text, Texts};
+
+mod keeper;
+
+/// A device that is interrupted, gives a byte, and then fails.
+#[derive(Drop)]
+struct Flaky {
+    turn: u8,
+}
+
+impl Read for Flaky {
+    fn read(&mut self, buf: &mut [u8]) -> io::Result<usize> {
+        if self.turn == 0 {
+            self.turn = 1;
+            return Err(io::Error::from(ErrorKind::Interrupted));
+        }
+        if self.turn == 1 && !buf.is_empty() {
+            self.turn = 2;
+            buf[0] = b'x';
+            return Ok(1);
+        }
+        Err(io::Error::from(ErrorKind::BrokenPipe))
+    }
+}
+
+fn is_line(item: Item<Liner>) -> bool {
+    match item {
+        Item::Out {
+            script,
+            child,
+            piece,
+        } => script == 3 && child == 2 && piece.text().as_slice() == LINE,
+        _ => false,
+    }
+}
+
+#[test]
+fn a_reader_puts_pieces_and_then_the_end(rt: HostRuntime) -> Result<(), Fail> {
+    let alloc = rt.alloc();
+    let bell = Bell::new(alloc)?;
+    let (feed, mut out) = feed_pair::<Item<Liner>>(alloc, 2, &bell, &bell)?;
+    let mut device = Counted::new(Line::new());
+    assert!(rt; pump(&rt, alloc, &bell, 3, 2, &mut device, feed).is_some());
+    assert!(rt; is_line(take_waiting(&rt, &bell, &mut out)));
+    assert!(rt;
+        matches!(
+            out.take(),
+            Some(Item::End {
+                script: 3,
+                child: 2
+            })
+        )
+    );
+    assert!(rt; out.take().is_none());
+    let (feed, mut out) = feed_pair::<Item<Liner>>(alloc, 2, &bell, &bell)?;
+    let mut device = Counted::new(Flaky { turn: 0 });
+    assert!(rt; pump(&rt, alloc, &bell, 3, 2, &mut device, feed).is_some());
+    assert!(rt; matches!(out.take(), Some(Item::Out { .. })));
+    assert!(rt;
+        matches!(
+            out.take(),
+            Some(Item::ReadFail {
+                cause: Cause::Other,
+                ..
+            })
+        )
+    );
+    Ok(())
+}
+
+fn ask(asks: &mut FeedIn<Item<Liner>>, child: u8, act: Act) -> bool {
+    asks.put(Item::Ask(Request { child, act })).is_ok()
+}
+
+#[test]
+fn a_hand_asks_its_keeper(rt: HostRuntime) -> Result<(), Fail> {
+    let alloc = rt.alloc();
+    let desk = Bell::new(alloc)?;
+    let resting = Bell::new(alloc)?;
+    let reading = Bell::new(alloc)?;
+    let (mut asks, taken) = feed_pair(alloc, 4, &desk, &resting)?;
+    let (put, mut answers) = feed_pair(alloc, 1, &resting, &desk)?;
+    let (feed, mut output) = feed_pair(alloc, 1, &reading, &desk)?;
+    let mut works = Vec::new(alloc);
+    works.push(Work::Free(Fresh::new(feed, reading)))?;
+    let gate = Arc::new(alloc, Turnstile::new())?;
+    let theirs = Arc::try_clone(&gate)?;
+    let hand = start_hand(
+        rt,
+        alloc,
+        3,
+        Liner::new(),
+        theirs,
+        taken,
+        put,
+        resting,
+        works,
+    )
+    .expect(&rt, "a thread");
+    assert!(rt; ask(&mut asks, 1, Act::Spawn(Texts::new(alloc))));
+    assert!(rt; ask(&mut asks, 1, Act::Write(Text::new(alloc))));
+    assert!(rt; ask(&mut asks, 2, Act::Wait));
+    let wanted = [Answer::Ok, Answer::Fail(Cause::Broken), Answer::Exit(5)];
+    for (answer, call) in wanted.into_iter().zip(1u64..) {
+        match take_waiting(&rt, &desk, &mut answers) {
+            Item::Answer { script, answered } => {
+                assert_eq!(rt; (script, answered.name, answered.call), (3, 7, call));
+                assert!(rt; answered.answer == answer);
+            }
+            _ => assert!(rt; false),
+        }
+    }
+    assert!(rt;
+        matches!(
+            take_waiting(&rt, &desk, &mut output),
+            Item::Out {
+                script: 3,
+                child: 1,
+                ..
+            }
+        )
+    );
+    assert!(rt; asks.put(Item::Stop).is_ok());
+    let mut end = hand.join(&rt);
+    assert!(rt;
+        matches!(
+            output.take(),
+            Some(Item::End {
+                script: 3,
+                child: 1
+            })
+        )
+    );
+    assert!(rt; end.outcome == Outcome::Stopped);
+    assert_eq!(rt; end.forced, 1);
+    assert_eq!(rt; gate.asked(), 10_008);
+    assert!(rt; end.answers.is_some());
+    assert!(rt; matches!(end.works.pop(), Some(Work::Ended(Some(_)))));
+    Ok(())
+}

@@ -1,0 +1,147 @@
+//! A keeper whose children write a line and take nothing, and a gate that refuses.
+
+ghost use Rattle.std.specs.Prelude.{◌≡◌, ◌+◌, ◌^◌, ◌<◌, ◌≤◌, ⊤};
+
+use child_events::{Answer, Cause};
+use child_keeper::{Gate, Keeper};
+use std::io;
+use std::io::Read;
+use std::sync::atomic::{AtomicU64, Ordering};
+use tcl_words::{Text, Texts};
+
+/// What each child writes.
+pub const LINE: &[u8] = b"hi\n";
+
+/// Gives the line, and then the end.
+#[derive(Drop)]
+pub struct Line {
+    over: bool,
+}
+
+impl Line {
+    pub fn new() -> Line {
+        Line { over: false }
+    }
+}
+
+impl Read for Line {
+    fn read(&mut self, buf: &mut [u8]) -> io::Result<usize> {
+        if self.over || buf.len() < LINE.len() {
+            return Ok(0);
+        }
+        self.over = true;
+        buf[..LINE.len()].copy_from_slice(LINE);
+        Ok(LINE.len())
+    }
+}
+
+/// Starts children in name alone. What is written to them fails, and they end with status 5.
+#[derive(Drop)]
+pub struct Liner {
+    calls: u64,
+    failures: u64,
+    ghost fewer: { failures ≤ calls },
+}
+
+impl Liner {
+    pub fn new() -> Liner
+        ensures { result.calls ≡ 0 }
+    {
+        Liner {
+            calls: 0,
+            failures: 0,
+        }
+    }
+
+    fn count(&mut self)
+        requires { self.old.calls < 2 ^ 63 }
+        ensures { (self.new.calls ≡ self.old.calls + 1) × (self.new.failures ≡ self.old.failures) }
+    {
+        self.calls += 1;
+    }
+
+    fn count_failed(&mut self)
+        requires { self.old.calls < 2 ^ 63 }
+        ensures { (self.new.calls ≡ self.old.calls + 1) × (self.new.failures ≡ self.old.failures + 1) }
+    {
+        self.calls += 1;
+        self.failures += 1;
+    }
+}
+
+impl Keeper for Liner {
+    type Out = Line;
+
+    ghost named = { λ _. 7 };
+
+    ghost made = { λ k. k.calls };
+
+    ghost failed = { λ k. k.failures };
+
+    ghost told = { λ _ _ _ _. ⊤ };
+
+    ghost gives = { λ _ _ _. ⊤ };
+
+    fn spawn(&mut self, _child: u8, _argv: &Texts) -> Result<Line, Cause> {
+        self.count();
+        Ok(Line::new())
+    }
+
+    fn write(&mut self, _child: u8, _bytes: &Text) -> Result<(), Cause> {
+        self.count_failed();
+        Err(Cause::Broken)
+    }
+
+    fn end(&mut self, _child: u8) -> Result<(), Cause> {
+        self.count();
+        Ok(())
+    }
+
+    fn close(&mut self, _child: u8) -> Result<(), Cause> {
+        self.count();
+        Ok(())
+    }
+
+    fn wait(&mut self, _child: u8) -> Answer {
+        self.count();
+        Answer::Exit(5)
+    }
+
+    fn name(&self) -> u64 {
+        7
+    }
+
+    fn calls(&self) -> u64 {
+        self.calls
+    }
+
+    fn failures(&self) -> u64 {
+        self.failures
+    }
+}
+
+/// Refuses child 1 three times each, and the others always.
+#[derive(Drop)]
+pub struct Turnstile {
+    asked: AtomicU64,
+}
+
+impl Turnstile {
+    pub fn new() -> Turnstile {
+        Turnstile {
+            asked: AtomicU64::new(0),
+        }
+    }
+
+    /// How often it was asked.
+    pub fn asked(&self) -> u64 {
+        self.asked.load(Ordering::SeqCst)
+    }
+}
+
+impl Gate for Turnstile {
+    fn pass(&self, _script: u8, child: u8, turn: u64) -> bool {
+        self.asked.fetch_add(1, Ordering::SeqCst);
+        child == 1 && turn == 3
+    }
+}

@@ -1,0 +1,13 @@
+//! A gate that is open.
+
+use child_keeper::Gate;
+
+/// Lets every request pass.
+#[derive(Clone, Copy, Debug)]
+pub struct Free;
+
+impl Gate for Free {
+    fn pass(&self, _script: u8, _child: u8, _turn: u64) -> bool {
+        true
+    }
+}

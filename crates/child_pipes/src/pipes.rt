@@ -1,0 +1,92 @@
+//! A keeper of the system's processes.
+
+ghost use Rattle.std.specs.Prelude.{◌≡◌, ◌+◌, ◌^◌, ◌<◌, ◌≤◌, OnErr};
+
+use crate::children::Children;
+use crate::counts::Counts;
+use crate::orphans::Orphans;
+use crate::output::Output;
+use crate::programs::Programs;
+use child_events::{Answer, Cause};
+use child_keeper::Keeper;
+use std::alloc::{AllocError, Global};
+use std::sync::Wait;
+use tcl_words::{Text, Texts};
+
+/// A keeper of the system's processes, over pipes. When it goes, the input of each child ends.
+///
+/// A program is looked for in the folders of `PATH` where its name has no slash. It gets a pipe for its input and one for its output, and this
+/// process's standard error, environment and folder. No contract can say what becomes of it: `told` and `gives` say nothing.
+#[derive(Drop)]
+pub struct Pipes<R: Programs + Wait + Drop> {
+    name: u64,
+    counts: Counts,
+    children: Children<R>,
+}
+
+impl<R: Programs + Wait + Drop> Pipes<R> {
+    /// A keeper of this name, with no children. Children that live on when it goes go to the orphans.
+    pub fn new(rt: R, alloc: Global, name: u64, orphans: Orphans) -> Result<Pipes<R>, AllocError> {
+        Ok(Pipes {
+            name,
+            counts: Counts::new(),
+            children: Children::new(rt, alloc, orphans)?,
+        })
+    }
+}
+
+impl<R: Programs + Wait + Drop> Keeper for Pipes<R> {
+    type Out = Output;
+
+    ghost named = { λ p. p.name };
+
+    ghost made = { λ p. p.counts.0 };
+
+    ghost failed = { λ p. p.counts.1 };
+
+    ghost told = { λ _ _ _ _. Unit {0} };
+
+    ghost gives = { λ _ _ _. Unit {0} };
+
+    fn spawn(&mut self, child: u8, argv: &Texts) -> Result<Output, Cause> {
+        let outcome = self.children.start(child, argv);
+        self.counts.count(outcome.is_err());
+        outcome
+    }
+
+    fn write(&mut self, child: u8, bytes: &Text) -> Result<(), Cause> {
+        let outcome = self.children.write(child, bytes.as_slice());
+        self.counts.count(outcome.is_err());
+        outcome
+    }
+
+    fn end(&mut self, child: u8) -> Result<(), Cause> {
+        let outcome = self.children.end(child);
+        self.counts.count(outcome.is_err());
+        outcome
+    }
+
+    fn close(&mut self, child: u8) -> Result<(), Cause> {
+        let outcome = self.children.close(child);
+        self.counts.count(outcome.is_err());
+        outcome
+    }
+
+    fn wait(&mut self, child: u8) -> Answer {
+        let answer = self.children.wait(child);
+        self.counts.count(matches!(answer, Answer::Fail(_)));
+        answer
+    }
+
+    fn name(&self) -> u64 {
+        self.name
+    }
+
+    fn calls(&self) -> u64 {
+        self.counts.calls()
+    }
+
+    fn failures(&self) -> u64 {
+        self.counts.failures()
+    }
+}

@@ -1,0 +1,43 @@
+//! The system's clock.
+
+use child_keeper::Clock;
+use std::time::{Clock as SystemClock, Instant};
+
+/// Counts the milliseconds since it was made. Where the system's clock can't be read, it stands still.
+#[derive(Drop)]
+pub struct Wall<R: SystemClock + Drop> {
+    rt: R,
+    start: Option<Instant>,
+    last: u64,
+}
+
+impl<R: SystemClock + Drop> Wall<R> {
+    /// A clock that is at 0 now.
+    pub fn new(rt: R) -> Wall<R> {
+        let start = Instant::now(&rt).ok();
+        Wall { rt, start, last: 0 }
+    }
+}
+
+impl<R: SystemClock + Copy + Drop> Wall<R> {
+    /// Another clock that tells the same moments.
+    pub fn again(&self) -> Wall<R> {
+        Wall {
+            rt: self.rt,
+            start: self.start,
+            last: self.last,
+        }
+    }
+}
+
+impl<R: SystemClock + Drop> Clock for Wall<R> {
+    fn now(&mut self) -> u64 {
+        let Some(start) = self.start else {
+            return self.last;
+        };
+        if let Ok(time) = start.elapsed(&self.rt) {
+            self.last = u64::try_from(time.as_millis()).unwrap_or(u64::MAX);
+        }
+        self.last
+    }
+}

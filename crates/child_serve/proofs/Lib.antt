@@ -1,0 +1,9 @@
+pub mod Deals
+pub mod Formed
+pub mod Ticking
+pub mod Merging
+pub mod Sorting
+pub mod Turning
+pub mod Wholes
+pub mod Teaming
+pub mod Working

@@ -1,0 +1,141 @@
+-- From what each worker has served to what all have.
+use Rattle.std.proofs.Common.{◌≡◌, ◌≢◌, ◌⊎◌, inl, inr, ℕ, zero, suc, ◌+◌, ◌-◌, ◌*◌, ◌/◌, ◌%◌, ◌<◌, List, [], ◌∷◌, ◌++◌, map, length, Option, Some, None, refl, sym, ap, subst, ◌∙◌, arith}
+use Rattle.std.specs.Prelude.{slice_get}
+use Rattle.std.proofs.Math.Nat.{mod-lt}
+use Rattle.std.proofs.lemmas.Nat.{div-add-mod'}
+use Rattle.std.proofs.lemmas.Option.{slice_get_within}
+use Rattle.child_events.specs.declared.event.Answer.{Answer}
+use Rattle.child_events.specs.declared.event.Event.{Event}
+use Rattle.child_events.specs.World.{own}
+use Rattle.tcl_eval.specs.declared.ending.Ending.TheVariants.{Waiting, Memory}
+use Rattle.expect_core.specs.declared.request.Request.{Request}
+use Rattle.session.specs.declared.report.Report.{Report}
+use Rattle.session.specs.Meaning.{meaning}
+use Rattle.session.specs.Growth.{Continues}
+use Rattle.dialogue_sched.specs.declared.script.Script.{Script}
+use Rattle.dialogue_sched.specs.Ticks.{Rises, WithTicks, none, kept, tick}
+use Rattle.dialogue_sched.proofs.Ticking.{ticks_change_nothing, ticks_only_add}
+use Rattle.child_serve.specs.declared.served.Served.{Served}
+use Rattle.child_serve.specs.Joined.{script_of, EachSees}
+use Rattle.child_desk.specs.Book.{Ascends}
+use Rattle.child_serve.specs.Turns.{in_turn}
+use Rattle.child_desk.specs.Told.{answer_in, answers_in, AreTold}
+use Rattle.child_desk.specs.Line.{Keeping}
+use Rattle.child_serve.specs.Served.{IsServed, AreServed, IsPart, AreParts, records_of}
+use Rattle.child_serve.proofs.Merging.{ascends_own}
+use Rattle.child_desk.proofs.Telling.{told_more}
+use Rattle.child_serve.proofs.Turning.{Enough, turn_length, turn_at}
+
+-- ticks bring no answer and no item
+
+same_answers : (es more : List Event) → WithTicks es more → answers_in more ≡ answers_in es
+same_answers xs ys none = refl
+same_answers xs ys (kept e es more p) = ap (λ (l : List Answer). answer_in e ++ l) (same_answers es more p)
+same_answers xs ys (tick m es more p) = same_answers es more p
+
+module _ (told : ℕ → ℕ → Request → Answer → Type 0) where
+  -- a script's part of its worker's record, and of the joined one
+
+  ended_on : (script : Script) (report : Report) (es more : List Event) → Rises more → WithTicks es more →
+      ((report ≡ meaning script.source script.settings es) × (report.ending ≢ Waiting)) ⊎ (report.ending ≡ Memory) →
+      ((report ≡ meaning script.source script.settings more) × (report.ending ≢ Waiting)) ⊎ (report.ending ≡ Memory)
+  ended_on script report es more up p (inr memory) = inr memory
+  ended_on script report es more up p (inl (is, ends)) =
+      inl (is ∙ sym (ticks_change_nothing script.source script.settings es more up p (λ w. ends (ap (λ (r : Report). r.ending) is ∙ w))), ends)
+
+  pub served_on : (keeper : Keeping) (script : Script) (report : Report) (es more : List Event) → Rises more → WithTicks es more →
+      IsServed told keeper script report es → IsServed told keeper script report more
+  served_on keeper script report es more up p s = record {
+    ended = ended_on script report es more up p s.ended;
+    answers = subst (λ (xs : List Answer). AreTold told keeper.name keeper.made xs asked) (sym (same_answers es more p))
+        (subst (AreTold told keeper.name keeper.made (answers_in es)) (sym grown.asked) (told_more told keeper.name keeper.made (answers_in es) before grown.more s.answers));
+  }
+    where
+      before : List Request
+      before = (meaning script.source script.settings es).requests
+
+      asked : List Request
+      asked = (meaning script.source script.settings more).requests
+
+      grown : Continues (meaning script.source script.settings es) (meaning script.source script.settings more)
+      grown = ticks_only_add script.source script.settings es more up p
+
+there : {X : Type 0} → (xs : List X) (i : ℕ) → i < length xs → (x : X) × (slice_get xs i ≡ Some x)
+there [] i lt = absurd (omega (arith, lt))
+there (x ∷ xs) zero lt = (x, refl)
+there (x ∷ xs) (suc i) lt = there xs i (omega (arith, lt))
+
+pub mapped : {X Y : Type 0} (f : X → Y) (xs : List X) (i : ℕ) (x : X) → slice_get xs i ≡ Some x → slice_get (map f xs) i ≡ Some (f x)
+mapped f [] i x h = absurd (no_x x h)
+  where
+    no_x : {X : Type 0} (x : X) → ◌≡◌ {A = Option X} None (Some x) → ⊥
+    no_x x h = cc
+mapped f (y ∷ xs) zero x h = let e : y ≡ x = cc in ap (λ z. Some (f z)) e
+mapped f (y ∷ xs) (suc i) x h = mapped f xs i x h
+
+pub unmapped : {X Y : Type 0} (f : X → Y) (xs : List X) (i : ℕ) (y : Y) → slice_get (map f xs) i ≡ Some y → (x : X) × (slice_get xs i ≡ Some x) × (f x ≡ y)
+unmapped f [] i y h = absurd (no_y y h)
+  where
+    no_y : {Y : Type 0} (y : Y) → ◌≡◌ {A = Option Y} None (Some y) → ⊥
+    no_y y h = cc
+unmapped f (x ∷ xs) zero y h = (x, refl, (cc))
+unmapped f (x ∷ xs) (suc i) y h = unmapped f xs i y h
+
+pub map_length : {X Y : Type 0} (f : X → Y) (xs : List X) → length (map f xs) ≡ length xs
+map_length f [] = refl
+map_length f (x ∷ xs) = ap suc (map_length f xs)
+
+module _ (told : ℕ → ℕ → Request → Answer → Type 0)
+    (keepers : List Keeping) (scripts : List Script) (parts : List Served) (s : Served) (some : 0 < length parts) (are : AreParts told keepers scripts parts)
+    (up : Ascends s.logged) (sees : EachSees (records_of parts) s.logged)
+    (reports : s.reports ≡ in_turn (length scripts) (map (λ (p : Served). p.reports) parts)) where
+  abbrev n : ℕ
+  n = length parts
+
+  abbrev of : List (List Report)
+  of = map (λ (p : Served). p.reports) parts
+
+  enough : Enough n (length scripts) of
+  enough w i part got lt =
+      let h = unmapped (λ (p : Served). p.reports) parts w part got in
+      let mine = are w h.0 h.1 in
+      let script = there scripts (i * n + w) lt in
+      let within : i < length mine.few = slice_get_within mine.few i script.0 (mine.dealt i ∙ script.1) in
+      subst (λ (l : List Report). i < length l) h.2 (omega (arith, within, mine.served.count))
+
+  as_many : n ≡ length of
+  as_many = sym (map_length (λ (p : Served). p.reports) parts)
+
+  of_one : (i : ℕ) (keeper : Keeping) (script : Script) (report : Report) → slice_get keepers i ≡ Some keeper → slice_get scripts i ≡ Some script → slice_get s.reports i ≡ Some report →
+      IsServed told keeper script report (own (i + 1) s.logged)
+  of_one i keeper script report got_keeper got_script got_report =
+      subst (λ (k : ℕ). IsServed told keeper script report (own k s.logged)) number
+      (served_on told keeper script report (own ((i / n) + 1) p.0.logged) (own (script_of n (i % n) ((i / n) + 1)) s.logged)
+      (ascends_own (script_of n (i % n) ((i / n) + 1)) s.logged up)
+      (subst (λ (m : ℕ). WithTicks (own ((i / n) + 1) p.0.logged) (own (script_of m (i % n) ((i / n) + 1)) s.logged)) (map_length (λ (x : Served). x.logged) parts)
+      (sees (i % n) ((i / n) + 1) p.0.logged (mapped (λ (x : Served). x.logged) parts (i % n) p.0 p.1) (omega arith)))
+      (mine.served.each (i / n) keeper script report
+      (mine.kept (i / n) ∙ ap (slice_get keepers) place ∙ got_keeper)
+      (mine.dealt (i / n) ∙ ap (slice_get scripts) place ∙ got_script)
+      (sym (turn_at n (length scripts) of as_many enough (i % n) (i / n) p.0.reports (mapped (λ (x : Served). x.reports) parts (i % n) p.0 p.1) (omega (arith, place, slice_get_within scripts i script got_script)))
+      ∙ ap (slice_get (in_turn (length scripts) of)) place
+      ∙ ap (λ (l : List Report). slice_get l i) (sym reports)
+      ∙ got_report)))
+    where
+      place : i / n * n + i % n ≡ i
+      place = div-add-mod' i n
+
+      p : (x : Served) × (slice_get parts (i % n) ≡ Some x)
+      p = there parts (i % n) (mod-lt i some)
+
+      mine : IsPart told n (i % n) keepers scripts p.0
+      mine = are (i % n) p.0 p.1
+
+      number : script_of n (i % n) ((i / n) + 1) ≡ i + 1
+      number = let e : (i / n) + 1 - 1 ≡ (i / n) = omega arith in ap (λ (k : ℕ). k * n + (i % n) + 1) e ∙ ap (λ (k : ℕ). k + 1) place
+
+  pub all_served : AreServed told keepers scripts s
+  all_served = record {
+    count = ap length reports ∙ turn_length n (length scripts) of as_many some enough;
+    each = of_one;
+  }

@@ -1,0 +1,235 @@
+-- What a worker has served, from what its desk keeps.
+use Rattle.std.proofs.Common.{◌≡◌, ◌≢◌, ◌⊎◌, inl, inr, ℕ, zero, suc, ◌+◌, ◌-◌, ◌*◌, ◌≤◌, ◌<◌, List, [], ◌∷◌, ◌++◌, length, map, Bool, true, false, ◌&&◌, Option, None, Some, refl, sym, ap, subst, ◌∙◌, arith}
+use Rattle.std.specs.Prelude.{slice_get, nat_lt, nat_le, IsTrue, if◌then◌else◌}
+use Rattle.std.proofs.lemmas.Bool.Decides.{nat_tests}
+use Rattle.child_events.specs.declared.event.Answer.{Answer}
+use Rattle.child_events.specs.declared.event.What.{What}
+use Rattle.child_events.specs.declared.event.What.TheVariants as what
+use Rattle.child_events.specs.declared.event.Event.{Event}
+use Rattle.child_events.specs.declared.event.HallEvent.{HallEvent}
+use Rattle.child_events.specs.declared.event.HallEvent.TheVariants as hall
+use Rattle.child_events.specs.World.{own}
+use Rattle.child_events.specs.Log.{AllFit, fits, piece_len}
+use Rattle.tcl_eval.specs.declared.ending.Ending.TheVariants.{Waiting, Memory}
+use Rattle.expect_core.specs.declared.request.Request.{Request}
+use Rattle.session.specs.declared.report.Report.{Report}
+use Rattle.session.specs.Left.{Kept}
+use Rattle.session.specs.Meaning.{meaning}
+use Rattle.dialogue_sched.specs.declared.script.Script.{Script}
+use Rattle.dialogue_sched.specs.declared.refusal.HallRefusal.{HallRefusal}
+use Rattle.dialogue_sched.specs.declared.refusal.HallRefusal.TheVariants.{NoSuchScript, NoSuchChild, MomentTooLarge, PieceTooLong}
+use Rattle.dialogue_sched.specs.Refusal.{refusal_of, piece_len as taken_len}
+use Rattle.dialogue_sched.specs.Hall.{Begins, AllBegin}
+use Rattle.child_desk.specs.declared.book.Book.{Book}
+use Rattle.child_desk.specs.declared.line.Line.{Line}
+use Rattle.child_desk.specs.Book.{Ascends, AllTaken, IsRecord}
+use Rattle.child_desk.specs.Line.{Keeping, InLine, Means, Leaves, KeepsAll, AllOver}
+use Rattle.child_desk.proofs.Lining.{first_line}
+use Rattle.child_serve.specs.declared.served.Served.{Served}
+use Rattle.child_serve.specs.declared.worker.Team.{Team}
+use Rattle.child_serve.specs.Joined.{script_of, numbered}
+use Rattle.child_serve.specs.Served.{IsServed}
+use Rattle.child_serve.specs.Whole.{keeping_of}
+use Rattle.child_serve.specs.Teams.{AreFirst, AllShown, IsTeam, IsWork}
+use Rattle.child_serve.proofs.Wholes.{mapped, unmapped, map_length}
+
+-- an entry that a hall takes is within the limits
+
+lt_said : (a b : ℕ) → nat_lt a b ≡ true → a < b
+lt_said a b h = grind (arith, nat_tests)
+
+le_said : (a b : ℕ) → nat_le a b ≡ true → a ≤ b
+le_said a b h = grind (arith, nat_tests)
+
+le_true : (a b : ℕ) → a ≤ b → nat_le a b ≡ true
+le_true a b h = grind (arith, nat_tests)
+
+record Limits (scripts s c m : ℕ) (w : What) : Type 0 where
+  script_low : 1 ≤ s
+  script_high : s ≤ scripts
+  child_low : 1 ≤ c
+  child_high : c ≤ 16
+  moment_high : m ≤ 9000000000000000
+  few : taken_len w ≤ 4096
+
+limits : (scripts s c m : ℕ) (w : What) → refusal_of scripts (hall.Child s c m w) ≡ None → Limits scripts s c m w
+limits scripts s c m w h =
+    by_tests (nat_lt 0 s) (nat_le s scripts) (nat_lt 0 c) (nat_le c 16) (nat_le m 9000000000000000) (nat_le (taken_len w) 4096) refl refl refl refl refl refl h
+  where
+    by_tests : (p q r t u v : Bool) → nat_lt 0 s ≡ p → nat_le s scripts ≡ q → nat_lt 0 c ≡ r → nat_le c 16 ≡ t → nat_le m 9000000000000000 ≡ u → nat_le (taken_len w) 4096 ≡ v →
+        ◌≡◌ {A = Option HallRefusal} (if p && q then (if r && t then (if u then (if v then None else Some PieceTooLong) else Some MomentTooLarge) else Some NoSuchChild) else Some NoSuchScript) None → Limits scripts s c m w
+    by_tests true true true true true true hp hq hr ht hu hv h = record {
+      script_low = let lt = lt_said 0 s hp in omega (arith, lt);
+      script_high = le_said s scripts hq;
+      child_low = let lt = lt_said 0 c hr in omega (arith, lt);
+      child_high = le_said c 16 ht;
+      moment_high = le_said m 9000000000000000 hu;
+      few = le_said (taken_len w) 4096 hv;
+    }
+    by_tests true true true true true false hp hq hr ht hu hv h = absurd (cc)
+    by_tests true true true true false v hp hq hr ht hu hv h = absurd (cc)
+    by_tests true true true false u v hp hq hr ht hu hv h = absurd (cc)
+    by_tests true true false t u v hp hq hr ht hu hv h = absurd (cc)
+    by_tests true false r t u v hp hq hr ht hu hv h = absurd (cc)
+    by_tests false q r t u v hp hq hr ht hu hv h = absurd (cc)
+
+same_len : (w : What) → taken_len w ≡ piece_len w
+same_len (what.Out piece) = refl
+same_len what.Eof = refl
+same_len (what.ReadFail cause) = refl
+same_len (what.Answer a) = refl
+
+six_true : (a b c d e f : Bool) → a ≡ true → b ≡ true → c ≡ true → d ≡ true → e ≡ true → f ≡ true → (a && b && c && d && e && f) ≡ true
+six_true true true true true true true ha hb hc hd he hf = refl
+six_true true true true true true false ha hb hc hd he hf = absurd (cc)
+six_true true true true true false f ha hb hc hd he hf = absurd (cc)
+six_true true true true false e f ha hb hc hd he hf = absurd (cc)
+six_true true true false d e f ha hb hc hd he hf = absurd (cc)
+six_true true false c d e f ha hb hc hd he hf = absurd (cc)
+six_true false b c d e f ha hb hc hd he hf = absurd (cc)
+
+-- under another number, too
+child_fits : (scripts s c m n : ℕ) (w : What) → Limits scripts s c m w → 1 ≤ n → n ≤ 64 → IsTrue (fits (hall.Child n c m w))
+child_fits scripts s c m n w l low high =
+    six_true (nat_le 1 n) (nat_le n 64) (nat_le 1 c) (nat_le c 16) (nat_le m 9000000000000000) (nat_le (piece_len w) 4096)
+    (le_true 1 n low) (le_true n 64 high) (le_true 1 c l.child_low) (le_true c 16 l.child_high) (le_true m 9000000000000000 l.moment_high)
+    (le_true (piece_len w) 4096 (subst (λ (k : ℕ). k ≤ 4096) (same_len w) l.few))
+
+tick_fits : (scripts m : ℕ) → refusal_of scripts (hall.Tick m) ≡ None → IsTrue (fits (hall.Tick m))
+tick_fits scripts m h = by_test (nat_le m 9000000000000000) refl h
+  where
+    by_test : (t : Bool) → nat_le m 9000000000000000 ≡ t → ◌≡◌ {A = Option HallRefusal} (if t then None else Some MomentTooLarge) None → nat_le m 9000000000000000 ≡ true
+    by_test true e h = e
+    by_test false e h = absurd (cc)
+
+all_fit : (scripts last : ℕ) (es : List HallEvent) → scripts ≤ 64 → AllTaken scripts last es → AllFit es
+all_fit scripts last [] few t = tt
+all_fit scripts last (hall.Child s c m w ∷ es) few t =
+    let l = limits scripts s c m w t.0.0 in
+    (child_fits scripts s c m s w l l.script_low (let h = l.script_high in omega (arith, h, few)), all_fit scripts last es few t.1)
+all_fit scripts last (hall.Tick m ∷ es) few t = (tick_fits scripts m t.0.0, all_fit scripts last es few t.1)
+
+all_among : (n w scripts last : ℕ) (es : List HallEvent) → ((number : ℕ) → 1 ≤ number → number ≤ scripts → script_of n w number ≤ 64) → AllTaken scripts last es → AllFit (map (numbered n w) es)
+all_among n w scripts last [] numbers t = tt
+all_among n w scripts last (hall.Child s c m x ∷ es) numbers t =
+    let l = limits scripts s c m x t.0.0 in
+    (child_fits scripts s c m (script_of n w s) x l (let low : 1 ≤ (s - 1) * n + w + 1 = omega arith in low) (numbers s l.script_low l.script_high), all_among n w scripts last es numbers t.1)
+all_among n w scripts last (hall.Tick m ∷ es) numbers t = (tick_fits scripts m t.0.0, all_among n w scripts last es numbers t.1)
+
+-- scripts to which nothing has happened
+
+begun_at : (scripts : List Script) (ks : List Kept) (i : ℕ) (script : Script) → AllBegin scripts ks → slice_get scripts i ≡ Some script → (k : Kept) × (slice_get ks i ≡ Some k) × Begins script k
+begun_at [] ks i script b got = absurd (let none : ◌≡◌ {A = Option Script} None (Some script) = got in cc)
+begun_at (x ∷ scripts) [] i script b got = absurd b
+begun_at (x ∷ scripts) (k ∷ ks) zero script b got = let is : x ≡ script = cc in (k, refl, subst (λ (s : Script). Begins s k) is b.0)
+begun_at (x ∷ scripts) (k ∷ ks) (suc i) script b got = begun_at scripts ks i script b.1 got
+
+pub begun_length : (scripts : List Script) (ks : List Kept) → AllBegin scripts ks → length ks ≡ length scripts
+begun_length [] [] b = refl
+begun_length [] (k ∷ ks) b = absurd b
+begun_length (x ∷ scripts) [] b = absurd b
+begun_length (x ∷ scripts) (k ∷ ks) b = ap suc (begun_length scripts ks b.1)
+
+abbrev pub line_of : {K : Type 0} → (K → ℕ) → (K → ℕ) → K → Line
+line_of named made k = record { name = named k; last = made k; awaited = None; over = false }
+
+pub first_length : {K : Type 0} (named made : K → ℕ) (keepers : List K) (lines : List Line) → AreFirst named made keepers lines → length lines ≡ length keepers
+first_length named made keepers lines are = ap length are ∙ map_length (line_of named made) keepers
+
+-- what was shown so far, of the first scripts
+pub record ShownTo (told : ℕ → ℕ → Request → Answer → Type 0) (lines : List Line) (book : Book) (n : ℕ) (reports : List Report) : Type 0 where
+  pub count : length reports ≡ n
+  pub each : (at : ℕ) (line : Line) (report : Report) → slice_get lines at ≡ Some line → slice_get reports at ≡ Some report →
+      (keeper : Keeping) (script : Script) → InLine told keeper script at line book → Means script line (own (at + 1) book.log.items) report
+
+last_of : (rs : List Report) (r : Report) (i : ℕ) (s : Report) → slice_get (rs ++ r ∷ []) i ≡ Some s → (slice_get rs i ≡ Some s) ⊎ ((i ≡ length rs) × (r ≡ s))
+last_of [] r zero s got = inr (refl, (cc))
+last_of [] r (suc i) s got = absurd (let none : ◌≡◌ {A = Option Report} None (Some s) = got in cc)
+last_of (x ∷ rs) r zero s got = inl got
+last_of (x ∷ rs) r (suc i) s got = elim (last_of rs r i s got) [
+  | inl old ↦ inl old
+  | inr new ↦ inr (ap suc new.0, new.1)
+]
+
+one_longer : (rs : List Report) (r : Report) → length (rs ++ r ∷ []) ≡ length rs + 1
+one_longer [] r = refl
+one_longer (x ∷ rs) r = let e = one_longer rs r in omega (arith, e)
+
+module _ (told : ℕ → ℕ → Request → Answer → Type 0) (lines : List Line) (book : Book) where
+  pub none_shown : ShownTo told lines book 0 []
+  none_shown = record { count = refl; each = λ at line report here got. absurd (let none : ◌≡◌ {A = Option Report} None (Some report) = got in cc) }
+
+  pub one_shown : (n : ℕ) (reports more : List Report) (report : Report) → more ≡ reports ++ report ∷ [] →
+      ((keeper : Keeping) (script : Script) (line : Line) → InLine told keeper script n line book → Means script line (own (n + 1) book.log.items) report) → ShownTo told lines book n reports → ShownTo told lines book (n + 1) more
+  one_shown n reports more report is means s = record {
+    count = ap length is ∙ one_longer reports report ∙ ap (λ (k : ℕ). k + 1) s.count;
+    each = λ at line got here there. by_place at line got here (last_of reports report at got (ap (λ (l : List Report). slice_get l at) (sym is) ∙ there));
+  }
+    where
+      by_place : (at : ℕ) (line : Line) (got : Report) → slice_get lines at ≡ Some line → (slice_get reports at ≡ Some got) ⊎ ((at ≡ length reports) × (report ≡ got)) →
+          (keeper : Keeping) (script : Script) → InLine told keeper script at line book → Means script line (own (at + 1) book.log.items) got
+      by_place at line got here (inl old) keeper script l = s.each at line got here old keeper script l
+      by_place at line got here (inr (last, same)) keeper script l =
+          subst (Means script line (own (at + 1) book.log.items)) same
+          (subst (λ (k : ℕ). Means script line (own (k + 1) book.log.items) report) (sym (last ∙ s.count))
+          (means keeper script line (subst (λ (k : ℕ). InLine told keeper script k line book) (last ∙ s.count) l)))
+
+  pub all_shown : (n : ℕ) (reports : List Report) → n ≡ length lines → ShownTo told lines book n reports → AllShown told lines book reports
+  all_shown n reports all s = record { count = s.count ∙ all; each = s.each }
+
+-- The lines and the hall at the start, what turning left of them, what was taken behind that, and the reports.
+module _ {K C : Type 0} (told : ℕ → ℕ → Request → Answer → Type 0) (named made : K → ℕ) (n w : ℕ) (team : Team K C) (first lines : List Line) (begun turned settled : Book) (s : Served)
+    (is : IsTeam n w team)
+    (are : AreFirst named made team.keepers.items first) (begin : AllBegin team.scripts.items begun.hall) (empty : begun.log.items ≡ []) (good : IsRecord begun)
+    (kept : KeepsAll told first begun lines turned) (over : AllOver lines)
+    (left : Leaves told turned settled)
+    (shown : AllShown told lines settled s.reports) (logged : s.logged ≡ settled.log.items) where
+  ended_by : (script : Script) (line : Line) (es : List Event) (report : Report) → IsTrue line.over → Means script line es report →
+      ((report ≡ meaning script.source script.settings es) × (report.ending ≢ Waiting)) ⊎ (report.ending ≡ Memory)
+  ended_by script line es report o (inl (same, ends)) = inl (same, ends o)
+  ended_by script line es report o (inr memory) = inr memory
+
+  of_one : (i : ℕ) (keeper : Keeping) (script : Script) (report : Report) → slice_get (map (keeping_of named made) team.keepers.items) i ≡ Some keeper → slice_get team.scripts.items i ≡ Some script → slice_get s.reports i ≡ Some report →
+      IsServed told keeper script report (own (i + 1) s.logged)
+  of_one i keeper script report got_keeper got_script got_report =
+      subst (λ (es : List HallEvent). IsServed told keeper script report (own (i + 1) es)) (sym logged) (record {
+        ended = ended_by script line.0 (own (i + 1) settled.log.items) report (over i line.0 line.1) (shown.each i line.0 report line.1 got_report keeper script last);
+        answers = last.2.answers;
+      })
+    where
+      k : (x : K) × (slice_get team.keepers.items i ≡ Some x) × (keeping_of named made x ≡ keeper)
+      k = unmapped (keeping_of named made) team.keepers.items i keeper got_keeper
+
+      b : (x : Kept) × (slice_get begun.hall i ≡ Some x) × Begins script x
+      b = begun_at team.scripts.items begun.hall i script begin got_script
+
+      start : InLine told keeper script i (line_of named made k.0) begun
+      start = subst (λ (x : Keeping). InLine told x script i (line_of named made k.0) begun) k.2 (first_line told (named k.0) (made k.0) i script b.0 begun b.1 empty b.2)
+
+      line : (x : Line) × (slice_get lines i ≡ Some x) × InLine told keeper script i x turned
+      line = kept.each keeper script i (line_of named made k.0) (ap (λ (l : List Line). slice_get l i) are ∙ mapped (line_of named made) team.keepers.items i k.0 k.1) start
+
+      last : InLine told keeper script i line.0 settled
+      last = left.lines keeper script i line.0 line.2
+
+  in_record : IsRecord settled
+  in_record = left.book (kept.book good)
+
+  as_many : length settled.hall ≡ length team.scripts.items
+  as_many = left.halls ∙ kept.halls ∙ begun_length team.scripts.items begun.hall begin
+
+  taken : AllTaken (length team.scripts.items) settled.stamp s.logged
+  taken = subst (AllTaken (length team.scripts.items) settled.stamp) (sym logged) (subst (λ (k : ℕ). AllTaken k settled.stamp settled.log.items) as_many in_record.taken)
+
+  pub is_work : IsWork told named made n w team s
+  is_work = record {
+    served = record {
+      count = shown.count ∙ kept.count ∙ first_length named made team.keepers.items first are ∙ is.keepers;
+      each = of_one;
+    };
+    fits = record {
+      ascends = subst Ascends (sym logged) in_record.ascends;
+      here = all_fit (length team.scripts.items) settled.stamp s.logged is.few taken;
+      among = all_among n w (length team.scripts.items) settled.stamp s.logged is.numbers taken;
+    };
+  }

@@ -1,0 +1,6 @@
+pub mod Dealt
+pub mod Joined
+pub mod Turns
+pub mod Served
+pub mod Whole
+pub mod Teams

@@ -1,0 +1,61 @@
+-- What it is to have served scripts.
+use Rattle.std.specs.Prelude.{◌≡◌, ◌≢◌, ◌⊎◌, ℕ, ◌+◌, List, map, length, slice_get, Some}
+use Rattle.std.specs.List.{flat_map}
+use Rattle.child_events.specs.declared.event.Answer.{Answer}
+use Rattle.child_events.specs.declared.event.Event.{Event}
+use Rattle.child_events.specs.declared.event.HallEvent.{HallEvent}
+use Rattle.child_events.specs.World.{own}
+use Rattle.child_events.specs.Log.{AllFit}
+use Rattle.tcl_eval.specs.declared.ending.Ending.TheVariants.{Waiting, Memory}
+use Rattle.expect_core.specs.declared.request.Request.{Request}
+use Rattle.session.specs.declared.report.Report.{Report}
+use Rattle.session.specs.Meaning.{meaning}
+use Rattle.dialogue_sched.specs.declared.script.Script.{Script}
+use Rattle.child_serve.specs.declared.served.Served.{Served}
+use Rattle.child_serve.specs.declared.served.Apart.{Apart}
+use Rattle.child_desk.specs.Line.{Keeping}
+use Rattle.child_serve.specs.Dealt.{IsDealt}
+use Rattle.child_serve.specs.Joined.{IsJoined}
+use Rattle.child_desk.specs.Told.{answers_in, AreTold}
+
+module _ (told : ℕ → ℕ → Request → Answer → Type 0) where
+  -- of one script: its keeper, its report, and its own part of the record
+  pub record IsServed (keeper : Keeping) (script : Script) (report : Report) (es : List Event) : Type 0 where
+    pub ended : ((report ≡ meaning script.source script.settings es) × (report.ending ≢ Waiting)) ⊎ (report.ending ≡ Memory)
+    pub answers : AreTold told keeper.name keeper.made (answers_in es) (meaning script.source script.settings es).requests
+
+  -- of several scripts
+  pub record AreServed (keepers : List Keeping) (scripts : List Script) (s : Served) : Type 0 where
+    pub count : length s.reports ≡ length scripts
+    pub each : (i : ℕ) (keeper : Keeping) (script : Script) (report : Report) → slice_get keepers i ≡ Some keeper → slice_get scripts i ≡ Some script → slice_get s.reports i ≡ Some report →
+        IsServed keeper script report (own (i + 1) s.logged)
+
+  -- one worker has served those that are its own
+  pub record IsPart (n w : ℕ) (keepers : List Keeping) (scripts : List Script) (s : Served) : Type 0 where
+    pub mine : List Keeping
+    pub kept : IsDealt n w keepers mine
+    pub few : List Script
+    pub dealt : IsDealt n w scripts few
+    pub served : AreServed mine few s
+
+  abbrev pub AreParts : List Keeping → List Script → List Served → Type 0
+  AreParts keepers scripts parts = (w : ℕ) (s : Served) → slice_get parts w ≡ Some s → IsPart (length parts) w keepers scripts s
+
+abbrev pub records_of : List Served → List (List HallEvent)
+records_of parts = map (λ s. s.logged) parts
+
+-- what each worker has, by kind
+pub record IsApart (parts : List Served) (a : Apart) : Type 0 where
+  pub records : a.records.items ≡ records_of parts
+  pub reports : a.reports.items ≡ map (λ s. s.reports) parts
+  pub unsettled : a.unsettled.items ≡ flat_map (λ s. s.unsettled.items) parts
+
+module _ (told : ℕ → ℕ → Request → Answer → Type 0) where
+  -- All scripts were served by so many workers: each as its keeper told, and the record is that of all workers, with every entry within the
+  -- limits of a log.
+  pub record IsWhole (workers : ℕ) (keepers : List Keeping) (scripts : List Script) (s : Served) : Type 0 where
+    pub served : AreServed told keepers scripts s
+    pub records : List (List HallEvent)
+    pub each : length records ≡ workers
+    pub joined : IsJoined records s.logged
+    pub fits : AllFit s.logged

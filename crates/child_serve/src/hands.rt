@@ -1,0 +1,64 @@
+//! The rings and the hand of a script.
+
+use crate::worker::WorkFault;
+use child_desk::Ends;
+use child_hands::{Fresh, HandEnd, Obeys, Work, start_hand};
+use child_keeper::{Gate, Item, Keeper};
+use feed_rings::{Bell, FeedOut, feed_pair};
+use std::alloc::{AllocError, Global};
+use std::sync::{Arc, Wait};
+use std::thread::{PromisedHandle, Threads};
+
+/// How many children a script has at most.
+const CHILDREN: usize = 16;
+
+/// How many items a ring has room for.
+const ROOM: usize = 16;
+
+/// A hand that runs.
+pub type Hand<K> = PromisedHandle<HandEnd<K>, Obeys<K>>;
+
+/// The ends of the rings of a script's children: those of the readers, and those of the desk.
+#[derive(Drop)]
+struct Children<K: Keeper> {
+    works: Vec<Work<K>>,
+    outs: Vec<FeedOut<Item<K>>>,
+}
+
+/// The rings of the children of a script, whose desk rests on this bell.
+fn child_rings<K: Keeper>(alloc: Global, desk: &Bell) -> Result<Children<K>, AllocError> {
+    let mut works = Vec::with_capacity(alloc, CHILDREN)?;
+    let mut outs = Vec::with_capacity(alloc, CHILDREN)?;
+    for _ in 0..CHILDREN {
+        let bell = Bell::new(alloc)?;
+        let (feed, out) = feed_pair(alloc, ROOM, &bell, desk)?;
+        works.push(Work::Free(Fresh::new(feed, bell)))?;
+        outs.push(out)?;
+    }
+    Ok(Children { works, outs })
+}
+
+/// Makes the rings of a script and starts its hand.
+pub fn start<
+    K: Keeper + Send + Drop + 'static,
+    G: Gate + Sync + Send + Drop + 'static,
+    W: Threads + Wait + Copy + Send + Drop + 'static,
+>(
+    rt: W,
+    alloc: Global,
+    script: u8,
+    keeper: K,
+    gate: Arc<G>,
+    desk: &Bell,
+) -> Result<(Ends<K>, Hand<K>), WorkFault> {
+    let bell = Bell::new(alloc)?;
+    let (asks, asked) = feed_pair(alloc, ROOM, desk, &bell)?;
+    let (answering, answers) = feed_pair(alloc, ROOM, &bell, desk)?;
+    let Children { works, outs } = child_rings(alloc, desk)?;
+    match start_hand(
+        rt, alloc, script, keeper, gate, asked, answering, bell, works,
+    ) {
+        Some(hand) => Ok((Ends::new(asks, answers, outs), hand)),
+        None => Err(WorkFault::NoThread),
+    }
+}

@@ -1,0 +1,14 @@
+//! Scripts over real children, by several workers.
+#![tactic(auto)]
+
+mod dealing;
+mod hands;
+mod joining;
+mod rounds;
+mod served;
+mod serving;
+mod worker;
+
+pub use joining::joined;
+pub use served::{Served, Unsettled, assembled};
+pub use serving::{ServeFault, serve};

@@ -1,0 +1,55 @@
+//! Turning a desk until nothing more can come.
+
+ghost use Rattle.std.specs.Prelude.{◌≡◌, ◌≤◌, length, OnOk};
+ghost use Rattle.child_desk.specs.Line.{KeepsAll, AllOver};
+
+use child_desk::Desk;
+use child_keeper::{Clock, Keeper};
+use crossbeam_utils::Backoff;
+use feed_rings::Bell;
+use std::alloc::AllocError;
+use std::sync::Wait;
+
+/// How many milliseconds a desk rests at most.
+const REST: u64 = 10;
+
+/// Turns a desk until nothing more can come for any script.
+///
+/// A turn gets the reading that was taken before the last one: what came in time is heard before the tick that would make it late, however
+/// long a script computed meanwhile. There is a turn only where something came or a script may time out.
+pub fn turn_all<K: Keeper, C: Clock, W: Wait + std::time::Clock>(
+    rt: &W,
+    bell: &Bell,
+    desk: &mut Desk<K>,
+    clock: &mut C,
+) -> Result<(), AllocError>
+    requires { (length desk.old.lines.items ≤ length desk.old.book.hall) × (length desk.old.book.hall ≤ 64) }
+    ensures kept { KeepsAll K.told desk.old.lines.items desk.old.book desk.new.lines.items desk.new.book }
+    ensures over { OnOk result (AllOver desk.new.lines.items) }
+{
+    let mut held = clock.now();
+    desk.turn(held)?;
+    for _ in rt.forever() {
+        if desk.is_done() {
+            return Ok(());
+        }
+        let reading = clock.now();
+        if desk.has_come() || desk.is_due(held) {
+            desk.turn(held)?;
+        } else if !desk.is_due(reading) {
+            rest(rt, bell, desk);
+        }
+        held = reading;
+    }
+    unreachable!()
+}
+
+/// Rests until something comes, but for some milliseconds alone.
+fn rest<K: Keeper, W: Wait + std::time::Clock>(rt: &W, bell: &Bell, desk: &mut Desk<K>)
+    ensures { (desk.new.lines.items ≡ desk.old.lines.items) × (desk.new.book ≡ desk.old.book) }
+{
+    Backoff::new().spin();
+    if !desk.has_come() {
+        bell.rest_at_most(rt, REST);
+    }
+}

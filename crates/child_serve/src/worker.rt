@@ -1,0 +1,266 @@
+//! A worker: scripts at one desk, to their end.
+
+ghost use Rattle.std.specs.Prelude.{◌≡◌, ◌<◌, ◌≤◌, [], length, IfOk, None};
+ghost use Rattle.dialogue_sched.specs.Hall.{AllBegin, opening_fault};
+ghost use Rattle.child_desk.specs.Line.{Leaves};
+ghost use Rattle.child_serve.specs.Teams.{IsTeam, IsWork, AreFirst, AllShown};
+
+use crate::hands::{Hand, start};
+use crate::rounds::turn_all;
+use crate::served::{Served, Unsettled};
+use child_desk::{Book, Desk, Ends, Line};
+use child_hands::{HandEnd, Work};
+use child_keeper::{Clock, Gate, Keeper};
+use dialogue_sched::{Hall, HallFault, Reports, Script};
+use feed_rings::Bell;
+use std::alloc::{AllocError, AllocFailed, Global};
+use std::sync::{Arc, Wait};
+use std::thread::Threads;
+
+/// What a worker is handed: its scripts, each with its keeper, and its clock.
+#[derive(Drop)]
+pub struct Team<K: Drop, C: Drop> {
+    pub keepers: Vec<K>,
+    pub scripts: Vec<Script>,
+    pub clock: C,
+}
+
+/// Which worker it is, of how many. Its scripts are those of the numbers worker + 1, worker + 1 + workers, ..
+#[derive(Clone, Copy, Debug)]
+pub struct Place {
+    pub workers: u8,
+    pub worker: u8,
+}
+
+/// Why a worker couldn't serve its scripts.
+#[derive(Clone, Copy, Debug, PartialEq, Eq)]
+pub enum WorkFault {
+    /// Memory was refused.
+    Memory,
+    /// A thread couldn't be started.
+    NoThread,
+}
+
+impl From<AllocError> for WorkFault {
+    ghost use Rattle.std.specs.Prelude.{◌≡◌};
+    ghost use Rattle.child_serve.specs.declared.worker.WorkFault.TheVariants.{Memory};
+
+    ghost from_gives = { λ _ e. e ≡ Memory };
+
+    fn from(_e: AllocError) -> WorkFault {
+        WorkFault::Memory
+    }
+}
+
+impl<T: Drop> From<AllocFailed<T>> for WorkFault {
+    ghost use Rattle.std.specs.Prelude.{◌≡◌};
+    ghost use Rattle.child_serve.specs.declared.worker.WorkFault.TheVariants.{Memory};
+
+    ghost from_gives = { λ _ e. e ≡ Memory };
+
+    fn from(_e: AllocFailed<T>) -> WorkFault {
+        WorkFault::Memory
+    }
+}
+
+/// The hands of a worker's scripts, and the ends of their rings.
+#[derive(Drop)]
+struct Opened<K: Keeper> {
+    ends: Vec<Ends<K>>,
+    hands: Vec<Hand<K>>,
+}
+
+/// A line for each keeper.
+fn lines_of<K: Keeper>(alloc: Global, keepers: &[K]) -> Result<Vec<Line>, AllocError>
+    ensures { IfOk result (λ ls. AreFirst K.named K.made keepers.now ls.items) }
+{
+    let mut lines = Vec::new(alloc);
+    for keeper in keepers {
+        let line = Line {
+            name: keeper.name(),
+            last: keeper.calls(),
+            awaited: None,
+            over: false,
+        };
+        lines.push(line)?;
+    }
+    Ok(lines)
+}
+
+/// Starts a hand for each keeper. Where one can't be started, those before it are given back.
+fn open_all<
+    K: Keeper + Send + Drop + 'static,
+    G: Gate + Sync + Send + Drop + 'static,
+    W: Threads + Wait + Copy + Send + Drop + 'static,
+>(
+    rt: W,
+    alloc: Global,
+    place: Place,
+    keepers: Vec<K>,
+    gate: &Arc<G>,
+    bell: &Bell,
+    opened: &mut Opened<K>,
+) -> Result<(), WorkFault>
+    requires { opened.old.hands.items ≡ [] }
+    ensures { length opened.new.hands.items ≤ length keepers.items }
+{
+    let mut script = place.worker;
+    for keeper in keepers {
+        opened.ends.reserve(1)?;
+        opened.hands.reserve(1)?;
+        let gate = Arc::try_clone(gate)?;
+        let number = script.saturating_add(1);
+        let (ends, hand) = start(rt, alloc, number, keeper, gate, bell)?;
+        opened.ends.push_reserved(ends);
+        opened.hands.push_reserved(hand);
+        script = script.saturating_add(place.workers);
+    }
+    Ok(())
+}
+
+/// Opens a hall. What is wrong with scripts was told before.
+fn hall_of(alloc: Global, scripts: Vec<Script>) -> Result<Hall, WorkFault>
+    requires { opening_fault scripts.items ≡ None }
+    ensures { IfOk result (λ ks. AllBegin scripts.items ks) }
+{
+    match Hall::new(alloc, scripts) {
+        Ok(hall) => Ok(hall),
+        Err(HallFault::Memory) => Err(WorkFault::Memory),
+        Err(HallFault::TooManyScripts) => unreachable!(),
+        Err(HallFault::SourceTooLong(_)) => unreachable!(),
+    }
+}
+
+/// Ends a worker that can't go on: each hand is stopped and waited for.
+fn let_go<K: Keeper, W: Threads>(rt: &W, desk: Desk<K>, hands: Vec<Hand<K>>) {
+    let mut desk = desk;
+    desk.stop_all();
+    drop(desk);
+    for hand in hands {
+        drop(hand.join(rt));
+    }
+}
+
+/// What is known of the children when all hands have ended.
+#[derive(Drop)]
+struct Settled {
+    unsettled: Vec<Unsettled>,
+    forced: u64,
+}
+
+/// Takes what is left of the children of the script at a place, whose hand has ended.
+fn settle_script<K: Keeper>(
+    desk: &mut Desk<K>,
+    at: usize,
+    script: u8,
+    end: HandEnd<K>,
+    settled: &mut Settled,
+) -> Result<(), AllocError>
+    requires { at < 64 }
+    ensures lines { desk.new.lines.items ≡ desk.old.lines.items }
+    ensures book { Leaves K.told desk.old.book desk.new.book }
+{
+    settled.forced = settled.forced.saturating_add(end.forced);
+    let mut child: u8 = 0;
+    for work in end.works {
+        child = child.saturating_add(1);
+        match work {
+            Work::Free(fresh) => drop(fresh),
+            Work::Ended(Some(finished)) => {
+                drop(finished);
+                desk.settle(at, child)?;
+            }
+            Work::Ended(None) => {
+                settled.unsettled.push(Unsettled { script, child })?;
+            }
+        }
+    }
+    Ok(())
+}
+
+/// Waits for each hand, and takes what is left of its children.
+fn settle_all<K: Keeper, W: Threads>(
+    rt: &W,
+    alloc: Global,
+    place: Place,
+    desk: &mut Desk<K>,
+    hands: Vec<Hand<K>>,
+) -> Result<Settled, AllocError>
+    requires { length hands.items ≤ 64 }
+    ensures lines { desk.new.lines.items ≡ desk.old.lines.items }
+    ensures book { Leaves K.told desk.old.book desk.new.book }
+{
+    let mut settled = Settled {
+        unsettled: Vec::new(alloc),
+        forced: 0,
+    };
+    let mut at = 0;
+    let mut script = place.worker;
+    for hand in hands {
+        let end = hand.join(rt);
+        let number = script.saturating_add(1);
+        settle_script(desk, at, number, end, &mut settled)?;
+        at += 1;
+        script = script.saturating_add(place.workers);
+    }
+    Ok(settled)
+}
+
+/// What came of each script.
+fn reports_of<K: Keeper>(alloc: Global, desk: &Desk<K>) -> Result<Reports, WorkFault>
+    requires { length desk.now.lines.items ≤ 64 }
+    ensures { IfOk result (λ rs. AllShown K.told desk.now.lines.items desk.now.book rs) }
+{
+    let mut list = Vec::new(alloc);
+    for at in 0..desk.lines.len() {
+        let Ok(report) = desk.report(at) else {
+            return Err(WorkFault::Memory);
+        };
+        list.push(report)?;
+    }
+    Ok(Reports { list })
+}
+
+/// Serves the scripts of a worker, to their end.
+pub fn work<
+    K: Keeper + Send + Drop + 'static,
+    C: Clock + Drop,
+    G: Gate + Sync + Send + Drop + 'static,
+    W: Threads + Wait + std::time::Clock + Copy + Send + Drop + 'static,
+>(rt: W, alloc: Global, place: Place, team: Team<K, C>, gate: Arc<G>) -> Result<Served, WorkFault>
+    requires { IsTeam place.workers place.worker team }
+    ensures { IfOk result (IsWork K.told K.named K.made place.workers place.worker team) }
+{
+    let Team {
+        keepers,
+        scripts,
+        clock,
+    } = team;
+    let mut clock = clock;
+    let bell = Bell::new(alloc)?;
+    let lines = lines_of(alloc, keepers.as_slice())?;
+    let book = Book::new(alloc, hall_of(alloc, scripts)?);
+    let mut opened = Opened {
+        ends: Vec::new(alloc),
+        hands: Vec::new(alloc),
+    };
+    let outcome = open_all(rt, alloc, place, keepers, &gate, &bell, &mut opened);
+    let Opened { ends, hands } = opened;
+    let mut desk = Desk::new(alloc, book, lines, ends);
+    if let Err(fault) = outcome {
+        let_go(&rt, desk, hands);
+        return Err(fault);
+    }
+    let Ok(()) = turn_all(&rt, &bell, &mut desk, &mut clock) else {
+        let_go(&rt, desk, hands);
+        return Err(WorkFault::Memory);
+    };
+    let settled = settle_all(&rt, alloc, place, &mut desk, hands)?;
+    let reports = reports_of(alloc, &desk)?;
+    Ok(Served {
+        reports,
+        logged: desk.into_record(),
+        unsettled: settled.unsettled,
+        forced: settled.forced,
+    })
+}

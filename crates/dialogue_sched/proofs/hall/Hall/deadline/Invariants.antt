@@ -1,0 +1,6 @@
+use Rattle.std.proofs.Common.{take}
+use Rattle.dialogue_sched.proofs.Quieting.{SoonestTo}
+use Rattle.dialogue_sched.proofs.hall.Hall.deadline.Given as goal
+
+abbrev pub invariant-loop-i : goal.invariant-loop-i
+invariant-loop-i l = SoonestTo l.i l.self l.last

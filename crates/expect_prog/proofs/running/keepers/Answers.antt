@@ -1,0 +1,6 @@
+use Rattle.std.proofs.Common.{ℕ, ◌+◌, length, ap, ◌∙◌}
+use Rattle.expect_prog.proofs.Counting.{one_longer}
+use Rattle.expect_prog.proofs.running.keepers.Goals as goal
+
+pub loop-at-preserved : goal.loop-at-preserved
+loop-at-preserved g c = ap length c.in-Ok.ensures.items ∙ one_longer c.loop-at.keepers.items _ ∙ ap (λ (n : ℕ). n + 1) c.loop-at.invariant

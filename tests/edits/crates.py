@@ -1,0 +1,57 @@
+"""The crates of a repository as the kit's `rt` sees them, and whether what lies below one is built."""
+
+import importlib.machinery
+import importlib.util
+import os
+import pathlib
+import shutil
+
+
+def kit_library():
+    """The module that `rt` stands on: it knows crates.txt, and the words of a check."""
+    found = shutil.which("rt")
+    if not found:
+        raise SystemExit("no rt on the PATH: README.md says which kit is needed\n0 passed, 1 failed")
+    file = os.path.join(os.path.dirname(os.path.realpath(found)), "rtlib.py")
+    loader = importlib.machinery.SourceFileLoader("rtlib", file)
+    library = importlib.util.module_from_spec(importlib.util.spec_from_loader("rtlib", loader))
+    loader.exec_module(library)
+    return library
+
+
+RT = kit_library()
+
+
+def crates_of(top):
+    """The crates that the repository at a folder lists, lowest first."""
+    return sorted(RT.crates_below(str(top)), key=lambda it: len(it.below()))
+
+
+def check_words(crate):
+    """The command that checks a crate from nothing at one job, in a folder with its src, specs and proofs."""
+    return [RT.RATTLE, "check", *crate.words(["--jobs", "1"], keeps=False)]
+
+
+def youngest_text(crate):
+    """When the last of a crate's texts was written, in seconds."""
+    files = RT.files_of(crate.folder)
+    return max(os.stat(file).st_mtime for file in files)
+
+
+def why_not_over(crate):
+    """Why a crate can't be checked over what is built below it, or None.
+
+    What `rt lib` and `rt check` built has a stamp of the texts that it was made from. What `rt ci` left has none:
+    it must be younger than the texts.
+    """
+    youngest = 0.0
+    for below in crate.below():
+        youngest = max(youngest, youngest_text(below))
+        made = pathlib.Path(below.rlib) / "format"
+        if not made.is_file():
+            return f"{below.name} isn't built: run `rt lib` in crates/{below.name}, or `rt ci`"
+        is_stamped = (made.parent.parent / "stamp").is_file()
+        if not (below.is_built() if is_stamped else youngest < made.stat().st_mtime):
+            again = f"run `rt lib` in crates/{below.name}, or remove crates/*/out and run `rt ci`"
+            return f"what is built of {below.name} is stale: {again}"
+    return None

@@ -1,0 +1,67 @@
+"""Searches that are written out for goals of a function, in place of its answers or where it has none.
+
+They have what the prover has at such a goal: its rules, and the lemmas and definitions that the function's
+attribute `tactic` names.
+"""
+
+import re
+
+from copies import folder_of
+
+ATTRIBUTE = re.compile(r"#\[tactic\((.*?)\)\]\n", re.S)
+
+
+def paths_in(word, attribute):
+    """The paths behind `using` or `unfolding` in an attribute."""
+    found = re.search(rf"\b{word}\(([^)]*)\)", attribute)
+    return [it.strip() for it in found[1].split(",") if it.strip()] if found else []
+
+
+def attribute_of(function, text):
+    """The attribute `tactic` of a function, or nothing."""
+    above = text[: function.start].rpartition("\n\n")[2]
+    found = ATTRIBUTE.search(above)
+    return found[1] if found else ""
+
+
+def import_of(crate, path):
+    """The line that brings what a path of an attribute names."""
+    parts = [crate.name if it == "crate" else it for it in path.split("::")]
+    return f"use Rattle.{'.'.join(parts[:-1])}.{{{parts[-1]}}}"
+
+
+def last(path):
+    """The last name of a path."""
+    return path.rpartition("::")[2]
+
+
+def searched(paragraph, goal, unfolding, search):
+    """An answer, or nothing, as a search for its goal; with what it unfolds itself, where it does."""
+    head = re.search(rf"(?ms)\A(.*?^pub {re.escape(goal)} : .*?)^({re.escape(goal)}\b[^=\n]*=)", paragraph)
+    if head is None:
+        return paragraph
+    own = "" if "\nunfolding " in head[1] or not unfolding else f"unfolding {' '.join(unfolding)}\n"
+    return f"{head[1]}{own}{head[2]} {search}"
+
+
+def write_searches(crate, function, text, goals, room):
+    """Has a search answer these goals of a function, whose source has this text, in a copy of its crate."""
+    folder = folder_of(function, room)
+    file, attribute = folder / "Answers.antt", attribute_of(function, text)
+    unfolding, using = paths_in("unfolding", attribute), paths_in("using", attribute)
+    search = f"search ({', '.join(['rules', *map(last, using)])})"
+    path = function.unit().replace("::", ".")
+    before = f"use Rattle.{crate.name}.proofs.{path}.Goals as goal\n"
+    if file.is_file():
+        before = file.read_text(encoding="utf-8")
+    paragraphs = before.rstrip("\n").split("\n\n")
+    for goal in goals:
+        answer = f"pub {goal} : goal.{goal}\n{goal} {'t c' if function.cycle else 'c'} = ?"
+        if not any(re.search(rf"(?m)^pub {re.escape(goal)} :", it) for it in paragraphs):
+            paragraphs.append(answer)
+        paragraphs = [searched(it, goal, [last(path) for path in unfolding], search) for it in paragraphs]
+    uses = ["use Rattle.std.proofs.Common.{rules}", *(import_of(crate, it) for it in (*unfolding, *using))]
+    brought = re.findall(r"[^\s{},]+", " ".join(re.findall(r"(?m)^use .*\{(.*)\}", paragraphs[0])))
+    lines = [it for it in uses if re.search(r"\{(.*)\}", it)[1] not in brought]
+    folder.mkdir(parents=True, exist_ok=True)
+    file.write_text("\n".join([*lines, "\n\n".join(paragraphs)]) + "\n", encoding="utf-8")

@@ -1,0 +1,123 @@
+"""Tries the edits of a crate: in rounds, then what a round doesn't decide alone."""
+
+import pathlib
+from typing import NamedTuple
+
+from checks import FRONT
+from edits import BadEdit, change_of, read_edit
+from rounds import Trial, next_round, run_alone, run_round, source_of
+from verdicts import Verdict, open_goals, refusals_of, verdict_of
+
+WHY = {
+    "files": "only a written proof no longer fits, and nothing shows that the goal doesn't hold",
+    "limit": "a tactic gave up, so the goal may hold",
+    "end": "what is refused isn't what the edit is about: the end of a loop or a recursion, or all but that",
+}
+
+
+class Tried(NamedTuple):
+    """An edit that was tried: whether it was refused as it must be, and what to say of it."""
+
+    name: str
+    is_refused: bool
+    said: str
+
+
+class Trying:
+    """The edits of one crate while they are tried."""
+
+    def __init__(self, crate):
+        self.source = source_of(crate)
+        self.tried, self.controls, self.seconds, self.rounds = [], [], 0, 0
+
+    def tell(self, edit, is_refused, said):
+        """Notes what became of an edit."""
+        self.tried.append(Tried(edit, is_refused, said))
+
+    def trials(self):
+        """The edits that can be applied; the others are told."""
+        found = []
+        for path in sorted(pathlib.Path(self.source.crate.folder).glob("edits/*.edit")):
+            try:
+                edit = read_edit(path)
+                lost = [it for it in edit.judges if it not in self.source.functions]
+                if lost:
+                    raise BadEdit(f"there is no function {lost[0]}")
+                change = change_of(edit, self.source.texts)
+                if not change.functions and not change.is_outside:
+                    raise BadEdit("it changes nothing")
+                found.append(Trial(edit, change, {}))
+            except BadEdit as why:
+                self.tell(path.stem, False, f"BAD EDIT: {why}")
+        return found
+
+    def in_rounds(self, trials):
+        """Tries edits in rounds, and returns what they don't decide, with its verdict."""
+        undecided = [(it, Verdict("proved", "")) for it in trials if not it.concerned(self.source)]
+        trials = [it for it in trials if it.concerned(self.source)]
+        while trials:
+            turn, trials = next_round(self.source, trials)
+            found = run_round(self.source, turn)
+            self.seconds, self.rounds = self.seconds + found.seconds, self.rounds + 1
+            if not found.lines:
+                trials = self.readable(turn.trials, found) + trials
+                continue
+            if found.is_refused(f"{self.source.crate.name}::{turn.control.name}"):
+                self.controls.append(turn.control.name)
+            again = []
+            for trial in turn.trials:
+                verdict, goals = self.verdict(trial, found)
+                if verdict.word == "refused":
+                    self.tell(trial.edit.name, True, f"refused at {verdict.goal}")
+                elif verdict.word == "open":
+                    again.append(trial._replace(searched=goals))
+                else:
+                    undecided.append((trial, verdict))
+            trials = again + trials
+        return undecided
+
+    def verdict(self, trial, found):
+        """The verdict of a check on an edit, and the goals by function for which a search is to be written out."""
+        by_function = {it.name: refusals_of(self.source.crate, it, found) for it in trial.concerned(self.source)}
+        searched = {goal: how for goals in trial.searched.values() for goal, how in goals.items()}
+        verdict = verdict_of(trial.edit, [it for refusals in by_function.values() for it in refusals], searched)
+        return verdict, {name: open_goals(refusals) for name, refusals in by_function.items()}
+
+    def readable(self, trials, found):
+        """The trials of a round that no function was checked in, without those that the front end refuses."""
+        files, kept = set(FRONT.findall(found.said)), []
+        for trial in trials:
+            is_near = not files or files & {file for file, _, _ in trial.edit.pairs}
+            alone = run_alone(self.source, trial, ["--only", ""]) if is_near else None
+            self.seconds += alone.seconds if alone else 0
+            why = FRONT.search(alone.said) if alone else None
+            if why:
+                line = alone.said[why.start() :].partition("\n")[0]
+                self.tell(trial.edit.name, False, f"BAD EDIT: it isn't read: {line}")
+            else:
+                kept.append(trial)
+        if len(kept) == len(trials):
+            where = self.source.crate.name
+            raise SystemExit(f"{where}: a round isn't read, and each of its edits is: {found.said[-900:]}")
+        return kept
+
+    def alone(self, trial, verdict):
+        """Tries an edit by itself that no round decided."""
+        if verdict.word in ("files", "end", "limit"):
+            return self.tell(trial.edit.name, False, f"{WHY[verdict.word]}: {verdict.goal}")
+        found = run_alone(self.source, trial, [])
+        self.seconds += found.seconds
+        verdict, _ = self.verdict(trial, found)
+        if verdict.word == "refused":
+            return self.tell(trial.edit.name, True, f"refused alone at {verdict.goal}")
+        if verdict.word != "proved":
+            return self.tell(trial.edit.name, False, f"{WHY.get(verdict.word, verdict.word)}: {verdict.goal}")
+        others = ", ".join(sorted({*found.goals, *found.files}))
+        bearing = f"only {others} refuses it, which it doesn't name as its judge" if others else "it is still proved"
+        return self.tell(trial.edit.name, False, f"NOT REFUSED: {bearing}")
+
+    def all(self):
+        """Tries all edits of the crate."""
+        for trial, verdict in self.in_rounds(self.trials()):
+            self.alone(trial, verdict)
+        return self
