@@ -39,5 +39,3 @@ pub use told::said;
 pub use values::{as_number, list_of, texts_of};
 pub use verbs::{Plain, Verb, verb_of};
 
-#[cfg(test)]
-mod tests;
