@@ -125,13 +125,13 @@ def restored(source, folders, room):
             shutil.copytree(f"{source.crate.folder}/{folder}", room / folder)
 
 
-def run_round(source, turn):
-    """The check of a round, and the processor seconds of all that it took."""
+def run_round(source, turn, kept):
+    """The check of a round over the work that a folder keeps, and the processor seconds of all that it took."""
     with tempfile.TemporaryDirectory(prefix="edits-") as folder:
         room = pathlib.Path(folder)
         proved = with_holes(source, turn, room)
         only = [word for name in proved for word in ("--only", f"{source.crate.name}::{name}")]
-        words, seconds = [*check_words(source.crate), "--allow-holes", *only], 0
+        words, seconds = [*check_words(source.crate), "--incremental", kept, "--allow-holes", *only], 0
         while True:
             found = checked(words, room)
             seconds += found.seconds
@@ -141,10 +141,10 @@ def run_round(source, turn):
             restored(source, folders, room)
 
 
-def run_alone(source, trial, flags):
-    """A check with one edit, all proofs and no hole."""
+def run_alone(source, trial, kept, flags):
+    """A check with one edit, all proofs and no hole, over the work that a folder keeps."""
     with tempfile.TemporaryDirectory(prefix="edits-") as folder:
         room = pathlib.Path(folder)
         copied(source.crate, room)
         write_texts(edited(trial.edit, source.texts), room)
-        return checked([*check_words(source.crate), *flags], room)
+        return checked([*check_words(source.crate), "--incremental", kept, *flags], room)

@@ -1,6 +1,7 @@
 """Tries the edits of a crate: in rounds, then what a round doesn't decide alone."""
 
 import pathlib
+import tempfile
 from typing import NamedTuple
 
 from checks import FRONT
@@ -24,11 +25,12 @@ class Tried(NamedTuple):
 
 
 class Trying:
-    """The edits of one crate while they are tried."""
+    """The edits of one crate while they are tried, each check over what those before it proved."""
 
     def __init__(self, crate):
         self.source = source_of(crate)
         self.tried, self.controls, self.seconds, self.rounds = [], [], 0, 0
+        self.kept = None
 
     def tell(self, edit, is_refused, said):
         """Notes what became of an edit."""
@@ -57,7 +59,7 @@ class Trying:
         trials = [it for it in trials if it.concerned(self.source)]
         while trials:
             turn, trials = next_round(self.source, trials)
-            found = run_round(self.source, turn)
+            found = run_round(self.source, turn, self.kept)
             self.seconds, self.rounds = self.seconds + found.seconds, self.rounds + 1
             if not found.lines:
                 trials = self.readable(turn.trials, found) + trials
@@ -88,7 +90,7 @@ class Trying:
         files, kept = set(FRONT.findall(found.said)), []
         for trial in trials:
             is_near = not files or files & {file for file, _, _ in trial.edit.pairs}
-            alone = run_alone(self.source, trial, ["--only", ""]) if is_near else None
+            alone = run_alone(self.source, trial, self.kept, ["--only", ""]) if is_near else None
             self.seconds += alone.seconds if alone else 0
             why = FRONT.search(alone.said) if alone else None
             if why:
@@ -105,7 +107,7 @@ class Trying:
         """Tries an edit by itself that no round decided."""
         if verdict.word in ("files", "end", "limit"):
             return self.tell(trial.edit.name, False, f"{WHY[verdict.word]}: {verdict.goal}")
-        found = run_alone(self.source, trial, [])
+        found = run_alone(self.source, trial, self.kept, [])
         self.seconds += found.seconds
         verdict, _ = self.verdict(trial, found)
         if verdict.word == "refused":
@@ -118,6 +120,7 @@ class Trying:
 
     def all(self):
         """Tries all edits of the crate."""
-        for trial, verdict in self.in_rounds(self.trials()):
-            self.alone(trial, verdict)
+        with tempfile.TemporaryDirectory(prefix="edits-kept-") as self.kept:
+            for trial, verdict in self.in_rounds(self.trials()):
+                self.alone(trial, verdict)
         return self
