@@ -34,6 +34,3 @@ pub use laws::{expression_rules, numbers_round_trip, operands_are_bounded};
 pub use number::{read_number, write_number};
 pub use parsing::{Expr, parse};
 pub use progress::Operands;
-
-#[cfg(test)]
-mod tests;
