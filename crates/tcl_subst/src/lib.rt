@@ -30,6 +30,3 @@ pub use limits::VALUE_LIMIT;
 pub use names::Names;
 pub use recipe::Recipe;
 pub use vars::Vars;
-
-#[cfg(test)]
-mod tests;

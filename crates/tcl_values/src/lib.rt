@@ -11,6 +11,3 @@ mod value;
 pub use elements::Elements;
 pub use faults::GrowFault;
 pub use value::Value;
-
-#[cfg(test)]
-mod tests;
