@@ -11,6 +11,3 @@ mod words;
 
 pub use script::{Reading, Script};
 pub use words::{KeptWord, Words};
-
-#[cfg(test)]
-mod tests;
