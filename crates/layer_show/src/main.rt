@@ -28,7 +28,7 @@ use crate::runs::shown_runs;
 use crate::scans::shown_scan;
 use crate::terminal::shown_terminal;
 use crate::variables::shown_variables;
-use crate::words::{shown_commands, shown_list};
+use crate::words::{shown_commands, shown_list, shown_operand};
 use std::alloc::Global;
 use std::env;
 use std::env::Env;
@@ -46,6 +46,8 @@ enum Layer {
     Commands,
     /// A list.
     List,
+    /// An expression's text, by the operand at its front.
+    Operand,
     /// Expressions, each with values of operands.
     Expression,
     /// The modes of a terminal, and texts that are sent to it.
@@ -70,6 +72,7 @@ fn layer_of(name: &str) -> Option<Layer> {
     match name {
         "commands" => Some(Layer::Commands),
         "list" => Some(Layer::List),
+        "operand" => Some(Layer::Operand),
         "expression" => Some(Layer::Expression),
         "terminal" => Some(Layer::Terminal),
         "glob" => Some(Layer::Glob),
@@ -97,6 +100,7 @@ fn shown<R: Read>(alloc: Global, layer: Layer, input: &mut R) -> Result<Text, Co
     match layer {
         Layer::Commands => Ok(shown_commands(alloc, &src)?),
         Layer::List => Ok(shown_list(alloc, &src)?),
+        Layer::Operand => Ok(shown_operand(alloc, &src)?),
         Layer::Expression => shown_expressions(alloc, &calls(alloc, &src)?),
         Layer::Terminal => shown_terminal(alloc, &calls(alloc, &src)?),
         Layer::Glob => shown_globs(alloc, &calls(alloc, &src)?),
@@ -121,7 +125,7 @@ fn main(rt: HostRuntime) -> ExitCode {
     let complaint = match run(&rt) {
         Ok(()) => return ExitCode::SUCCESS,
         Err(Complaint::Usage) =>
-            "usage: layer_show commands|list|expression|terminal|glob|pattern|buffer|queue|scan|variables|scripts",
+            "usage: layer_show commands|list|operand|expression|terminal|glob|pattern|buffer|queue|scan|variables|scripts",
         Err(Complaint::Device) => "cannot read or write",
         Err(Complaint::Call) => "no call of this layer",
         Err(Complaint::Memory) => "out of memory",

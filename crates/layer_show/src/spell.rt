@@ -39,7 +39,7 @@ pub fn push_labelled(
 }
 
 /// Puts parts behind a text, each behind a space. An array's element has its index in parentheses behind it.
-fn push_parts(alloc: Global, text: &mut Text, parts: &Vec<Part>) -> Result<(), AllocError> {
+pub fn push_parts(alloc: Global, text: &mut Text, parts: &Vec<Part>) -> Result<(), AllocError> {
     'parts: for part in parts {
         match part {
             Part::Lit(bytes) => push_labelled(alloc, text, b" lit:", bytes.as_slice())?,

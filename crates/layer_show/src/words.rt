@@ -4,9 +4,37 @@ ghost use Rattle.std.specs.Prelude.{◌≡◌, ◌++◌, ℕ, List, IfOk, OnOk};
 ghost use Rattle.tcl_words.specs.Lists.{ReadsAs};
 ghost use Rattle.layer_show.specs.Shown.{hex_lines, list_shown, bad_list};
 
-use crate::spell::{fault_name, push_command, push_hex_line};
+use crate::spell::{fault_name, push_command, push_hex_line, push_labelled, push_parts};
 use std::alloc::{AllocError, Global};
-use tcl_words::{ListFault, Text, next_command, one_list, read_list, write_list};
+use tcl_words::{
+    ListFault, Text, WordFault, next_command, one_list, operand, read_list, write_list,
+};
+
+/// Puts a fault's line behind a text, where it isn't want of memory.
+fn push_fault(text: &mut Text, fault: WordFault) -> Result<(), AllocError> {
+    let Some(name) = fault_name(fault) else {
+        return Err(AllocError);
+    };
+    text.extend(b"fault ")?;
+    text.extend(name)?;
+    text.push(b'\n')
+}
+
+/// The operand at the front of an expression's text and what is left behind it, `none` where there is no such operand, or the fault.
+pub fn shown_operand(alloc: Global, src: &[u8]) -> Result<Text, AllocError> {
+    let mut text = Text::new(alloc);
+    match operand(alloc, src) {
+        Ok(Some((word, len))) => {
+            text.extend(b"operand")?;
+            push_parts(alloc, &mut text, &word.parts)?;
+            push_labelled(alloc, &mut text, b" left ", src.split_at(len).1)?;
+            text.push(b'\n')?;
+        }
+        Ok(None) => text.extend(b"none\n")?,
+        Err(fault) => push_fault(&mut text, fault)?,
+    }
+    Ok(text)
+}
 
 /// The commands of a text, a line for each, and behind them the fault, where there is one.
 pub fn shown_commands(alloc: Global, src: &[u8]) -> Result<Text, AllocError> {
@@ -20,12 +48,7 @@ pub fn shown_commands(alloc: Global, src: &[u8]) -> Result<Text, AllocError> {
             }
             Ok(None) => return Ok(text),
             Err(fault) => {
-                let Some(name) = fault_name(fault) else {
-                    return Err(AllocError);
-                };
-                text.extend(b"fault ")?;
-                text.extend(name)?;
-                text.push(b'\n')?;
+                push_fault(&mut text, fault)?;
                 return Ok(text);
             }
         }

@@ -27,6 +27,3 @@ pub use operands::operand;
 pub use scan::{ends_command, is_blank, is_continued};
 pub use shapes::{Command, Part, Word, copied_part, copied_parts};
 pub use writing::{list_is_command, list_rules, one_list, write_list};
-
-#[cfg(test)]
-mod tests;
