@@ -14,6 +14,3 @@ pub mod work;
 
 pub use thread::{Obeys, start_hand};
 pub use work::{Fresh, HandEnd, Outcome, Work};
-
-#[cfg(test)]
-mod tests;

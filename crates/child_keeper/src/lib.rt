@@ -12,6 +12,3 @@ pub use gate::Gate;
 pub use items::{Answered, Item};
 pub use keeper::Keeper;
 pub use piece::Piece;
-
-#[cfg(test)]
-mod tests;

@@ -14,6 +14,3 @@ pub use laws::ticks;
 pub use refusal::HallRefusal;
 pub use run::{Reports, RunFault, isolation, run_all};
 pub use script::Script;
-
-#[cfg(test)]
-mod tests;

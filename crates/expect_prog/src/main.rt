@@ -4,18 +4,12 @@
 mod command_line;
 mod complaint;
 mod devices;
-#[cfg(test)]
-mod dialogues;
 mod driving;
 mod fault;
 mod files;
 mod help;
 mod replaying;
-#[cfg(test)]
-mod rows;
 mod running;
-#[cfg(test)]
-mod tests;
 mod texts;
 
 use crate::command_line::{Order, read_words};

@@ -11,6 +11,3 @@ pub mod waiting;
 pub use bell::{Bell, Ringer};
 pub use feed::{FeedIn, FeedOut, Finished, feed_pair};
 pub use waiting::{await_room, put_waiting, take_waiting};
-
-#[cfg(test)]
-mod tests;

@@ -1,4 +1,6 @@
-use crate::{Bell, feed_pair, put_waiting, take_waiting};
+//! Rings between threads.
+
+use feed_rings::{Bell, feed_pair, put_waiting, take_waiting};
 use std::test::Fail;
 use std::thread;
 

@@ -1,5 +1,7 @@
-use super::*;
+//! A hall of scripts, step by step.
+
 use child_events::{Answer, HallEvent, What};
+use dialogue_sched::{Hall, HallFault, HallRefusal, Script};
 use session::{Act, Ending, Pairs, Settings};
 use std::alloc::Global;
 use std::test::Fail;

@@ -1,20 +1,17 @@
 //! A hand over a keeper in memory, and a reader by itself.
 
-use crate::pump::pump;
-use crate::thread::start_hand;
-use crate::work::{Fresh, Outcome, Work};
+use crate::keeper::{LINE, Line, Liner, Turnstile};
 use child_events::{Answer, Cause, Counted};
+use child_hands::pump::pump;
+use child_hands::{Fresh, Outcome, Work, start_hand};
 use child_keeper::Item;
 use expect_core::{Act, Request};
 use feed_rings::{Bell, FeedIn, feed_pair, take_waiting};
-use keeper::{LINE, Line, Liner, Turnstile};
 use std::io;
 use std::io::{ErrorKind, Read};
 use std::sync::Arc;
 use std::test::Fail;
 use tcl_words::{Text, Texts};
-
-mod keeper;
 
 /// A device that is interrupted, gives a byte, and then fails.
 #[derive(Drop)]
@@ -53,7 +50,7 @@ fn a_reader_puts_pieces_and_then_the_end(rt: HostRuntime) -> Result<(), Fail> {
     let alloc = rt.alloc();
     let bell = Bell::new(alloc)?;
     let (feed, mut out) = feed_pair::<Item<Liner>>(alloc, 2, &bell, &bell)?;
-    let mut device = Counted::new(Line::new());
+    let mut device = Counted::new(Line::new(None));
     assert!(rt; pump(&rt, alloc, &bell, 3, 2, &mut device, feed).is_some());
     assert!(rt; is_line(take_waiting(&rt, &bell, &mut out)));
     assert!(rt;
@@ -103,7 +100,7 @@ fn a_hand_asks_its_keeper(rt: HostRuntime) -> Result<(), Fail> {
         rt,
         alloc,
         3,
-        Liner::new(),
+        Liner::new(None, false),
         theirs,
         taken,
         put,

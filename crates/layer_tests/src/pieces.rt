@@ -1,4 +1,6 @@
-use crate::Piece;
+//! A piece of output.
+
+use child_keeper::Piece;
 use std::test::Fail;
 
 #[test]

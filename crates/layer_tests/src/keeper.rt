@@ -1,26 +1,28 @@
-//! A keeper whose children write a line and take nothing, and a gate that refuses.
+//! A keeper whose children write a line, and a gate that refuses.
 
 ghost use Rattle.std.specs.Prelude.{◌≡◌, ◌+◌, ◌^◌, ◌<◌, ◌≤◌, ⊤};
 
 use child_events::{Answer, Cause};
 use child_keeper::{Gate, Keeper};
-use std::io;
 use std::io::Read;
 use std::sync::atomic::{AtomicU64, Ordering};
+use std::time::Duration;
+use std::{io, thread};
 use tcl_words::{Text, Texts};
 
 /// What each child writes.
 pub const LINE: &[u8] = b"hi\n";
 
-/// Gives the line, and then the end.
+/// Gives the line, or nothing for a second, and then the end.
 #[derive(Drop)]
 pub struct Line {
+    pause: Option<HostRuntime>,
     over: bool,
 }
 
 impl Line {
-    pub fn new() -> Line {
-        Line { over: false }
+    pub fn new(pause: Option<HostRuntime>) -> Line {
+        Line { pause, over: false }
     }
 }
 
@@ -30,24 +32,33 @@ impl Read for Line {
             return Ok(0);
         }
         self.over = true;
+        if let Some(rt) = &self.pause {
+            thread::sleep(rt, Duration::from_secs(1));
+            return Ok(0);
+        }
         buf[..LINE.len()].copy_from_slice(LINE);
         Ok(LINE.len())
     }
 }
 
-/// Starts children in name alone. What is written to them fails, and they end with status 5.
+/// Starts children in name alone. They take what is written to them, or it fails, and they end with status 5.
 #[derive(Drop)]
 pub struct Liner {
+    pause: Option<HostRuntime>,
+    takes: bool,
     calls: u64,
     failures: u64,
     ghost fewer: { failures ≤ calls },
 }
 
 impl Liner {
-    pub fn new() -> Liner
+    /// One whose children give what a [`Line`] of this pause gives, and take what is written or not.
+    pub fn new(pause: Option<HostRuntime>, takes: bool) -> Liner
         ensures { result.calls ≡ 0 }
     {
         Liner {
+            pause,
+            takes,
             calls: 0,
             failures: 0,
         }
@@ -84,10 +95,14 @@ impl Keeper for Liner {
 
     fn spawn(&mut self, _child: u8, _argv: &Texts) -> Result<Line, Cause> {
         self.count();
-        Ok(Line::new())
+        Ok(Line::new(self.pause))
     }
 
     fn write(&mut self, _child: u8, _bytes: &Text) -> Result<(), Cause> {
+        if self.takes {
+            self.count();
+            return Ok(());
+        }
         self.count_failed();
         Err(Cause::Broken)
     }

@@ -1,0 +1,19 @@
+//! Tests that cross crates. The crate has no code of its own: so no other is proved once more for its tests.
+#![tactic(auto)]
+
+#[cfg(test)]
+mod hall;
+#[cfg(test)]
+mod hands;
+#[cfg(test)]
+mod keeper;
+#[cfg(test)]
+mod pieces;
+#[cfg(test)]
+mod requests;
+#[cfg(test)]
+mod rings;
+#[cfg(test)]
+mod served;
+#[cfg(test)]
+mod workers;

@@ -1,0 +1,130 @@
+//! Scripts that are served, over keepers in memory.
+
+use crate::keeper::Liner;
+use child_events::{read_log, write_log};
+use child_keeper::{Clock, Gate};
+use child_serve::{Served, serve};
+use dialogue_sched::Script;
+use session::{Ending, Pairs, Report, Settings};
+use std::alloc::{AllocError, Global};
+use std::sync::Wait;
+use std::test::Fail;
+use std::thread::Threads;
+use tcl_words::Text;
+
+/// Sends a line to a child, and waits for its echo and for the child's own.
+pub const CAT: &[u8] = b"spawn cat; send \"hi\\r\"; expect \"hi\\r\\nhi\\r\\n\"";
+
+const LATE: &[u8] = b"spawn p; set timeout 1; expect x {puts got} timeout {puts late}";
+
+/// A script without a limit of time.
+pub fn script(alloc: Global, source: &[u8]) -> Result<Script, AllocError> {
+    Ok(Script {
+        source: Text::from_slice(alloc, source)?,
+        settings: Settings {
+            steps: 1_000_000,
+            limit_ms: None,
+            env: Pairs::new(alloc),
+        },
+    })
+}
+
+/// Whether so many scripts were served, each with the report of [`CAT`] over a child that writes the line that it was sent.
+pub fn all_of_cat(served: &Served, count: usize) -> bool {
+    let reports = served.reports.as_slice();
+    reports.len() == count && reports.iter().all(is_of_cat)
+}
+
+fn is_of_cat(report: &Report) -> bool {
+    matches!(report.ending, Ending::Exit(0))
+        && report.steps == 3
+        && report.sent.as_slice() == [3].as_slice()
+        && report.transcript.as_slice() == b"spawn cat\r\nhi\r\nhi\r\n".as_slice()
+}
+
+/// A clock that gains so many milliseconds in each reading.
+#[derive(Drop)]
+struct Gaining {
+    moment: u64,
+    gain: u64,
+}
+
+impl Clock for Gaining {
+    fn now(&mut self) -> u64 {
+        self.moment = self.moment.saturating_add(self.gain);
+        self.moment
+    }
+}
+
+/// A gate that always answers the same.
+#[derive(Drop)]
+struct Always {
+    passes: bool,
+}
+
+impl Gate for Always {
+    fn pass(&self, _script: u8, _child: u8, _turn: u64) -> bool {
+        self.passes
+    }
+}
+
+/// A script that one worker serves.
+fn served<W: Threads + Wait + std::time::Clock + Copy + Send + Drop + 'static>(
+    rt: W,
+    alloc: Global,
+    source: &[u8],
+    keeper: Liner,
+    gain: u64,
+    passes: bool,
+) -> Result<Served, Fail> {
+    let mut scripts = Vec::new(alloc);
+    scripts.push(script(alloc, source)?)?;
+    let mut keepers = Vec::new(alloc);
+    keepers.push(keeper)?;
+    let mut clocks = Vec::new(alloc);
+    clocks.push(Gaining { moment: 0, gain })?;
+    let served = serve(rt, alloc, scripts, keepers, clocks, Always { passes });
+    Ok(served.ok().ok_or("not served")?)
+}
+
+#[test]
+fn a_script_over_a_keeper(rt: HostRuntime) -> Result<(), Fail> {
+    let alloc = rt.alloc();
+    let served = served(rt, alloc, CAT, Liner::new(None, true), 0, true)?;
+    assert!(rt; all_of_cat(&served, 1));
+    assert!(rt; served.unsettled.is_empty() && served.forced == 0);
+    let record = write_log(alloc, served.logged.as_slice())?;
+    let again = read_log(alloc, record.as_slice()).ok().ok_or("no log")?;
+    assert_eq!(rt; again.len(), served.logged.len());
+    assert_eq!(rt;
+        write_log(alloc, again.as_slice())?.as_slice(),
+        record.as_slice()
+    );
+    Ok(())
+}
+
+#[test]
+fn a_gate_that_always_refuses(rt: HostRuntime) -> Result<(), Fail> {
+    let served = served(rt, rt.alloc(), CAT, Liner::new(None, true), 0, false)?;
+    assert!(rt; all_of_cat(&served, 1));
+    assert!(rt; served.unsettled.is_empty() && served.forced == 2);
+    Ok(())
+}
+
+#[test]
+fn a_clock_that_runs(rt: HostRuntime) -> Result<(), Fail> {
+    let served = served(
+        rt,
+        rt.alloc(),
+        LATE,
+        Liner::new(Some(rt), true),
+        2_000,
+        true,
+    )?;
+    let [report] = served.reports.as_slice() else {
+        return Err(Fail::from("no report"));
+    };
+    assert!(rt; matches!(report.ending, Ending::Exit(0)) && report.steps == 4);
+    assert!(rt; report.transcript.as_slice() == b"spawn p\r\nlate\n".as_slice());
+    Ok(())
+}
