@@ -12,6 +12,3 @@ mod runs;
 
 pub use element::{Element, Elements, Members, Single};
 pub use pattern::Glob;
-
-#[cfg(test)]
-mod tests;

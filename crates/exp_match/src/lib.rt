@@ -25,6 +25,3 @@ pub use faults::PatternFault;
 pub use grammar::pattern_rules;
 pub use list::PatternList;
 pub use regular::{Regular, Spans};
-
-#[cfg(test)]
-mod tests;
