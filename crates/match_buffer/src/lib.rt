@@ -11,9 +11,6 @@ ghost use Rattle.match_buffer.specs.Buffer.{LendsBytes};
 use circular_buffer::HeapCircularBuffer;
 use std::alloc::{AllocError, Global};
 
-#[cfg(test)]
-mod tests;
-
 /// Bytes with a size: how many of the last ones `trim` keeps.
 #[derive(Drop)]
 pub struct Buffer {

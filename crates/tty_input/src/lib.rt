@@ -11,6 +11,3 @@ mod line;
 
 pub use action::{Action, Actions};
 pub use line::{Line, sends_join};
-
-#[cfg(test)]
-mod tests;

@@ -9,6 +9,3 @@ mod output;
 
 pub use modes::{BadMode, Modes};
 pub use output::{map_output, strip_nul};
-
-#[cfg(test)]
-mod tests;
