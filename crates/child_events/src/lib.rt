@@ -22,6 +22,3 @@ pub use queue::Queue;
 pub use reading::{log_laws, read_log};
 pub use world::{World, later, world_law};
 pub use writing::{cause_name, write_log};
-
-#[cfg(test)]
-mod tests;
