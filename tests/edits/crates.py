@@ -1,23 +1,12 @@
 """The crates of a repository as the kit's `rt` sees them, and whether what lies below one is built."""
 
-import importlib.machinery
-import importlib.util
 import os
 import pathlib
-import shutil
+import sys
 
+sys.path.append(str(pathlib.Path(__file__).resolve().parent.parent.parent / "tools"))
 
-def kit_library():
-    """The module that `rt` stands on: it knows crates.txt, and the words of a check."""
-    found = shutil.which("rt")
-    if not found:
-        raise SystemExit("no rt on the PATH: README.md says which kit is needed\n0 passed, 1 failed")
-    file = os.path.join(os.path.dirname(os.path.realpath(found)), "rtlib.py")
-    loader = importlib.machinery.SourceFileLoader("rtlib", file)
-    library = importlib.util.module_from_spec(importlib.util.spec_from_loader("rtlib", loader))
-    loader.exec_module(library)
-    return library
-
+from kit import kit_library  # noqa: E402
 
 RT = kit_library()
 

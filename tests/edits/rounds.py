@@ -72,12 +72,20 @@ def lines_below(crate, function, top):
     return sum(it.count("\n") for it in read.values())
 
 
+def names_any(source, function, names):
+    """Whether a function's text has one of these names: what calls a refused function has no proof either."""
+    text = source.texts[function.file][function.start : function.end]
+    return not names.isdisjoint(re.findall(r"\w+", text))
+
+
 def control_of(source, units):
     """The function whose proof no trial concerns and whose written answers rest on the least, or None.
 
-    Where none has answers, it is the shortest function.
+    It calls none that a trial concerns. Where none has answers, it is the shortest function.
     """
+    names = {it.name.rpartition("::")[2] for it in source.functions.values() if it.unit() in units}
     free = [it for it in source.functions.values() if it.unit() not in units and not it.of_trait]
+    free = [it for it in free if not names_any(source, it, names)]
     lines = lambda it: source.rested_on.get(it.name, float("inf"))
     return min(free, key=lambda it: (lines(it), it.end - it.start), default=None)
 
