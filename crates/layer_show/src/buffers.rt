@@ -7,6 +7,16 @@ use match_buffer::Buffer;
 use std::alloc::Global;
 use tcl_words::Text;
 
+/// `trim`, or another call with its word.
+fn called(buffer: &mut Buffer, call: &[Text]) -> Result<(), Complaint> {
+    match call {
+        [name] if name.as_slice() == b"trim".as_slice() => buffer.trim(),
+        [name, word] => change(buffer, name.as_slice(), word)?,
+        _ => return Err(Complaint::Call),
+    }
+    Ok(())
+}
+
 /// `take` and a number, `resize` and a number, or `add` and bytes.
 fn change(buffer: &mut Buffer, name: &[u8], word: &Text) -> Result<(), Complaint> {
     match name {
@@ -35,11 +45,7 @@ pub fn shown_buffer(alloc: Global, calls: &[Vec<Text>]) -> Result<Text, Complain
     };
     let mut buffer = Buffer::new(alloc, number(size)?)?;
     'calls: for call in rest {
-        match call.as_slice() {
-            [name] if name.as_slice() == b"trim".as_slice() => buffer.trim(),
-            [name, word] => change(&mut buffer, name.as_slice(), word)?,
-            _ => return Err(Complaint::Call),
-        }
+        called(&mut buffer, call.as_slice())?;
         push_hex_line(alloc, &mut text, buffer.bytes())?;
     }
     Ok(text)

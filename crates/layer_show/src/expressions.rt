@@ -21,6 +21,28 @@ fn push_fault(alloc: Global, text: &mut Text, fault: &ExprFault) -> Result<(), C
     Ok(())
 }
 
+/// Which operand a step asks for; None where it asks for none.
+fn asked(step: &Step) -> Result<Option<&'static [u8]>, Complaint> {
+    match step {
+        Step::NeedVar(_) => Ok(Some(b"variable")),
+        Step::NeedScript(_) => Ok(Some(b"script")),
+        Step::Value(_) => Ok(None),
+        Step::Fault(ExprFault::Memory) => Err(Complaint::Memory),
+        Step::Fault(_) => Ok(None),
+    }
+}
+
+/// What an expression came to, or which operand it still asks for.
+fn push_step(alloc: Global, text: &mut Text, step: Step) -> Result<(), Complaint> {
+    match step {
+        Step::NeedVar(_) => text.extend(b"variable")?,
+        Step::NeedScript(_) => text.extend(b"script")?,
+        Step::Value(value) => push_labelled(alloc, text, b"value ", value.as_slice())?,
+        Step::Fault(fault) => push_fault(alloc, text, &fault)?,
+    }
+    Ok(())
+}
+
 /// Goes on with the values of operands, in the order in which they are asked for, until no more are there.
 fn push_value(
     alloc: Global,
@@ -30,22 +52,14 @@ fn push_value(
 ) -> Result<(), Complaint> {
     let mut log = Operands::new(alloc);
     'operands: for value in values {
-        match expr.advance(alloc, &mut log) {
-            Step::NeedVar(_) => text.extend(b"variable ")?,
-            Step::NeedScript(_) => text.extend(b"script ")?,
-            Step::Value(_) => break,
-            Step::Fault(ExprFault::Memory) => return Err(Complaint::Memory),
-            Step::Fault(_) => break,
-        }
+        let Some(what) = asked(&expr.advance(alloc, &mut log))? else {
+            break;
+        };
+        text.extend(what)?;
+        text.push(b' ')?;
         log.give(value.copied(alloc)?)?;
     }
-    match expr.advance(alloc, &mut log) {
-        Step::NeedVar(_) => text.extend(b"variable")?,
-        Step::NeedScript(_) => text.extend(b"script")?,
-        Step::Value(value) => push_labelled(alloc, text, b"value ", value.as_slice())?,
-        Step::Fault(fault) => push_fault(alloc, text, &fault)?,
-    }
-    Ok(())
+    push_step(alloc, text, expr.advance(alloc, &mut log))
 }
 
 /// Each call has an expression, and the values of operands. A line says what was asked for and what it came to.

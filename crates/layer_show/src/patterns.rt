@@ -42,6 +42,21 @@ pub fn all_groups(alloc: Global, list: &PatternList) -> Result<Vec<usize>, Compl
     Ok(groups)
 }
 
+/// The pattern of a list that is chosen in bytes, of which at most so many are kept.
+fn push_test(
+    alloc: Global,
+    text: &mut Text,
+    list: &PatternList,
+    groups: &[usize],
+    test: &[Text],
+) -> Result<(), Complaint> {
+    let [max, bytes] = test else {
+        return Err(Complaint::Call);
+    };
+    let chosen = list.choose(alloc, groups, bytes.as_slice(), number(max)?)?;
+    push_chosen(alloc, text, chosen)
+}
+
 /// The first call has the arguments of `expect`; each other one the most bytes that are kept, and bytes. A line
 /// has the pattern that is chosen, with its spans.
 pub fn shown_patterns(alloc: Global, calls: &[Vec<Text>]) -> Result<Text, Complaint> {
@@ -55,11 +70,7 @@ pub fn shown_patterns(alloc: Global, calls: &[Vec<Text>]) -> Result<Text, Compla
     };
     let groups = all_groups(alloc, &list)?;
     'tests: for test in tests {
-        let [max, bytes] = test.as_slice() else {
-            return Err(Complaint::Call);
-        };
-        let chosen = list.choose(alloc, groups.as_slice(), bytes.as_slice(), number(max)?)?;
-        push_chosen(alloc, &mut text, chosen)?;
+        push_test(alloc, &mut text, &list, groups.as_slice(), test.as_slice())?;
     }
     Ok(text)
 }
