@@ -1,5 +1,8 @@
 //! Scripts that are served, over keepers in memory.
 
+ghost use Rattle.std.specs.Prelude.{IfOk};
+ghost use Rattle.child_events.specs.Log.{AllFit};
+
 use crate::keeper::Liner;
 use child_events::{read_log, write_log};
 use child_keeper::{Clock, Gate};
@@ -76,15 +79,19 @@ fn served<W: Threads + Wait + std::time::Clock + Copy + Send + Drop + 'static>(
     keeper: Liner,
     gain: u64,
     passes: bool,
-) -> Result<Served, Fail> {
+) -> Result<Served, Fail>
+    ensures { IfOk result (λ s. AllFit s.logged) }
+{
     let mut scripts = Vec::new(alloc);
     scripts.push(script(alloc, source)?)?;
     let mut keepers = Vec::new(alloc);
     keepers.push(keeper)?;
     let mut clocks = Vec::new(alloc);
     clocks.push(Gaining { moment: 0, gain })?;
-    let served = serve(rt, alloc, scripts, keepers, clocks, Always { passes });
-    Ok(served.ok().ok_or("not served")?)
+    match serve(rt, alloc, scripts, keepers, clocks, Always { passes }) {
+        Ok(served) => Ok(served),
+        Err(_) => Err(Fail::from("not served")),
+    }
 }
 
 #[test]

@@ -110,13 +110,14 @@ fn workers_wait_for_one_another(rt: HostRuntime) -> Result<(), Fail> {
     let alloc: Global = rt.alloc();
     let course = Arc::new(alloc, Course::new())?;
     let mut scripts = Vec::new(alloc);
+    scripts.push(script(alloc, CAT)?)?;
+    scripts.push(script(alloc, CAT)?)?;
     let mut keepers = Vec::new(alloc);
+    keepers.push(Liner::new(None, true))?;
+    keepers.push(Liner::new(None, true))?;
     let mut clocks = Vec::new(alloc);
-    for mine in 0..2usize {
-        scripts.push(script(alloc, CAT)?)?;
-        keepers.push(Liner::new(None, true))?;
-        clocks.push(clock_of(rt, mine, &course)?)?;
-    }
+    clocks.push(clock_of(rt, 0, &course)?)?;
+    clocks.push(clock_of(rt, 1, &course)?)?;
     let gate = Crossing {
         rt,
         course: Arc::try_clone(&course)?,
