@@ -6,7 +6,7 @@ ghost use Rattle.exp_glob.specs.Runs.{is_star as is_star_of, takes_at as takes_a
 use crate::element::{Element, Single};
 use crate::matching::takes;
 use crate::places::after;
-use memchr::memchr;
+use memchr::{memchr, memrchr};
 
 fn is_star(element: &Element) -> bool
     ensures { result ≡ is_star_of element.now }
@@ -112,16 +112,46 @@ pub(crate) fn least_run(
     None
 }
 
+/// A bound of the places below `bound` where the first run can begin, by the byte with which it begins.
+fn last_start(elements: &[Element], text: &[u8], bound: usize, nocase: bool) -> usize
+    requires { bound ≤ length text.now + 1 }
+    ensures back { result ≤ bound }
+    ensures nowhere { (k : ℕ) → result ≤ k → k < bound → run_end_of nocase elements.now text.now k ≡ None }
+{
+    let Some(byte) = first_byte(elements, nocase) else {
+        return bound;
+    };
+    if text.len() < bound {
+        return last_place(elements, text, text.len(), byte, nocase);
+    }
+    last_place(elements, text, bound, byte, nocase)
+}
+
+/// The place behind the last one below `end` where a byte stands, with which the first run begins.
+fn last_place(elements: &[Element], text: &[u8], end: usize, byte: u8, nocase: bool) -> usize
+    requires within { end ≤ length text.now }
+    requires first { first_byte_of nocase elements.now ≡ Some byte }
+    ensures back { result ≤ end }
+    ensures nowhere { (k : ℕ) → result ≤ k → k < end → run_end_of nocase elements.now text.now k ≡ None }
+    ensures behind { (k : ℕ) → length text.now ≤ k → run_end_of nocase elements.now text.now k ≡ None }
+{
+    match memrchr(byte, text.split_at(end).0) {
+        Some(n) => n + 1,
+        None => 0,
+    }
+}
+
 /// The end of the first run at the greatest place from `from` on where it matches.
 fn greatest_run(elements: &[Element], text: &[u8], from: usize, nocase: bool) -> Option<usize>
     ensures { IsGreatestRun nocase elements.now text.now from result }
 {
-    let mut bound = text.len() + 1;
+    let mut bound = last_start(elements, text, text.len() + 1, nocase);
     while from < bound {
         bound -= 1;
         if let Some(end) = run_end(elements, text, bound, nocase) {
             return Some(end);
         }
+        bound = last_start(elements, text, bound, nocase);
     }
     None
 }

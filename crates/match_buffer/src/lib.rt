@@ -3,7 +3,7 @@
 //! The bytes lie in a ring, so that taking from the front moves nothing.
 #![tactic(auto)]
 
-ghost use Rattle.std.specs.Prelude.{◌≡◌, ◌≤◌, ◌++◌, [], length, drop, IfOk, OnOk, OnErr};
+ghost use Rattle.std.specs.Prelude.{◌≡◌, ◌≤◌, ◌+◌, ◌++◌, [], length, drop, IfOk, OnOk, OnErr};
 ghost use Rattle.std.specs.Borrow.{sem};
 ghost use Rattle.circular_buffer.specs.Buffer.{keep_last};
 ghost use Rattle.match_buffer.specs.Buffer.{LendsBytes};
@@ -42,7 +42,25 @@ impl Buffer {
             self.ring.resize(needed.max(2 * room))?;
         }
         self.ring.extend_from_slice(piece);
+        self.straighten();
         Ok(())
+    }
+
+    /// Lays wrapped bytes anew in one run, in a block of their own, which wraps only once as many were added again. Where that is
+    /// refused, they stay wrapped.
+    fn straighten(&mut self)
+        ensures size { self.new.size ≡ self.old.size }
+        ensures same { self.new.ring.items ≡ self.old.ring.items }
+    {
+        let (front, back) = self.ring.as_slices();
+        if back.is_empty() {
+            return;
+        }
+        let room = self.ring.capacity().max(self.ring.len().saturating_mul(2));
+        let alloc = *self.ring.allocator();
+        if let Ok(fresh) = laid(alloc, front, back, room) {
+            self.ring = fresh;
+        }
     }
 
     /// Drops the first `count` bytes, of which there are so many.
@@ -92,4 +110,20 @@ impl Buffer {
     {
         &self.ring
     }
+}
+
+/// Bytes in one run, with so much room.
+fn laid(
+    alloc: Global,
+    front: &[u8],
+    back: &[u8],
+    room: usize,
+) -> Result<HeapCircularBuffer<u8>, AllocError>
+    requires { length front.now + length back.now ≤ room }
+    ensures { IfOk result (λ r. r.items ≡ front.now ++ back.now) }
+{
+    let mut fresh = HeapCircularBuffer::with_capacity(alloc, room)?;
+    fresh.extend_from_slice(front);
+    fresh.extend_from_slice(back);
+    Ok(fresh)
 }
