@@ -38,4 +38,3 @@ pub use texts::{
 pub use told::said;
 pub use values::{as_number, list_of, texts_of};
 pub use verbs::{Plain, Verb, verb_of};
-
