@@ -1,7 +1,6 @@
 -- What calls at a desk keep, one after another.
 use Rattle.std.proofs.Common.{◌≡◌, ◌≢◌, ℕ, zero, suc, ◌+◌, ◌≤◌, ◌<◌, List, [], ◌∷◌, ◌++◌, length, Bool, true, false, Option, Some, None, refl, sym, ap, subst, ◌∙◌, arith}
 use Rattle.std.specs.Prelude.{slice_get, slice_set, ◌==◌, IsTrue, MatchOption, if◌then◌else◌}
-use Rattle.std.specs.List.{AllByRecursion}
 use Rattle.std.proofs.lemmas.Bool.Decides.{nat_tests}
 use Rattle.child_events.specs.declared.event.Answer.{Answer}
 use Rattle.child_events.specs.declared.event.HallEvent.{HallEvent}
@@ -27,30 +26,8 @@ use Rattle.session.specs.Left.{left, HandsOut}
 use Rattle.dialogue_sched.specs.Hall.{Requested, EndsAt, Ends}
 use Rattle.child_desk.specs.Ends.{IsOutput, output_at}
 use Rattle.child_desk.specs.Line.{answer_at, Goes, AllOver}
-use Rattle.child_desk.proofs.Lining.{numbered, set_other, handed_at, answers_own, answers_other, asked_line, passed_line, answered_line, ended_line, passes_all}
-
-no_line : (l : Line) → ◌≡◌ {A = Option Line} None (Some l) → ⊥
-no_line l h = cc
-
-some_line : (l m : Line) → Some l ≡ Some m → l ≡ m
-some_line l m h = cc
-
-line_set : (i : ℕ) (ls : List Line) (l m : Line) → slice_get ls i ≡ Some l → slice_get (slice_set ls i m) i ≡ Some m
-line_set i [] l m h = absurd (no_line l h)
-line_set zero (x ∷ ls) l m h = refl
-line_set (suc i) (x ∷ ls) l m h = line_set i ls l m h
-
-line_other : (i j : ℕ) (ls : List Line) (m : Line) → j ≢ i → slice_get (slice_set ls i m) j ≡ slice_get ls j
-line_other i j [] m other = refl
-line_other zero zero (x ∷ ls) m other = absurd (other refl)
-line_other zero (suc j) (x ∷ ls) m other = refl
-line_other (suc i) zero (x ∷ ls) m other = refl
-line_other (suc i) (suc j) (x ∷ ls) m other = line_other i j ls m (λ e. other (ap suc e))
-
-lines_set : (i : ℕ) (ls : List Line) (m : Line) → length (slice_set ls i m) ≡ length ls
-lines_set i [] m = refl
-lines_set zero (x ∷ ls) m = refl
-lines_set (suc i) (x ∷ ls) m = ap suc (lines_set i ls m)
+use Rattle.child_desk.proofs.Places.{nothing_there, one_there, set_here, set_there, set_length}
+use Rattle.child_desk.proofs.Lining.{numbered, handed_at, answers_own, answers_other, asked_line, passed_line, answered_line, ended_line, passes_all}
 
 -- an entry with the book's stamp makes no moment go back
 ascends_on : (least last : ℕ) (e : HallEvent) (es : List HallEvent) (scripts : ℕ) → least ≤ last → AscendsFrom least es → AllTaken scripts last es → moment_in e ≡ last → AscendsFrom least (es ++ e ∷ [])
@@ -160,7 +137,7 @@ module _ (told : ℕ → ℕ → Request → Answer → Type 0) where
     each = λ keeper script i other there is. by_place i (i == at) refl keeper script other there is;
     book = f.book;
     halls = f.halls;
-    count = lines_set at lines line';
+    count = set_length at lines line';
   }
     where
       same_place : (i : ℕ) → (i == at) ≡ true → i ≡ at
@@ -173,19 +150,14 @@ module _ (told : ℕ → ℕ → Request → Answer → Type 0) where
           (l : Line) × (slice_get (slice_set lines at line') i ≡ Some l) × InLine told keeper script i l new
       by_place i true e keeper script other there is =
           let same = same_place i e in
-          let one = some_line line other (sym here ∙ ap (slice_get lines) (sym same) ∙ there) in (
+          let one = one_there line other (sym here ∙ ap (slice_get lines) (sym same) ∙ there) in (
             line',
-            ap (slice_get (slice_set lines at line')) same ∙ line_set at lines line line' here,
+            ap (slice_get (slice_set lines at line')) same ∙ set_here at lines line line' here,
             subst (λ (n : ℕ). InLine told keeper script n line' new) (sym same) (f.here keeper script (subst (λ (l : Line). InLine told keeper script at l old) (sym one) (subst (λ (n : ℕ). InLine told keeper script n other old) same is))),
           )
       by_place i false e keeper script other there is =
           let differs = other_place i e in
-          (other, line_other at i lines line' differs ∙ there, f.others keeper script i other differs is)
-
-kept_length : (i : ℕ) (ks : List Kept) (k : Kept) → length (slice_set ks i k) ≡ length ks
-kept_length i [] k = refl
-kept_length zero (x ∷ ks) k = refl
-kept_length (suc i) (x ∷ ks) k = ap suc (kept_length i ks k)
+          (other, set_there at i lines line' differs ∙ there, f.others keeper script i other differs is)
 
 -- a tick answers nothing
 pub tick_silent : (m n : ℕ) → answers_in (own n (hall.Tick m ∷ [])) ≡ []
@@ -225,7 +197,7 @@ module _ (told : ℕ → ℕ → Request → Answer → Type 0) where
     here = λ keeper script is. asked_line told keeper script at line request old new lt free req log is;
     others = λ keeper script i other differs is. (
       is.0,
-      ap (λ (ks : List Kept). slice_get ks i) h.4 ∙ set_other at i old.hall h.1 differs ∙ is.1,
+      ap (λ (ks : List Kept). slice_get ks i) h.4 ∙ set_there at i old.hall h.1 differs ∙ is.1,
       subst (λ (es : List HallEvent). IsInLine told keeper script other is.0 (own (i + 1) es)) (sym log) is.2,
     );
     book = λ r. record {
@@ -239,7 +211,7 @@ module _ (told : ℕ → ℕ → Request → Answer → Type 0) where
       h = handed_at at request old.hall new.hall lt req
 
       size : length new.hall ≡ length old.hall
-      size = ap length h.4 ∙ kept_length at old.hall h.1
+      size = ap length h.4 ∙ set_length at old.hall h.1
 
   -- the answer comes that is awaited
   pub keeps_answered : (at child : ℕ) (line : Line) (e : HallEvent) (old new : Book) (r : Request) (a : Answer) → Enters e true old new → e ≡ answer_at at child old.stamp a → line.awaited ≡ Some r → ∥ told line.name (line.last + 1) r a ∥₁ →
@@ -270,11 +242,11 @@ module _ (told : ℕ → ℕ → Request → Answer → Type 0) where
 
 -- scripts that are over, one after another
 pub one_over : (line : Line) (lines : List Line) → IsTrue line.over → AllOver lines → AllOver (line ∷ lines)
-one_over line lines o all zero l got = subst (λ (x : Line). IsTrue x.over) (some_line line l got) o
+one_over line lines o all zero l got = subst (λ (x : Line). IsTrue x.over) (one_there line l got) o
 one_over line lines o all (suc at) l got = all at l got
 
 pub none_over : AllOver []
-none_over at l got = absurd (no_line l got)
+none_over at l got = absurd (nothing_there l got)
 
 module _ (told : ℕ → ℕ → Request → Answer → Type 0) where
   pub leaves_all : (book : Book) → Leaves told book book

@@ -14,10 +14,9 @@ use Rattle.expect_core.specs.declared.request.Request.{Request}
 use Rattle.session.specs.declared.report.Report.{Report}
 use Rattle.session.specs.Meaning.{meaning}
 use Rattle.session.specs.Left.{Kept, left, HandsOut}
-use Rattle.session.specs.Growth.{OnlyGrows, EndingStays, Continues}
+use Rattle.session.specs.Growth.{Continues}
 use Rattle.session.proofs.Grows.{only_grows, ending_stays}
-use Rattle.tcl_eval.specs.declared.ending.Ending.{Ending}
-use Rattle.tcl_eval.specs.declared.ending.Ending.TheVariants.{Waiting, Memory}
+use Rattle.tcl_eval.specs.declared.ending.Ending.TheVariants.{Waiting}
 use Rattle.dialogue_sched.specs.declared.script.Script.{Script}
 use Rattle.dialogue_sched.specs.Took.{Took, AllTook}
 use Rattle.dialogue_sched.specs.Hall.{Begins, Reports, session_at, Requested, Reported}
@@ -29,24 +28,7 @@ use Rattle.child_desk.specs.declared.book.Book.{Book}
 use Rattle.child_desk.specs.Book.{Enters}
 use Rattle.child_desk.specs.Line.{Keeping, answer_at, PassesAll, IsInLine, InLine, Means}
 use Rattle.child_desk.proofs.Telling.{told_more, told_last}
-
-no_kept : (k : Kept) → ◌≡◌ {A = Option Kept} None (Some k) → ⊥
-no_kept k h = cc
-
-some_kept : (k l : Kept) → Some k ≡ Some l → k ≡ l
-some_kept k l h = cc
-
-set_same : (i : ℕ) (ks : List Kept) (k l : Kept) → slice_get ks i ≡ Some k → slice_get (slice_set ks i l) i ≡ Some l
-set_same i [] k l h = absurd (no_kept k h)
-set_same zero (x ∷ ks) k l h = refl
-set_same (suc i) (x ∷ ks) k l h = set_same i ks k l h
-
-pub set_other : (i j : ℕ) (ks : List Kept) (l : Kept) → j ≢ i → slice_get (slice_set ks i l) j ≡ slice_get ks j
-set_other i j [] l other = refl
-set_other zero zero (x ∷ ks) l other = absurd (other refl)
-set_other zero (suc j) (x ∷ ks) l other = refl
-set_other (suc i) zero (x ∷ ks) l other = refl
-set_other (suc i) (suc j) (x ∷ ks) l other = set_other i j ks l (λ e. other (ap suc e))
+use Rattle.child_desk.proofs.Places.{nothing_there, one_there, set_here}
 
 pub numbered : (i : ℕ) (ks : List Kept) → session_at (i + 1) ks ≡ slice_get ks i
 numbered i ks = grind (arith, nat_tests, by_number)
@@ -66,11 +48,11 @@ handed_at i request old new lt h = at i old lt refl
     at (suc j) (x ∷ ks) less e = at j ks (omega (arith, less)) e
 
 pub took_at : (n i : ℕ) (es : List HallEvent) (olds news : List Kept) (k : Kept) → AllTook n es olds news → slice_get olds i ≡ Some k → (k' : Kept) × (slice_get news i ≡ Some k') × Took k (own (n + i) es) k'
-took_at n i es [] news k t got = absurd (no_kept k got)
+took_at n i es [] news k t got = absurd (nothing_there k got)
 took_at n i es (x ∷ olds) [] k t got = absurd t
 took_at n zero es (x ∷ olds) (y ∷ news) k t got =
     let number : n ≡ n + 0 = omega arith in
-    (y, refl, subst (λ (z : Kept). Took z (own (n + 0) es) y) (some_kept x k got) (subst (λ (m : ℕ). Took x (own m es) y) number t.0))
+    (y, refl, subst (λ (z : Kept). Took z (own (n + 0) es) y) (one_there x k got) (subst (λ (m : ℕ). Took x (own m es) y) number t.0))
 took_at n (suc i) es (x ∷ olds) (y ∷ news) k t got =
     let w = took_at (n + 1) i es olds news k t.1 got in
     let number : n + 1 + i ≡ n + suc i = omega arith in
@@ -199,9 +181,9 @@ module _ (told : ℕ → ℕ → Request → Answer → Type 0) (keeper : Keepin
       InLine told keeper script at line old → InLine told keeper script at (record line { awaited = request }) new
   asked_line at line request old new lt free req log (k, here, l) =
       let h = handed_at at request old.hall new.hall lt req in
-      let is : h.0 ≡ k = some_kept h.0 k (sym h.2 ∙ here) in (
+      let is : h.0 ≡ k = one_there h.0 k (sym h.2 ∙ here) in (
         h.1,
-        ap (λ (ks : List Kept). slice_get ks at) h.4 ∙ set_same at old.hall k h.1 here,
+        ap (λ (ks : List Kept). slice_get ks at) h.4 ∙ set_here at old.hall k h.1 here,
         subst (λ (es : List HallEvent). IsInLine told keeper script (record line { awaited = request }) h.1 (own (at + 1) es)) (sym log)
             (asked line request k h.1 (own (at + 1) old.log.items) free (subst (λ (x : Kept). HandsOut x request h.1) is h.3) l),
       )

@@ -1,7 +1,6 @@
 -- A hall, and the record of what it took.
-use Rattle.std.specs.Prelude.{◌≡◌, ℕ, ◌+◌, ◌≤◌, nat_lt, List, [], ◌∷◌, ◌++◌, length, Bool, true, false, None, Result, Ok, Err, if◌then◌else◌}
+use Rattle.std.specs.Prelude.{◌≡◌, ℕ, ◌≤◌, nat_lt, List, [], ◌∷◌, ◌++◌, length, Bool, true, false, Option, None, Some}
 use Rattle.std.specs.List.{AllByRecursion}
-use Rattle.std.specs.declared.alloc.AllocError.{AllocError}
 use Rattle.child_events.specs.declared.event.HallEvent.{HallEvent}
 use Rattle.child_events.specs.declared.event.HallEvent.TheVariants as hall
 use Rattle.dialogue_sched.specs.Refusal.{refusal_of}
@@ -35,6 +34,7 @@ abbrev pub Enters : HallEvent → Bool → Book → Book → Type 0
 Enters e true old new = (refusal_of (length old.hall) e ≡ None) × AllTook 1 (e ∷ []) old.hall new.hall × (new.log.items ≡ old.log.items ++ e ∷ []) × (new.stamp ≡ old.stamp)
 Enters e false old new = new ≡ old
 
--- the later of the stamp and a moment, but for what is past the last moment
-abbrev pub stamped : ℕ → ℕ → ℕ
-stamped stamp now = if nat_lt stamp now then (if nat_lt 9000000000000000 now then stamp else now) else stamp
+-- the moment is behind another, where there is one
+abbrev pub is_behind : ℕ → Option ℕ → Bool
+is_behind moment None = false
+is_behind moment (Some last) = nat_lt last moment

@@ -2,3 +2,4 @@ pub mod Told
 pub mod Book
 pub mod Line
 pub mod Ends
+pub mod Heard

@@ -1,17 +1,27 @@
 //! A worker's desk.
 
-ghost use Rattle.std.specs.Prelude.{◌≡◌, ◌<◌, ◌≤◌, ◌+◌, length, IfOk, IsTrue, vec_len, vec_capacity};
+ghost use Rattle.std.specs.Prelude.{◌≡◌, ◌<◌, ◌≤◌, ◌+◌, ◌++◌, [], ◌∷◌, ℕ, List, length, IfOk, OnOk, IsTrue, vec_len, vec_capacity};
 ghost use Rattle.child_events.specs.World.{own};
 ghost use Rattle.dialogue_sched.specs.declared.script.Script.{Script};
+ghost use Rattle.dialogue_sched.specs.Deadlines.{soonest};
+ghost use Rattle.child_desk.specs.Book.{is_behind};
 ghost use Rattle.child_desk.specs.Line.{Keeping, InLine, Leaves, Keeps, KeepsAll, Means, AllOver};
+ghost use Rattle.dialogue_sched.specs.Refusal.{piece_len};
 ghost use Rattle.child_desk.specs.Ends.{IsOutput, output_at};
+ghost use Rattle.feed_rings.specs.Ends.{all_put};
+ghost use Rattle.child_events.specs.declared.event.What.{What};
+ghost use Rattle.child_events.specs.declared.event.HallEvent.{HallEvent};
+ghost use Rattle.child_desk.specs.Heard.{Unheard, Adds, Says, HearsAt, Hears, HearsAll, Settles, FinishedAt, FinishedIn, TakenAt, TakenIn, SeenAt, LeavesOneLess};
 
-use crate::book::{Book, enter};
-use crate::ends::{Ends, room, starts};
+use crate::book::Book;
+use crate::ends::{Ends, starts};
+use crate::entering::{enter, enter_taken};
 use crate::line::{Line, ask_next, enter_answer, enter_end, report_at};
+use crate::readers::{Taken, room};
 use child_events::{HallEvent, HallEvents, What};
-use child_keeper::Keeper;
+use child_keeper::{Item, Keeper};
 use dialogue_sched::ReportFault;
+use feed_rings::Finished;
 use session::Report;
 use std::alloc::{AllocError, Global};
 
@@ -30,19 +40,20 @@ pub struct Desk<K: Keeper> {
     alloc: Global,
     pub book: Book,
     pub lines: Vec<Line>,
-    ends: Vec<Ends<K>>,
+    pub ends: Vec<Ends<K>>,
 }
 
 /// Whether the time went on, and isn't past the last moment.
 fn goes_on(stamp: u64, now: u64) -> bool
-    ensures { IsTrue result → stamp ≤ now }
+    ensures { IsTrue result → (stamp ≤ now) × (now ≤ 9000000000000000) }
 {
     stamp < now && now <= MOMENT_LIMIT
 }
 
 /// A tick, where the time went on.
 fn tick<K: Keeper>(book: &mut Book, now: u64) -> Result<(), AllocError>
-    ensures { Leaves K.told book.old book.new }
+    ensures kept { Leaves K.told book.old book.new }
+    ensures silent { Unheard book.old.log.items book.new.log.items }
 {
     if !goes_on(book.stamp, now) {
         return Ok(());
@@ -73,14 +84,42 @@ fn output_event(at: usize, child: u8, moment: u64, what: What) -> HallEvent
 /// Enters what came from a child of the script at a place.
 fn enter_output<K: Keeper>(book: &mut Book, at: usize, child: u8, what: What, copy: What)
     requires same { copy ≡ what }
-    requires output { IsOutput what }
-    requires place { at < 64 }
+    requires output { IsOutput what × (piece_len what ≤ 4096) }
+    requires place { (at < length book.old.hall) × (at < 64) × (1 ≤ child) × (child ≤ 16) }
     requires room { vec_len book.old.log < vec_capacity book.old.log }
-    ensures { Leaves K.told book.old book.new }
+    ensures kept { Leaves K.told book.old book.new }
+    ensures adds { Adds (at + 1) child (what ∷ []) book.old.log.items book.new.log.items }
 {
     let event = output_event(at, child, book.stamp, what);
     let copy = output_event(at, child, book.stamp, copy);
-    enter(book, event, copy);
+    enter_taken(book, event, copy);
+}
+
+/// Enters what was taken from the ring of the child at a place. True where that was something.
+#[tactic(auto, using(crate::proofs::Kept::leaves_all))]
+fn enter_heard<K: Keeper>(
+    book: &mut Book,
+    ends: &mut Ends<K>,
+    at: usize,
+    index: u8,
+    taken: Taken,
+) -> bool
+    requires place { (at < length book.old.hall) × (at < 64) × (index < 16) }
+    requires room { vec_len book.old.log < vec_capacity book.old.log }
+    requires says { (said : List What) × Says said taken }
+    ensures kept { Leaves K.told book.old book.new }
+    ensures adds { (said : List What) → Says said taken → Adds (at + 1) (index + 1) said book.old.log.items book.new.log.items }
+    ensures readers { ends.new.readers ≡ ends.old.readers }
+{
+    ends.count(&taken);
+    match taken {
+        Taken::Nothing => false,
+        Taken::Passed => true,
+        Taken::Heard(heard) => {
+            enter_output::<K>(book, at, index + 1, heard.what, heard.copy);
+            true
+        }
+    }
 }
 
 /// Takes the next answer from a script's hand, and enters it where it is the one that is awaited. True where there was one.
@@ -91,7 +130,9 @@ fn hear_answer<K: Keeper>(
     at: usize,
 ) -> Result<bool, AllocError>
     requires { at < 64 }
-    ensures { Keeps K.told at line.old book.old line.new book.new }
+    ensures kept { Keeps K.told at line.old book.old line.new book.new }
+    ensures readers { ends.new.readers ≡ ends.old.readers }
+    ensures silent { Unheard book.old.log.items book.new.log.items }
 {
     book.reserve()?;
     let Some(answered) = ends.next_answer() else {
@@ -104,53 +145,56 @@ fn hear_answer<K: Keeper>(
     Ok(true)
 }
 
-/// Takes what comes next from a child, and enters it. True where there was something.
-#[tactic(auto, using(crate::proofs::Kept::leaves_all, crate::proofs::Kept::leaves_same, crate::proofs::Kept::leaves_then))]
+/// Takes what comes next from the child at a place, and enters it. True where there was something.
+#[tactic(auto, using(crate::proofs::Kept::leaves_all, crate::proofs::Kept::leaves_same, crate::proofs::Kept::leaves_then, crate::proofs::Hearing::hears_at_none, crate::proofs::Hearing::takes_none))]
 fn hear<K: Keeper>(
     alloc: Global,
     book: &mut Book,
     ends: &mut Ends<K>,
     at: usize,
-    child: u8,
+    index: u8,
 ) -> Result<bool, AllocError>
-    requires { at < 64 }
-    ensures { Leaves K.told book.old book.new }
+    requires place { (at < length book.old.hall) × (at < 64) × (index < 16) }
+    ensures kept { Leaves K.told book.old book.new }
+    ensures heard { HearsAt (at + 1) index ends.old.readers book.old.log.items ends.new.readers book.new.log.items }
 {
-    if ends.seems_empty(child) {
+    if ends.readers.seems_empty(index) {
         return Ok(false);
     }
     book.reserve()?;
     let room = room(alloc)?;
-    let Some(heard) = ends.next_output(child, room) else {
-        return Ok(false);
-    };
-    enter_output::<K>(book, at, child, heard.what, heard.copy);
-    Ok(true)
+    let taken = ends.readers.next(index, room);
+    Ok(enter_heard(book, ends, at, index, taken))
 }
 
-/// Whether a child's ring is left alone: much of it lies untaken, and its script, which isn't over, may still take it.
-fn is_held_back(book: &Book, over: bool, at: usize, child: u8) -> bool {
-    !over && book.hall.untaken(at.saturating_add(1), child) > UNTAKEN
+/// Whether the ring of the child at a place is left alone: much of it lies untaken, and its script, which isn't over, may still take it.
+fn is_held_back(book: &Book, over: bool, at: usize, index: u8) -> bool {
+    !over
+        && book
+            .hall
+            .untaken(at.saturating_add(1), index.saturating_add(1))
+            > UNTAKEN
 }
 
-/// Takes what a child has, but not for ever. True where there was something.
-#[tactic(auto, using(crate::proofs::Kept::leaves_all, crate::proofs::Kept::leaves_then))]
+/// Takes what the child at a place has, but not for ever. True where there was something.
+#[tactic(auto, using(crate::proofs::Kept::leaves_all, crate::proofs::Kept::leaves_then, crate::proofs::Hearing::hears_at_same, crate::proofs::Hearing::hears_at_then))]
 fn hear_child<K: Keeper>(
     alloc: Global,
     book: &mut Book,
     over: bool,
     ends: &mut Ends<K>,
     at: usize,
-    child: u8,
+    index: u8,
 ) -> Result<bool, AllocError>
-    requires { at < 64 }
-    ensures { Leaves K.told book.old book.new }
+    requires place { (at < length book.old.hall) × (at < 64) × (index < 16) }
+    ensures kept { Leaves K.told book.old book.new }
+    ensures heard { HearsAt (at + 1) index ends.old.readers book.old.log.items ends.new.readers book.new.log.items }
 {
-    if is_held_back(book, over, at, child) {
+    if is_held_back(book, over, at, index) {
         return Ok(false);
     }
     for turn in 0..ROUND {
-        if !hear(alloc, book, ends, at, child)? {
+        if !hear(alloc, book, ends, at, index)? {
             return Ok(turn > 0);
         }
     }
@@ -158,7 +202,7 @@ fn hear_child<K: Keeper>(
 }
 
 /// Takes what the children of a script have. True where there was something.
-#[tactic(auto, using(crate::proofs::Kept::leaves_all, crate::proofs::Kept::leaves_then))]
+#[tactic(auto, using(crate::proofs::Kept::leaves_all, crate::proofs::Kept::leaves_then, crate::proofs::Hearing::hears_same, crate::proofs::Hearing::hears_then, crate::proofs::Hearing::hears_of))]
 fn hear_children<K: Keeper>(
     alloc: Global,
     book: &mut Book,
@@ -166,12 +210,13 @@ fn hear_children<K: Keeper>(
     ends: &mut Ends<K>,
     at: usize,
 ) -> Result<bool, AllocError>
-    requires { at < 64 }
-    ensures { Leaves K.told book.old book.new }
+    requires place { (at < length book.old.hall) × (at < 64) }
+    ensures kept { Leaves K.told book.old book.new }
+    ensures heard { Hears (at + 1) ends.old.readers book.old.log.items ends.new.readers book.new.log.items }
 {
     let mut busy = false;
-    for child in 0..ends.children() {
-        if hear_child(alloc, book, over, ends, at, child + 1)? {
+    for index in 0..ends.children() {
+        if hear_child(alloc, book, over, ends, at, index)? {
             busy = true;
         }
     }
@@ -187,7 +232,9 @@ fn ask<K: Keeper>(
     at: usize,
 ) -> Result<bool, AllocError>
     requires { (at < length book.old.hall) × (at < 64) }
-    ensures { Keeps K.told at line.old book.old line.new book.new }
+    ensures kept { Keeps K.told at line.old book.old line.new book.new }
+    ensures readers { ends.new.readers ≡ ends.old.readers }
+    ensures log { book.new.log.items ≡ book.old.log.items }
 {
     if ends.flush() {
         return Ok(true);
@@ -211,7 +258,9 @@ fn send_awaited<K: Keeper>(
     alloc: Global,
     line: &Line,
     ends: &mut Ends<K>,
-) -> Result<bool, AllocError> {
+) -> Result<bool, AllocError>
+    ensures { ends.new.readers ≡ ends.old.readers }
+{
     let Some(request) = &line.awaited else {
         return Ok(false);
     };
@@ -232,7 +281,8 @@ fn attend<K: Keeper>(
     at: usize,
 ) -> Result<bool, AllocError>
     requires { (at < length book.old.hall) × (at < 64) }
-    ensures { Keeps K.told at line.old book.old line.new book.new }
+    ensures kept { Keeps K.told at line.old book.old line.new book.new }
+    ensures heard { Hears (at + 1) ends.old.readers book.old.log.items ends.new.readers book.new.log.items }
 {
     let answered = hear_answer(book, line, ends, at)?;
     let heard = hear_children(alloc, book, line.over, ends, at)?;
@@ -245,6 +295,7 @@ impl<K: Keeper> Desk<K> {
     pub fn new(alloc: Global, book: Book, lines: Vec<Line>, ends: Vec<Ends<K>>) -> Desk<K>
         ensures book { result.book ≡ book }
         ensures lines { result.lines.items ≡ lines.items }
+        ensures ends { result.ends.items ≡ ends.items }
     {
         Desk {
             alloc,
@@ -257,7 +308,8 @@ impl<K: Keeper> Desk<K> {
     /// One turn: a tick where the time went on, then for each script all that came, and what it asks for. True where there was something.
     pub fn turn(&mut self, now: u64) -> Result<bool, AllocError>
         requires { (length self.old.lines.items ≤ length self.old.book.hall) × (length self.old.book.hall ≤ 64) }
-        ensures { KeepsAll K.told self.old.lines.items self.old.book self.new.lines.items self.new.book }
+        ensures kept { KeepsAll K.told self.old.lines.items self.old.book self.new.lines.items self.new.book }
+        ensures heard { HearsAll self.old.ends.items self.old.book.log.items self.new.ends.items self.new.book.log.items }
     {
         tick::<K>(&mut self.book, now)?;
         attend_all(self.alloc, &mut self.book, &mut self.lines, &mut self.ends)
@@ -267,20 +319,21 @@ impl<K: Keeper> Desk<K> {
     pub fn has_come(&mut self) -> bool
         ensures lines { self.new.lines.items ≡ self.old.lines.items }
         ensures book { self.new.book ≡ self.old.book }
+        ensures heard { HearsAll self.old.ends.items self.old.book.log.items self.new.ends.items self.new.book.log.items }
     {
-        let mut at = 0;
-        for ends in &mut self.ends {
+        for at in 0..self.ends.len() {
             let over = is_over(self.lines.as_slice(), at);
-            if has_come_to(&self.book, over, ends, at) {
+            if has_come_at(&self.book, over, &mut self.ends, at) {
                 return true;
             }
-            at = at.saturating_add(1);
         }
         false
     }
 
     /// Whether a script may have run out of time at this moment.
-    pub fn is_due(&self, moment: u64) -> bool {
+    pub fn is_due(&self, moment: u64) -> bool
+        ensures { result ≡ is_behind moment (soonest self.now.book.hall) }
+    {
         match self.book.hall.deadline() {
             Some(deadline) => moment > deadline,
             None => false,
@@ -294,16 +347,24 @@ impl<K: Keeper> Desk<K> {
         all_over(self.lines.as_slice()) && all_quiet(self.ends.as_slice())
     }
 
-    /// Takes what is left of a child of the script at a place, of which nothing more can come.
-    pub fn settle(&mut self, at: usize, child: u8) -> Result<(), AllocError>
-        requires { at < 64 }
+    /// Takes what is left of a child of the script at a place, whose reader has finished that child's ring.
+    pub fn settle(
+        &mut self,
+        at: usize,
+        index: u8,
+        finished: Finished<Item<K>>,
+    ) -> Result<(), AllocError>
+        requires place { (at < length self.old.book.hall) × (at < 64) × (index < 16) }
+        requires finished { FinishedIn at index finished self.old.ends.items }
         ensures lines { self.new.lines.items ≡ self.old.lines.items }
         ensures book { Leaves K.told self.old.book self.new.book }
+        ensures heard { Settles at index self.old.ends.items self.old.book.log.items self.new.ends.items self.new.book.log.items }
+        ensures all { OnOk result (TakenIn at index (all_put finished) self.new.ends.items) }
     {
-        let Some(ends) = self.ends.get_mut(at) else {
-            return Ok(());
-        };
-        settle_child(self.alloc, &mut self.book, ends, at, child)
+        match self.ends.get_mut(at) {
+            Some(ends) => settle_child(self.alloc, &mut self.book, ends, at, index, finished),
+            None => Ok(()),
+        }
     }
 }
 
@@ -325,7 +386,10 @@ impl<K: Keeper> Desk<K> {
     }
 
     /// Tells each hand to stop, where the scripts can't go on.
-    pub fn stop_all(&mut self) {
+    pub fn stop_all(&mut self)
+        ensures lines { self.new.lines.items ≡ self.old.lines.items }
+        ensures book { self.new.book ≡ self.old.book }
+    {
         for ends in &mut self.ends {
             ends.stop();
             ends.flush();
@@ -341,13 +405,25 @@ fn is_over(lines: &[Line], at: usize) -> bool {
     }
 }
 
+/// Whether something seems to have come for the script at a place that is to be taken now.
+fn has_come_at<K: Keeper>(book: &Book, over: bool, ends: &mut Vec<Ends<K>>, at: usize) -> bool
+    ensures { (es : List HallEvent) → HearsAll ends.old.items es ends.new.items es }
+{
+    match ends.get_mut(at) {
+        Some(ends) => has_come_to(book, over, ends, at),
+        None => false,
+    }
+}
+
 /// Whether something seems to have come to a script that is to be taken now.
-fn has_come_to<K: Keeper>(book: &Book, over: bool, ends: &mut Ends<K>, at: usize) -> bool {
+fn has_come_to<K: Keeper>(book: &Book, over: bool, ends: &mut Ends<K>, at: usize) -> bool
+    ensures { (script : ℕ) (es : List HallEvent) → Hears script ends.old.readers es ends.new.readers es }
+{
     if ends.has_answer() {
         return true;
     }
-    for child in 0..ends.children() {
-        if !ends.seems_empty(child + 1) && !is_held_back(book, over, at, child + 1) {
+    for index in 0..ends.children() {
+        if !ends.readers.seems_empty(index) && !is_held_back(book, over, at, index) {
             return true;
         }
     }
@@ -382,23 +458,49 @@ fn all_quiet<K: Keeper>(ends: &[Ends<K>]) -> bool {
     true
 }
 
-/// Takes what is left of a child.
-#[tactic(auto, using(crate::proofs::Kept::leaves_all, crate::proofs::Kept::leaves_then))]
+/// Takes what is left of the child at a place, whose reader has finished its ring.
+#[tactic(auto, using(crate::proofs::Kept::leaves_all, crate::proofs::Kept::leaves_then, crate::proofs::Hearing::hears_at_same, crate::proofs::Hearing::hears_at_then))]
 fn settle_child<K: Keeper>(
     alloc: Global,
     book: &mut Book,
     ends: &mut Ends<K>,
     at: usize,
-    child: u8,
+    index: u8,
+    finished: Finished<Item<K>>,
 ) -> Result<(), AllocError>
-    requires { at < 64 }
-    ensures { Leaves K.told book.old book.new }
+    requires place { (at < length book.old.hall) × (at < 64) × (index < 16) }
+    requires finished { FinishedAt index finished ends.old.readers }
+    ensures kept { Leaves K.told book.old book.new }
+    ensures heard { HearsAt (at + 1) index ends.old.readers book.old.log.items ends.new.readers book.new.log.items }
+    ensures all { OnOk result (TakenAt index (all_put finished) ends.new.readers) }
 {
-    for _ in 0..u64::MAX {
-        if !hear(alloc, book, ends, at, child)? {
-            return Ok(());
-        }
+    let mut finished = finished;
+    let count = ends.readers.left(index, &mut finished);
+    for _ in 0..count {
+        hear_left(alloc, book, ends, at, index)?;
     }
+    Ok(())
+}
+
+/// Takes an item that is sure to be left of the child at a place, and enters what it says.
+#[tactic(auto, using(crate::proofs::Kept::leaves_all, crate::proofs::Kept::leaves_same, crate::proofs::Kept::leaves_then))]
+fn hear_left<K: Keeper>(
+    alloc: Global,
+    book: &mut Book,
+    ends: &mut Ends<K>,
+    at: usize,
+    index: u8,
+) -> Result<(), AllocError>
+    requires place { (at < length book.old.hall) × (at < 64) × (index < 16) }
+    requires seen { SeenAt index ends.old.readers }
+    ensures kept { Leaves K.told book.old book.new }
+    ensures heard { HearsAt (at + 1) index ends.old.readers book.old.log.items ends.new.readers book.new.log.items }
+    ensures left { OnOk result (LeavesOneLess index ends.old.readers ends.new.readers) }
+{
+    book.reserve()?;
+    let room = room(alloc)?;
+    let taken = ends.readers.next_left(index, room);
+    enter_heard(book, ends, at, index, taken);
     Ok(())
 }
 
@@ -412,7 +514,8 @@ fn attend_at<K: Keeper>(
 ) -> Result<bool, AllocError>
     requires hall { (at < length book.old.hall) × (at < 64) }
     requires place { at < vec_len lines.old }
-    ensures { KeepsAll K.told lines.old.items book.old lines.new.items book.new }
+    ensures kept { KeepsAll K.told lines.old.items book.old lines.new.items book.new }
+    ensures heard { HearsAll ends.old.items book.old.log.items ends.new.items book.new.log.items }
 {
     let Some(ends) = ends.get_mut(at) else {
         return Ok(false);
@@ -430,7 +533,8 @@ fn attend_all<K: Keeper>(
     ends: &mut Vec<Ends<K>>,
 ) -> Result<bool, AllocError>
     requires { (length lines.old.items ≤ length book.old.hall) × (length book.old.hall ≤ 64) }
-    ensures { KeepsAll K.told lines.old.items book.old lines.new.items book.new }
+    ensures kept { KeepsAll K.told lines.old.items book.old lines.new.items book.new }
+    ensures heard { HearsAll ends.old.items book.old.log.items ends.new.items book.new.log.items }
 {
     let mut busy = false;
     for at in 0..lines.len() {

@@ -1,10 +1,10 @@
 //! A script's ends of its rings.
 
-ghost use Rattle.std.specs.Prelude.{◌≡◌, ◌≤◌, [], vec_capacity, IfSome, IfOk};
-ghost use Rattle.child_desk.specs.Ends.{IsOutput};
+ghost use Rattle.std.specs.Prelude.{◌≡◌, ◌≤◌};
 
-use child_events::{Answer, What};
-use child_keeper::{Answered, Item, Keeper, Piece};
+use crate::readers::{Readers, Taken, is_last};
+use child_events::Answer;
+use child_keeper::{Answered, Item, Keeper};
 use expect_core::{Act, Request};
 use feed_rings::{FeedIn, FeedOut};
 use std::alloc::{AllocError, Global};
@@ -16,8 +16,8 @@ pub struct Ends<K: Keeper> {
     asks: FeedIn<Item<K>>,
     /// From its hand.
     answers: FeedOut<Item<K>>,
-    /// From the readers of its children, the first of which is child 1.
-    outs: Vec<FeedOut<Item<K>>>,
+    /// From the readers of its children.
+    pub readers: Readers<K>,
     /// What waits for room in the ring to the hand.
     ready: Option<Item<K>>,
     /// The request that waits for its answer was put, or waits for room.
@@ -30,24 +30,15 @@ pub struct Ends<K: Keeper> {
     ended: u8,
 }
 
-/// What came from a child, and a copy of it.
-#[derive(Drop)]
-pub struct Heard {
-    pub what: What,
-    pub copy: What,
-}
-
 impl<K: Keeper> Ends<K> {
     /// The ends of rings through which nothing has come.
-    pub fn new(
-        asks: FeedIn<Item<K>>,
-        answers: FeedOut<Item<K>>,
-        outs: Vec<FeedOut<Item<K>>>,
-    ) -> Ends<K> {
+    pub fn new(asks: FeedIn<Item<K>>, answers: FeedOut<Item<K>>, readers: Readers<K>) -> Ends<K>
+        ensures { result.readers ≡ readers }
+    {
         Ends {
             asks,
             answers,
-            outs,
+            readers,
             ready: None,
             sent: false,
             greatest: 0,
@@ -57,76 +48,52 @@ impl<K: Keeper> Ends<K> {
     }
 
     /// Whether nothing is under way: nothing waits for room, and the output of each child that was started has ended.
-    pub fn is_quiet(&self) -> bool {
+    pub(crate) fn is_quiet(&self) -> bool {
         self.ready.is_none() && self.ended >= self.started
     }
 
     /// The greatest number of a child that was to be started.
-    pub fn children(&self) -> u8 {
-        self.greatest
+    pub(crate) fn children(&self) -> u8
+        ensures { result ≤ 16 }
+    {
+        self.greatest.min(16)
     }
 
     /// The next answer, where there is one.
-    pub fn next_answer(&mut self) -> Option<Answered<K>> {
+    pub(crate) fn next_answer(&mut self) -> Option<Answered<K>>
+        ensures { self.new.readers ≡ self.old.readers }
+    {
         match self.answers.take()? {
             Item::Answer { answered, .. } => Some(answered),
             _ => None,
         }
     }
 
-    /// Whether nothing seems to come from a child.
-    pub fn seems_empty(&mut self, child: u8) -> bool {
-        let Some(at) = usize::from(child).checked_sub(1) else {
-            return true;
-        };
-        match self.outs.get_mut(at) {
-            Some(out) => out.is_empty(),
-            None => true,
-        }
-    }
-
     /// Whether an answer seems to have come.
-    pub fn has_answer(&mut self) -> bool {
+    pub(crate) fn has_answer(&mut self) -> bool
+        ensures { self.new.readers ≡ self.old.readers }
+    {
         !self.answers.is_empty()
     }
 
-    fn next_item(&mut self, child: u8) -> Option<Item<K>> {
-        let at = usize::from(child).checked_sub(1)?;
-        self.outs.get_mut(at)?.take()
-    }
-
-    /// What comes next from a child, where something does, and a copy in room that was made for it.
-    pub fn next_output(&mut self, child: u8, room: Vec<u8>) -> Option<Heard>
-        requires { (room.items ≡ []) × (4096 ≤ vec_capacity room) }
-        ensures { IfSome result (λ h. (h.copy ≡ h.what) × IsOutput h.what) }
+    /// Counts the output that ended with what was taken, where it did.
+    pub(crate) fn count(&mut self, taken: &Taken)
+        ensures { self.new.readers ≡ self.old.readers }
     {
-        match self.next_item(child)? {
-            Item::Out { piece, .. } => Some(heard_piece(piece, room)),
-            Item::End { .. } => {
-                self.ended = self.ended.saturating_add(1);
-                Some(Heard {
-                    what: What::Eof,
-                    copy: What::Eof,
-                })
-            }
-            Item::ReadFail { cause, .. } => {
-                self.ended = self.ended.saturating_add(1);
-                Some(Heard {
-                    what: What::ReadFail(cause),
-                    copy: What::ReadFail(cause),
-                })
-            }
-            _ => None,
+        if is_last(taken) {
+            self.ended = self.ended.saturating_add(1);
         }
     }
 
     /// Whether the request that waits for its answer was put, or waits for room.
-    pub fn is_sent(&self) -> bool {
+    pub(crate) fn is_sent(&self) -> bool {
         self.sent
     }
 
     /// Has a copy of a request put to the hand.
-    pub fn send(&mut self, alloc: Global, request: &Request) -> Result<(), AllocError> {
+    pub(crate) fn send(&mut self, alloc: Global, request: &Request) -> Result<(), AllocError>
+        ensures { self.new.readers ≡ self.old.readers }
+    {
         let copy = request.copied(alloc)?;
         if let Act::Spawn(_) = &request.act {
             self.greatest = self.greatest.max(request.child);
@@ -137,7 +104,9 @@ impl<K: Keeper> Ends<K> {
     }
 
     /// The answer to what was sent was entered; it started a child or not.
-    pub fn go_on(&mut self, starts: bool) {
+    pub(crate) fn go_on(&mut self, starts: bool)
+        ensures { self.new.readers ≡ self.old.readers }
+    {
         self.sent = false;
         if starts {
             self.started = self.started.saturating_add(1);
@@ -145,12 +114,16 @@ impl<K: Keeper> Ends<K> {
     }
 
     /// Has the stop put to the hand.
-    pub fn stop(&mut self) {
+    pub(crate) fn stop(&mut self)
+        ensures { self.new.readers ≡ self.old.readers }
+    {
         self.ready = Some(Item::Stop);
     }
 
     /// Puts what waits for room. True where something was put.
-    pub fn flush(&mut self) -> bool {
+    pub(crate) fn flush(&mut self) -> bool
+        ensures { self.new.readers ≡ self.old.readers }
+    {
         let Some(item) = self.ready.take() else {
             return false;
         };
@@ -165,25 +138,9 @@ impl<K: Keeper> Ends<K> {
 }
 
 /// Whether an answer says that a child was started.
-pub fn starts<K: Keeper>(answered: &Answered<K>) -> bool {
+pub(crate) fn starts<K: Keeper>(answered: &Answered<K>) -> bool {
     match &answered.request.act {
         Act::Spawn(_) => answered.answer == Answer::Ok,
         _ => false,
     }
-}
-
-/// Room for the copy of a piece.
-pub fn room(alloc: Global) -> Result<Vec<u8>, AllocError>
-    ensures { IfOk result (λ r. (r.items ≡ []) × (4096 ≤ vec_capacity r)) }
-{
-    Vec::with_capacity(alloc, 4096)
-}
-
-fn heard_piece(piece: Piece, room: Vec<u8>) -> Heard
-    requires { (room.items ≡ []) × (4096 ≤ vec_capacity room) }
-    ensures { (result.copy ≡ result.what) × IsOutput result.what }
-{
-    let copy = What::Out(piece.copied_into(room));
-    let what = What::Out(piece.into_text());
-    Heard { what, copy }
 }

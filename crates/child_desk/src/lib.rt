@@ -4,9 +4,12 @@
 mod book;
 mod desk;
 mod ends;
+mod entering;
 mod line;
+mod readers;
 
 pub use book::Book;
 pub use desk::Desk;
 pub use ends::Ends;
 pub use line::Line;
+pub use readers::Readers;

@@ -6,8 +6,10 @@ ghost use Rattle.session.specs.Left.{Kept};
 ghost use Rattle.dialogue_sched.specs.declared.script.Script.{Script};
 ghost use Rattle.dialogue_sched.specs.Hall.{Begins};
 ghost use Rattle.child_desk.specs.Line.{Keeping, answer_at, InLine, Keeps, Means, Goes};
+ghost use Rattle.child_desk.specs.Heard.{Unheard};
 
-use crate::book::{Book, enter};
+use crate::book::Book;
+use crate::entering::enter;
 use child_events::{Answer, HallEvent, What};
 use child_keeper::{Answered, Keeper};
 use dialogue_sched::ReportFault;
@@ -52,7 +54,8 @@ pub fn report_at<K: Keeper>(book: &Book, at: usize) -> Result<Report, ReportFaul
 /// Has the hall's next request wait for its answer, where none waits. No other script is touched.
 pub fn ask_next<K: Keeper>(book: &mut Book, line: &mut Line, at: usize)
     requires { (at < length book.old.hall) × (at < 64) }
-    ensures { Keeps K.told at line.old book.old line.new book.new }
+    ensures kept { Keeps K.told at line.old book.old line.new book.new }
+    ensures log { book.new.log.items ≡ book.old.log.items }
 {
     if line.awaited.is_some() {
         return;
@@ -110,7 +113,8 @@ pub fn enter_answer<K: Keeper>(
 ) -> bool
     requires place { at < 64 }
     requires room { vec_len book.old.log < vec_capacity book.old.log }
-    ensures { Keeps K.told at line.old book.old line.new book.new }
+    ensures kept { Keeps K.told at line.old book.old line.new book.new }
+    ensures silent { Unheard book.old.log.items book.new.log.items }
 {
     if !is_awaited(line, &answered) {
         return false;

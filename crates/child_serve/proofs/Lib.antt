@@ -4,6 +4,10 @@ pub mod Ticking
 pub mod Merging
 pub mod Sorting
 pub mod Turning
+pub mod Rounding
+pub mod Giving
+pub mod Opening
+pub mod Settling
 pub mod Wholes
 pub mod Teaming
 pub mod Working

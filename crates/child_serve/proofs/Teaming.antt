@@ -59,53 +59,53 @@ module _ {K C : Type 0} where
     pub started_all : (n w : ℕ) (hs : List (PromisedHandle T (Works K C))) (teams : List (Team K C)) → StartedTo n w hs [] teams → AllStarted n 0 hs teams
     started_all n w hs teams (before, is, all, at) = subst (AllStarted n 0 hs) (sym (is ∙ append-nil before)) all
 
-  module _ (told : ℕ → ℕ → Request → Answer → Type 0) (named made : K → ℕ) where
+  module _ (told : ℕ → ℕ → Request → Answer → Type 0) (gives : ℕ → ℕ → Option (List ℕ) → Type 0) (named made : K → ℕ) where
     -- those before the rest have ended
     abbrev pub JoinedTo : {T : Type 0} → ℕ → List Served → List (PromisedHandle T (Works K C)) → List (Team K C) → Type 0
-    JoinedTo n ps hs teams = (before : List (Team K C)) × (after : List (Team K C)) × (teams ≡ before ++ after) × AllWork told named made n 0 ps before × AllStarted n (length before) hs after
+    JoinedTo n ps hs teams = (before : List (Team K C)) × (after : List (Team K C)) × (teams ≡ before ++ after) × AllWork told gives named made n 0 ps before × AllStarted n (length before) hs after
 
-    worked : (n w : ℕ) (ps : List Served) (ts : List (Team K C)) (p : Served) (t : Team K C) → AllWork told named made n w ps ts → IsWork told named made n (w + length ts) t p → AllWork told named made n w (ps ++ p ∷ []) (ts ++ t ∷ [])
-    worked n w [] [] p t a k = (subst (λ (v : ℕ). IsWork told named made n v t p) (let e : w + 0 ≡ w = omega arith in e) k, tt)
+    worked : (n w : ℕ) (ps : List Served) (ts : List (Team K C)) (p : Served) (t : Team K C) → AllWork told gives named made n w ps ts → IsWork told gives named made n (w + length ts) t p → AllWork told gives named made n w (ps ++ p ∷ []) (ts ++ t ∷ [])
+    worked n w [] [] p t a k = (subst (λ (v : ℕ). IsWork told gives named made n v t p) (let e : w + 0 ≡ w = omega arith in e) k, tt)
     worked n w [] (x ∷ ts) p t a k = absurd a
     worked n w (x ∷ ps) [] p t a k = absurd a
-    worked n w (x ∷ ps) (y ∷ ts) p t a k = (a.0, worked n (w + 1) ps ts p t a.1 (subst (λ (v : ℕ). IsWork told named made n v t p) (let e : w + suc (length ts) ≡ w + 1 + length ts = omega arith in e) k))
+    worked n w (x ∷ ps) (y ∷ ts) p t a k = (a.0, worked n (w + 1) ps ts p t a.1 (subst (λ (v : ℕ). IsWork told gives named made n v t p) (let e : w + suc (length ts) ≡ w + 1 + length ts = omega arith in e) k))
 
-    pub joined_more : {T : Type 0} → (n : ℕ) (ps : List Served) (h : PromisedHandle T (Works K C)) (hs : List (PromisedHandle T (Works K C))) (teams : List (Team K C)) (p : Served) → JoinedTo n ps (h ∷ hs) teams → IsWork told named made h.promise.workers h.promise.worker h.promise.team.value p → JoinedTo n (ps ++ p ∷ []) hs teams
+    pub joined_more : {T : Type 0} → (n : ℕ) (ps : List Served) (h : PromisedHandle T (Works K C)) (hs : List (PromisedHandle T (Works K C))) (teams : List (Team K C)) (p : Served) → JoinedTo n ps (h ∷ hs) teams → IsWork told gives named made h.promise.workers h.promise.worker h.promise.team.value p → JoinedTo n (ps ++ p ∷ []) hs teams
     joined_more n ps h hs teams p (before, [], is, all, more) k = absurd more
     joined_more n ps h hs teams p (before, t ∷ after, is, all, more) k = (
       before ++ t ∷ [],
       after,
       is ∙ sym (append_assoc before (t ∷ []) after),
       worked n 0 ps before p t all
-          (subst (λ (x : Team K C). IsWork told named made n (0 + length before) x p) more.0.2
-          (subst (λ (v : ℕ). IsWork told named made n v h.promise.team.value p) (more.0.1 ∙ (let e : length before ≡ 0 + length before = omega arith in e))
-          (subst (λ (m : ℕ). IsWork told named made m h.promise.worker h.promise.team.value p) more.0.0 k))),
+          (subst (λ (x : Team K C). IsWork told gives named made n (0 + length before) x p) more.0.2
+          (subst (λ (v : ℕ). IsWork told gives named made n v h.promise.team.value p) (more.0.1 ∙ (let e : length before ≡ 0 + length before = omega arith in e))
+          (subst (λ (m : ℕ). IsWork told gives named made m h.promise.worker h.promise.team.value p) more.0.0 k))),
       subst (λ (v : ℕ). AllStarted n v hs after) (sym (one_longer before t)) more.1,
     )
 
-    pub joined_next : {T : Type 0} → (n : ℕ) (ps ps' : List Served) (h : PromisedHandle T (Works K C)) (rest rest' : List (PromisedHandle T (Works K C))) (teams : List (Team K C)) (p : Served) → rest ≡ h ∷ rest' → ps' ≡ ps ++ p ∷ [] → JoinedTo n ps rest teams → IsWork told named made h.promise.workers h.promise.worker h.promise.team.value p → JoinedTo n ps' rest' teams
+    pub joined_next : {T : Type 0} → (n : ℕ) (ps ps' : List Served) (h : PromisedHandle T (Works K C)) (rest rest' : List (PromisedHandle T (Works K C))) (teams : List (Team K C)) (p : Served) → rest ≡ h ∷ rest' → ps' ≡ ps ++ p ∷ [] → JoinedTo n ps rest teams → IsWork told gives named made h.promise.workers h.promise.worker h.promise.team.value p → JoinedTo n ps' rest' teams
     joined_next {T} n ps ps' h rest rest' teams p e f j k =
         subst (λ (x : List Served). JoinedTo n x rest' teams) (sym f)
         (joined_more n ps h rest' teams p (subst (λ (x : List (PromisedHandle T (Works K C))). JoinedTo n ps x teams) e j) k)
 
-    pub joined_all : {T : Type 0} → (n : ℕ) (ps : List Served) (hs : List (PromisedHandle T (Works K C))) (teams : List (Team K C)) → length hs ≡ 0 → JoinedTo n ps hs teams → AllWork told named made n 0 ps teams
-    joined_all n ps [] teams e (before, [], is, all, more) = subst (AllWork told named made n 0 ps) (sym (is ∙ append-nil before)) all
+    pub joined_all : {T : Type 0} → (n : ℕ) (ps : List Served) (hs : List (PromisedHandle T (Works K C))) (teams : List (Team K C)) → length hs ≡ 0 → JoinedTo n ps hs teams → AllWork told gives named made n 0 ps teams
+    joined_all n ps [] teams e (before, [], is, all, more) = subst (AllWork told gives named made n 0 ps) (sym (is ∙ append-nil before)) all
     joined_all n ps [] teams e (before, t ∷ after, is, all, more) = absurd more
     joined_all n ps (h ∷ hs) teams e j = absurd (omega (arith, e))
 
-    pub work_count : (n w : ℕ) (ps : List Served) (ts : List (Team K C)) → AllWork told named made n w ps ts → length ps ≡ length ts
+    pub work_count : (n w : ℕ) (ps : List Served) (ts : List (Team K C)) → AllWork told gives named made n w ps ts → length ps ≡ length ts
     work_count n w [] [] a = refl
     work_count n w [] (t ∷ ts) a = absurd a
     work_count n w (p ∷ ps) [] a = absurd a
     work_count n w (p ∷ ps) (t ∷ ts) a = ap suc (work_count n (w + 1) ps ts a.1)
 
-    pub work_fits : (n w : ℕ) (ps : List Served) (ts : List (Team K C)) → AllWork told named made n w ps ts → AllFitFrom n w (records_of ps)
+    pub work_fits : (n w : ℕ) (ps : List Served) (ts : List (Team K C)) → AllWork told gives named made n w ps ts → AllFitFrom n w (records_of ps)
     work_fits n w [] [] a = tt
     work_fits n w [] (t ∷ ts) a = absurd a
     work_fits n w (p ∷ ps) [] a = absurd a
     work_fits n w (p ∷ ps) (t ∷ ts) a = (a.0.fits, work_fits n (w + 1) ps ts a.1)
 
-    work_at : (n w i : ℕ) (ps : List Served) (ts : List (Team K C)) (p : Served) → AllWork told named made n w ps ts → slice_get ps i ≡ Some p → (t : Team K C) × (slice_get ts i ≡ Some t) × IsWork told named made n (w + i) t p
+    work_at : (n w i : ℕ) (ps : List Served) (ts : List (Team K C)) (p : Served) → AllWork told gives named made n w ps ts → slice_get ps i ≡ Some p → (t : Team K C) × (slice_get ts i ≡ Some t) × IsWork told gives named made n (w + i) t p
     work_at n w i [] ts p a got = absurd (none p got)
       where
         none : (p : Served) → ◌≡◌ {A = Option Served} None (Some p) → ⊥
@@ -113,16 +113,16 @@ module _ {K C : Type 0} where
     work_at n w i (x ∷ ps) [] p a got = absurd a
     work_at n w zero (x ∷ ps) (t ∷ ts) p a got =
         let is : x ≡ p = cc in
-        (t, refl, subst (λ (s : Served). IsWork told named made n (w + 0) t s) is (subst (λ (v : ℕ). IsWork told named made n v t x) (let e : w ≡ w + 0 = omega arith in e) a.0))
+        (t, refl, subst (λ (s : Served). IsWork told gives named made n (w + 0) t s) is (subst (λ (v : ℕ). IsWork told gives named made n v t x) (let e : w ≡ w + 0 = omega arith in e) a.0))
     work_at n w (suc i) (x ∷ ps) (t ∷ ts) p a got =
         let r = work_at n (w + 1) i ps ts p a.1 got in
-        (r.0, r.1, subst (λ (v : ℕ). IsWork told named made n v r.0 p) (let e : w + 1 + i ≡ w + suc i = omega arith in e) r.2)
+        (r.0, r.1, subst (λ (v : ℕ). IsWork told gives named made n v r.0 p) (let e : w + 1 + i ≡ w + suc i = omega arith in e) r.2)
 
-    pub are_parts : (keepers : List Keeping) (scripts : List Script) (ps : List Served) (teams : List (Team K C)) → AllWork told named made (length teams) 0 ps teams → AreDealt named made keepers scripts teams → AreParts told keepers scripts ps
+    pub are_parts : (keepers : List Keeping) (scripts : List Script) (ps : List Served) (teams : List (Team K C)) → AllWork told gives named made (length teams) 0 ps teams → AreDealt named made keepers scripts teams → AreParts told gives keepers scripts ps
     are_parts keepers scripts ps teams all dealt w p got =
         let n : ℕ = length teams in
         let r = work_at n 0 w ps teams p all got in
         let d = dealt w r.0 r.1 in
-        let k : IsWork told named made n w r.0 p = subst (λ (v : ℕ). IsWork told named made n v r.0 p) (let e : 0 + w ≡ w = omega arith in e) r.2 in
-        subst (λ (m : ℕ). IsPart told m w keepers scripts p) (sym (work_count n 0 ps teams all))
+        let k : IsWork told gives named made n w r.0 p = subst (λ (v : ℕ). IsWork told gives named made n v r.0 p) (let e : 0 + w ≡ w = omega arith in e) r.2 in
+        subst (λ (m : ℕ). IsPart told gives m w keepers scripts p) (sym (work_count n 0 ps teams all))
         (record { mine = map (keeping_of named made) r.0.keepers.items; kept = d.0; few = r.0.scripts.items; dealt = d.1; served = k.served })

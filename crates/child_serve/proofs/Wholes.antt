@@ -1,11 +1,14 @@
 -- From what each worker has served to what all have.
 use Rattle.std.proofs.Common.{◌≡◌, ◌≢◌, ◌⊎◌, inl, inr, ℕ, zero, suc, ◌+◌, ◌-◌, ◌*◌, ◌/◌, ◌%◌, ◌<◌, List, [], ◌∷◌, ◌++◌, map, length, Option, Some, None, refl, sym, ap, subst, ◌∙◌, arith}
-use Rattle.std.specs.Prelude.{slice_get}
+use Rattle.std.specs.Prelude.{slice_get, Contains}
+use Rattle.std.specs.List.{flat_map}
 use Rattle.std.proofs.Math.Nat.{mod-lt}
 use Rattle.std.proofs.lemmas.Nat.{div-add-mod'}
 use Rattle.std.proofs.lemmas.Option.{slice_get_within}
+use Rattle.std.proofs.lemmas.List.Elements.{Contains-append_left, Contains-append_right}
 use Rattle.child_events.specs.declared.event.Answer.{Answer}
 use Rattle.child_events.specs.declared.event.Event.{Event}
+use Rattle.child_events.specs.declared.event.What.{What}
 use Rattle.child_events.specs.World.{own}
 use Rattle.tcl_eval.specs.declared.ending.Ending.TheVariants.{Waiting, Memory}
 use Rattle.expect_core.specs.declared.request.Request.{Request}
@@ -16,9 +19,12 @@ use Rattle.dialogue_sched.specs.declared.script.Script.{Script}
 use Rattle.dialogue_sched.specs.Ticks.{Rises, WithTicks, none, kept, tick}
 use Rattle.dialogue_sched.proofs.Ticking.{ticks_change_nothing, ticks_only_add}
 use Rattle.child_serve.specs.declared.served.Served.{Served}
+use Rattle.child_serve.specs.declared.served.Unsettled.{Unsettled}
 use Rattle.child_serve.specs.Joined.{script_of, EachSees}
 use Rattle.child_desk.specs.Book.{Ascends}
 use Rattle.child_serve.specs.Turns.{in_turn}
+use Rattle.child_serve.specs.Given.{IsGiven}
+use Rattle.child_desk.specs.Heard.{said_in, said_by}
 use Rattle.child_desk.specs.Told.{answer_in, answers_in, AreTold}
 use Rattle.child_desk.specs.Line.{Keeping}
 use Rattle.child_serve.specs.Served.{IsServed, AreServed, IsPart, AreParts, records_of}
@@ -26,14 +32,19 @@ use Rattle.child_serve.proofs.Merging.{ascends_own}
 use Rattle.child_desk.proofs.Telling.{told_more}
 use Rattle.child_serve.proofs.Turning.{Enough, turn_length, turn_at}
 
--- ticks bring no answer and no item
+-- ticks bring no answer and no output
 
 same_answers : (es more : List Event) → WithTicks es more → answers_in more ≡ answers_in es
 same_answers xs ys none = refl
 same_answers xs ys (kept e es more p) = ap (λ (l : List Answer). answer_in e ++ l) (same_answers es more p)
 same_answers xs ys (tick m es more p) = same_answers es more p
 
-module _ (told : ℕ → ℕ → Request → Answer → Type 0) where
+same_said : (child : ℕ) (es more : List Event) → WithTicks es more → said_by child more ≡ said_by child es
+same_said child xs ys none = refl
+same_said child xs ys (kept e es more p) = ap (λ (l : List What). said_in child e ++ l) (same_said child es more p)
+same_said child xs ys (tick m es more p) = same_said child es more p
+
+module _ (told : ℕ → ℕ → Request → Answer → Type 0) (gives : ℕ → ℕ → Option (List ℕ) → Type 0) where
   -- a script's part of its worker's record, and of the joined one
 
   ended_on : (script : Script) (report : Report) (es more : List Event) → Rises more → WithTicks es more →
@@ -43,12 +54,13 @@ module _ (told : ℕ → ℕ → Request → Answer → Type 0) where
   ended_on script report es more up p (inl (is, ends)) =
       inl (is ∙ sym (ticks_change_nothing script.source script.settings es more up p (λ w. ends (ap (λ (r : Report). r.ending) is ∙ w))), ends)
 
-  pub served_on : (keeper : Keeping) (script : Script) (report : Report) (es more : List Event) → Rises more → WithTicks es more →
-      IsServed told keeper script report es → IsServed told keeper script report more
-  served_on keeper script report es more up p s = record {
+  pub served_on : (number : ℕ) (keeper : Keeping) (script : Script) (report : Report) (old new : List Unsettled) (es more : List Event) → Rises more → WithTicks es more →
+      ((u : Unsettled) → Contains old u → Contains new u) → IsServed told gives number keeper script report old es → IsServed told gives number keeper script report new more
+  served_on number keeper script report old new es more up p among s = record {
     ended = ended_on script report es more up p s.ended;
     answers = subst (λ (xs : List Answer). AreTold told keeper.name keeper.made xs asked) (sym (same_answers es more p))
         (subst (AreTold told keeper.name keeper.made (answers_in es)) (sym grown.asked) (told_more told keeper.name keeper.made (answers_in es) before grown.more s.answers));
+    given = λ child low high apart. subst (IsGiven told gives keeper.name keeper.made child) (sym (same_said child es more p)) (s.given child low high (λ listed. apart (among _ listed)));
   }
     where
       before : List Request
@@ -85,10 +97,22 @@ pub map_length : {X Y : Type 0} (f : X → Y) (xs : List X) → length (map f xs
 map_length f [] = refl
 map_length f (x ∷ xs) = ap suc (map_length f xs)
 
-module _ (told : ℕ → ℕ → Request → Answer → Type 0)
-    (keepers : List Keeping) (scripts : List Script) (parts : List Served) (s : Served) (some : 0 < length parts) (are : AreParts told keepers scripts parts)
+-- what one of them has, all have
+among_all : (parts : List Served) (w : ℕ) (p : Served) (u : Unsettled) → slice_get parts w ≡ Some p → Contains p.unsettled.items u → Contains (flat_map (λ (s : Served). s.unsettled.items) parts) u
+among_all [] w p u got h = absurd (no_part p got)
+  where
+    no_part : (p : Served) → ◌≡◌ {A = Option Served} None (Some p) → ⊥
+    no_part p h = cc
+among_all (q ∷ parts) zero p u got h =
+    let is : p ≡ q = cc in
+    Contains-append_left q.unsettled.items _ u (subst (λ (s : Served). Contains s.unsettled.items u) is h)
+among_all (q ∷ parts) (suc w) p u got h = Contains-append_right q.unsettled.items _ u (among_all parts w p u got h)
+
+module _ (told : ℕ → ℕ → Request → Answer → Type 0) (gives : ℕ → ℕ → Option (List ℕ) → Type 0)
+    (keepers : List Keeping) (scripts : List Script) (parts : List Served) (s : Served) (some : 0 < length parts) (are : AreParts told gives keepers scripts parts)
     (up : Ascends s.logged) (sees : EachSees (records_of parts) s.logged)
-    (reports : s.reports ≡ in_turn (length scripts) (map (λ (p : Served). p.reports) parts)) where
+    (reports : s.reports ≡ in_turn (length scripts) (map (λ (p : Served). p.reports) parts))
+    (unsettled : s.unsettled.items ≡ flat_map (λ (p : Served). p.unsettled.items) parts) where
   abbrev n : ℕ
   n = length parts
 
@@ -107,13 +131,14 @@ module _ (told : ℕ → ℕ → Request → Answer → Type 0)
   as_many = sym (map_length (λ (p : Served). p.reports) parts)
 
   of_one : (i : ℕ) (keeper : Keeping) (script : Script) (report : Report) → slice_get keepers i ≡ Some keeper → slice_get scripts i ≡ Some script → slice_get s.reports i ≡ Some report →
-      IsServed told keeper script report (own (i + 1) s.logged)
+      IsServed told gives (i + 1) keeper script report s.unsettled.items (own (i + 1) s.logged)
   of_one i keeper script report got_keeper got_script got_report =
-      subst (λ (k : ℕ). IsServed told keeper script report (own k s.logged)) number
-      (served_on told keeper script report (own ((i / n) + 1) p.0.logged) (own (script_of n (i % n) ((i / n) + 1)) s.logged)
+      subst (λ (k : ℕ). IsServed told gives k keeper script report s.unsettled.items (own k s.logged)) number
+      (served_on told gives (script_of n (i % n) ((i / n) + 1)) keeper script report p.0.unsettled.items s.unsettled.items (own ((i / n) + 1) p.0.logged) (own (script_of n (i % n) ((i / n) + 1)) s.logged)
       (ascends_own (script_of n (i % n) ((i / n) + 1)) s.logged up)
       (subst (λ (m : ℕ). WithTicks (own ((i / n) + 1) p.0.logged) (own (script_of m (i % n) ((i / n) + 1)) s.logged)) (map_length (λ (x : Served). x.logged) parts)
       (sees (i % n) ((i / n) + 1) p.0.logged (mapped (λ (x : Served). x.logged) parts (i % n) p.0 p.1) (omega arith)))
+      (λ u h. subst (λ (l : List Unsettled). Contains l u) (sym unsettled) (among_all parts (i % n) p.0 u p.1 h))
       (mine.served.each (i / n) keeper script report
       (mine.kept (i / n) ∙ ap (slice_get keepers) place ∙ got_keeper)
       (mine.dealt (i / n) ∙ ap (slice_get scripts) place ∙ got_script)
@@ -128,13 +153,13 @@ module _ (told : ℕ → ℕ → Request → Answer → Type 0)
       p : (x : Served) × (slice_get parts (i % n) ≡ Some x)
       p = there parts (i % n) (mod-lt i some)
 
-      mine : IsPart told n (i % n) keepers scripts p.0
+      mine : IsPart told gives n (i % n) keepers scripts p.0
       mine = are (i % n) p.0 p.1
 
       number : script_of n (i % n) ((i / n) + 1) ≡ i + 1
       number = let e : (i / n) + 1 - 1 ≡ (i / n) = omega arith in ap (λ (k : ℕ). k * n + (i % n) + 1) e ∙ ap (λ (k : ℕ). k + 1) place
 
-  pub all_served : AreServed told keepers scripts s
+  pub all_served : AreServed told gives (λ i. i + 1) keepers scripts s
   all_served = record {
     count = ap length reports ∙ turn_length n (length scripts) of as_many some enough;
     each = of_one;

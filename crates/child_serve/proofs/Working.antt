@@ -1,6 +1,6 @@
 -- What a worker has served, from what its desk keeps.
 use Rattle.std.proofs.Common.{◌≡◌, ◌≢◌, ◌⊎◌, inl, inr, ℕ, zero, suc, ◌+◌, ◌-◌, ◌*◌, ◌≤◌, ◌<◌, List, [], ◌∷◌, ◌++◌, length, map, Bool, true, false, ◌&&◌, Option, None, Some, refl, sym, ap, subst, ◌∙◌, arith}
-use Rattle.std.specs.Prelude.{slice_get, nat_lt, nat_le, IsTrue, if◌then◌else◌}
+use Rattle.std.specs.Prelude.{slice_get, Contains, nat_lt, nat_le, IsTrue, if◌then◌else◌}
 use Rattle.std.proofs.lemmas.Bool.Decides.{nat_tests}
 use Rattle.child_events.specs.declared.event.Answer.{Answer}
 use Rattle.child_events.specs.declared.event.What.{What}
@@ -23,11 +23,13 @@ use Rattle.dialogue_sched.specs.Hall.{Begins, AllBegin}
 use Rattle.child_desk.specs.declared.book.Book.{Book}
 use Rattle.child_desk.specs.declared.line.Line.{Line}
 use Rattle.child_desk.specs.Book.{Ascends, AllTaken, IsRecord}
+use Rattle.child_desk.specs.Heard.{recorded}
 use Rattle.child_desk.specs.Line.{Keeping, InLine, Means, Leaves, KeepsAll, AllOver}
 use Rattle.child_desk.proofs.Lining.{first_line}
 use Rattle.child_serve.specs.declared.served.Served.{Served}
 use Rattle.child_serve.specs.declared.worker.Team.{Team}
 use Rattle.child_serve.specs.Joined.{script_of, numbered}
+use Rattle.child_serve.specs.Given.{IsGiven}
 use Rattle.child_serve.specs.Served.{IsServed}
 use Rattle.child_serve.specs.Whole.{keeping_of}
 use Rattle.child_serve.specs.Teams.{AreFirst, AllShown, IsTeam, IsWork}
@@ -177,28 +179,38 @@ module _ (told : ℕ → ℕ → Request → Answer → Type 0) (lines : List Li
   pub all_shown : (n : ℕ) (reports : List Report) → n ≡ length lines → ShownTo told lines book n reports → AllShown told lines book reports
   all_shown n reports all s = record { count = s.count ∙ all; each = s.each }
 
--- The lines and the hall at the start, what turning left of them, what was taken behind that, and the reports.
-module _ {K C : Type 0} (told : ℕ → ℕ → Request → Answer → Type 0) (named made : K → ℕ) (n w : ℕ) (team : Team K C) (first lines : List Line) (begun turned settled : Book) (s : Served)
+-- The lines and the hall at the start, what turning left of them, what was taken behind that, the reports, and what the record has of each child.
+module _ {K C : Type 0} (told : ℕ → ℕ → Request → Answer → Type 0) (gives : ℕ → ℕ → Option (List ℕ) → Type 0) (named made : K → ℕ) (n w : ℕ) (team : Team K C) (first lines : List Line) (begun turned settled : Book) (s : Served)
     (is : IsTeam n w team)
     (are : AreFirst named made team.keepers.items first) (begin : AllBegin team.scripts.items begun.hall) (empty : begun.log.items ≡ []) (good : IsRecord begun)
     (kept : KeepsAll told first begun lines turned) (over : AllOver lines)
     (left : Leaves told turned settled)
-    (shown : AllShown told lines settled s.reports) (logged : s.logged ≡ settled.log.items) where
+    (shown : AllShown told lines settled s.reports) (logged : s.logged ≡ settled.log.items)
+    (given : (i index : ℕ) (keeper : K) → slice_get team.keepers.items i ≡ Some keeper → index < 16 → (Contains s.unsettled.items (record { script = script_of n w (i + 1); child = index + 1 }) → ⊥) →
+    IsGiven told gives (named keeper) (made keeper) (index + 1) (recorded (i + 1) (index + 1) settled.log.items)) where
   ended_by : (script : Script) (line : Line) (es : List Event) (report : Report) → IsTrue line.over → Means script line es report →
       ((report ≡ meaning script.source script.settings es) × (report.ending ≢ Waiting)) ⊎ (report.ending ≡ Memory)
   ended_by script line es report o (inl (same, ends)) = inl (same, ends o)
   ended_by script line es report o (inr memory) = inr memory
 
   of_one : (i : ℕ) (keeper : Keeping) (script : Script) (report : Report) → slice_get (map (keeping_of named made) team.keepers.items) i ≡ Some keeper → slice_get team.scripts.items i ≡ Some script → slice_get s.reports i ≡ Some report →
-      IsServed told keeper script report (own (i + 1) s.logged)
+      IsServed told gives (script_of n w (i + 1)) keeper script report s.unsettled.items (own (i + 1) s.logged)
   of_one i keeper script report got_keeper got_script got_report =
-      subst (λ (es : List HallEvent). IsServed told keeper script report (own (i + 1) es)) (sym logged) (record {
+      subst (λ (es : List HallEvent). IsServed told gives (script_of n w (i + 1)) keeper script report s.unsettled.items (own (i + 1) es)) (sym logged) (record {
         ended = ended_by script line.0 (own (i + 1) settled.log.items) report (over i line.0 line.1) (shown.each i line.0 report line.1 got_report keeper script last);
         answers = last.2.answers;
+        given = given_one;
       })
     where
       k : (x : K) × (slice_get team.keepers.items i ≡ Some x) × (keeping_of named made x ≡ keeper)
       k = unmapped (keeping_of named made) team.keepers.items i keeper got_keeper
+
+      given_one : (child : ℕ) → 1 ≤ child → child ≤ 16 → (Contains s.unsettled.items (record { script = script_of n w (i + 1); child = child }) → ⊥) → IsGiven told gives keeper.name keeper.made child (recorded (i + 1) child settled.log.items)
+      given_one child low high apart =
+          let e : child - 1 + 1 ≡ child = omega (arith, low) in
+          subst (λ (c : ℕ). IsGiven told gives keeper.name keeper.made c (recorded (i + 1) c settled.log.items)) e
+          (subst (λ (x : Keeping). IsGiven told gives x.name x.made (child - 1 + 1) (recorded (i + 1) (child - 1 + 1) settled.log.items)) k.2
+          (given i (child - 1) k.0 k.1 (omega (arith, low, high)) (λ listed. apart (subst (λ (c : ℕ). Contains s.unsettled.items (record { script = script_of n w (i + 1); child = c })) e listed))))
 
       b : (x : Kept) × (slice_get begun.hall i ≡ Some x) × Begins script x
       b = begun_at team.scripts.items begun.hall i script begin got_script
@@ -221,7 +233,7 @@ module _ {K C : Type 0} (told : ℕ → ℕ → Request → Answer → Type 0) (
   taken : AllTaken (length team.scripts.items) settled.stamp s.logged
   taken = subst (AllTaken (length team.scripts.items) settled.stamp) (sym logged) (subst (λ (k : ℕ). AllTaken k settled.stamp settled.log.items) as_many in_record.taken)
 
-  pub is_work : IsWork told named made n w team s
+  pub is_work : IsWork told gives named made n w team s
   is_work = record {
     served = record {
       count = shown.count ∙ kept.count ∙ first_length named made team.keepers.items first are ∙ is.keepers;

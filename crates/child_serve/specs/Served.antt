@@ -1,5 +1,5 @@
 -- What it is to have served scripts.
-use Rattle.std.specs.Prelude.{◌≡◌, ◌≢◌, ◌⊎◌, ℕ, ◌+◌, List, map, length, slice_get, Some}
+use Rattle.std.specs.Prelude.{◌≡◌, ◌≢◌, ◌⊎◌, ◌≤◌, ℕ, ◌+◌, List, map, length, slice_get, Option, Some, Contains}
 use Rattle.std.specs.List.{flat_map}
 use Rattle.child_events.specs.declared.event.Answer.{Answer}
 use Rattle.child_events.specs.declared.event.Event.{Event}
@@ -12,23 +12,27 @@ use Rattle.session.specs.declared.report.Report.{Report}
 use Rattle.session.specs.Meaning.{meaning}
 use Rattle.dialogue_sched.specs.declared.script.Script.{Script}
 use Rattle.child_serve.specs.declared.served.Served.{Served}
+use Rattle.child_serve.specs.declared.served.Unsettled.{Unsettled}
 use Rattle.child_serve.specs.declared.served.Apart.{Apart}
 use Rattle.child_desk.specs.Line.{Keeping}
 use Rattle.child_serve.specs.Dealt.{IsDealt}
-use Rattle.child_serve.specs.Joined.{IsJoined}
+use Rattle.child_serve.specs.Given.{IsGiven}
+use Rattle.child_serve.specs.Joined.{script_of, IsJoined}
+use Rattle.child_desk.specs.Heard.{said_by}
 use Rattle.child_desk.specs.Told.{answers_in, AreTold}
 
-module _ (told : ℕ → ℕ → Request → Answer → Type 0) where
-  -- of one script: its keeper, its report, and its own part of the record
-  pub record IsServed (keeper : Keeping) (script : Script) (report : Report) (es : List Event) : Type 0 where
+module _ (told : ℕ → ℕ → Request → Answer → Type 0) (gives : ℕ → ℕ → Option (List ℕ) → Type 0) where
+  -- of one script: its number, its keeper, its report, the children that aren't settled, and its own part of the record
+  pub record IsServed (number : ℕ) (keeper : Keeping) (script : Script) (report : Report) (unsettled : List Unsettled) (es : List Event) : Type 0 where
     pub ended : ((report ≡ meaning script.source script.settings es) × (report.ending ≢ Waiting)) ⊎ (report.ending ≡ Memory)
     pub answers : AreTold told keeper.name keeper.made (answers_in es) (meaning script.source script.settings es).requests
+    pub given : (child : ℕ) → 1 ≤ child → child ≤ 16 → (Contains unsettled (record { script = number; child = child }) → ⊥) → IsGiven told gives keeper.name keeper.made child (said_by child es)
 
-  -- of several scripts
-  pub record AreServed (keepers : List Keeping) (scripts : List Script) (s : Served) : Type 0 where
+  -- of several scripts, whose numbers a function gives, from their places
+  pub record AreServed (number : ℕ → ℕ) (keepers : List Keeping) (scripts : List Script) (s : Served) : Type 0 where
     pub count : length s.reports ≡ length scripts
     pub each : (i : ℕ) (keeper : Keeping) (script : Script) (report : Report) → slice_get keepers i ≡ Some keeper → slice_get scripts i ≡ Some script → slice_get s.reports i ≡ Some report →
-        IsServed keeper script report (own (i + 1) s.logged)
+        IsServed (number i) keeper script report s.unsettled.items (own (i + 1) s.logged)
 
   -- one worker has served those that are its own
   pub record IsPart (n w : ℕ) (keepers : List Keeping) (scripts : List Script) (s : Served) : Type 0 where
@@ -36,7 +40,7 @@ module _ (told : ℕ → ℕ → Request → Answer → Type 0) where
     pub kept : IsDealt n w keepers mine
     pub few : List Script
     pub dealt : IsDealt n w scripts few
-    pub served : AreServed mine few s
+    pub served : AreServed (λ i. script_of n w (i + 1)) mine few s
 
   abbrev pub AreParts : List Keeping → List Script → List Served → Type 0
   AreParts keepers scripts parts = (w : ℕ) (s : Served) → slice_get parts w ≡ Some s → IsPart (length parts) w keepers scripts s
@@ -50,11 +54,11 @@ pub record IsApart (parts : List Served) (a : Apart) : Type 0 where
   pub reports : a.reports.items ≡ map (λ s. s.reports) parts
   pub unsettled : a.unsettled.items ≡ flat_map (λ s. s.unsettled.items) parts
 
-module _ (told : ℕ → ℕ → Request → Answer → Type 0) where
-  -- All scripts were served by so many workers: each as its keeper told, and the record is that of all workers, with every entry within the
-  -- limits of a log.
+module _ (told : ℕ → ℕ → Request → Answer → Type 0) (gives : ℕ → ℕ → Option (List ℕ) → Type 0) where
+  -- All scripts were served by so many workers: each as its keeper told and gave, and the record is that of all workers, with every entry within
+  -- the limits of a log.
   pub record IsWhole (workers : ℕ) (keepers : List Keeping) (scripts : List Script) (s : Served) : Type 0 where
-    pub served : AreServed told keepers scripts s
+    pub served : AreServed told gives (λ i. i + 1) keepers scripts s
     pub records : List (List HallEvent)
     pub each : length records ≡ workers
     pub joined : IsJoined records s.logged

@@ -1,5 +1,5 @@
 -- Scripts that are served by workers.
-use Rattle.std.specs.Prelude.{◌≡◌, ℕ, ◌+◌, ◌≤◌, List, [], ◌∷◌, map, length, slice_get, false, Some, None}
+use Rattle.std.specs.Prelude.{◌≡◌, ℕ, ◌+◌, ◌≤◌, List, [], ◌∷◌, map, length, slice_get, false, Option, Some, None}
 use Rattle.child_events.specs.declared.event.Answer.{Answer}
 use Rattle.expect_core.specs.declared.request.Request.{Request}
 use Rattle.dialogue_sched.specs.declared.script.Script.{Script}
@@ -15,6 +15,7 @@ use Rattle.child_desk.specs.declared.book.Book.{Book}
 use Rattle.child_desk.specs.declared.line.Line.{Line}
 use Rattle.child_desk.specs.Line.{Keeping, InLine, Means}
 use Rattle.child_serve.specs.Dealt.{IsDealt}
+use Rattle.child_serve.specs.Opened.{AreNumbers}
 use Rattle.child_serve.specs.Served.{AreServed}
 use Rattle.child_serve.specs.Whole.{keeping_of}
 
@@ -39,11 +40,11 @@ module _ {K C : Type 0} where
     pub keepers : length team.keepers.items ≡ length team.scripts.items
     pub opens : opening_fault team.scripts.items ≡ None
     pub few : length team.scripts.items ≤ 64
-    pub numbers : (number : ℕ) → 1 ≤ number → number ≤ length team.scripts.items → script_of n w number ≤ 64
+    pub numbers : AreNumbers n w (length team.scripts.items)
 
   -- a worker has served its scripts
-  pub record IsWork (told : ℕ → ℕ → Request → Answer → Type 0) (named made : K → ℕ) (n w : ℕ) (team : Team K C) (s : Served) : Type 0 where
-    pub served : AreServed told (map (keeping_of named made) team.keepers.items) team.scripts.items s
+  pub record IsWork (told : ℕ → ℕ → Request → Answer → Type 0) (gives : ℕ → ℕ → Option (List ℕ) → Type 0) (named made : K → ℕ) (n w : ℕ) (team : Team K C) (s : Served) : Type 0 where
+    pub served : AreServed told gives (λ i. script_of n w (i + 1)) (map (keeping_of named made) team.keepers.items) team.scripts.items s
     pub fits : Fits n w s.logged
 
   -- a worker was started for each team
@@ -54,11 +55,11 @@ module _ {K C : Type 0} where
   AllStarted n w (h ∷ hs) (t ∷ ts) = ((h.promise.workers ≡ n) × (h.promise.worker ≡ w) × (h.promise.team.value ≡ t)) × AllStarted n (w + 1) hs ts
 
   -- each worker has served its scripts
-  abbrev pub AllWork : (ℕ → ℕ → Request → Answer → Type 0) → (K → ℕ) → (K → ℕ) → ℕ → ℕ → List Served → List (Team K C) → Type 0
-  AllWork told named made n w [] [] = Unit {0}
-  AllWork told named made n w [] (t ∷ ts) = ⊥
-  AllWork told named made n w (s ∷ ss) [] = ⊥
-  AllWork told named made n w (s ∷ ss) (t ∷ ts) = IsWork told named made n w t s × AllWork told named made n (w + 1) ss ts
+  abbrev pub AllWork : (ℕ → ℕ → Request → Answer → Type 0) → (ℕ → ℕ → Option (List ℕ) → Type 0) → (K → ℕ) → (K → ℕ) → ℕ → ℕ → List Served → List (Team K C) → Type 0
+  AllWork told gives named made n w [] [] = Unit {0}
+  AllWork told gives named made n w [] (t ∷ ts) = ⊥
+  AllWork told gives named made n w (s ∷ ss) [] = ⊥
+  AllWork told gives named made n w (s ∷ ss) (t ∷ ts) = IsWork told gives named made n w t s × AllWork told gives named made n (w + 1) ss ts
 
   -- all scripts and their keepers were dealt out to these teams in turn
   abbrev pub AreDealt : (K → ℕ) → (K → ℕ) → List Keeping → List Script → List (Team K C) → Type 0

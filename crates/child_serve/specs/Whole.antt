@@ -1,5 +1,5 @@
 -- What serving scripts answers.
-use Rattle.std.specs.Prelude.{◌≡◌, ℕ, List, [], ◌∷◌, ◌++◌, None, Some, Result, Ok, Err}
+use Rattle.std.specs.Prelude.{◌≡◌, ℕ, List, [], ◌∷◌, ◌++◌, Option, None, Some, Result, Ok, Err}
 use Rattle.child_events.specs.declared.event.Answer.{Answer}
 use Rattle.expect_core.specs.declared.request.Request.{Request}
 use Rattle.dialogue_sched.specs.declared.script.Script.{Script}
@@ -17,11 +17,11 @@ use Rattle.child_serve.specs.Served.{IsWhole}
 abbrev pub keeping_of : {K : Type 0} → (K → ℕ) → (K → ℕ) → K → Keeping
 keeping_of named made k = record { name = named k; made = made k }
 
-abbrev pub IsServing : (ℕ → ℕ → Request → Answer → Type 0) → ℕ → List Keeping → List Script → Result Served ServeFault → Type 0
-IsServing told workers keepers scripts (Ok s) = (opening_fault scripts ≡ None) × IsWhole told workers keepers scripts s
-IsServing told workers keepers scripts (Err (New fault)) = opening_fault scripts ≡ Some fault
-IsServing told workers keepers scripts (Err Memory) = Unit {0}
-IsServing told workers keepers scripts (Err NoThread) = Unit {0}
+abbrev pub IsServing : (ℕ → ℕ → Request → Answer → Type 0) → (ℕ → ℕ → Option (List ℕ) → Type 0) → ℕ → List Keeping → List Script → Result Served ServeFault → Type 0
+IsServing told gives workers keepers scripts (Ok s) = (opening_fault scripts ≡ None) × IsWhole told gives workers keepers scripts s
+IsServing told gives workers keepers scripts (Err (New fault)) = opening_fault scripts ≡ Some fault
+IsServing told gives workers keepers scripts (Err Memory) = Unit {0}
+IsServing told gives workers keepers scripts (Err NoThread) = Unit {0}
 
 -- a worker's fault as that of all
 abbrev pub fault_of : WorkFault → ServeFault

@@ -1,7 +1,10 @@
 //! The rings and the hand of a script.
 
+ghost use Rattle.std.specs.Prelude.{IfOk};
+ghost use Rattle.child_serve.specs.Opened.{AreRings, IsOpened};
+
 use crate::worker::WorkFault;
-use child_desk::Ends;
+use child_desk::{Ends, Readers};
 use child_hands::{Fresh, HandEnd, Obeys, Work, start_hand};
 use child_keeper::{Gate, Item, Keeper};
 use feed_rings::{Bell, FeedOut, feed_pair};
@@ -26,7 +29,9 @@ struct Children<K: Keeper> {
 }
 
 /// The rings of the children of a script, whose desk rests on this bell.
-fn child_rings<K: Keeper>(alloc: Global, desk: &Bell) -> Result<Children<K>, AllocError> {
+fn child_rings<K: Keeper>(alloc: Global, desk: &Bell) -> Result<Children<K>, AllocError>
+    ensures { IfOk result (λ c. AreRings 16 c.works.items c.outs.items) }
+{
     let mut works = Vec::with_capacity(alloc, CHILDREN)?;
     let mut outs = Vec::with_capacity(alloc, CHILDREN)?;
     for _ in 0..CHILDREN {
@@ -50,7 +55,9 @@ pub fn start<
     keeper: K,
     gate: Arc<G>,
     desk: &Bell,
-) -> Result<(Ends<K>, Hand<K>), WorkFault> {
+) -> Result<(Ends<K>, Hand<K>), WorkFault>
+    ensures { IfOk result (λ r. IsOpened script keeper r.0 r.1) }
+{
     let bell = Bell::new(alloc)?;
     let (asks, asked) = feed_pair(alloc, ROOM, desk, &bell)?;
     let (answering, answers) = feed_pair(alloc, ROOM, &bell, desk)?;
@@ -58,7 +65,7 @@ pub fn start<
     match start_hand(
         rt, alloc, script, keeper, gate, asked, answering, bell, works,
     ) {
-        Some(hand) => Ok((Ends::new(asks, answers, outs), hand)),
+        Some(hand) => Ok((Ends::new(asks, answers, Readers { script, outs }), hand)),
         None => Err(WorkFault::NoThread),
     }
 }

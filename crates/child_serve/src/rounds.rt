@@ -2,6 +2,7 @@
 
 ghost use Rattle.std.specs.Prelude.{◌≡◌, ◌≤◌, length, OnOk};
 ghost use Rattle.child_desk.specs.Line.{KeepsAll, AllOver};
+ghost use Rattle.child_desk.specs.Heard.{HearsAll};
 
 use child_desk::Desk;
 use child_keeper::{Clock, Keeper};
@@ -26,6 +27,7 @@ pub fn turn_all<K: Keeper, C: Clock, W: Wait + std::time::Clock>(
     requires { (length desk.old.lines.items ≤ length desk.old.book.hall) × (length desk.old.book.hall ≤ 64) }
     ensures kept { KeepsAll K.told desk.old.lines.items desk.old.book desk.new.lines.items desk.new.book }
     ensures over { OnOk result (AllOver desk.new.lines.items) }
+    ensures heard { HearsAll desk.old.ends.items desk.old.book.log.items desk.new.ends.items desk.new.book.log.items }
 {
     let mut held = clock.now();
     desk.turn(held)?;
@@ -46,7 +48,8 @@ pub fn turn_all<K: Keeper, C: Clock, W: Wait + std::time::Clock>(
 
 /// Rests until something comes, but for some milliseconds alone.
 fn rest<K: Keeper, W: Wait + std::time::Clock>(rt: &W, bell: &Bell, desk: &mut Desk<K>)
-    ensures { (desk.new.lines.items ≡ desk.old.lines.items) × (desk.new.book ≡ desk.old.book) }
+    ensures same { (desk.new.lines.items ≡ desk.old.lines.items) × (desk.new.book ≡ desk.old.book) }
+    ensures heard { HearsAll desk.old.ends.items desk.old.book.log.items desk.new.ends.items desk.new.book.log.items }
 {
     Backoff::new().spin();
     if !desk.has_come() {

@@ -115,7 +115,7 @@ pub fn assembled<K: Keeper>(
     requires fits { AllFits (records_of parts.items) }
     ensures joined { IfOk result (λ s. IsJoined (records_of parts.items) s.logged) }
     ensures fits { IfOk result (λ s. AllFit s.logged) }
-    ensures whole { IfOk result (λ s. (keepers : List Keeping) (scripts : List Script) → length scripts ≡ count → AreParts K.told keepers scripts parts.items → IsWhole K.told (length parts.items) keepers scripts s) }
+    ensures whole { IfOk result (λ s. (keepers : List Keeping) (scripts : List Script) → length scripts ≡ count → AreParts K.told K.gives keepers scripts parts.items → IsWhole K.told K.gives (length parts.items) keepers scripts s) }
 {
     let apart = taken_apart(alloc, parts)?;
     let logged = joined(alloc, apart.records)?;

@@ -72,7 +72,7 @@ pub struct Works<K: Drop, C: Drop> {
 }
 
 impl<K: Keeper + Drop, C: Drop> Promise<Result<Served, WorkFault>> for Works<K, C> {
-    ghost kept_by = { λ p r. IfOk r (IsWork K.told K.named K.made p.workers p.worker p.team.value) };
+    ghost kept_by = { λ p r. IfOk r (IsWork K.told K.gives K.named K.made p.workers p.worker p.team.value) };
 }
 
 /// A worker that runs.
@@ -168,7 +168,7 @@ fn join_all<K: Keeper + Drop, C: Drop, W: Threads>(
     alloc: Global,
     handles: Vec<Working<K, C>>,
 ) -> Result<Vec<Served>, WorkFault>
-    ensures { IfOk result (λ ps. (n : ℕ) (teams : List (Team K C)) → AllStarted n 0 handles.items teams → AllWork K.told K.named K.made n 0 ps.items teams) }
+    ensures { IfOk result (λ ps. (n : ℕ) (teams : List (Team K C)) → AllStarted n 0 handles.items teams → AllWork K.told K.gives K.named K.made n 0 ps.items teams) }
 {
     let mut joined = Joined {
         parts: Vec::new(alloc),
@@ -201,7 +201,7 @@ pub fn serve<
 ) -> Result<Served, ServeFault>
     requires workers { (0 < length clocks.items) × (length clocks.items ≤ 64) }
     requires keepers { length keepers.items ≡ length scripts.items }
-    ensures { IsServing K.told (length clocks.items) (map (keeping_of K.named K.made) keepers.items) scripts.items result }
+    ensures { IsServing K.told K.gives (length clocks.items) (map (keeping_of K.named K.made) keepers.items) scripts.items result }
 {
     if let Some(fault) = opening_fault(scripts.as_slice()) {
         return Err(ServeFault::New(fault));

@@ -1,18 +1,21 @@
 //! A worker: scripts at one desk, to their end.
 
-ghost use Rattle.std.specs.Prelude.{◌≡◌, ◌<◌, ◌≤◌, [], length, IfOk, None};
+ghost use Rattle.std.specs.Prelude.{◌≡◌, ◌<◌, ◌≤◌, ◌+◌, [], length, IfOk, IfSome, OnOk, None};
 ghost use Rattle.dialogue_sched.specs.Hall.{AllBegin, opening_fault};
 ghost use Rattle.child_desk.specs.Line.{Leaves};
+ghost use Rattle.child_desk.specs.Heard.{HearsAll, Settles};
+ghost use Rattle.child_serve.specs.Joined.{script_of};
+ghost use Rattle.child_serve.specs.Opened.{AreNumbers, AreOpened, AreLinked, IsLeftIn, AreLeftIn, IsFinishOf, IsTakenIn, AreTakenIn, SameElsewhere, AreSettled, KeepsListed};
 ghost use Rattle.child_serve.specs.Teams.{IsTeam, IsWork, AreFirst, AllShown};
 
 use crate::hands::{Hand, start};
 use crate::rounds::turn_all;
 use crate::served::{Served, Unsettled};
 use child_desk::{Book, Desk, Ends, Line};
-use child_hands::{HandEnd, Work};
-use child_keeper::{Clock, Gate, Keeper};
+use child_hands::{Fresh, HandEnd, Work};
+use child_keeper::{Clock, Gate, Item, Keeper};
 use dialogue_sched::{Hall, HallFault, Reports, Script};
-use feed_rings::Bell;
+use feed_rings::{Bell, Finished};
 use std::alloc::{AllocError, AllocFailed, Global};
 use std::sync::{Arc, Wait};
 use std::thread::Threads;
@@ -87,6 +90,15 @@ fn lines_of<K: Keeper>(alloc: Global, keepers: &[K]) -> Result<Vec<Line>, AllocE
     Ok(lines)
 }
 
+/// The number among all of the script at a place of a worker.
+fn number_of(place: Place, at: usize) -> u8
+    requires few { at < 64 }
+    requires number { script_of place.workers place.worker (at + 1) ≤ 64 }
+    ensures { result ≡ script_of place.workers place.worker (at + 1) }
+{
+    at as u8 * place.workers + place.worker + 1
+}
+
 /// Starts a hand for each keeper. Where one can't be started, those before it are given back.
 fn open_all<
     K: Keeper + Send + Drop + 'static,
@@ -101,19 +113,22 @@ fn open_all<
     bell: &Bell,
     opened: &mut Opened<K>,
 ) -> Result<(), WorkFault>
-    requires { opened.old.hands.items ≡ [] }
-    ensures { length opened.new.hands.items ≤ length keepers.items }
+    requires none { (opened.old.ends.items ≡ []) × (opened.old.hands.items ≡ []) }
+    requires few { length keepers.items ≤ 64 }
+    requires numbers { AreNumbers place.workers place.worker (length keepers.items) }
+    ensures count { length opened.new.hands.items ≤ length keepers.items }
+    ensures opened { OnOk result (AreOpened place.workers place.worker keepers.items opened.new.ends.items opened.new.hands.items) }
 {
-    let mut script = place.worker;
+    let mut index = 0;
     for keeper in keepers {
         opened.ends.reserve(1)?;
         opened.hands.reserve(1)?;
         let gate = Arc::try_clone(gate)?;
-        let number = script.saturating_add(1);
+        let number = number_of(place, index);
         let (ends, hand) = start(rt, alloc, number, keeper, gate, bell)?;
         opened.ends.push_reserved(ends);
         opened.hands.push_reserved(hand);
-        script = script.saturating_add(place.workers);
+        index += 1;
     }
     Ok(())
 }
@@ -148,6 +163,41 @@ struct Settled {
     forced: u64,
 }
 
+/// The finished ring of a child that wasn't started, or whose reader finished it. None where that can't be had.
+fn finished_of<K: Keeper>(work: Work<K>) -> Option<Finished<Item<K>>>
+    ensures { IfSome result (IsFinishOf work) }
+{
+    match work {
+        Work::Free(Fresh { feed, .. }) => feed.finish(),
+        Work::Ended(finished) => finished,
+    }
+}
+
+/// Takes what is left of the child at a place. Where that can't be had, the child isn't settled.
+fn settle_child<K: Keeper>(
+    desk: &mut Desk<K>,
+    at: usize,
+    script: u8,
+    index: u8,
+    work: Work<K>,
+    settled: &mut Settled,
+) -> Result<(), AllocError>
+    requires place { (at < length desk.old.book.hall) × (at < 64) × (index < 16) }
+    requires left { IsLeftIn at index work desk.old.ends.items }
+    ensures lines { desk.new.lines.items ≡ desk.old.lines.items }
+    ensures book { Leaves K.told desk.old.book desk.new.book }
+    ensures heard { Settles at index desk.old.ends.items desk.old.book.log.items desk.new.ends.items desk.new.book.log.items }
+    ensures listed { KeepsListed settled.old.unsettled.items settled.new.unsettled.items }
+    ensures taken { OnOk result (IsTakenIn at script index work desk.new.ends.items settled.new.unsettled.items) }
+{
+    let Some(finished) = finished_of(work) else {
+        let child = index + 1;
+        settled.unsettled.push(Unsettled { script, child })?;
+        return Ok(());
+    };
+    desk.settle(at, index, finished)
+}
+
 /// Takes what is left of the children of the script at a place, whose hand has ended.
 fn settle_script<K: Keeper>(
     desk: &mut Desk<K>,
@@ -156,24 +206,20 @@ fn settle_script<K: Keeper>(
     end: HandEnd<K>,
     settled: &mut Settled,
 ) -> Result<(), AllocError>
-    requires { at < 64 }
+    requires place { (at < length desk.old.book.hall) × (at < 64) × (length end.works.items ≤ 16) }
+    requires left { AreLeftIn at end.works.items desk.old.ends.items }
     ensures lines { desk.new.lines.items ≡ desk.old.lines.items }
     ensures book { Leaves K.told desk.old.book desk.new.book }
+    ensures heard { HearsAll desk.old.ends.items desk.old.book.log.items desk.new.ends.items desk.new.book.log.items }
+    ensures others { SameElsewhere at desk.old.ends.items desk.new.ends.items }
+    ensures listed { KeepsListed settled.old.unsettled.items settled.new.unsettled.items }
+    ensures taken { OnOk result (AreTakenIn at script end.works.items desk.new.ends.items settled.new.unsettled.items) }
 {
     settled.forced = settled.forced.saturating_add(end.forced);
-    let mut child: u8 = 0;
+    let mut index: u8 = 0;
     for work in end.works {
-        child = child.saturating_add(1);
-        match work {
-            Work::Free(fresh) => drop(fresh),
-            Work::Ended(Some(finished)) => {
-                drop(finished);
-                desk.settle(at, child)?;
-            }
-            Work::Ended(None) => {
-                settled.unsettled.push(Unsettled { script, child })?;
-            }
-        }
+        settle_child(desk, at, script, index, work, settled)?;
+        index += 1;
     }
     Ok(())
 }
@@ -186,22 +232,24 @@ fn settle_all<K: Keeper, W: Threads>(
     desk: &mut Desk<K>,
     hands: Vec<Hand<K>>,
 ) -> Result<Settled, AllocError>
-    requires { length hands.items ≤ 64 }
+    requires few { (length hands.items ≤ length desk.old.book.hall) × (length hands.items ≤ 64) }
+    requires numbers { AreNumbers place.workers place.worker (length hands.items) }
+    requires linked { AreLinked hands.items desk.old.ends.items }
     ensures lines { desk.new.lines.items ≡ desk.old.lines.items }
     ensures book { Leaves K.told desk.old.book desk.new.book }
+    ensures heard { HearsAll desk.old.ends.items desk.old.book.log.items desk.new.ends.items desk.new.book.log.items }
+    ensures settled { IfOk result (λ s. AreSettled place.workers place.worker hands.items desk.new.ends.items s.unsettled.items) }
 {
     let mut settled = Settled {
         unsettled: Vec::new(alloc),
         forced: 0,
     };
     let mut at = 0;
-    let mut script = place.worker;
     for hand in hands {
         let end = hand.join(rt);
-        let number = script.saturating_add(1);
+        let number = number_of(place, at);
         settle_script(desk, at, number, end, &mut settled)?;
         at += 1;
-        script = script.saturating_add(place.workers);
     }
     Ok(settled)
 }
@@ -229,7 +277,7 @@ pub fn work<
     W: Threads + Wait + std::time::Clock + Copy + Send + Drop + 'static,
 >(rt: W, alloc: Global, place: Place, team: Team<K, C>, gate: Arc<G>) -> Result<Served, WorkFault>
     requires { IsTeam place.workers place.worker team }
-    ensures { IfOk result (IsWork K.told K.named K.made place.workers place.worker team) }
+    ensures { IfOk result (IsWork K.told K.gives K.named K.made place.workers place.worker team) }
 {
     let Team {
         keepers,

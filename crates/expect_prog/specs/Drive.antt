@@ -15,10 +15,10 @@ use Rattle.expect_prog.specs.declared.driving.DriveFault.TheVariants.{Serve, Wri
 use Rattle.expect_prog.specs.Report.{reports_bytes, all_done}
 use Rattle.expect_prog.specs.Devices.{WasPut}
 
-module _ (told : ℕ → ℕ → Request → Answer → Type 0) (workers : ℕ) (keepers : List Keeping) (scripts : List Script) where
+module _ (told : ℕ → ℕ → Request → Answer → Type 0) (gives : ℕ → ℕ → Option (List ℕ) → Type 0) (workers : ℕ) (keepers : List Keeping) (scripts : List Script) where
   -- The scripts were served, and this is the log text of their record.
   pub record WasServed (served : Served) (text : List ℕ) : Type 0 where
-    pub serves : IsServing told workers keepers scripts (Ok served)
+    pub serves : IsServing told gives workers keepers scripts (Ok served)
     pub log : LogText text served.logged
 
   -- What is written is the log text of the record, and the text of the reports that stand with it.
@@ -48,15 +48,15 @@ module _ (told : ℕ → ℕ → Request → Answer → Type 0) (workers : ℕ) 
   -- what a run answers, and what it puts behind what was written before
   abbrev pub Drives : Bool → Option (List ℕ) → Option (List ℕ) → Option (List ℕ) → Option (List ℕ) → Result Bool DriveFault → Type 0
   Drives vars log log' out out' (Ok well) = Driven vars well log log' out out'
-  Drives vars log log' out out' (Err (Serve f)) = (f ≢ serve.Memory) × IsServing told workers keepers scripts (Err f)
+  Drives vars log log' out out' (Err (Serve f)) = (f ≢ serve.Memory) × IsServing told gives workers keepers scripts (Err f)
   Drives vars log log' out out' (Err WriteLog) = PartLogged log log'
   Drives vars log log' out out' (Err Write) = PartDriven vars log log' out out'
   Drives vars log log' out out' (Err Memory) = Unit {0}
 
   -- what serving the scripts answers here
   abbrev pub Serves : Result Served DriveFault → Type 0
-  Serves (Ok s) = IsServing told workers keepers scripts (Ok s)
-  Serves (Err (Serve f)) = (f ≢ serve.Memory) × IsServing told workers keepers scripts (Err f)
+  Serves (Ok s) = IsServing told gives workers keepers scripts (Ok s)
+  Serves (Err (Serve f)) = (f ≢ serve.Memory) × IsServing told gives workers keepers scripts (Err f)
   Serves (Err WriteLog) = ⊥
   Serves (Err Write) = ⊥
   Serves (Err Memory) = Unit {0}

@@ -56,7 +56,7 @@ fn served_by<
 ) -> Result<Served, DriveFault>
     requires workers { (0 < length clocks.items) × (length clocks.items ≤ 64) }
     requires keepers { length keepers.items ≡ length scripts.items }
-    ensures { Serves K.told (length clocks.items) (map (keeping_of K.named K.made) keepers.items) scripts.items result }
+    ensures { Serves K.told K.gives (length clocks.items) (map (keeping_of K.named K.made) keepers.items) scripts.items result }
 {
     match serve(rt, alloc, scripts, keepers, clocks, gate) {
         Ok(served) => Ok(served),
@@ -95,7 +95,7 @@ pub fn drive<
     requires log_calls { log.old.calls ≡ 0 }
     requires out_failures { out.old.failures ≡ 0 }
     requires out_calls { out.old.calls ≡ 0 }
-    ensures answers { Drives K.told (length clocks.items) (map (keeping_of K.named K.made) keepers.items) scripts.items vars
+    ensures answers { Drives K.told K.gives (length clocks.items) (map (keeping_of K.named K.made) keepers.items) scripts.items vars
         (L.contents log.old.device) (L.contents log.new.device) (O.contents out.old.device) (O.contents out.new.device) result }
     ensures unwritten { IfErr result (λ fault. IsBefore fault → (log.new ≡ log.old) × (out.new ≡ out.old)) }
     ensures reports { result ≡ Err DriveFault.WriteLog → out.new ≡ out.old }

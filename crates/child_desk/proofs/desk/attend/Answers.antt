@@ -1,12 +1,38 @@
+use Rattle.std.proofs.Common.{◌+◌}
 use Rattle.child_desk.proofs.Kept.{keeps_three}
+use Rattle.child_desk.proofs.Hearing.{hears_silent, hears_then, hears_three}
 use Rattle.child_desk.proofs.desk.attend.Goals as goal
 
-pub returns-in_err-asked : goal.returns-in_err-asked
-returns-in_err-asked g c =
-    keeps_three g.K.Keeper.told c.args.at c.args.line.now c.hear_answer.new.line c.ask.new.line c.args.book.now c.hear_answer.new.book c.hear_children.new.book c.ask.new.book
-    c.hear_answer.ensures c.hear_children.ensures c.ask.ensures
+pub returns-in_err-answered-clause-heard : goal.returns-in_err-answered-clause-heard
+returns-in_err-answered-clause-heard g c =
+    hears_silent (c.args.at + 1) c.args.ends.now.readers c.hear_answer.new.ends.readers c.args.book.now.log.items c.hear_answer.new.book.log.items c.hear_answer.ensures.readers c.hear_answer.ensures.silent
 
-pub returns : goal.returns
-returns g c =
+pub returns-in_err-heard-clause-heard : goal.returns-in_err-heard-clause-heard
+returns-in_err-heard-clause-heard g c =
+    let was = c.args.ends.now.readers in
+    let log = c.args.book.now.log.items in
+    let mid = c.hear_answer.new in
+    hears_then (c.args.at + 1) was mid.ends.readers c.hear_children.new.ends.readers log mid.book.log.items c.hear_children.new.book.log.items
+    (hears_silent (c.args.at + 1) was mid.ends.readers log mid.book.log.items c.hear_answer.ensures.readers c.hear_answer.ensures.silent) c.hear_children.ensures.heard
+
+pub returns-in_err-asked-clause-kept : goal.returns-in_err-asked-clause-kept
+returns-in_err-asked-clause-kept g c =
     keeps_three g.K.Keeper.told c.args.at c.args.line.now c.hear_answer.new.line c.ask.new.line c.args.book.now c.hear_answer.new.book c.hear_children.new.book c.ask.new.book
-    c.hear_answer.ensures c.hear_children.ensures c.ask.ensures
+    c.hear_answer.ensures.kept c.hear_children.ensures.kept c.ask.ensures.kept
+
+pub returns-in_err-asked-clause-heard : goal.returns-in_err-asked-clause-heard
+returns-in_err-asked-clause-heard g c =
+    hears_three (c.args.at + 1) c.args.ends.now.readers c.hear_answer.new.ends.readers c.hear_children.new.ends.readers c.ask.new.ends.readers
+    c.args.book.now.log.items c.hear_answer.new.book.log.items c.hear_children.new.book.log.items c.ask.new.book.log.items
+    c.hear_answer.ensures.readers c.hear_answer.ensures.silent c.hear_children.ensures.heard c.ask.ensures.readers c.ask.ensures.log
+
+pub returns-clause-kept : goal.returns-clause-kept
+returns-clause-kept g c =
+    keeps_three g.K.Keeper.told c.args.at c.args.line.now c.hear_answer.new.line c.ask.new.line c.args.book.now c.hear_answer.new.book c.hear_children.new.book c.ask.new.book
+    c.hear_answer.ensures.kept c.hear_children.ensures.kept c.ask.ensures.kept
+
+pub returns-clause-heard : goal.returns-clause-heard
+returns-clause-heard g c =
+    hears_three (c.args.at + 1) c.args.ends.now.readers c.hear_answer.new.ends.readers c.hear_children.new.ends.readers c.ask.new.ends.readers
+    c.args.book.now.log.items c.hear_answer.new.book.log.items c.hear_children.new.book.log.items c.ask.new.book.log.items
+    c.hear_answer.ensures.readers c.hear_answer.ensures.silent c.hear_children.ensures.heard c.ask.ensures.readers c.ask.ensures.log

@@ -1,5 +1,10 @@
+use Rattle.std.proofs.Common.{◌+◌}
 use Rattle.child_desk.specs.Line.{Leaves}
+use Rattle.child_desk.specs.Heard.{Hears}
 use Rattle.child_desk.proofs.desk.hear_children.Given as goal
 
-abbrev pub invariant-loop-child : goal.invariant-loop-child
-invariant-loop-child g l = Leaves g.K.Keeper.told l.fn.book l.book
+abbrev pub invariant-loop-index : goal.invariant-loop-index
+invariant-loop-index g l = record {
+  kept : Leaves g.K.Keeper.told l.fn.book l.book;
+  heard : Hears (l.at + 1) l.fn.ends.readers l.fn.book.log.items l.ends.readers l.book.log.items;
+}

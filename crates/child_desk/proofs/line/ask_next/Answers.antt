@@ -8,7 +8,7 @@ none_from : (o : Option Request) → is_some o ≡ false → o ≡ None
 none_from None h = refl
 none_from (Some r) h = absurd (cc)
 
-pub returns : goal.returns
-returns g c =
+pub returns-clause-kept : goal.returns-clause-kept
+returns-clause-kept g c =
     keeps_asked g.K.Keeper.told c.args.at c.args.line.now c.request.result c.args.book.now _ c.requires.0
     (none_from c.args.line.now.awaited (sym (c.if-is_some.ensures))) c.request.ensures refl refl

@@ -1,4 +1,4 @@
-use Rattle.std.proofs.Common.{Bool, false, subst}
+use Rattle.std.proofs.Common.{Bool, subst}
 use Rattle.child_desk.specs.Line.{Goes}
 use Rattle.child_desk.proofs.Kept.{keeps_ended}
 use Rattle.child_desk.proofs.line.enter_end.Goals as goal

@@ -4,4 +4,4 @@ use Rattle.child_serve.proofs.Teaming.{JoinedTo}
 use Rattle.child_serve.proofs.serving.join_all.Given as goal
 
 abbrev pub invariant-loop-handle : goal.invariant-loop-handle
-invariant-loop-handle g l = l.joined.fault ≡ None → (n : ℕ) (teams : _) → AllStarted n 0 l.fn.handles.items teams → JoinedTo g.K.Keeper.told g.K.Keeper.named g.K.Keeper.made n l.joined.parts.items l.handle-iterator.rest.items teams
+invariant-loop-handle g l = l.joined.fault ≡ None → (n : ℕ) (teams : _) → AllStarted n 0 l.fn.handles.items teams → JoinedTo g.K.Keeper.told g.K.Keeper.gives g.K.Keeper.named g.K.Keeper.made n l.joined.parts.items l.handle-iterator.rest.items teams

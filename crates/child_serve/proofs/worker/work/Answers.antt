@@ -3,7 +3,10 @@ use Rattle.dialogue_sched.specs.Hall.{AllBegin}
 use Rattle.child_desk.specs.declared.book.Book.{Book}
 use Rattle.child_desk.specs.declared.line.Line.{Line}
 use Rattle.child_desk.specs.Book.{IsRecord}
+use Rattle.child_desk.proofs.Hearing.{all_then}
+use Rattle.child_serve.specs.Opened.{AreOpened}
 use Rattle.child_serve.specs.Teams.{AllShown}
+use Rattle.child_serve.proofs.Settling.{linked_all, linked_still, given_all}
 use Rattle.child_serve.proofs.Working.{begun_length, first_length, line_of, is_work}
 use Rattle.child_serve.proofs.worker.work.Goals as goal
 
@@ -13,19 +16,48 @@ turn_all-requires-after_bounds g c κs within =
     let lines = ap length c.new-desk.ensures.lines ∙ first_length g.K.Keeper.named g.K.Keeper.made c.as_slice.result.now c.in_ok-lines.lines.items c.in_ok-lines.ensures ∙ ap length c.as_slice.ensures.value ∙ c.requires.keepers in
     (omega (arith, halls, lines), omega (arith, halls, c.requires.few))
 
+pub settle_all-requires-clause-few : goal.settle_all-requires-clause-few
+settle_all-requires-clause-few g c κs within =
+    let begun = ap (λ (b : Book). length b.hall) c.new-desk.ensures.book ∙ ap length c.new-book.ensures.hall ∙ begun_length c.args.team.scripts.items c.in_ok-hall_of.field-0 c.in_ok-hall_of.ensures in
+    let turned = c.turn_all.ensures.kept.halls in
+    let hands = c.in_default.ensures.opened.1 in
+    let keepers = c.requires.keepers in
+    let few = c.requires.few in
+    (omega (arith, begun, turned, hands, keepers), omega (arith, hands, keepers, few))
+
+pub settle_all-requires-clause-linked : goal.settle_all-requires-clause-linked
+settle_all-requires-clause-linked g c κs within =
+    let workers = c.args.place.workers in
+    let worker = c.args.place.worker in
+    let keepers = c.args.team.keepers.items in
+    let hands = c.open_all-outcome.new.opened.hands.items in
+    let desk = c.new-desk.result in
+    let turned = c.turn_all.new.desk in
+    linked_still hands desk.ends.items turned.ends.items desk.book.log.items turned.book.log.items c.turn_all.ensures.heard
+    (linked_all workers worker keepers desk.ends.items hands (subst (λ es. AreOpened workers worker keepers es hands) (sym c.new-desk.ensures.ends) c.in_default.ensures.opened))
+
 pub returns : goal.returns
 returns g c =
-    let begun = c.new-desk.result.book in
+    let workers = c.args.place.workers in
+    let worker = c.args.place.worker in
+    let keepers = c.args.team.keepers.items in
+    let desk = c.new-desk.result in
+    let begun = desk.book in
     let turned = c.turn_all.new.desk in
     let settled = c.settle_all.new.desk in
-    is_work g.K.Keeper.told g.K.Keeper.named g.K.Keeper.made c.args.place.workers c.args.place.worker c.args.team c.new-desk.result.lines.items turned.lines.items begun turned.book settled.book _
+    let hands = c.open_all-outcome.new.opened.hands.items in
+    let empty = ap (λ (b : Book). b.log.items) c.new-desk.ensures.book ∙ c.new-book.ensures.log in
+    is_work g.K.Keeper.told g.K.Keeper.gives g.K.Keeper.named g.K.Keeper.made workers worker c.args.team desk.lines.items turned.lines.items begun turned.book settled.book _
     c.requires
     (c.new-desk.ensures.lines ∙ c.in_ok-lines.ensures ∙ ap (map (line_of g.K.Keeper.named g.K.Keeper.made)) c.as_slice.ensures.value)
     (subst (AllBegin c.args.team.scripts.items) (sym (ap (λ (b : Book). b.hall) c.new-desk.ensures.book ∙ c.new-book.ensures.hall)) c.in_ok-hall_of.ensures)
-    (ap (λ (b : Book). b.log.items) c.new-desk.ensures.book ∙ c.new-book.ensures.log)
+    empty
     (subst IsRecord (sym c.new-desk.ensures.book) c.new-book.ensures.record)
     c.turn_all.ensures.kept
     c.in-Ok.ensures.over
     c.settle_all.ensures.book
     (subst (λ (ls : List Line). AllShown g.K.Keeper.told ls settled.book c.in_ok-reports.reports) c.settle_all.ensures.lines c.in_ok-reports.ensures)
     c.into_record.ensures
+    (given_all workers worker keepers desk.ends.items settled.ends.items begun.log.items settled.book.log.items hands c.in_ok-settled.settled.unsettled.items empty
+    (subst (λ es. AreOpened workers worker keepers es hands) (sym c.new-desk.ensures.ends) c.in_default.ensures.opened)
+    (all_then desk.ends.items turned.ends.items settled.ends.items begun.log.items turned.book.log.items settled.book.log.items c.turn_all.ensures.heard c.settle_all.ensures.heard) c.in_ok-settled.ensures.settled)

@@ -1,7 +1,19 @@
 use Rattle.child_desk.proofs.Kept.{all_left, all_then}
+use Rattle.child_desk.proofs.Hearing.{all_silent, all_then as heard_then}
 use Rattle.child_desk.proofs.desk.Desk.turn.Goals as goal
 
-pub returns : goal.returns
-returns g c =
+pub returns-clause-kept : goal.returns-clause-kept
+returns-clause-kept g c =
     all_then g.K.Keeper.told c.args.self.now.lines.items c.args.self.now.lines.items c.attend_all.new.lines.items c.args.self.now.book c.tick.new.book c.attend_all.new.book
-    (all_left g.K.Keeper.told c.args.self.now.lines.items c.args.self.now.book c.tick.new.book c.tick.ensures) c.attend_all.ensures
+    (all_left g.K.Keeper.told c.args.self.now.lines.items c.args.self.now.book c.tick.new.book c.tick.ensures.kept) c.attend_all.ensures.kept
+
+pub returns-clause-heard : goal.returns-clause-heard
+returns-clause-heard g c =
+    let was = c.args.self.now in
+    heard_then was.ends.items was.ends.items c.attend_all.new.ends.items was.book.log.items c.tick.new.book.log.items c.attend_all.new.book.log.items
+    (all_silent was.ends.items was.book.log.items c.tick.new.book.log.items c.tick.ensures.silent) c.attend_all.ensures.heard
+
+pub returns-in_err-tick-clause-heard : goal.returns-in_err-tick-clause-heard
+returns-in_err-tick-clause-heard g c =
+    let was = c.args.self.now in
+    all_silent was.ends.items was.book.log.items c.tick.new.book.log.items c.tick.ensures.silent

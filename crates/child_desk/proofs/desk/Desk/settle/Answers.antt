@@ -1,0 +1,32 @@
+use Rattle.std.proofs.Common.{◌≡◌, refl, Some}
+use Rattle.std.specs.List.{slice_get}
+use Rattle.std.proofs.lemmas.Option.{slice_get_read}
+use Rattle.std.proofs.lemmas.Result.{on_ok_weaker}
+use Rattle.feed_rings.specs.Ends.{all_put}
+use Rattle.child_desk.proofs.Places.{none_past}
+use Rattle.child_desk.proofs.Hearing.{taken_in, settles_set, settles_none}
+use Rattle.child_desk.proofs.desk.Desk.settle.Goals as goal
+
+pub returns-in-Some-clause-heard : goal.returns-in-Some-clause-heard
+returns-in-Some-clause-heard g c =
+    let ends = c.args.self.now.ends in
+    let e = c.in-Some.ends.now in
+    let here : slice_get ends.items c.args.at ≡ Some e = slice_get_read ends.items ends.len c.args.at e ends.ok.0 (c.in-Some.ensures.variant.0 refl) c.in-Some.ensures.value in
+    settles_set c.args.at c.args.index ends.items e c.settle_child.new.ends c.args.self.now.book.log.items c.settle_child.new.book.log.items here c.settle_child.ensures.heard
+
+pub returns-in-Some-clause-all : goal.returns-in-Some-clause-all
+returns-in-Some-clause-all g c =
+    let ends = c.args.self.now.ends in
+    let e = c.in-Some.ends.now in
+    let here : slice_get ends.items c.args.at ≡ Some e = slice_get_read ends.items ends.len c.args.at e ends.ok.0 (c.in-Some.ensures.variant.0 refl) c.in-Some.ensures.value in
+    on_ok_weaker c.settle_child.result (taken_in c.args.at c.args.index (all_put c.args.finished) ends.items e c.settle_child.new.ends here) c.settle_child.ensures.all
+
+pub returns-in-None-clause-heard : goal.returns-in-None-clause-heard
+returns-in-None-clause-heard g c =
+    let ends = c.args.self.now.ends in
+    settles_none c.args.at c.args.index ends.items c.args.self.now.book.log.items (λ e got. none_past c.args.at c.args.at ends.len ends.items e refl ends.ok.0 (λ lt. (let no = c.in-None.ensures.variant.1 lt in cc)) got)
+
+pub returns-in-None-clause-all : goal.returns-in-None-clause-all
+returns-in-None-clause-all g c = λ e got.
+    let ends = c.args.self.now.ends in
+    absurd (none_past c.args.at c.args.at ends.len ends.items e refl ends.ok.0 (λ lt. (let no = c.in-None.ensures.variant.1 lt in cc)) got)

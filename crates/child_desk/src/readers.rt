@@ -1,0 +1,152 @@
+//! What comes from the readers of a script's children.
+
+ghost use Rattle.std.specs.Prelude.{◌≡◌, ◌<◌, ◌≤◌, [], ◌∷◌, length, vec_capacity, IfSome, IfNone, IfOk};
+ghost use Rattle.child_events.specs.declared.event.What.TheVariants.{Out};
+ghost use Rattle.feed_rings.specs.Ends.{all_put};
+ghost use Rattle.child_desk.specs.Heard.{FinishedAt, SeenAt, TakesAt, IsTaken, IsLeftOf, LeavesOneLess, Says, heard_of};
+
+use child_events::What;
+use child_keeper::{Item, Keeper, Piece};
+use feed_rings::{FeedOut, Finished};
+use std::alloc::{AllocError, Global};
+
+/// The ends of the rings from the readers of a script's children.
+#[derive(Drop)]
+pub struct Readers<K: Keeper> {
+    /// The number that the script has in their items.
+    pub script: u8,
+    /// Of child 1 and so on.
+    pub outs: Vec<FeedOut<Item<K>>>,
+}
+
+/// What came from a child, and a copy of it.
+#[derive(Drop)]
+pub struct Heard {
+    pub what: What,
+    pub copy: What,
+}
+
+/// What was taken from the ring of a child.
+#[derive(Drop)]
+pub enum Taken {
+    /// Nothing, since nothing was seen there.
+    Nothing,
+    /// An item that says nothing of the child.
+    Passed,
+    /// What came from the child.
+    Heard(Heard),
+}
+
+impl<K: Keeper> Readers<K> {
+    /// Whether nothing seems to come from the child at a place.
+    pub(crate) fn seems_empty(&mut self, index: u8) -> bool
+        ensures { TakesAt index self.old self.new [] }
+    {
+        match self.outs.get_mut(usize::from(index)) {
+            Some(out) => out.is_empty(),
+            None => true,
+        }
+    }
+
+    /// How much is left of the child at a place, whose reader has finished its ring.
+    pub(crate) fn left(&mut self, index: u8, finished: &mut Finished<Item<K>>) -> usize
+        requires { FinishedAt index finished.old self.old }
+        ensures taken { TakesAt index self.old self.new [] }
+        ensures left { IsLeftOf index finished.new self.new result }
+        ensures put { all_put finished.new ≡ all_put finished.old }
+    {
+        match self.outs.get_mut(usize::from(index)) {
+            Some(out) => out.left(finished),
+            None => 0,
+        }
+    }
+
+    fn next_item(&mut self, index: u8) -> Option<Item<K>>
+        ensures some { IfSome result (λ x. TakesAt index self.old self.new (x ∷ [])) }
+        ensures none { IfNone result (TakesAt index self.old self.new []) }
+    {
+        self.outs.get_mut(usize::from(index))?.take()
+    }
+
+    /// Takes what comes next from the child at a place, where something does, with a copy in room that was made for it.
+    pub(crate) fn next(&mut self, index: u8, room: Vec<u8>) -> Taken
+        requires room { (room.items ≡ []) × (4096 ≤ vec_capacity room) }
+        requires child { index < 16 }
+        ensures { IsTaken index self.old self.new result }
+    {
+        match self.next_item(index) {
+            Some(item) => taken_of(self.script, index + 1, item, room),
+            None => Taken::Nothing,
+        }
+    }
+
+    /// Takes an item of the child at a place that is sure to be left, with a copy in room that was made for it.
+    pub(crate) fn next_left(&mut self, index: u8, room: Vec<u8>) -> Taken
+        requires room { (room.items ≡ []) × (4096 ≤ vec_capacity room) }
+        requires child { index < 16 }
+        requires seen { SeenAt index self.old }
+        ensures taken { IsTaken index self.old self.new result }
+        ensures left { LeavesOneLess index self.old self.new }
+    {
+        match self.outs.get_mut(usize::from(index)) {
+            Some(out) => taken_of(self.script, index + 1, out.take_seen(), room),
+            None => Taken::Nothing,
+        }
+    }
+}
+
+/// Room for the copy of a piece.
+pub(crate) fn room(alloc: Global) -> Result<Vec<u8>, AllocError>
+    ensures { IfOk result (λ r. (r.items ≡ []) × (4096 ≤ vec_capacity r)) }
+{
+    Vec::with_capacity(alloc, 4096)
+}
+
+/// Whether an output has ended with this.
+pub(crate) fn is_last(taken: &Taken) -> bool {
+    match taken {
+        Taken::Heard(heard) => matches!(heard.what, What::Eof | What::ReadFail(_)),
+        _ => false,
+    }
+}
+
+/// What an item on the ring of a script's child says of that child, with a copy of it in room that was made for it.
+fn taken_of<K: Keeper>(script: u8, child: u8, item: Item<K>, room: Vec<u8>) -> Taken
+    requires { (room.items ≡ []) × (4096 ≤ vec_capacity room) }
+    ensures { Says (heard_of script child item) result }
+{
+    match item {
+        Item::Out {
+            script: of,
+            child: from,
+            piece,
+        } if of == script && from == child => Taken::Heard(heard_piece(piece, room)),
+        Item::End {
+            script: of,
+            child: from,
+        } if of == script && from == child => Taken::Heard(Heard {
+            what: What::Eof,
+            copy: What::Eof,
+        }),
+        Item::ReadFail {
+            script: of,
+            child: from,
+            cause,
+        } if of == script && from == child => Taken::Heard(Heard {
+            what: What::ReadFail(cause),
+            copy: What::ReadFail(cause),
+        }),
+        _ => Taken::Passed,
+    }
+}
+
+fn heard_piece(piece: Piece, room: Vec<u8>) -> Heard
+    requires { (room.items ≡ []) × (4096 ≤ vec_capacity room) }
+    ensures what { result.what ≡ Out piece }
+    ensures copy { result.copy ≡ result.what }
+    ensures size { length piece ≤ 4096 }
+{
+    let copy = What::Out(piece.copied_into(room));
+    let what = What::Out(piece.into_text());
+    Heard { what, copy }
+}

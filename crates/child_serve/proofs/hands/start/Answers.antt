@@ -1,0 +1,10 @@
+use Rattle.std.proofs.Common.{ap, ◌∙◌}
+use Rattle.feed_rings.specs.Ends.{put_items, taken_items}
+use Rattle.child_serve.proofs.Opening.{is_opened}
+use Rattle.child_serve.proofs.hands.start.Goals as goal
+
+pub returns-in-Some : goal.returns-in-Some
+returns-in-Some g c =
+    let hand = c.in-Some.ensures in
+    is_opened c.args.script c.args.keeper c.new-in-Some.result c.in-Some.hand c.in_ok-works.field-0.works.items c.in_ok-works.field-0.outs.items hand.0 hand.1 (ap taken_items hand.2 ∙ c.in_ok-asks.ensures.empty.1)
+    (ap put_items hand.3 ∙ c.in_ok-answering.ensures.empty.0) (ap (λ v. v.items) hand.4) (ap (λ rs. rs.script) c.new-in-Some.ensures) (ap (λ rs. rs.outs.items) c.new-in-Some.ensures) c.in_ok-works.ensures

@@ -1,0 +1,38 @@
+-- What children put out, as their keepers gave it.
+use Rattle.std.specs.Prelude.{◌≡◌, ◌⊎◌, ◌<◌, ℕ, List, [], ◌∷◌, ◌++◌, map, Option}
+use Rattle.std.specs.List.{concat}
+use Rattle.std.specs.Io.KnownBytes.{Consumes, IsAtEnd}
+use Rattle.std.specs.declared.io.traits.Read.{Ghosts as ReadGhosts}
+use Rattle.child_events.specs.declared.event.Answer.{Answer}
+use Rattle.child_events.specs.declared.event.Answer.TheVariants.{Ok}
+use Rattle.child_events.specs.declared.event.Cause.{Cause}
+use Rattle.child_events.specs.declared.event.What.{What}
+use Rattle.child_events.specs.declared.event.What.TheVariants.{Out, Eof, ReadFail}
+use Rattle.expect_core.specs.declared.request.Act.TheVariants.{Spawn}
+use Rattle.expect_core.specs.declared.request.Request.{Request}
+use Rattle.child_keeper.specs.declared.items.Item.{Item}
+use Rattle.child_keeper.specs.declared.keeper.Keeper.{Ghosts}
+use Rattle.child_hands.specs.Pumped.{AllPieces, IsPumpList}
+
+-- pieces of 1 to 4,096 bytes that joined begin these bytes, and then the end, where they are all, or a read failure
+pub record IsOutputOf (bytes : Option (List ℕ)) (said : List What) : Type 0 where
+  pub pieces : List (List ℕ)
+  pub sizes : AllPieces pieces
+  pub rest : Option (List ℕ)
+  pub begins : Consumes bytes rest (concat pieces)
+  pub last : ((said ≡ map (λ p. Out p) pieces ++ Eof ∷ []) × IsAtEnd rest) ⊎ ((cause : Cause) × (said ≡ map (λ p. Out p) pieces ++ ReadFail cause ∷ []))
+
+module _ (told : ℕ → ℕ → Request → Answer → Type 0) (gives : ℕ → ℕ → Option (List ℕ) → Type 0) where
+  -- the keeper of this name gave these bytes in a call behind the first `made`, which it told to be the start of this child
+  abbrev pub StartsWith : ℕ → ℕ → ℕ → Option (List ℕ) → Type 0
+  StartsWith name made child bytes =
+      (call : ℕ) × (words : List (List ℕ)) × (made < call) × ∥ told name call (record { child = child; act = Spawn words }) Ok ∥₁ × gives name call bytes
+
+  -- What is said of a child: nothing, or the output of the bytes that its keeper gave when it started the child.
+  abbrev pub IsGiven : ℕ → ℕ → ℕ → List What → Type 0
+  IsGiven name made child said = (said ≡ []) ⊎ ((bytes : Option (List ℕ)) × StartsWith name made child bytes × IsOutputOf bytes said)
+
+module _ {K O : Type 0} {g : Ghosts K O} {r : ReadGhosts O} where
+  -- these items say that, as items of a script's child
+  abbrev pub IsPut : ℕ → ℕ → ℕ → ℕ → List (Item K O g r) → Type 0
+  IsPut script name made child items = (items ≡ []) ⊎ ((bytes : Option (List ℕ)) × StartsWith g.told g.gives name made child bytes × IsPumpList script child bytes items)
