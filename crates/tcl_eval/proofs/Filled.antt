@@ -1,10 +1,14 @@
 -- A word whose filler was just begun.
-use Rattle.std.proofs.Common.{◌≡◌, ℕ, zero, suc, Bool, false, ◌==◌, List, [], ◌∷◌, drop, length, ap, sym, refl, ◌∙◌, arith}
+use Rattle.std.proofs.Common.{◌≡◌, ℕ, zero, suc, Bool, false, ◌==◌, ◌+◌, List, [], ◌∷◌, drop, length, ap, sym, refl, ◌∙◌, arith}
 use Rattle.tcl_words.specs.Pieces.{Spelled}
 use Rattle.tcl_subst.specs.Filling.{Fill}
 use Rattle.tcl_subst.specs.Recipes.{Filling, given}
 use Rattle.tcl_subst.specs.Rests.{rest}
+use Rattle.tcl_subst.specs.Variables.{Variables}
+use Rattle.tcl_commands.specs.declared.code.Code.{Code}
 use Rattle.tcl_commands.specs.declared.code.Code.TheVariants.{Ok}
+use Rattle.tcl_commands.specs.Said.{Outcome}
+use Rattle.tcl_commands.specs.Groups.{turned}
 use Rattle.tcl_scripts.specs.declared.script.Reading.{Reading}
 use Rattle.tcl_scripts.specs.declared.script.Reading.TheVariants.{Command as Words}
 use Rattle.tcl_eval.specs.declared.frame.Then.{Then}
@@ -15,9 +19,9 @@ use Rattle.tcl_eval.specs.declared.frame.Frame.TheVariants.{Onward}
 use Rattle.tcl_eval.specs.declared.frame.Onward.TheVariants.{Fill as FillOn, Seq}
 use Rattle.tcl_eval.specs.Advanced.{Fills}
 use Rattle.tcl_eval.specs.Tree.{State, Tree, Over}
-use Rattle.tcl_eval.specs.Meaning.{Next, Eval, eval, on_said, spread, fill_word, fill_words, sequence, stepped, each}
+use Rattle.tcl_eval.specs.Meaning.{Next, Eval, eval, on_said, spread, fill_word, fill_words, on_ok, command, sequence, stepped, each, turn_end}
 use Rattle.tcl_eval.specs.Rest.{frames_rest, then_rest}
-use Rattle.tcl_eval.specs.Work.{Work, EvalWork, Ticks, Tick, word_work, words_work, eval_work, then_work, frames_work}
+use Rattle.tcl_eval.specs.Work.{Work, EvalWork, Ticks, Now, Tick, stepped_work, each_work, word_work, words_work, eval_work, then_work, frames_work}
 
 pub words_first : (ev : Eval) (f : Filling) (w : Spelled) (ws words : List Spelled) (done : List (List ℕ)) (k : Next) (go : List (List ℕ) → State → Tree) (st : State)
     → Fills f w → words ≡ w ∷ ws
@@ -54,15 +58,21 @@ module _ (depth next to : ℕ) (words words' : List Spelled) (w : Spelled) (expa
       ∙ words_work_first (eval_work depth) filler w (drop to words) (drop next words) done (frames_work stack) (then_work what (frames_work stack)) st fills is
 
 -- the frame that was pushed for the commands behind one whose words are filled
-module _ (depth next to : ℕ) (script script' : List Reading) (words words' : List Spelled) (done : List (List ℕ)) (stack stack' : List Frame) (last : List ℕ) (st : State) where
-  pub seq_frame : drop next script ≡ Words words ∷ drop to script → words' ≡ words → script' ≡ script → stack' ≡ Onward (Seq script' to depth) ∷ stack → done ≡ []
-      → fill_words (eval depth) (drop 0 words') done (frames_rest stack') (then_rest depth Command (frames_rest stack')) st ≡ sequence (eval depth) (drop next script) (frames_rest stack) last st
-  seq_frame is same same' pushed none =
+module _ (depth to : ℕ) (script script' : List Reading) (words words' : List Spelled) (done : List (List ℕ)) (stack stack' : List Frame) (st : State) where
+  pub seq_frame : words' ≡ words → script' ≡ script → stack' ≡ Onward (Seq script' to depth) ∷ stack → done ≡ []
+      → fill_words (eval depth) (drop 0 words') done (frames_rest stack') (then_rest depth Command (frames_rest stack')) st ≡ command (eval depth) words (frames_rest (Onward (Seq script to depth) ∷ stack)) st
+  seq_frame same same' pushed none =
       ap (λ (s : List Frame). fill_words (eval depth) (drop 0 words') done (frames_rest s) (then_rest depth Command (frames_rest s)) st) pushed
       ∙ ap (λ (d : List (List ℕ)). fill_words (eval depth) (drop 0 words') d (frames_rest (Onward (Seq script' to depth) ∷ stack)) (then_rest depth Command (frames_rest (Onward (Seq script' to depth) ∷ stack))) st) none
       ∙ ap (λ (l : List Spelled). fill_words (eval depth) (drop 0 l) [] (frames_rest (Onward (Seq script' to depth) ∷ stack)) (then_rest depth Command (frames_rest (Onward (Seq script' to depth) ∷ stack))) st) same
       ∙ ap (λ (s : List Reading). fill_words (eval depth) words [] (frames_rest (Onward (Seq s to depth) ∷ stack)) (then_rest depth Command (frames_rest (Onward (Seq s to depth) ∷ stack))) st) same'
-      ∙ ap (λ (l : List Reading). sequence (eval depth) l (frames_rest stack) last st) (sym is)
+
+-- the commands behind one, in order
+pub seq_next : (depth : ℕ) (left rest : List Reading) (words words' : List Spelled) (k : Next) (last : List ℕ) (st : State)
+    → left ≡ Words words ∷ rest → words' ≡ words → command (eval depth) words' (on_ok (sequence (eval depth) rest k) k) st ≡ sequence (eval depth) left k last st
+seq_next depth left rest words words' k last st is same =
+    ap (λ (ws : List Spelled). command (eval depth) ws (on_ok (sequence (eval depth) rest k) k) st) same
+    ∙ ap (λ (l : List Reading). sequence (eval depth) l k last st) (sym is)
 
 stepped_none : (n : ℕ) (st : State) (go : State → Tree) → n ≡ 0 → stepped n st go ≡ Over StepLimit st
 stepped_none zero st go e = refl
@@ -73,3 +83,29 @@ pub each_spent : (ev : Eval) (names : List (List ℕ)) (left : List (List (List 
     → (length left == 0) ≡ false → st.left ≡ 0 → st' ≡ st → Over StepLimit st' ≡ each ev names left body k st
 each_spent ev names [] body k st st' some none same = absurd (cc)
 each_spent ev names (es ∷ left) body k st st' some none same = ap (λ (s : State). Over StepLimit s) same ∙ sym (stepped_none st.left st _ none)
+
+stepped_one : (m n : ℕ) (st : State) (go : State → Tree) → m ≡ n + 1 → stepped m st go ≡ go (record st { left = n })
+stepped_one zero n st go e = absurd (omega arith)
+stepped_one (suc m) n st go e = let e' : m ≡ n = omega arith in ap (λ (m : ℕ). go (record st { left = m })) e'
+
+stepped_work_one : (m n : ℕ) (st : State) (go : State → Ticks) → m ≡ n + 1 → stepped_work m st go ≡ go (record st { left = n })
+stepped_work_one zero n st go e = absurd (omega arith)
+stepped_work_one (suc m) n st go e = let e' : m ≡ n = omega arith in ap (λ (m : ℕ). go (record st { left = m })) e'
+
+-- a turn of a `foreach` that was begun, its names set
+module _ (names : List (List ℕ)) (st : State) (n : ℕ) (code : Code) (value : List ℕ) (vars : Variables) where
+  pub each_turn : (ev : Eval) (left : List (List (List ℕ))) (body : List Reading) (k : Next)
+      → (length left == 0) ≡ false → st.left ≡ n + 1 → turned (record { names = names; left = left }) st.vars ≡ (code, value, vars)
+      → on_ok (λ v st. ev body (turn_end k (λ st. each ev names (drop 1 left) body k st)) st) k code value (record { vars = vars; procs = st.procs; left = n }) ≡ each ev names left body k st
+  each_turn ev [] body k some one set = absurd (cc)
+  each_turn ev (es ∷ left) body k some one set =
+      sym (stepped_one st.left n st _ one
+      ∙ ap (λ (o : Outcome). on_ok (λ v st. ev body (turn_end k (λ st. each ev names left body k st)) st) k o.0 o.1 (record { vars = o.2; procs = st.procs; left = n })) set)
+
+  pub each_turn_work : (left : List (List (List ℕ))) (k : Work)
+      → (length left == 0) ≡ false → st.left ≡ n + 1 → turned (record { names = names; left = left }) st.vars ≡ (code, value, vars)
+      → on_ok (λ v st. Now) k code value (record { vars = vars; procs = st.procs; left = n }) ≡ each_work names left k st
+  each_turn_work [] k some one set = absurd (cc)
+  each_turn_work (es ∷ left) k some one set =
+      sym (stepped_work_one st.left n st _ one
+      ∙ ap (λ (o : Outcome). on_ok (λ v st. Now) k o.0 o.1 (record { vars = o.2; procs = st.procs; left = n })) set)

@@ -3,9 +3,9 @@
 ghost use Rattle.std.specs.Prelude.{◌≡◌, ◌+◌, ◌≤◌, ◌*◌, ◌∷◌, drop, IfOk};
 ghost use Rattle.tcl_scripts.specs.Commands.{commands};
 ghost use Rattle.tcl_eval.specs.Steps.{left_of};
-ghost use Rattle.tcl_eval.specs.Meaning.{eval, sequence};
+ghost use Rattle.tcl_eval.specs.Meaning.{eval, command, on_ok, sequence};
 ghost use Rattle.tcl_eval.specs.Rest.{onward_rest, frame_rest, state_of, AnyRestIs, RestIs};
-ghost use Rattle.tcl_eval.specs.Work.{engine_work, onward_work, frame_work, frames_work, eval_work, sequence_work, Tick, onward_weight, bodies, credit, potential, again, AnyWorkIs, WorkIs};
+ghost use Rattle.tcl_eval.specs.Work.{engine_work, onward_work, frame_work, frames_work, eval_work, command_work, sequence_work, one_more, Tick, onward_weight, bodies, credit, potential, again, AnyWorkIs, WorkIs};
 
 use crate::frame::{End, Frame, Mode, Onward, Then};
 use crate::meter::Meter;
@@ -14,7 +14,7 @@ use crate::procedure::Procedure;
 use crate::values::Values;
 use std::alloc::{AllocError, Global};
 use tcl_commands::{Code, too_deep, word_fault};
-use tcl_scripts::{Reading, Script};
+use tcl_scripts::{Reading, Script, Words};
 use tcl_subst::{Names, Vars};
 use tcl_values::Value;
 
@@ -85,18 +85,36 @@ impl Engine {
                 Ok(Mode::Give(Code::Error, self.value(word_fault(*fault))?))
             }
             Some((Reading::Command(words), to)) => {
-                let words = words.shared()?;
-                let script = script.shared()?;
-                self.stack.push(Frame::Onward(Onward::Seq {
-                    script,
-                    next: to,
-                    depth,
-                }))?;
-                let done = Values::new(self.alloc);
-                let mode = self.fill(meter, words, 0, done, Then::Command, depth)?;
+                drop(value);
+                let mode = self.begin_command(meter, words, &script, to, depth)?;
                 Ok(mode)
             }
         }
+    }
+
+    /// Begins to fill the words of a command, and goes on behind it with the script from a place on.
+    fn begin_command(
+        &mut self,
+        meter: &mut Meter,
+        words: &Words,
+        script: &Script,
+        next: usize,
+        depth: u32,
+    ) -> Result<Mode, AllocError>
+        ensures rest { RestIs self.old meter.old result self.new meter.new (λ k st. command (eval depth) words.now (on_ok (sequence (eval depth) (drop next script.now) k) k) st) }
+        ensures work { WorkIs self.old meter.old result self.new meter.new (λ k st. command_work (eval_work depth) words.now (one_more (on_ok (sequence_work (eval_work depth) (drop next script.now) k) k)) st) }
+        ensures potential { IfOk result (λ mode. potential self.new (left_of meter.new) mode ≤ 8 * left_of meter.old + bodies self.old.stack) }
+    {
+        let words = words.shared()?;
+        let script = script.shared()?;
+        self.stack.push(Frame::Onward(Onward::Seq {
+            script,
+            next,
+            depth,
+        }))?;
+        let done = Values::new(self.alloc);
+        let mode = self.fill(meter, words, 0, done, Then::Command, depth)?;
+        Ok(mode)
     }
 
     /// Hands a code and a value to the top frame.
@@ -129,10 +147,7 @@ impl Engine {
         ensures potential { IfOk result (λ mode. potential self.new (left_of meter.new) mode ≤ 8 * left_of meter.old + bodies (frame ∷ self.old.stack) + again code) }
     {
         match frame {
-            Frame::Onward(onward) => match code {
-                Code::Ok => self.onward(meter, onward, value),
-                _ => Ok(Mode::Give(code, value)),
-            },
+            Frame::Onward(onward) => self.on_ok(meter, onward, code, value),
             Frame::Catch { name } => self.caught(name, code, value),
             Frame::Turn { turning, depth } => self.turn_end(meter, turning, depth, code, value),
             Frame::Each {
@@ -148,6 +163,27 @@ impl Engine {
                 depth,
                 resumed: false,
             }),
+        }
+    }
+
+    /// Goes on at `Ok`, and hands any other code on.
+    fn on_ok(
+        &mut self,
+        meter: &mut Meter,
+        onward: Onward,
+        code: Code,
+        value: Value,
+    ) -> Result<Mode, AllocError>
+        ensures rest { RestIs self.old meter.old result self.new meter.new (λ k st. on_ok (onward_rest onward k) k code value st) }
+        ensures work { WorkIs self.old meter.old result self.new meter.new (λ k st. on_ok (onward_work onward k) k code value st) }
+        ensures potential { IfOk result (λ mode. potential self.new (left_of meter.new) mode ≤ 8 * left_of meter.old + bodies self.old.stack + onward_weight onward + again code) }
+    {
+        match code {
+            Code::Ok => self.onward(meter, onward, value),
+            _ => {
+                drop(onward);
+                Ok(Mode::Give(code, value))
+            }
         }
     }
 
@@ -172,25 +208,17 @@ impl Engine {
                 words,
                 next,
                 expand,
-                mut filler,
+                filler,
                 done,
                 then,
                 depth,
-            } => {
-                filler.give(self.alloc, value)?;
-                let mode = self.fill_on(meter, words, next, expand, filler, done, then, depth)?;
-                Ok(mode)
-            }
+            } => self.fill_with(meter, value, words, next, expand, filler, done, then, depth),
             Onward::Operand {
                 evaluation,
-                mut filler,
+                filler,
                 goal,
                 depth,
-            } => {
-                filler.give(self.alloc, value)?;
-                let mode = self.operand_on(meter, evaluation, filler, goal, depth)?;
-                Ok(mode)
-            }
+            } => self.operand_with(meter, value, evaluation, filler, goal, depth),
             Onward::Arms { arms, depth } => self.arms(meter, arms, depth),
             Onward::Next { turning, depth } => self.turn(meter, turning, depth),
             Onward::Start {

@@ -1,21 +1,21 @@
 //! How expressions are evaluated.
 
 ghost use Rattle.std.specs.Prelude.{◌≡◌, ◌+◌, ◌≤◌, ◌*◌, ◌∷◌, [], IfOk, if◌then◌else◌};
-ghost use Rattle.tcl_subst.specs.Rests.{rest, told};
+ghost use Rattle.tcl_subst.specs.Rests.{told};
 ghost use Rattle.tcl_eval.specs.Evaluated.{fresh, with_operand};
 ghost use Rattle.tcl_commands.specs.Says.{Says};
 ghost use Rattle.tcl_commands.specs.Texts.{expected_number, expr_fault};
 ghost use Rattle.tcl_eval.specs.Steps.{left_of};
 ghost use Rattle.tcl_eval.specs.Meaning.{eval, fill_word, arms, tree_of, on_said};
-ghost use Rattle.tcl_eval.specs.Rest.{goal_rest, evaluated, advanced_to, turns_left, RestIs};
-ghost use Rattle.tcl_eval.specs.Work.{eval_work, word_work, goal_work, evaluated_work, advanced_work, decided_work, arms_work, bodies, potential, WorkIs};
+ghost use Rattle.tcl_eval.specs.Rest.{onward_rest, goal_rest, evaluated, advanced_to, turns_left, AnyRestIs, RestIs};
+ghost use Rattle.tcl_eval.specs.Work.{Tick, eval_work, onward_work, word_work, goal_work, evaluated_work, advanced_work, decided_work, arms_work, bodies, credit, potential, AnyWorkIs, WorkIs};
 
 use crate::advance::Advance;
 use crate::engine::Engine;
 use crate::evaluation::{Evaluation, Test};
 use crate::frame::{End, Frame, Goal, Mode, Onward, Turning};
 use crate::meter::Meter;
-use crate::words::{advanced, script_text};
+use crate::words::{resumed, script_text};
 use std::alloc::{AllocError, Global};
 use tcl_commands::{Arms, Code, Complaint, expected_number, expr_fault, said};
 use tcl_expr::{ExprFault, read_truth};
@@ -54,37 +54,63 @@ impl Engine {
         ensures potential { IfOk result (λ mode. potential self.new (left_of meter.new) mode ≤ 8 * left_of meter.old + bodies self.old.stack) }
     {
         match step {
-            Advance::Value(value) => self.reached(meter, value, goal, depth),
-            Advance::Operand(filler) => {
-                self.stack.push(Frame::Onward(Onward::Operand {
-                    evaluation,
-                    filler,
-                    goal,
-                    depth,
-                }))?;
-                Ok(Mode::Give(Code::Ok, Value::new(self.alloc)))
+            Advance::Value(value) => {
+                drop(evaluation);
+                self.reached(meter, value, goal, depth)
             }
+            Advance::Operand(filler) => self.begin_operand(evaluation, filler, goal, depth),
             Advance::Fault(fault) => {
-                let text = expr_text_of(self.alloc, &[], &fault)?;
-                Ok(Mode::Give(Code::Error, text))
+                drop(evaluation);
+                drop(goal);
+                self.not_evaluated(&fault)
             }
         }
     }
 
-    /// Fills an operand on.
-    pub(crate) fn operand_on(
+    /// Begins to fill an operand.
+    fn begin_operand(
+        &mut self,
+        evaluation: Evaluation,
+        filler: Filler,
+        goal: Goal,
+        depth: u32,
+    ) -> Result<Mode, AllocError>
+        ensures rest { AnyRestIs self.old result self.new (λ k st. advanced_to depth (Advance.Operand filler) evaluation goal k st) }
+        ensures work { AnyWorkIs self.old result self.new (λ k st. advanced_work (eval_work depth) (Advance.Operand filler) evaluation goal k st) }
+        ensures potential { IfOk result (λ mode. bodies self.new.stack + credit mode ≤ bodies self.old.stack) }
+    {
+        self.stack.push(Frame::Onward(Onward::Operand {
+            evaluation,
+            filler,
+            goal,
+            depth,
+        }))?;
+        Ok(Mode::Give(Code::Ok, Value::new(self.alloc)))
+    }
+
+    /// An expression without a value.
+    fn not_evaluated(&self, fault: &ExprFault) -> Result<Mode, AllocError>
+        ensures { IfOk result (λ mode. mode ≡ Mode.Give Code.Error (expr_fault [] fault.now)) }
+    {
+        let text = expr_fault(self.alloc, &[], fault)?;
+        Ok(Mode::Give(Code::Error, Value::from_text(self.alloc, text)?))
+    }
+
+    /// Fills an operand on, with the value of its script.
+    pub(crate) fn operand_with(
         &mut self,
         meter: &mut Meter,
+        value: Value,
         evaluation: Evaluation,
         mut filler: Filler,
         goal: Goal,
         depth: u32,
     ) -> Result<Mode, AllocError>
-        ensures rest { RestIs self.old meter.old result self.new meter.new (λ k st. fill_word (eval depth) (rest filler self.old.vars) k (λ v st. evaluated depth (with_operand v evaluation) goal k st) st) }
-        ensures work { WorkIs self.old meter.old result self.new meter.new (λ k st. word_work (eval_work depth) (rest filler self.old.vars) k (λ v st. evaluated_work (eval_work depth) (with_operand v evaluation) goal k st) st) }
+        ensures rest { RestIs self.old meter.old result self.new meter.new (λ k st. onward_rest (Onward.Operand evaluation filler goal depth) k value st) }
+        ensures work { WorkIs self.old meter.old result self.new meter.new (λ k st. onward_work (Onward.Operand evaluation filler goal depth) k value st) }
         ensures potential { IfOk result (λ mode. potential self.new (left_of meter.new) mode ≤ 8 * left_of meter.old + bodies self.old.stack) }
     {
-        let step = advanced(self.alloc, &mut filler, &self.vars)?;
+        let step = resumed(self.alloc, value, &mut filler, &self.vars)?;
         self.operand_to(meter, step, evaluation, filler, goal, depth)
     }
 
@@ -93,7 +119,7 @@ impl Engine {
         &mut self,
         meter: &mut Meter,
         step: FillStep,
-        mut evaluation: Evaluation,
+        evaluation: Evaluation,
         filler: Filler,
         goal: Goal,
         depth: u32,
@@ -104,22 +130,59 @@ impl Engine {
     {
         match step {
             FillStep::Value(value) => {
-                evaluation.give(self.alloc, value)?;
-                self.express(meter, evaluation, goal, depth)
+                drop(filler);
+                self.operand_past(meter, value, evaluation, goal, depth)
             }
             FillStep::NeedScript(number) => {
-                let text = script_text(self.alloc, &filler, number)?;
-                self.stack.push(Frame::Onward(Onward::Operand {
-                    evaluation,
-                    filler,
-                    goal,
-                    depth,
-                }))?;
-                let mode = self.start_text(text.as_slice(), depth)?;
-                Ok(mode)
+                self.operand_script(number, evaluation, filler, goal, depth)
             }
-            FillStep::Fault(fault) => self.not_filled(&filler, fault),
+            FillStep::Fault(fault) => {
+                drop(evaluation);
+                drop(goal);
+                self.not_filled(&filler, fault)
+            }
         }
+    }
+
+    /// Goes on behind the value of an operand.
+    fn operand_past(
+        &mut self,
+        meter: &mut Meter,
+        value: Value,
+        mut evaluation: Evaluation,
+        goal: Goal,
+        depth: u32,
+    ) -> Result<Mode, AllocError>
+        ensures rest { RestIs self.old meter.old result self.new meter.new (λ k st. evaluated depth (with_operand value evaluation) goal k st) }
+        ensures work { WorkIs self.old meter.old result self.new meter.new (λ k st. evaluated_work (eval_work depth) (with_operand value evaluation) goal k st) }
+        ensures potential { IfOk result (λ mode. potential self.new (left_of meter.new) mode ≤ 8 * left_of meter.old + bodies self.old.stack) }
+    {
+        evaluation.give(self.alloc, value)?;
+        self.express(meter, evaluation, goal, depth)
+    }
+
+    /// Starts the script that an operand needs.
+    fn operand_script(
+        &mut self,
+        number: usize,
+        evaluation: Evaluation,
+        filler: Filler,
+        goal: Goal,
+        depth: u32,
+    ) -> Result<Mode, AllocError>
+        ensures rest { AnyRestIs self.old result self.new (λ k st. fill_word (eval depth) (told (FillStep.NeedScript number, filler)) k (λ v st. evaluated depth (with_operand v evaluation) goal k st) st) }
+        ensures work { AnyWorkIs self.old result self.new (λ k st. word_work (eval_work depth) (told (FillStep.NeedScript number, filler)) k (λ v st. evaluated_work (eval_work depth) (with_operand v evaluation) goal k st) st) }
+        ensures potential { IfOk result (λ mode. bodies self.new.stack + credit mode ≤ bodies self.old.stack) }
+    {
+        let text = script_text(self.alloc, &filler, number);
+        self.stack.push(Frame::Onward(Onward::Operand {
+            evaluation,
+            filler,
+            goal,
+            depth,
+        }))?;
+        let mode = self.start_text(text?.as_slice(), depth)?;
+        Ok(mode)
     }
 
     /// Goes on behind the value of an expression.
@@ -136,20 +199,57 @@ impl Engine {
     {
         match goal {
             Goal::Result => Ok(Mode::Give(Code::Ok, value)),
-            Goal::Turn(turning) => match read_truth(value.as_slice()) {
-                None => self.no_truth(&value),
-                Some(holds) => self.turn_or_end(meter, turning, holds, depth),
-            },
-            Goal::Arm { body, arms } => match read_truth(value.as_slice()) {
-                None => self.no_truth(&value),
-                Some(true) => self.start_text(body.as_slice(), depth),
-                Some(false) => {
-                    self.stack
-                        .push(Frame::Onward(Onward::Arms { arms, depth }))?;
-                    Ok(Mode::Give(Code::Ok, Value::new(self.alloc)))
-                }
-            },
+            Goal::Turn(turning) => self.decide_turn(meter, &value, turning, depth),
+            Goal::Arm { body, arms } => self.decide_arm(&value, body, arms, depth),
         }
+    }
+
+    /// Decides on a turn of a loop by the value of the condition.
+    fn decide_turn(
+        &mut self,
+        meter: &mut Meter,
+        value: &Value,
+        turning: Turning,
+        depth: u32,
+    ) -> Result<Mode, AllocError>
+        ensures rest { RestIs self.old meter.old result self.new meter.new (λ k st. goal_rest depth (Goal.Turn turning) k value.now st) }
+        ensures work { WorkIs self.old meter.old result self.new meter.new (λ k st. goal_work (eval_work depth) (Goal.Turn turning) k value.now st) }
+        ensures potential { IfOk result (λ mode. potential self.new (left_of meter.new) mode ≤ 8 * left_of meter.old + bodies self.old.stack) }
+    {
+        match read_truth(value.as_slice()) {
+            None => self.no_truth(value),
+            Some(holds) => self.turn_or_end(meter, turning, holds, depth),
+        }
+    }
+
+    /// Decides between the body of an `if` and what stands behind it by the value of the condition.
+    fn decide_arm(
+        &mut self,
+        value: &Value,
+        body: Value,
+        arms: Arms,
+        depth: u32,
+    ) -> Result<Mode, AllocError>
+        ensures rest { AnyRestIs self.old result self.new (λ k st. goal_rest depth (Goal.Arm body arms) k value.now st) }
+        ensures work { AnyWorkIs self.old result self.new (λ k st. goal_work (eval_work depth) (Goal.Arm body arms) k value.now st) }
+        ensures potential { IfOk result (λ mode. bodies self.new.stack + credit mode ≤ bodies self.old.stack) }
+    {
+        match read_truth(value.as_slice()) {
+            None => self.no_truth(value),
+            Some(true) => self.start_text(body.as_slice(), depth),
+            Some(false) => self.begin_arms(arms, depth),
+        }
+    }
+
+    /// Begins the conditions that are left.
+    fn begin_arms(&mut self, left: Arms, depth: u32) -> Result<Mode, AllocError>
+        ensures rest { AnyRestIs self.old result self.new (λ k st. arms (eval depth) left.0 left.1 k st) }
+        ensures work { AnyWorkIs self.old result self.new (λ k st. Tick (arms_work (eval_work depth) left.0 left.1 k st)) }
+        ensures potential { IfOk result (λ mode. bodies self.new.stack + credit mode ≤ bodies self.old.stack) }
+    {
+        self.stack
+            .push(Frame::Onward(Onward::Arms { arms: left, depth }))?;
+        Ok(Mode::Give(Code::Ok, Value::new(self.alloc)))
     }
 
     /// A value that is no truth value.
@@ -241,7 +341,10 @@ impl Engine {
                 let evaluation = Evaluation::new(self.alloc, test);
                 self.express(meter, evaluation, goal, depth)
             }
-            Err(text) => Ok(Mode::Give(Code::Error, text)),
+            Err(text) => {
+                drop(goal);
+                Ok(Mode::Give(Code::Error, text))
+            }
         }
     }
 }
@@ -255,12 +358,4 @@ pub(crate) fn read_test(alloc: Global, text: &Value) -> Result<Test, Complaint>
         Err(ExprFault::Memory) => Err(Complaint::Memory),
         Err(fault) => Err(Complaint::Said(expr_fault(alloc, text.as_slice(), &fault)?)),
     }
-}
-
-/// The text of a fault of an expression.
-fn expr_text_of(alloc: Global, source: &[u8], fault: &ExprFault) -> Result<Value, AllocError>
-    ensures { IfOk result (λ v. v ≡ expr_fault source.now fault.now) }
-{
-    let text = expr_fault(alloc, source, fault)?;
-    Value::from_text(alloc, text)
 }

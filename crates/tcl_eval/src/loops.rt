@@ -113,7 +113,23 @@ impl Engine {
         ensures work { WorkIs self.old meter.old result self.new meter.new (λ k st. on_said (tree_of test) k (λ t st. loop_work (eval_work depth) t k st) st) }
         ensures potential { IfOk result (λ mode. potential self.new (left_of meter.new) mode ≤ 8 * left_of meter.old + bodies self.old.stack) }
     {
-        match said(self.alloc, read_test(self.alloc, &test))? {
+        self.for_loop(meter, &test, &next, &body, depth)
+    }
+
+    /// Begins the loop of a `for`.
+    fn for_loop(
+        &mut self,
+        meter: &mut Meter,
+        test: &Value,
+        next: &Value,
+        body: &Value,
+        depth: u32,
+    ) -> Result<Mode, AllocError>
+        ensures rest { RestIs self.old meter.old result self.new meter.new (λ k st. on_said (tree_of test.now) k (λ t st. loop_of (eval depth) t (commands body.now) (Some (commands next.now)) k st) st) }
+        ensures work { WorkIs self.old meter.old result self.new meter.new (λ k st. on_said (tree_of test.now) k (λ t st. loop_work (eval_work depth) t k st) st) }
+        ensures potential { IfOk result (λ mode. potential self.new (left_of meter.new) mode ≤ 8 * left_of meter.old + bodies self.old.stack) }
+    {
+        match said(self.alloc, read_test(self.alloc, test))? {
             Ok(test) => {
                 let body = Script::read(self.alloc, body.as_slice())?;
                 let next = Script::read(self.alloc, next.as_slice())?;
@@ -183,6 +199,7 @@ impl Engine {
     {
         match code {
             Code::Ok => {
+                drop(value);
                 let script = body.shared()?;
                 self.stack.push(Frame::Each {
                     groups,

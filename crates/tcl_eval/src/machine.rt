@@ -113,7 +113,7 @@ impl<H: Host> Machine<H> {
         match self.engine.go(host, meter, mode) {
             Err(_) => Pause::Memory,
             Ok(asked) => {
-                self.mode = asked.mode;
+                drop(mem::replace(&mut self.mode, asked.mode));
                 self.pause()
             }
         }

@@ -149,11 +149,25 @@ impl Engine {
         ensures rest { AnyRestIs self.old result self.new (λ k st. defined name formals body is_known k st) }
         ensures potential { IfOk result (λ mode. bodies self.new.stack + credit mode ≤ bodies self.old.stack) }
     {
+        self.define_by(&name, &formals, &body, is_known)
+    }
+
+    /// Defines a procedure by its texts.
+    fn define_by(
+        &mut self,
+        name: &Value,
+        formals: &Value,
+        body: &Value,
+        is_known: bool,
+    ) -> Result<Mode, AllocError>
+        ensures rest { AnyRestIs self.old result self.new (λ k st. defined name.now formals.now body.now is_known k st) }
+        ensures potential { IfOk result (λ mode. bodies self.new.stack + credit mode ≤ bodies self.old.stack) }
+    {
         if is_known {
             let text = reserved(self.alloc, name.as_slice())?;
             return Ok(Mode::Give(Code::Error, text));
         }
-        match said(self.alloc, formals_of(self.alloc, &formals))? {
+        match said(self.alloc, formals_of(self.alloc, formals))? {
             Ok(formals) => {
                 let body = Script::read(self.alloc, body.as_slice())?;
                 let procedure = Procedure { formals, body };

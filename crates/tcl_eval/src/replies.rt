@@ -1,12 +1,12 @@
 //! What a machine makes of the host's replies.
 
-ghost use Rattle.std.specs.Prelude.{◌≡◌, ℕ, ◌+◌, ◌<◌, ◌*◌, IfOk, false, ◌≤◌};
+ghost use Rattle.std.specs.Prelude.{◌≡◌, ℕ, ◌+◌, ◌<◌, ◌*◌, [], IfOk, false, ◌≤◌};
 ghost use Rattle.tcl_eval.specs.Asked.{WaitsAt, GoesDown, IsAskingOnPause};
-ghost use Rattle.tcl_eval.specs.Rest.{engine_rest, AnyRestIs};
+ghost use Rattle.tcl_eval.specs.Rest.{engine_rest, AnyRestIs, RestIs};
 ghost use Rattle.tcl_eval.specs.Steps.{left_of};
 ghost use Rattle.tcl_eval.specs.Tree.{Stepped, follow};
 ghost use Rattle.tcl_eval.specs.Work.{potential, bodies, credit, again};
-ghost use Rattle.tcl_eval.specs.Meaning.{eval, after_body, after_script, next_body};
+ghost use Rattle.tcl_eval.specs.Meaning.{eval, after_body, begun, after_script, next_body};
 ghost use Rattle.tcl_scripts.specs.Commands.{commands};
 
 use crate::engine::Engine;
@@ -40,6 +40,23 @@ impl Engine {
         Ok(Mode::Run { script, depth })
     }
 
+    /// Begins to fill the words of a text that the host asked for.
+    fn host_words(
+        &mut self,
+        meter: &mut Meter,
+        text: &Value,
+        depth: u32,
+    ) -> Result<Mode, AllocError>
+        ensures rest { RestIs self.old meter.old result self.new meter.new (λ k st. begun (eval depth) [] (HostStep.Words text.now) k st) }
+        ensures potential { IfOk result (λ mode. potential self.new (left_of meter.new) mode ≤ 8 * left_of meter.old + bodies self.old.stack + 5) }
+    {
+        let script = Script::read(self.alloc, text.as_slice())?;
+        let (words, fault) = script.all_words(self.alloc)?;
+        let done = Values::new(self.alloc);
+        let mode = self.fill(meter, words, 0, done, Then::List(fault), depth)?;
+        Ok(mode)
+    }
+
     /// Takes the host's reply to a command that was begun.
     pub(crate) fn take_begun(
         &mut self,
@@ -61,10 +78,7 @@ impl Engine {
                 Ok(on(mode))
             }
             HostStep::Words(text) => {
-                let script = Script::read(self.alloc, text.as_slice())?;
-                let (wanted, fault) = script.all_words(self.alloc)?;
-                let done = Values::new(self.alloc);
-                let mode = self.fill(meter, wanted, 0, done, Then::List(fault), depth)?;
+                let mode = self.host_words(meter, &text, depth)?;
                 Ok(on(mode))
             }
             HostStep::Wait => Ok(Asked {

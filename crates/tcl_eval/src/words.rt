@@ -2,15 +2,15 @@
 
 ghost use Rattle.std.specs.Prelude.{◌≡◌, ◌≢◌, ◌+◌, ◌≤◌, ◌*◌, ◌∷◌, [], drop, unwrap_or, IfOk, None, Some};
 ghost use Rattle.tcl_subst.specs.Filling.{fill};
-ghost use Rattle.tcl_subst.specs.Recipes.{script_at, refused_name};
+ghost use Rattle.tcl_subst.specs.Recipes.{given, script_at, refused_name};
 ghost use Rattle.tcl_subst.specs.Rests.{rest, told};
 ghost use Rattle.tcl_commands.specs.Says.{Says};
 ghost use Rattle.tcl_commands.specs.Texts.{not_read};
 ghost use Rattle.tcl_eval.specs.Advanced.{Fills};
 ghost use Rattle.tcl_eval.specs.Steps.{left_of};
 ghost use Rattle.tcl_eval.specs.Meaning.{eval, fill_word, fill_words, spread, on_said};
-ghost use Rattle.tcl_eval.specs.Rest.{then_rest, RestIs};
-ghost use Rattle.tcl_eval.specs.Work.{eval_work, word_work, words_work, then_work, then_weight, bodies, potential, WorkIs};
+ghost use Rattle.tcl_eval.specs.Rest.{onward_rest, then_rest, AnyRestIs, RestIs};
+ghost use Rattle.tcl_eval.specs.Work.{eval_work, onward_work, word_work, words_work, then_work, then_weight, bodies, credit, potential, AnyWorkIs, WorkIs};
 
 use crate::engine::Engine;
 use crate::evaluation::first;
@@ -88,10 +88,11 @@ impl Engine {
         }
     }
 
-    /// Fills a word on.
-    pub(crate) fn fill_on(
+    /// Fills a word on, with the value of its script.
+    pub(crate) fn fill_with(
         &mut self,
         meter: &mut Meter,
+        value: Value,
         words: Words,
         next: usize,
         expand: bool,
@@ -100,11 +101,11 @@ impl Engine {
         then: Then,
         depth: u32,
     ) -> Result<Mode, AllocError>
-        ensures rest { RestIs self.old meter.old result self.new meter.new (λ k st. fill_word (eval depth) (rest filler self.old.vars) k (λ v st. on_said (spread expand v done) k (λ done st. fill_words (eval depth) (drop next words) done k (then_rest depth then k) st) st) st) }
-        ensures work { WorkIs self.old meter.old result self.new meter.new (λ k st. word_work (eval_work depth) (rest filler self.old.vars) k (λ v st. on_said (spread expand v done) k (λ done st. words_work (eval_work depth) (drop next words) done k (then_work then k) st) st) st) }
+        ensures rest { RestIs self.old meter.old result self.new meter.new (λ k st. onward_rest (Onward.Fill words next expand filler done then depth) k value st) }
+        ensures work { WorkIs self.old meter.old result self.new meter.new (λ k st. onward_work (Onward.Fill words next expand filler done then depth) k value st) }
         ensures potential { IfOk result (λ mode. potential self.new (left_of meter.new) mode ≤ 8 * left_of meter.old + bodies self.old.stack + then_weight then) }
     {
-        let step = advanced(self.alloc, &mut filler, &self.vars)?;
+        let step = resumed(self.alloc, value, &mut filler, &self.vars)?;
         self.fill_to(meter, step, words, next, expand, filler, done, then, depth)
     }
 
@@ -129,22 +130,41 @@ impl Engine {
             FillStep::Value(value) => self.fill_past(
                 meter, value, words, next, expand, done, then, depth,
             ),
-            FillStep::NeedScript(number) => {
-                let text = script_text(self.alloc, &filler, number)?;
-                self.stack.push(Frame::Onward(Onward::Fill {
-                    words,
-                    next,
-                    expand,
-                    filler,
-                    done,
-                    then,
-                    depth,
-                }))?;
-                let mode = self.start_text(text.as_slice(), depth)?;
-                Ok(mode)
-            }
+            FillStep::NeedScript(number) => self.fill_script(
+                number, words, next, expand, filler, done, then, depth,
+            ),
             FillStep::Fault(fault) => self.not_filled(&filler, fault),
         }
+    }
+
+    /// Starts the script that a word needs.
+    fn fill_script(
+        &mut self,
+        number: usize,
+        words: Words,
+        next: usize,
+        expand: bool,
+        filler: Filler,
+        done: Values,
+        then: Then,
+        depth: u32,
+    ) -> Result<Mode, AllocError>
+        ensures rest { AnyRestIs self.old result self.new (λ k st. fill_word (eval depth) (told (FillStep.NeedScript number, filler)) k (λ v st. on_said (spread expand v done) k (λ done st. fill_words (eval depth) (drop next words) done k (then_rest depth then k) st) st) st) }
+        ensures work { AnyWorkIs self.old result self.new (λ k st. word_work (eval_work depth) (told (FillStep.NeedScript number, filler)) k (λ v st. on_said (spread expand v done) k (λ done st. words_work (eval_work depth) (drop next words) done k (then_work then k) st) st) st) }
+        ensures potential { IfOk result (λ mode. bodies self.new.stack + credit mode ≤ bodies self.old.stack + then_weight then) }
+    {
+        let text = script_text(self.alloc, &filler, number);
+        self.stack.push(Frame::Onward(Onward::Fill {
+            words,
+            next,
+            expand,
+            filler,
+            done,
+            then,
+            depth,
+        }))?;
+        let mode = self.start_text(text?.as_slice(), depth)?;
+        Ok(mode)
     }
 
     /// Goes on behind the value of a word.
@@ -186,12 +206,22 @@ fn first_filler(alloc: Global, word: &KeptWord) -> Result<Filler, AllocError>
     Ok(first(filler))
 }
 
-/// The next step of a filler.
-pub(crate) fn advanced(
+/// The next step of a filler, with the value of its script.
+pub(crate) fn resumed(
     alloc: Global,
+    value: Value,
     filler: &mut Filler,
     vars: &Vars,
 ) -> Result<FillStep, AllocError>
+    ensures { IfOk result (λ s. told (s, filler.new) ≡ rest (given value filler.old) vars.now) }
+{
+    filler.give(alloc, value)?;
+    let step = advanced(alloc, filler, vars)?;
+    Ok(step)
+}
+
+/// The next step of a filler.
+fn advanced(alloc: Global, filler: &mut Filler, vars: &Vars) -> Result<FillStep, AllocError>
     ensures { IfOk result (λ s. told (s, filler.new) ≡ rest filler.old vars.now) }
 {
     filling_is_fill();
@@ -220,7 +250,9 @@ fn spread(alloc: Global, expand: bool, value: Value, done: Values) -> Result<Val
         done.push(value)?;
         return Ok(done);
     }
-    match value.elements(alloc) {
+    let elements = value.elements(alloc);
+    drop(value);
+    match elements {
         Ok(elements) => {
             done.push_all(alloc, elements.as_slice())?;
             Ok(done)
