@@ -1,7 +1,7 @@
 -- What calls at a desk keep, one after another.
-use Rattle.std.proofs.Common.{◌≡◌, ◌≢◌, ℕ, zero, suc, ◌+◌, ◌≤◌, ◌<◌, List, [], ◌∷◌, ◌++◌, length, Bool, true, false, Option, Some, None, refl, sym, ap, subst, ◌∙◌, arith}
-use Rattle.std.specs.Prelude.{slice_get, slice_set, ◌==◌, IsTrue, MatchOption, if◌then◌else◌}
-use Rattle.std.proofs.lemmas.Bool.Decides.{nat_tests}
+use Rattle.std.proofs.Common.{◌≡◌, ◌≢◌, ◌⊎◌, inl, inr, ℕ, zero, suc, ◌+◌, ◌≤◌, ◌<◌, List, [], ◌∷◌, ◌++◌, length, Bool, true, false, Option, Some, None, refl, sym, ap, subst, ◌∙◌, append-nil, arith}
+use Rattle.std.specs.Prelude.{slice_get, slice_set, ◌==◌, IsTrue, Contains, MatchOption, if◌then◌else◌}
+use Rattle.std.proofs.lemmas.Bool.{cases_eq}
 use Rattle.child_events.specs.declared.event.Answer.{Answer}
 use Rattle.child_events.specs.declared.event.HallEvent.{HallEvent}
 use Rattle.child_events.specs.World.{own}
@@ -10,11 +10,17 @@ use Rattle.session.specs.Left.{Kept}
 use Rattle.dialogue_sched.specs.declared.script.Script.{Script}
 use Rattle.dialogue_sched.specs.Took.{AllTook}
 use Rattle.dialogue_sched.specs.Refusal.{refusal_of}
-use Rattle.child_desk.specs.Told.{answers_in}
+use Rattle.std.specs.declared.io.traits.Read.{Ghosts as ReadGhosts}
+use Rattle.child_keeper.specs.declared.keeper.Keeper.{Ghosts}
+use Rattle.child_keeper.specs.declared.items.Item.{Item}
+use Rattle.feed_rings.specs.Ends.{taken_items, SameOut}
+use Rattle.feed_rings.specs.declared.feed.FeedOut.{FeedOut}
+use Rattle.child_desk.specs.declared.ends.Ends.{Ends as HandEnds}
+use Rattle.child_desk.specs.Told.{Telling, answers_in, all_told, heard_of_hand}
 use Rattle.child_desk.specs.declared.book.Book.{Book}
 use Rattle.child_desk.specs.declared.line.Line.{Line}
 use Rattle.child_desk.specs.Book.{Enters, IsRecord, AscendsFrom, AllTaken, moment_in}
-use Rattle.child_desk.specs.Line.{Keeping, IsInLine, InLine, Leaves, Keeps, KeepsAll}
+use Rattle.child_desk.specs.Line.{Keeping, IsInLine, InLine, Leaves, Keeps, SameRings, HearsNoHand, KeepsAll}
 use Rattle.child_events.specs.declared.event.What.{What}
 use Rattle.child_events.specs.declared.event.What.TheVariants as what
 use Rattle.child_events.specs.declared.event.Event.TheVariants as event
@@ -27,7 +33,8 @@ use Rattle.dialogue_sched.specs.Hall.{Requested, EndsAt, Ends}
 use Rattle.child_desk.specs.Ends.{IsOutput, output_at}
 use Rattle.child_desk.specs.Line.{answer_at, Goes, AllOver}
 use Rattle.child_desk.proofs.Places.{nothing_there, one_there, set_here, set_there, set_length}
-use Rattle.child_desk.proofs.Lining.{numbered, handed_at, answers_own, answers_other, asked_line, passed_line, answered_line, ended_line, passes_all}
+use Rattle.child_desk.proofs.Telling.{IsWithin}
+use Rattle.child_desk.proofs.Lining.{numbered, handed_at, more_told, answers_own, answers_other, asked_line, passed_line, answered_line, ended_line, passes_all}
 
 -- an entry with the book's stamp makes no moment go back
 ascends_on : (least last : ℕ) (e : HallEvent) (es : List HallEvent) (scripts : ℕ) → least ≤ last → AscendsFrom least es → AllTaken scripts last es → moment_in e ≡ last → AscendsFrom least (es ++ e ∷ [])
@@ -61,103 +68,174 @@ entered_record e true old new t m r = record {
       (subst (AllTaken (length old.hall) old.stamp) (sym t.2) (taken_on (length old.hall) old.stamp e old.log.items r.taken t.0 m)));
 }
 
-module _ (told : ℕ → ℕ → Request → Answer → Type 0) where
-  pub leaves_same : (old new : Book) → new.hall ≡ old.hall → new.log.items ≡ old.log.items → new.stamp ≡ old.stamp → Leaves told old new
-  leaves_same old new h l s = record {
-    lines = λ keeper script at line is. in_line_same keeper script at line is;
-    book = λ r. record {
-      ascends = subst (AscendsFrom 0) (sym l) r.ascends;
-      taken = subst (λ (n : ℕ). AllTaken (length new.hall) n new.log.items) (sym s) (subst (λ (ks : List Kept). AllTaken (length ks) old.stamp new.log.items) (sym h) (subst (AllTaken (length old.hall) old.stamp) (sym l) r.taken));
-    };
-    halls = ap length h;
-  }
+pub leaves_same : (old new : Book) → new.hall ≡ old.hall → new.log.items ≡ old.log.items → new.stamp ≡ old.stamp → Leaves old new
+leaves_same old new h l s = record {
+  lines = λ ts keeper script at line is. in_line_same ts keeper script at line is;
+  book = λ r. record {
+    ascends = subst (AscendsFrom 0) (sym l) r.ascends;
+    taken = subst (λ (n : ℕ). AllTaken (length new.hall) n new.log.items) (sym s) (subst (λ (ks : List Kept). AllTaken (length ks) old.stamp new.log.items) (sym h) (subst (AllTaken (length old.hall) old.stamp) (sym l) r.taken));
+  };
+  halls = ap length h;
+}
+  where
+    in_line_same : (ts : List Telling) (keeper : Keeping) (script : Script) (at : ℕ) (line : Line) → InLine ts keeper script at line old → InLine ts keeper script at line new
+    in_line_same ts keeper script at line (k, here, is) =
+        (k, ap (λ (ks : List Kept). slice_get ks at) h ∙ here, subst (λ (es : List HallEvent). IsInLine ts keeper script line k (own (at + 1) es)) (sym l) is)
+
+pub leaves_then : (a b c : Book) → Leaves a b → Leaves b c → Leaves a c
+leaves_then a b c f g = record {
+  lines = λ ts keeper script at line is. g.lines ts keeper script at line (f.lines ts keeper script at line is);
+  book = λ r. g.book (f.book r);
+  halls = g.halls ∙ f.halls;
+}
+
+-- an event that answers nothing
+pub leaves_entered : (e : HallEvent) (took : Bool) (old new : Book) → Enters e took old new → ((n : ℕ) → answers_in (own n (e ∷ [])) ≡ []) → moment_in e ≡ old.stamp → Leaves old new
+leaves_entered e took old new t none m = record {
+  lines = λ ts keeper script at line is. passes_all e took old new t ts keeper script at line (none (at + 1)) is;
+  book = entered_record e took old new t m;
+  halls = entered_halls e took old new t;
+}
+
+pub keeps_left : (ts : List Telling) (at : ℕ) (line : Line) (old new : Book) → Leaves old new → Keeps ts ts at line old line new
+keeps_left ts at line old new f = record {
+  here = λ keeper script is. f.lines ts keeper script at line is;
+  others = λ us keeper script i other differs is. f.lines us keeper script i other is;
+  book = f.book;
+  halls = f.halls;
+}
+
+pub keeps_then : (ts us vs : List Telling) (at : ℕ) (x y z : Line) (a b c : Book) → Keeps ts us at x a y b → Keeps us vs at y b z c → Keeps ts vs at x a z c
+keeps_then ts us vs at x y z a b c f g = record {
+  here = λ keeper script is. g.here keeper script (f.here keeper script is);
+  others = λ ws keeper script i other differs is. g.others ws keeper script i other differs (f.others ws keeper script i other differs is);
+  book = λ r. g.book (f.book r);
+  halls = g.halls ∙ f.halls;
+}
+
+module _ {K O : Type 0} {g : Ghosts K O} {r : ReadGhosts O} where
+  same_out : (a : FeedOut (Item K O g r)) → SameOut a a
+  same_out a = (refl, refl, refl, refl)
+
+  then_out : (a b c : FeedOut (Item K O g r)) → SameOut a b → SameOut b c → SameOut a c
+  then_out a b c p q = (q.0 ∙ p.0, q.1 ∙ p.1, q.2 ∙ p.2, q.3 ∙ p.3)
+
+  rings_same : (ends : List (HandEnds K O g r)) → SameRings ends ends
+  rings_same ends at e here = (e, here, same_out e.answers)
+
+  rings_then : (a b c : List (HandEnds K O g r)) → SameRings a b → SameRings b c → SameRings a c
+  rings_then a b c f h at e here =
+      let p = f at e here in
+      let q = h at p.0 p.1 in
+      (q.0, q.1, then_out e.answers p.0.answers q.0.answers p.2 q.2)
+
+  rings_set : (at : ℕ) (ends : List (HandEnds K O g r)) (e e' : HandEnds K O g r) → slice_get ends at ≡ Some e → SameOut e.answers e'.answers → SameRings ends (slice_set ends at e')
+  rings_set at ends e e' here ring n x got = by_place (cases_eq n at)
     where
-      in_line_same : (keeper : Keeping) (script : Script) (at : ℕ) (line : Line) → InLine told keeper script at line old → InLine told keeper script at line new
-      in_line_same keeper script at line (k, here, is) =
-          (k, ap (λ (ks : List Kept). slice_get ks at) h ∙ here, subst (λ (es : List HallEvent). IsInLine told keeper script line k (own (at + 1) es)) (sym l) is)
+      by_place : (n ≡ at) ⊎ (n ≡ at → ⊥) → (x' : HandEnds K O g r) × (slice_get (slice_set ends at e') n ≡ Some x') × SameOut x.answers x'.answers
+      by_place (inl same) =
+          let one : e ≡ x = one_there e x (sym here ∙ subst (λ (k : ℕ). slice_get ends k ≡ Some x) same got) in
+          (e', subst (λ (k : ℕ). slice_get (slice_set ends at e') k ≡ Some e') (sym same) (set_here at ends e e' here), subst (λ (y : HandEnds K O g r). SameOut y.answers e'.answers) one ring)
+      by_place (inr other) = (x, set_there at n ends e' other ∙ got, same_out x.answers)
 
-  pub leaves_then : (a b c : Book) → Leaves told a b → Leaves told b c → Leaves told a c
-  leaves_then a b c f g = record {
-    lines = λ keeper script at line is. g.lines keeper script at line (f.lines keeper script at line is);
-    book = λ r. g.book (f.book r);
-    halls = g.halls ∙ f.halls;
-  }
-
-  -- an event that answers nothing
-  pub leaves_entered : (e : HallEvent) (took : Bool) (old new : Book) → Enters e took old new → ((n : ℕ) → answers_in (own n (e ∷ [])) ≡ []) → moment_in e ≡ old.stamp → Leaves told old new
-  leaves_entered e took old new t none m = record {
-    lines = λ keeper script at line is. passes_all told e took old new t keeper script at line (none (at + 1)) is;
-    book = entered_record e took old new t m;
-    halls = entered_halls e took old new t;
-  }
-
-  pub keeps_left : (at : ℕ) (line : Line) (old new : Book) → Leaves told old new → Keeps told at line old line new
-  keeps_left at line old new f = record {
-    here = λ keeper script is. f.lines keeper script at line is;
-    others = λ keeper script i other differs is. f.lines keeper script i other is;
+  pub all_left : (lines : List Line) (ends : List (HandEnds K O g r)) (old new : Book) → Leaves old new → KeepsAll lines ends old lines ends new
+  all_left lines ends old new f = record {
+    each = λ keeper script at line e here there is. (line, e, here, there, f.lines (heard_of_hand e.answers) keeper script at line is);
+    rings = rings_same ends;
     book = f.book;
     halls = f.halls;
+    count = refl;
   }
 
-  pub keeps_then : (at : ℕ) (x y z : Line) (a b c : Book) → Keeps told at x a y b → Keeps told at y b z c → Keeps told at x a z c
-  keeps_then at x y z a b c f g = record {
-    here = λ keeper script is. g.here keeper script (f.here keeper script is);
-    others = λ keeper script i other differs is. g.others keeper script i other differs (f.others keeper script i other differs is);
-    book = λ r. g.book (f.book r);
-    halls = g.halls ∙ f.halls;
-  }
-
-  pub all_same : (lines : List Line) (book : Book) → KeepsAll told lines book lines book
-  all_same lines book = record {
-    each = λ keeper script at line here is. (line, here, is);
-    book = λ r. r;
+  pub all_same : (lines : List Line) (ends : List (HandEnds K O g r)) (book : Book) → KeepsAll lines ends book lines ends book
+  all_same lines ends book = record {
+    each = λ keeper script at line e here there is. (line, e, here, there, is);
+    rings = rings_same ends;
+    book = λ b. b;
     halls = refl;
     count = refl;
   }
 
-  pub all_left : (lines : List Line) (old new : Book) → Leaves told old new → KeepsAll told lines old lines new
-  all_left lines old new f = record {
-    each = λ keeper script at line here is. (line, here, f.lines keeper script at line is);
+  pub all_then : (xs ys zs : List Line) (ds es fs : List (HandEnds K O g r)) (a b c : Book) → KeepsAll xs ds a ys es b → KeepsAll ys es b zs fs c → KeepsAll xs ds a zs fs c
+  all_then xs ys zs ds es fs a b c f h = record {
+    each = λ keeper script at line e here there is.
+        let p = f.each keeper script at line e here there is in
+        h.each keeper script at p.0 p.1 p.2 p.3 p.4;
+    rings = rings_then ds es fs f.rings h.rings;
+    book = λ b. h.book (f.book b);
+    halls = h.halls ∙ f.halls;
+    count = h.count ∙ f.count;
+  }
+
+  -- nothing more was taken from the rings from hands
+
+  pub no_hand_same : (ends : List (HandEnds K O g r)) → HearsNoHand ends ends
+  no_hand_same ends = record { each = λ at e here. (e, here, same_out e.answers, refl); count = refl }
+
+  pub no_hand_then : (a b c : List (HandEnds K O g r)) → HearsNoHand a b → HearsNoHand b c → HearsNoHand a c
+  no_hand_then a b c f h = record {
+    each = λ at e here.
+        let p = f.each at e here in
+        let q = h.each at p.0 p.1 in
+        (q.0, q.1, then_out e.answers p.0.answers q.0.answers p.2 q.2, q.3 ∙ p.3);
+    count = h.count ∙ f.count;
+  }
+
+  pub no_hand_set : (at : ℕ) (ends : List (HandEnds K O g r)) (e e' : HandEnds K O g r) → slice_get ends at ≡ Some e → SameOut e.answers e'.answers → taken_items e'.answers ≡ taken_items e.answers → HearsNoHand ends (slice_set ends at e')
+  no_hand_set at ends e e' here ring taken = record {
+    each = λ n x got. by_place n x got (cases_eq n at);
+    count = set_length at ends e';
+  }
+    where
+      by_place : (n : ℕ) (x : HandEnds K O g r) → slice_get ends n ≡ Some x → (n ≡ at) ⊎ (n ≡ at → ⊥) → (x' : HandEnds K O g r) × (slice_get (slice_set ends at e') n ≡ Some x') × SameOut x.answers x'.answers × (taken_items x'.answers ≡ taken_items x.answers)
+      by_place n x got (inl same) =
+          let one : e ≡ x = one_there e x (sym here ∙ subst (λ (k : ℕ). slice_get ends k ≡ Some x) same got) in (
+            e',
+            subst (λ (k : ℕ). slice_get (slice_set ends at e') k ≡ Some e') (sym same) (set_here at ends e e' here),
+            subst (λ (y : HandEnds K O g r). SameOut y.answers e'.answers) one ring,
+            subst (λ (y : HandEnds K O g r). taken_items e'.answers ≡ taken_items y.answers) one taken,
+          )
+      by_place n x got (inr other) = (x, set_there at n ends e' other ∙ got, same_out x.answers, refl)
+
+  pub rings_of : (ends ends' : List (HandEnds K O g r)) → HearsNoHand ends ends' → SameRings ends ends'
+  rings_of ends ends' h at e here = let p = h.each at e here in (p.0, p.1, p.2)
+
+  -- scripts stay in their lines where nothing is taken from those rings
+  pub all_still : (lines : List Line) (a b : List (HandEnds K O g r)) (old new : Book) → Leaves old new → HearsNoHand a b → KeepsAll lines a old lines b new
+  all_still lines a b old new f h = record {
+    each = λ keeper script at line e here there is.
+        let p = h.each at e there in
+        (line, p.0, here, p.1, subst (λ (xs : List (Item K O g r)). InLine (all_told xs) keeper script at line new) (sym p.3) (f.lines (heard_of_hand e.answers) keeper script at line is));
+    rings = rings_of a b h;
     book = f.book;
     halls = f.halls;
     count = refl;
   }
 
-  pub all_then : (xs ys zs : List Line) (a b c : Book) → KeepsAll told xs a ys b → KeepsAll told ys b zs c → KeepsAll told xs a zs c
-  all_then xs ys zs a b c f g = record {
-    each = λ keeper script at line here is. let w = f.each keeper script at line here is in g.each keeper script at w.0 w.1 w.2;
-    book = λ r. g.book (f.book r);
-    halls = g.halls ∙ f.halls;
-    count = g.count ∙ f.count;
-  }
-
   -- the script at a place went on
-  pub all_kept : (at : ℕ) (lines : List Line) (line line' : Line) (old new : Book) → slice_get lines at ≡ Some line → Keeps told at line old line' new → KeepsAll told lines old (slice_set lines at line') new
-  all_kept at lines line line' old new here f = record {
-    each = λ keeper script i other there is. by_place i (i == at) refl keeper script other there is;
+  pub all_kept : (at : ℕ) (lines : List Line) (ends : List (HandEnds K O g r)) (line line' : Line) (e e' : HandEnds K O g r) (old new : Book) → slice_get lines at ≡ Some line → slice_get ends at ≡ Some e → SameOut e.answers e'.answers →
+      Keeps (heard_of_hand e.answers) (heard_of_hand e'.answers) at line old line' new → KeepsAll lines ends old (slice_set lines at line') (slice_set ends at e') new
+  all_kept at lines ends line line' e e' old new here end ring f = record {
+    each = λ keeper script i other x there got is. by_place i other x there got is (cases_eq i at);
+    rings = rings_set at ends e e' end ring;
     book = f.book;
     halls = f.halls;
     count = set_length at lines line';
   }
     where
-      same_place : (i : ℕ) → (i == at) ≡ true → i ≡ at
-      same_place i e = grind (arith, nat_tests, e)
+      -- what a script is in, at a place
+      Goes : Keeping → Script → ℕ → Type 0
+      Goes keeper script i = (l : Line) × (y : HandEnds K O g r) × (slice_get (slice_set lines at line') i ≡ Some l) × (slice_get (slice_set ends at e') i ≡ Some y) × InLine (heard_of_hand y.answers) keeper script i l new
 
-      other_place : (i : ℕ) → (i == at) ≡ false → i ≢ at
-      other_place i e h = grind (arith, nat_tests, e, h)
-
-      by_place : (i : ℕ) (t : Bool) → (i == at) ≡ t → (keeper : Keeping) (script : Script) (other : Line) → slice_get lines i ≡ Some other → InLine told keeper script i other old →
-          (l : Line) × (slice_get (slice_set lines at line') i ≡ Some l) × InLine told keeper script i l new
-      by_place i true e keeper script other there is =
-          let same = same_place i e in
-          let one = one_there line other (sym here ∙ ap (slice_get lines) (sym same) ∙ there) in (
-            line',
-            ap (slice_get (slice_set lines at line')) same ∙ set_here at lines line line' here,
-            subst (λ (n : ℕ). InLine told keeper script n line' new) (sym same) (f.here keeper script (subst (λ (l : Line). InLine told keeper script at l old) (sym one) (subst (λ (n : ℕ). InLine told keeper script n other old) same is))),
-          )
-      by_place i false e keeper script other there is =
-          let differs = other_place i e in
-          (other, set_there at i lines line' differs ∙ there, f.others keeper script i other differs is)
+      by_place : {keeper : Keeping} {script : Script} (i : ℕ) (other : Line) (x : HandEnds K O g r) → slice_get lines i ≡ Some other → slice_get ends i ≡ Some x → InLine (heard_of_hand x.answers) keeper script i other old → (i ≡ at) ⊎ (i ≡ at → ⊥) → Goes keeper script i
+      by_place {keeper} {script} i other x there got is (inl same) =
+          let one = one_there line other (sym here ∙ subst (λ (k : ℕ). slice_get lines k ≡ Some other) same there) in
+          let other_end = one_there e x (sym end ∙ subst (λ (k : ℕ). slice_get ends k ≡ Some x) same got) in
+          let was = subst (λ (y : HandEnds K O g r). InLine (heard_of_hand y.answers) keeper script at line old) (sym other_end)
+          (subst (λ (l : Line). InLine (heard_of_hand x.answers) keeper script at l old) (sym one) (subst (λ (k : ℕ). InLine (heard_of_hand x.answers) keeper script k other old) same is)) in
+          subst (Goes keeper script) (sym same) (line', e', set_here at lines line line' here, set_here at ends e e' end, f.here keeper script was)
+      by_place {keeper} {script} i line x there got is (inr other) =
+          (line, x, set_there at i lines line' other ∙ there, set_there at i ends e' other ∙ got, f.others (heard_of_hand x.answers) keeper script i line other is)
 
 -- a tick answers nothing
 pub tick_silent : (m n : ℕ) → answers_in (own n (hall.Tick m ∷ [])) ≡ []
@@ -174,71 +252,70 @@ output_silent s c m w out n = by_script (s == n) w out
     by_script true (what.ReadFail cause) out = refl
     by_script true (what.Answer a) out = absurd out
 
-module _ (told : ℕ → ℕ → Request → Answer → Type 0) where
-  -- a tick, in a book that was stamped for it
-  pub leaves_ticked : (now : ℕ) (took : Bool) (old mid new : Book) → mid.hall ≡ old.hall → mid.log.items ≡ old.log.items → mid.stamp ≡ now → old.stamp ≤ now → Enters (hall.Tick now) took mid new → Leaves told old new
-  leaves_ticked now took old mid new h l s le t = leaves_then told old mid new stamped (leaves_entered told (hall.Tick now) took mid new t (tick_silent now) (sym s))
-    where
-      stamped : Leaves told old mid
-      stamped = record {
-        lines = λ keeper script at line is. (is.0, ap (λ (ks : List Kept). slice_get ks at) h ∙ is.1, subst (λ (es : List HallEvent). IsInLine told keeper script line is.0 (own (at + 1) es)) (sym l) is.2);
-        book = λ r. record {
-          ascends = subst (AscendsFrom 0) (sym l) r.ascends;
-          taken = subst (λ (ks : List Kept). AllTaken (length ks) mid.stamp mid.log.items) (sym h) (subst (AllTaken (length old.hall) mid.stamp) (sym l)
-              (subst (λ (n : ℕ). AllTaken (length old.hall) n old.log.items) (sym s) (taken_later (length old.hall) old.stamp now old.log.items le r.taken)));
-        };
-        halls = ap length h;
-      }
+-- a tick, in a book that was stamped for it
+pub leaves_ticked : (now : ℕ) (took : Bool) (old mid new : Book) → mid.hall ≡ old.hall → mid.log.items ≡ old.log.items → mid.stamp ≡ now → old.stamp ≤ now → Enters (hall.Tick now) took mid new → Leaves old new
+leaves_ticked now took old mid new h l s le t = leaves_then old mid new stamped (leaves_entered (hall.Tick now) took mid new t (tick_silent now) (sym s))
+  where
+    stamped : Leaves old mid
+    stamped = record {
+      lines = λ ts keeper script at line is. (is.0, ap (λ (ks : List Kept). slice_get ks at) h ∙ is.1, subst (λ (es : List HallEvent). IsInLine ts keeper script line is.0 (own (at + 1) es)) (sym l) is.2);
+      book = λ r. record {
+        ascends = subst (AscendsFrom 0) (sym l) r.ascends;
+        taken = subst (λ (ks : List Kept). AllTaken (length ks) mid.stamp mid.log.items) (sym h) (subst (AllTaken (length old.hall) mid.stamp) (sym l)
+            (subst (λ (n : ℕ). AllTaken (length old.hall) n old.log.items) (sym s) (taken_later (length old.hall) old.stamp now old.log.items le r.taken)));
+      };
+      halls = ap length h;
+    }
 
-  -- the hall's next request waits
-  pub keeps_asked : (at : ℕ) (line : Line) (request : Option Request) (old new : Book) → at < length old.hall → line.awaited ≡ None → Requested (at + 1) old.hall request new.hall → new.log.items ≡ old.log.items → new.stamp ≡ old.stamp →
-      Keeps told at line old (record line { awaited = request }) new
-  keeps_asked at line request old new lt free req log stamp = record {
-    here = λ keeper script is. asked_line told keeper script at line request old new lt free req log is;
-    others = λ keeper script i other differs is. (
-      is.0,
-      ap (λ (ks : List Kept). slice_get ks i) h.4 ∙ set_there at i old.hall h.1 differs ∙ is.1,
-      subst (λ (es : List HallEvent). IsInLine told keeper script other is.0 (own (i + 1) es)) (sym log) is.2,
-    );
-    book = λ r. record {
-      ascends = subst (AscendsFrom 0) (sym log) r.ascends;
-      taken = subst (λ (n : ℕ). AllTaken n new.stamp new.log.items) (sym size) (subst (λ (n : ℕ). AllTaken (length old.hall) n new.log.items) (sym stamp) (subst (AllTaken (length old.hall) old.stamp) (sym log) r.taken));
-    };
-    halls = size;
-  }
-    where
-      h : (k : Kept) × (k' : Kept) × (slice_get old.hall at ≡ Some k) × HandsOut k request k' × (new.hall ≡ slice_set old.hall at k')
-      h = handed_at at request old.hall new.hall lt req
+-- the hall's next request waits
+pub keeps_asked : (ts : List Telling) (at : ℕ) (line : Line) (request : Option Request) (old new : Book) → at < length old.hall → line.awaited ≡ None → Requested (at + 1) old.hall request new.hall → new.log.items ≡ old.log.items → new.stamp ≡ old.stamp →
+    Keeps ts ts at line old (record line { awaited = request }) new
+keeps_asked ts at line request old new lt free req log stamp = record {
+  here = λ keeper script is. asked_line ts keeper script at line request old new lt free req log is;
+  others = λ us keeper script i other differs is. (
+    is.0,
+    ap (λ (ks : List Kept). slice_get ks i) h.4 ∙ set_there at i old.hall h.1 differs ∙ is.1,
+    subst (λ (es : List HallEvent). IsInLine us keeper script other is.0 (own (i + 1) es)) (sym log) is.2,
+  );
+  book = λ r. record {
+    ascends = subst (AscendsFrom 0) (sym log) r.ascends;
+    taken = subst (λ (n : ℕ). AllTaken n new.stamp new.log.items) (sym size) (subst (λ (n : ℕ). AllTaken (length old.hall) n new.log.items) (sym stamp) (subst (AllTaken (length old.hall) old.stamp) (sym log) r.taken));
+  };
+  halls = size;
+}
+  where
+    h : (k : Kept) × (k' : Kept) × (slice_get old.hall at ≡ Some k) × HandsOut k request k' × (new.hall ≡ slice_set old.hall at k')
+    h = handed_at at request old.hall new.hall lt req
 
-      size : length new.hall ≡ length old.hall
-      size = ap length h.4 ∙ set_length at old.hall h.1
+    size : length new.hall ≡ length old.hall
+    size = ap length h.4 ∙ set_length at old.hall h.1
 
-  -- the answer comes that is awaited
-  pub keeps_answered : (at child : ℕ) (line : Line) (e : HallEvent) (old new : Book) (r : Request) (a : Answer) → Enters e true old new → e ≡ answer_at at child old.stamp a → line.awaited ≡ Some r → ∥ told line.name (line.last + 1) r a ∥₁ →
-      Keeps told at line old (record line { last = line.last + 1; awaited = None }) new
-  keeps_answered at child line e old new r a t is waits telling = record {
-    here = λ keeper script l. answered_line told keeper script at line e old new r a t.1 t.2 (ap (λ (x : HallEvent). answers_in (own (at + 1) (x ∷ []))) is ∙ answers_own at child old.stamp a) waits telling l;
-    others = λ keeper script i other differs l. passed_line told keeper script i other e old new t.1 t.2 (ap (λ (x : HallEvent). answers_in (own (i + 1) (x ∷ []))) is ∙ answers_other at i child old.stamp a differs) l;
-    book = entered_record e true old new t (ap moment_in is);
-    halls = entered_halls e true old new t;
-  }
+-- the answer comes that is awaited
+pub keeps_answered : (ts us : List Telling) (at child : ℕ) (line : Line) (e : HallEvent) (old new : Book) (r : Request) (a : Answer) → Enters e true old new → e ≡ answer_at at child old.stamp a → line.awaited ≡ Some r → IsWithin ts us →
+    Contains us (record { name = line.name; call = line.last + 1; request = r; answer = a }) → Keeps ts us at line old (record line { last = line.last + 1; awaited = None }) new
+keeps_answered ts us at child line e old new r a t is waits within telling = record {
+  here = λ keeper script l. answered_line ts keeper script us within at line e old new r a t.1 t.2 (ap (λ (x : HallEvent). answers_in (own (at + 1) (x ∷ []))) is ∙ answers_own at child old.stamp a) waits telling l;
+  others = λ ws keeper script i other differs l. passed_line ws keeper script i other e old new t.1 t.2 (ap (λ (x : HallEvent). answers_in (own (i + 1) (x ∷ []))) is ∙ answers_other at i child old.stamp a differs) l;
+  book = entered_record e true old new t (ap moment_in is);
+  halls = entered_halls e true old new t;
+}
 
-  -- the script at a place has ended
-  pub keeps_ended : (at : ℕ) (line : Line) (book : Book) (ending : Option Ending) → EndsAt (at + 1) book.hall ending → Goes ending false → Keeps told at line book (record line { over = true }) book
-  keeps_ended at line book ending ends (e, is, over) = record {
-    here = λ keeper script l. ended_line told keeper script at line book ended l;
-    others = λ keeper script i other differs l. l;
-    book = λ r. r;
-    halls = refl;
-  }
-    where
-      at_e : EndsAt (at + 1) book.hall (Some e)
-      at_e = subst (EndsAt (at + 1) book.hall) is ends
+-- the script at a place has ended
+pub keeps_ended : (ts : List Telling) (at : ℕ) (line : Line) (book : Book) (ending : Option Ending) → EndsAt (at + 1) book.hall ending → Goes ending false → Keeps ts ts at line book (record line { over = true }) book
+keeps_ended ts at line book ending ends (e, is, over) = record {
+  here = λ keeper script l. ended_line ts keeper script at line book ended l;
+  others = λ us keeper script i other differs l. l;
+  book = λ r. r;
+  halls = refl;
+}
+  where
+    at_e : EndsAt (at + 1) book.hall (Some e)
+    at_e = subst (EndsAt (at + 1) book.hall) is ends
 
-      ended : (k : Kept) → slice_get book.hall at ≡ Some k → IsTrue k.lives → (left k []).ending ≢ Waiting
-      ended k here lives =
-          let of_k : Ends k e = subst (λ (o : Option Kept). MatchOption o ⊥ (λ (x : Kept). Ends x e)) (numbered at book.hall ∙ here) at_e in
-          subst (λ (x : Ending). x ≢ Waiting) (of_k.lives lives) over
+    ended : (k : Kept) → slice_get book.hall at ≡ Some k → IsTrue k.lives → (left k []).ending ≢ Waiting
+    ended k here lives =
+        let of_k : Ends k e = subst (λ (o : Option Kept). MatchOption o ⊥ (λ (x : Kept). Ends x e)) (numbered at book.hall ∙ here) at_e in
+        subst (λ (x : Ending). x ≢ Waiting) (of_k.lives lives) over
 
 -- scripts that are over, one after another
 pub one_over : (line : Line) (lines : List Line) → IsTrue line.over → AllOver lines → AllOver (line ∷ lines)
@@ -248,20 +325,37 @@ one_over line lines o all (suc at) l got = all at l got
 pub none_over : AllOver []
 none_over at l got = absurd (nothing_there l got)
 
-module _ (told : ℕ → ℕ → Request → Answer → Type 0) where
-  pub leaves_all : (book : Book) → Leaves told book book
-  leaves_all book = leaves_same told book book refl refl refl
+pub leaves_all : (book : Book) → Leaves book book
+leaves_all book = leaves_same book book refl refl refl
 
-  pub keeps_left_then : (at : ℕ) (line line' : Line) (a b c : Book) → Leaves told a b → Keeps told at line b line' c → Keeps told at line a line' c
-  keeps_left_then at line line' a b c f g = keeps_then told at line line line' a b c (keeps_left told at line a b f) g
+-- what is known to have been told may be more than before
+pub keeps_more : (ts us : List Telling) (at : ℕ) (line : Line) (book : Book) → IsWithin ts us → Keeps ts us at line book line book
+keeps_more ts us at line book within = record {
+  here = λ keeper script l. more_told ts keeper script us within at line book l;
+  others = λ ws keeper script i other differs l. l;
+  book = λ b. b;
+  halls = refl;
+}
 
-  pub keeps_then_left : (at : ℕ) (line line' : Line) (a b c : Book) → Keeps told at line a line' b → Leaves told b c → Keeps told at line a line' c
-  keeps_then_left at line line' a b c f g = keeps_then told at line line' line' a b c f (keeps_left told at line' b c g)
+-- what was heard behind a book's room was made is what is known to have been told
+pub keeps_heard : (ts us more : List Telling) (at : ℕ) (x y : Line) (a b c : Book) → us ≡ ts ++ more → Leaves a b → Keeps ts (ts ++ more) at x b y c → Keeps ts us at x a y c
+keeps_heard ts us more at x y a b c is f g = subst (λ (ws : List Telling). Keeps ts ws at x a y c) (sym is) (keeps_then ts ts (ts ++ more) at x x y a b c (keeps_left ts at x a b f) g)
 
-  -- one after another
-  pub keeps_three : (at : ℕ) (x y z : Line) (a b c d : Book) → Keeps told at x a y b → Leaves told b c → Keeps told at y c z d → Keeps told at x a z d
-  keeps_three at x y z a b c d f g h = keeps_then told at x y z a b d f (keeps_left_then at y z b c d g h)
+-- nothing was heard
+pub keeps_silent : (ts us : List Telling) (at : ℕ) (line : Line) (a b : Book) → us ≡ ts ++ [] → Leaves a b → Keeps ts us at line a line b
+keeps_silent ts us at line a b is f = subst (λ (ws : List Telling). Keeps ts ws at line a line b) (sym (is ∙ append-nil ts)) (keeps_left ts at line a b f)
 
-  pub leaves_output : (at child : ℕ) (w : What) (e : HallEvent) (took : Bool) (old new : Book) → Enters e took old new → e ≡ output_at at child old.stamp w → IsOutput w → Leaves told old new
-  leaves_output at child w e took old new t is out =
-      leaves_entered told e took old new t (λ n. ap (λ (x : HallEvent). answers_in (own n (x ∷ []))) is ∙ output_silent (at + 1) child old.stamp w out n) (ap moment_in is)
+-- an entry that is refused
+pub keeps_refused : (ts us : List Telling) (at : ℕ) (line : Line) (e : HallEvent) (old new : Book) → Enters e false old new → IsWithin ts us → Keeps ts us at line old line new
+keeps_refused ts us at line e old new same within = subst (λ (b : Book). Keeps ts us at line old line b) (sym same) (keeps_more ts us at line old within)
+
+pub keeps_then_left : (ts us vs : List Telling) (at : ℕ) (x y : Line) (a b c : Book) → vs ≡ us → Keeps ts us at x a y b → Leaves b c → Keeps ts vs at x a y c
+keeps_then_left ts us vs at x y a b c same f g = subst (λ (ws : List Telling). Keeps ts ws at x a y c) (sym same) (keeps_then ts us us at x y y a b c f (keeps_left us at y b c g))
+
+-- one after another
+pub keeps_three : (ts us vs : List Telling) (at : ℕ) (x y z : Line) (a b c d : Book) → vs ≡ us → Keeps ts us at x a y b → Leaves b c → ((ws : List Telling) → Keeps ws ws at y c z d) → Keeps ts vs at x a z d
+keeps_three ts us vs at x y z a b c d same f g h = subst (λ (ws : List Telling). Keeps ts ws at x a z d) (sym same) (keeps_then ts us us at x y z a b d f (keeps_then us us us at y y z b c d (keeps_left us at y b c g) (h us)))
+
+pub leaves_output : (at child : ℕ) (w : What) (e : HallEvent) (took : Bool) (old new : Book) → Enters e took old new → e ≡ output_at at child old.stamp w → IsOutput w → Leaves old new
+leaves_output at child w e took old new t is out =
+    leaves_entered e took old new t (λ n. ap (λ (x : HallEvent). answers_in (own n (x ∷ []))) is ∙ output_silent (at + 1) child old.stamp w out n) (ap moment_in is)

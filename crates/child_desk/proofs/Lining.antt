@@ -1,6 +1,6 @@
 -- A script at its desk.
 use Rattle.std.proofs.Common.{◌≡◌, ◌≢◌, inl, inr, ℕ, zero, suc, ◌+◌, ◌-◌, ◌<◌, List, [], ◌∷◌, ◌++◌, length, Bool, true, false, Option, Some, None, Result, Ok, Err, refl, sym, ap, subst, ◌∙◌, append_assoc, append-nil, arith}
-use Rattle.std.specs.Prelude.{slice_get, slice_set, IsTrue, is_some, MatchOption, IfOk, ◌==◌, if◌then◌else◌}
+use Rattle.std.specs.Prelude.{slice_get, slice_set, IsTrue, Contains, is_some, MatchOption, IfOk, ◌==◌, if◌then◌else◌}
 use Rattle.std.proofs.lemmas.Grind.{flat_map-append}
 use Rattle.std.proofs.lemmas.Bool.Decides.{nat_tests}
 use Rattle.child_events.specs.declared.event.Answer.{Answer}
@@ -23,11 +23,11 @@ use Rattle.dialogue_sched.specs.Hall.{Begins, Reports, session_at, Requested, Re
 use Rattle.dialogue_sched.specs.declared.hall.ReportFault.{ReportFault}
 use Rattle.dialogue_sched.proofs.Running.{Took_lives, Took_says}
 use Rattle.child_desk.specs.declared.line.Line.{Line}
-use Rattle.child_desk.specs.Told.{answer_in, answers_in, AreTold}
+use Rattle.child_desk.specs.Told.{Telling, answer_in, answers_in, AreAmong}
 use Rattle.child_desk.specs.declared.book.Book.{Book}
 use Rattle.child_desk.specs.Book.{Enters}
 use Rattle.child_desk.specs.Line.{Keeping, answer_at, PassesAll, IsInLine, InLine, Means}
-use Rattle.child_desk.proofs.Telling.{told_more, told_last}
+use Rattle.child_desk.proofs.Telling.{IsWithin, among_more, told_more, told_last}
 use Rattle.child_desk.proofs.Places.{nothing_there, one_there, set_here}
 
 pub numbered : (i : ℕ) (ks : List Kept) → session_at (i + 1) ks ≡ slice_get ks i
@@ -85,12 +85,12 @@ still_there i [] more q h = absurd (no_request q h)
 still_there zero (x ∷ qs) more q h = h
 still_there (suc i) (x ∷ qs) more q h = still_there i qs more q h
 
-module _ (told : ℕ → ℕ → Request → Answer → Type 0) (keeper : Keeping) (script : Script) where
+module _ (ts : List Telling) (keeper : Keeping) (script : Script) where
   abbrev asked_by : List Event → List Request
   asked_by es = (meaning script.source script.settings es).requests
 
   -- the hall's next request waits
-  asked : (line : Line) (request : Option Request) (k k' : Kept) (es : List Event) → line.awaited ≡ None → HandsOut k request k' → IsInLine told keeper script line k es → IsInLine told keeper script (record line { awaited = request }) k' es
+  asked : (line : Line) (request : Option Request) (k k' : Kept) (es : List Event) → line.awaited ≡ None → HandsOut k request k' → IsInLine ts keeper script line k es → IsInLine ts keeper script (record line { awaited = request }) k' es
   asked line request k k' es free h l = record {
     name = l.name;
     last = l.last;
@@ -126,12 +126,12 @@ module _ (told : ℕ → ℕ → Request → Answer → Type 0) (keeper : Keepin
       Took_says more k k' t lives later ∙ says (Took_lives more k k' t lives) (more ++ later) ∙ ap (meaning script.source script.settings) (sym (append_assoc es more later))
 
   -- events come that answer nothing
-  passed : (line : Line) (k k' : Kept) (es more : List Event) → Took k more k' → answers_in more ≡ [] → IsInLine told keeper script line k es → IsInLine told keeper script line k' (es ++ more)
+  passed : (line : Line) (k k' : Kept) (es more : List Event) → Took k more k' → answers_in more ≡ [] → IsInLine ts keeper script line k es → IsInLine ts keeper script line k' (es ++ more)
   passed line k k' es more t none l = record {
     name = l.name;
     last = l.last ∙ ap (λ (xs : List Answer). keeper.made + length xs) (sym same);
-    answers = subst (λ (xs : List Answer). AreTold told keeper.name keeper.made xs (asked_by (es ++ more))) (sym same)
-        (subst (AreTold told keeper.name keeper.made (answers_in es)) (sym on.asked) (told_more told keeper.name keeper.made (answers_in es) (asked_by es) on.more l.answers));
+    answers = subst (λ (xs : List Answer). AreAmong ts keeper.name keeper.made xs (asked_by (es ++ more))) (sym same)
+        (subst (AreAmong ts keeper.name keeper.made (answers_in es)) (sym on.asked) (told_more ts keeper.name keeper.made (answers_in es) (asked_by es) on.more l.answers));
     says = says_on k k' es more t l.says;
     handed = took_handed more k k' t ∙ l.handed ∙ ap (λ (xs : List Answer). length xs + (if is_some line.awaited then 1 else 0)) (sym same);
     next = λ r is.
@@ -148,16 +148,16 @@ module _ (told : ℕ → ℕ → Request → Answer → Type 0) (keeper : Keepin
       same = flat_map-append answer_in es more ∙ ap (λ (xs : List Answer). answers_in es ++ xs) none ∙ append-nil (answers_in es)
 
   -- the answer comes that is awaited
-  answered : (line : Line) (k k' : Kept) (es more : List Event) (r : Request) (a : Answer) → Took k more k' → answers_in more ≡ a ∷ [] → line.awaited ≡ Some r → ∥ told line.name (line.last + 1) r a ∥₁ →
-      IsInLine told keeper script line k es → IsInLine told keeper script (record line { last = line.last + 1; awaited = None }) k' (es ++ more)
-  answered line k k' es more r a t one waits is l = record {
+  answered : (us : List Telling) → IsWithin ts us → (line : Line) (k k' : Kept) (es more : List Event) (r : Request) (a : Answer) → Took k more k' → answers_in more ≡ a ∷ [] → line.awaited ≡ Some r → Contains us (record { name = line.name; call = line.last + 1; request = r; answer = a }) →
+      IsInLine ts keeper script line k es → IsInLine us keeper script (record line { last = line.last + 1; awaited = None }) k' (es ++ more)
+  answered us within line k k' es more r a t one waits is l = record {
     name = l.name;
     last = ap (λ (n : ℕ). n + 1) l.last ∙ (let e : keeper.made + length (answers_in es) + 1 ≡ keeper.made + (length (answers_in es) + 1) = omega arith in e) ∙ ap (λ (n : ℕ). keeper.made + n) (sym longer);
-    answers = subst (λ (xs : List Answer). AreTold told keeper.name keeper.made xs (asked_by (es ++ more))) (sym same)
-        (subst (AreTold told keeper.name keeper.made (answers_in es ++ a ∷ [])) (sym on.asked)
-        (told_more told keeper.name keeper.made (answers_in es ++ a ∷ []) (asked_by es) on.more
-        (told_last told keeper.name keeper.made (answers_in es) a (asked_by es) r l.answers (l.next r waits)
-        (subst (λ (n : ℕ). ∥ told keeper.name (n + 1) r a ∥₁) l.last (subst (λ (n : ℕ). ∥ told n (line.last + 1) r a ∥₁) l.name is)))));
+    answers = subst (λ (xs : List Answer). AreAmong us keeper.name keeper.made xs (asked_by (es ++ more))) (sym same)
+        (subst (AreAmong us keeper.name keeper.made (answers_in es ++ a ∷ [])) (sym on.asked)
+        (told_more us keeper.name keeper.made (answers_in es ++ a ∷ []) (asked_by es) on.more
+        (told_last us keeper.name keeper.made (answers_in es) a (asked_by es) r (among_more ts us within keeper.name keeper.made (answers_in es) (asked_by es) l.answers) (l.next r waits)
+        (subst (λ (n : ℕ). Contains us (record { name = keeper.name; call = n + 1; request = r; answer = a })) l.last (subst (λ (n : ℕ). Contains us (record { name = n; call = line.last + 1; request = r; answer = a })) l.name is)))));
     says = says_on k k' es more t l.says;
     handed = took_handed more k k' t ∙ l.handed ∙ ap (λ (o : Option Request). length (answers_in es) + (if is_some o then 1 else 0)) waits ∙ (let n : ℕ = length (answers_in es) in let e : n + 1 ≡ n + 1 + 0 = omega arith in e) ∙ ap (λ (n : ℕ). n + 0) (sym longer);
     next = λ q none. absurd (let e : ◌≡◌ {A = Option Request} None (Some q) = none in cc);
@@ -178,13 +178,13 @@ module _ (told : ℕ → ℕ → Request → Answer → Type 0) (keeper : Keepin
       longer = ap length same ∙ snoc (answers_in es)
 
   pub asked_line : (at : ℕ) (line : Line) (request : Option Request) (old new : Book) → at < length old.hall → line.awaited ≡ None → Requested (at + 1) old.hall request new.hall → new.log.items ≡ old.log.items →
-      InLine told keeper script at line old → InLine told keeper script at (record line { awaited = request }) new
+      InLine ts keeper script at line old → InLine ts keeper script at (record line { awaited = request }) new
   asked_line at line request old new lt free req log (k, here, l) =
       let h = handed_at at request old.hall new.hall lt req in
       let is : h.0 ≡ k = one_there h.0 k (sym h.2 ∙ here) in (
         h.1,
         ap (λ (ks : List Kept). slice_get ks at) h.4 ∙ set_here at old.hall k h.1 here,
-        subst (λ (es : List HallEvent). IsInLine told keeper script (record line { awaited = request }) h.1 (own (at + 1) es)) (sym log)
+        subst (λ (es : List HallEvent). IsInLine ts keeper script (record line { awaited = request }) h.1 (own (at + 1) es)) (sym log)
             (asked line request k h.1 (own (at + 1) old.log.items) free (subst (λ (x : Kept). HandsOut x request h.1) is h.3) l),
       )
 
@@ -192,25 +192,41 @@ module _ (told : ℕ → ℕ → Request → Answer → Type 0) (keeper : Keepin
   number at = omega arith
 
   pub passed_line : (at : ℕ) (line : Line) (e : HallEvent) (old new : Book) → AllTook 1 (e ∷ []) old.hall new.hall → new.log.items ≡ old.log.items ++ e ∷ [] → answers_in (own (at + 1) (e ∷ [])) ≡ [] →
-      InLine told keeper script at line old → InLine told keeper script at line new
+      InLine ts keeper script at line old → InLine ts keeper script at line new
   passed_line at line e old new t log none (k, here, l) =
       let w = took_at 1 at (e ∷ []) old.hall new.hall k t here in
       let took : Took k (own (at + 1) (e ∷ [])) w.0 = subst (λ (n : ℕ). Took k (own n (e ∷ [])) w.0) (number at) w.2 in
-      (w.0, w.1, subst (IsInLine told keeper script line w.0) (sym (ap (own (at + 1)) log ∙ own-append (at + 1) old.log.items (e ∷ []))) (passed line k w.0 (own (at + 1) old.log.items) (own (at + 1) (e ∷ [])) took none l))
+      (w.0, w.1, subst (IsInLine ts keeper script line w.0) (sym (ap (own (at + 1)) log ∙ own-append (at + 1) old.log.items (e ∷ []))) (passed line k w.0 (own (at + 1) old.log.items) (own (at + 1) (e ∷ [])) took none l))
 
-  pub answered_line : (at : ℕ) (line : Line) (e : HallEvent) (old new : Book) (r : Request) (a : Answer) → AllTook 1 (e ∷ []) old.hall new.hall → new.log.items ≡ old.log.items ++ e ∷ [] → answers_in (own (at + 1) (e ∷ [])) ≡ a ∷ [] →
-      line.awaited ≡ Some r → ∥ told line.name (line.last + 1) r a ∥₁ → InLine told keeper script at line old → InLine told keeper script at (record line { last = line.last + 1; awaited = None }) new
-  answered_line at line e old new r a t log one waits is (k, here, l) =
+  pub answered_line : (us : List Telling) → IsWithin ts us → (at : ℕ) (line : Line) (e : HallEvent) (old new : Book) (r : Request) (a : Answer) → AllTook 1 (e ∷ []) old.hall new.hall → new.log.items ≡ old.log.items ++ e ∷ [] → answers_in (own (at + 1) (e ∷ [])) ≡ a ∷ [] →
+      line.awaited ≡ Some r → Contains us (record { name = line.name; call = line.last + 1; request = r; answer = a }) → InLine ts keeper script at line old → InLine us keeper script at (record line { last = line.last + 1; awaited = None }) new
+  answered_line us within at line e old new r a t log one waits is (k, here, l) =
       let w = took_at 1 at (e ∷ []) old.hall new.hall k t here in
       let took : Took k (own (at + 1) (e ∷ [])) w.0 = subst (λ (n : ℕ). Took k (own n (e ∷ [])) w.0) (number at) w.2 in (
         w.0,
         w.1,
-        subst (IsInLine told keeper script (record line { last = line.last + 1; awaited = None }) w.0) (sym (ap (own (at + 1)) log ∙ own-append (at + 1) old.log.items (e ∷ [])))
-            (answered line k w.0 (own (at + 1) old.log.items) (own (at + 1) (e ∷ [])) r a took one waits is l),
+        subst (IsInLine us keeper script (record line { last = line.last + 1; awaited = None }) w.0) (sym (ap (own (at + 1)) log ∙ own-append (at + 1) old.log.items (e ∷ [])))
+            (answered us within line k w.0 (own (at + 1) old.log.items) (own (at + 1) (e ∷ [])) r a took one waits is l),
       )
 
+  -- what is known to have been told may be more than before
+  pub more_told : (us : List Telling) → IsWithin ts us → (at : ℕ) (line : Line) (book : Book) → InLine ts keeper script at line book → InLine us keeper script at line book
+  more_told us within at line book (k, here, l) = (
+    k,
+    here,
+    record {
+      name = l.name;
+      last = l.last;
+      answers = among_more ts us within keeper.name keeper.made (answers_in (own (at + 1) book.log.items)) (asked_by (own (at + 1) book.log.items)) l.answers;
+      says = l.says;
+      handed = l.handed;
+      next = l.next;
+      over = l.over;
+    },
+  )
+
   -- the session of a script has an ending
-  pub ended_line : (at : ℕ) (line : Line) (book : Book) → ((k : Kept) → slice_get book.hall at ≡ Some k → IsTrue k.lives → (left k []).ending ≢ Waiting) → InLine told keeper script at line book → InLine told keeper script at (record line { over = true }) book
+  pub ended_line : (at : ℕ) (line : Line) (book : Book) → ((k : Kept) → slice_get book.hall at ≡ Some k → IsTrue k.lives → (left k []).ending ≢ Waiting) → InLine ts keeper script at line book → InLine ts keeper script at (record line { over = true }) book
   ended_line at line book ended (k, here, l) = (
     k,
     here,
@@ -226,7 +242,7 @@ module _ (told : ℕ → ℕ → Request → Answer → Type 0) (keeper : Keepin
   )
 
   -- and at the end
-  pub means : (at : ℕ) (line : Line) (book : Book) (r : Report) → MatchOption (session_at (at + 1) book.hall) ⊥ (λ (k : Kept). Reports k r) → InLine told keeper script at line book → Means script line (own (at + 1) book.log.items) r
+  pub means : (at : ℕ) (line : Line) (book : Book) (r : Report) → MatchOption (session_at (at + 1) book.hall) ⊥ (λ (k : Kept). Reports k r) → InLine ts keeper script at line book → Means script line (own (at + 1) book.log.items) r
   means at line book r reported (k, here, l) = by_life k.lives refl
     where
       es : List Event
@@ -242,16 +258,16 @@ module _ (told : ℕ → ℕ → Request → Answer → Type 0) (keeper : Keepin
       by_life true lives = inl (is lives, λ o. subst (λ (x : Report). x.ending ≢ Waiting) (sym (is lives)) (l.over o lives))
       by_life false spent = inr (reports.spent spent)
 
-pub passes_all : (told : ℕ → ℕ → Request → Answer → Type 0) (e : HallEvent) (took : Bool) (old new : Book) → Enters e took old new → PassesAll told e old new
-passes_all told e true old new t keeper script at line none l = passed_line told keeper script at line e old new t.1 t.2 none l
-passes_all told e false old new t keeper script at line none l = subst (InLine told keeper script at line) (sym t) l
+pub passes_all : (e : HallEvent) (took : Bool) (old new : Book) → Enters e took old new → PassesAll e old new
+passes_all e true old new t ts keeper script at line none l = passed_line ts keeper script at line e old new t.1 t.2 none l
+passes_all e false old new t ts keeper script at line none l = subst (InLine ts keeper script at line) (sym t) l
 
 -- at the start
-pub first_line : (told : ℕ → ℕ → Request → Answer → Type 0) (name calls at : ℕ) (script : Script) (k : Kept) (book : Book) → slice_get book.hall at ≡ Some k → book.log.items ≡ [] → Begins script k → InLine told (record { name = name; made = calls }) script at (record { name = name; last = calls; awaited = None; over = false }) book
-first_line told name calls at script k book here empty b = (
+pub first_line : (name calls at : ℕ) (script : Script) (k : Kept) (book : Book) → slice_get book.hall at ≡ Some k → book.log.items ≡ [] → Begins script k → InLine [] (record { name = name; made = calls }) script at (record { name = name; last = calls; awaited = None; over = false }) book
+first_line name calls at script k book here empty b = (
   k,
   here,
-  subst (λ (es : List HallEvent). IsInLine told (record { name = name; made = calls }) script (record { name = name; last = calls; awaited = None; over = false }) k (own (at + 1) es)) (sym empty) (record {
+  subst (λ (es : List HallEvent). IsInLine [] (record { name = name; made = calls }) script (record { name = name; last = calls; awaited = None; over = false }) k (own (at + 1) es)) (sym empty) (record {
     name = refl;
     last = (let e : calls ≡ calls + 0 = omega arith in e);
     answers = tt;
@@ -262,7 +278,7 @@ first_line told name calls at script k book here empty b = (
   }),
 )
 
-pub reported_means : (told : ℕ → ℕ → Request → Answer → Type 0) (at : ℕ) (book : Book) (o : Result Report ReportFault) → Reported (at + 1) book.hall o →
-    IfOk o (λ r. (keeper : Keeping) (script : Script) (line : Line) → InLine told keeper script at line book → Means script line (own (at + 1) book.log.items) r)
-reported_means told at book (Ok r) h = λ keeper script line l. means told keeper script at line book r h l
-reported_means told at book (Err f) h = tt
+pub reported_means : (at : ℕ) (book : Book) (o : Result Report ReportFault) → Reported (at + 1) book.hall o →
+    IfOk o (λ r. (ts : List Telling) (keeper : Keeping) (script : Script) (line : Line) → InLine ts keeper script at line book → Means script line (own (at + 1) book.log.items) r)
+reported_means at book (Ok r) h = λ ts keeper script line l. means ts keeper script at line book r h l
+reported_means at book (Err f) h = tt

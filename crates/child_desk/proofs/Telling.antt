@@ -1,12 +1,9 @@
--- Answers that were told, and the requests in the same places.
-use Rattle.std.proofs.Common.{◌≡◌, ℕ, zero, suc, ◌+◌, List, [], ◌∷◌, ◌++◌, length, Option, Some, None, refl, sym, subst, arith}
-use Rattle.std.specs.Prelude.{slice_get}
+-- Answers that are among what was told, and the requests in the same places.
+use Rattle.std.proofs.Common.{◌≡◌, ℕ, suc, ◌+◌, List, [], ◌∷◌, ◌++◌, length, Option, Some, None, sym, subst, arith}
+use Rattle.std.specs.Prelude.{slice_get, Contains}
 use Rattle.child_events.specs.declared.event.Answer.{Answer}
 use Rattle.expect_core.specs.declared.request.Request.{Request}
-use Rattle.child_desk.specs.Told.{AreTold}
-
-no_answer : (a : Answer) → ◌≡◌ {A = Option Answer} None (Some a) → ⊥
-no_answer a h = cc
+use Rattle.child_desk.specs.Told.{Telling, AreAmong}
 
 no_request : (q : Request) → ◌≡◌ {A = Option Request} None (Some q) → ⊥
 no_request q h = cc
@@ -14,26 +11,32 @@ no_request q h = cc
 same_request : (q r : Request) → Some q ≡ Some r → q ≡ r
 same_request q r h = cc
 
-module _ (told : ℕ → ℕ → Request → Answer → Type 0) where
+-- what was told is still known
+abbrev pub IsWithin : List Telling → List Telling → Type 0
+IsWithin ts us = (t : Telling) → Contains ts t → Contains us t
+
+pub among_more : (ts us : List Telling) → IsWithin ts us → (name n : ℕ) (xs : List Answer) (qs : List Request) → AreAmong ts name n xs qs → AreAmong us name n xs qs
+among_more ts us within name n [] qs t = tt
+among_more ts us within name n (a ∷ xs) [] t = absurd t
+among_more ts us within name n (a ∷ xs) (q ∷ qs) t = (within _ t.0, among_more ts us within name (n + 1) xs qs t.1)
+
+module _ (ts : List Telling) where
   -- more requests than those that were answered
-  pub told_more : (name n : ℕ) (xs : List Answer) (qs more : List Request) → AreTold told name n xs qs → AreTold told name n xs (qs ++ more)
+  pub told_more : (name n : ℕ) (xs : List Answer) (qs more : List Request) → AreAmong ts name n xs qs → AreAmong ts name n xs (qs ++ more)
   told_more name n [] qs more t = tt
   told_more name n (a ∷ xs) [] more t = absurd t
   told_more name n (a ∷ xs) (q ∷ qs) more t = (t.0, told_more name (n + 1) xs qs more t.1)
 
-  pub told_at : (name n : ℕ) (xs : List Answer) (qs more : List Request) → AreTold told name n xs qs → (i : ℕ) (a : Answer) → slice_get xs i ≡ Some a → slice_get (qs ++ more) i ≡ slice_get qs i
-  told_at name n [] qs more t i a got = absurd (no_answer a got)
-  told_at name n (x ∷ xs) [] more t i a got = absurd t
-  told_at name n (x ∷ xs) (q ∷ qs) more t zero a got = refl
-  told_at name n (x ∷ xs) (q ∷ qs) more t (suc i) a got = told_at name (n + 1) xs qs more t.1 i a got
-
   -- one answer more, to the request in its place
-  pub told_last : (name n : ℕ) (xs : List Answer) (a : Answer) (qs : List Request) (r : Request) → AreTold told name n xs qs → slice_get qs (length xs) ≡ Some r → ∥ told name (n + length xs + 1) r a ∥₁ → AreTold told name n (xs ++ a ∷ []) qs
+  pub told_last : (name n : ℕ) (xs : List Answer) (a : Answer) (qs : List Request) (r : Request) → AreAmong ts name n xs qs → slice_get qs (length xs) ≡ Some r →
+      Contains ts (record { name = name; call = n + length xs + 1; request = r; answer = a }) → AreAmong ts name n (xs ++ a ∷ []) qs
   told_last name n [] a [] r t got is = absurd (no_request r got)
   told_last name n [] a (q ∷ qs) r t got is =
-      let call : n + 0 + 1 ≡ n + 1 = omega arith in
-      (subst (λ (x : Request). ∥ told name (n + 1) x a ∥₁) (sym (same_request q r got)) (subst (λ (c : ℕ). ∥ told name c r a ∥₁) call is), tt)
+      let call : n + 0 + 1 ≡ n + 1 = omega arith in (
+        subst (λ (x : Request). Contains ts (record { name = name; call = n + 1; request = x; answer = a })) (sym (same_request q r got)) (subst (λ (c : ℕ). Contains ts (record { name = name; call = c; request = r; answer = a })) call is),
+        tt,
+      )
   told_last name n (x ∷ xs) a [] r t got is = absurd t
   told_last name n (x ∷ xs) a (q ∷ qs) r t got is =
       let call : n + suc (length xs) + 1 ≡ n + 1 + length xs + 1 = omega arith in
-      (t.0, told_last name (n + 1) xs a qs r t.1 got (subst (λ (c : ℕ). ∥ told name c r a ∥₁) call is))
+      (t.0, told_last name (n + 1) xs a qs r t.1 got (subst (λ (c : ℕ). Contains ts (record { name = name; call = c; request = r; answer = a })) call is))

@@ -1,11 +1,18 @@
 -- The answers in a script's part of the record, and what its keeper told.
-use Rattle.std.specs.Prelude.{ℕ, ◌+◌, List, [], ◌∷◌}
+use Rattle.std.specs.Prelude.{ℕ, ◌+◌, List, [], ◌∷◌, Option, None, Some, Contains}
 use Rattle.std.specs.List.{flat_map}
+use Rattle.std.specs.declared.io.traits.Read.{Ghosts as ReadGhosts}
 use Rattle.child_events.specs.declared.event.Answer.{Answer}
 use Rattle.child_events.specs.declared.event.What.TheVariants as what
 use Rattle.child_events.specs.declared.event.Event.{Event}
 use Rattle.child_events.specs.declared.event.Event.TheVariants as event
 use Rattle.expect_core.specs.declared.request.Request.{Request}
+use Rattle.child_keeper.specs.declared.items.Answered.{Answered}
+use Rattle.child_keeper.specs.declared.items.Item.{Item}
+use Rattle.child_keeper.specs.declared.items.Item.TheVariants as item
+use Rattle.child_keeper.specs.declared.keeper.Keeper.{Ghosts}
+use Rattle.feed_rings.specs.Ends.{taken_items}
+use Rattle.feed_rings.specs.declared.feed.FeedOut.{FeedOut}
 
 -- the answers among events, in order
 abbrev pub answer_in : Event → List Answer
@@ -24,3 +31,41 @@ abbrev pub AreTold : (ℕ → ℕ → Request → Answer → Type 0) → ℕ →
 AreTold told name n [] qs = Unit {0}
 AreTold told name n (a ∷ xs) [] = ⊥
 AreTold told name n (a ∷ xs) (q ∷ qs) = ∥ told name (n + 1) q a ∥₁ × AreTold told name (n + 1) xs qs
+
+-- what a keeper told: its name, the number of the call, what was asked and what came of it
+pub record Telling : Type 0 where
+  pub name : ℕ
+  pub call : ℕ
+  pub request : Request
+  pub answer : Answer
+
+-- Each answer is among what was told, as what came of the request in the same place, by the keeper's calls behind n in order; there are no more answers
+-- than requests.
+abbrev pub AreAmong : List Telling → ℕ → ℕ → List Answer → List Request → Type 0
+AreAmong ts name n [] qs = Unit {0}
+AreAmong ts name n (a ∷ xs) [] = ⊥
+AreAmong ts name n (a ∷ xs) (q ∷ qs) = Contains ts (record { name = name; call = n + 1; request = q; answer = a }) × AreAmong ts name (n + 1) xs qs
+
+module _ {K O : Type 0} {g : Ghosts K O} {r : ReadGhosts O} where
+  abbrev pub telling_of : Answered K O g r → Telling
+  telling_of a = record { name = a.name; call = a.call; request = a.request; answer = a.answer }
+
+  abbrev pub told_of : Option (Answered K O g r) → List Telling
+  told_of None = []
+  told_of (Some a) = telling_of a ∷ []
+
+  -- what an item tells, if it is an answer
+  abbrev pub tells : Item K O g r → List Telling
+  tells (item.Answer s a) = telling_of a ∷ []
+  tells (item.Out s c piece) = []
+  tells (item.End s c) = []
+  tells (item.ReadFail s c cause) = []
+  tells (item.Ask request) = []
+  tells item.Stop = []
+
+  abbrev pub all_told : List (Item K O g r) → List Telling
+  all_told items = flat_map tells items
+
+  -- what the items tell that were taken from a ring
+  abbrev pub heard_of_hand : FeedOut (Item K O g r) → List Telling
+  heard_of_hand out = all_told (taken_items out)

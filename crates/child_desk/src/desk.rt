@@ -1,14 +1,15 @@
 //! A worker's desk.
 
-ghost use Rattle.std.specs.Prelude.{◌≡◌, ◌<◌, ◌≤◌, ◌+◌, ◌++◌, [], ◌∷◌, ℕ, List, length, IfOk, OnOk, IsTrue, vec_len, vec_capacity};
+ghost use Rattle.std.specs.Prelude.{◌≡◌, ◌≢◌, ◌<◌, ◌≤◌, ◌+◌, ◌++◌, [], ◌∷◌, ℕ, List, length, slice_get, IfOk, OnOk, IsTrue, vec_len, vec_capacity};
 ghost use Rattle.child_events.specs.World.{own};
 ghost use Rattle.dialogue_sched.specs.declared.script.Script.{Script};
 ghost use Rattle.dialogue_sched.specs.Deadlines.{soonest};
 ghost use Rattle.child_desk.specs.Book.{is_behind};
-ghost use Rattle.child_desk.specs.Line.{Keeping, InLine, Leaves, Keeps, KeepsAll, Means, AllOver};
+ghost use Rattle.child_desk.specs.Told.{Telling, heard_of_hand};
+ghost use Rattle.child_desk.specs.Line.{Keeping, InLine, Leaves, Keeps, KeepsAll, TakesNone, HearsNoHand, IsEndOf, IsFrontIn, Means, AllOver};
 ghost use Rattle.dialogue_sched.specs.Refusal.{piece_len};
 ghost use Rattle.child_desk.specs.Ends.{IsOutput, output_at};
-ghost use Rattle.feed_rings.specs.Ends.{all_put};
+ghost use Rattle.feed_rings.specs.Ends.{taken_items, all_put, SameOut};
 ghost use Rattle.child_events.specs.declared.event.What.{What};
 ghost use Rattle.child_events.specs.declared.event.HallEvent.{HallEvent};
 ghost use Rattle.child_desk.specs.Heard.{Unheard, Adds, Says, HearsAt, Hears, HearsAll, Settles, FinishedAt, FinishedIn, TakenAt, TakenIn, SeenAt, LeavesOneLess};
@@ -51,8 +52,8 @@ fn goes_on(stamp: u64, now: u64) -> bool
 }
 
 /// A tick, where the time went on.
-fn tick<K: Keeper>(book: &mut Book, now: u64) -> Result<(), AllocError>
-    ensures kept { Leaves K.told book.old book.new }
+fn tick(book: &mut Book, now: u64) -> Result<(), AllocError>
+    ensures kept { Leaves book.old book.new }
     ensures silent { Unheard book.old.log.items book.new.log.items }
 {
     if !goes_on(book.stamp, now) {
@@ -82,12 +83,12 @@ fn output_event(at: usize, child: u8, moment: u64, what: What) -> HallEvent
 }
 
 /// Enters what came from a child of the script at a place.
-fn enter_output<K: Keeper>(book: &mut Book, at: usize, child: u8, what: What, copy: What)
+fn enter_output(book: &mut Book, at: usize, child: u8, what: What, copy: What)
     requires same { copy ≡ what }
     requires output { IsOutput what × (piece_len what ≤ 4096) }
     requires place { (at < length book.old.hall) × (at < 64) × (1 ≤ child) × (child ≤ 16) }
     requires room { vec_len book.old.log < vec_capacity book.old.log }
-    ensures kept { Leaves K.told book.old book.new }
+    ensures kept { Leaves book.old book.new }
     ensures adds { Adds (at + 1) child (what ∷ []) book.old.log.items book.new.log.items }
 {
     let event = output_event(at, child, book.stamp, what);
@@ -107,16 +108,16 @@ fn enter_heard<K: Keeper>(
     requires place { (at < length book.old.hall) × (at < 64) × (index < 16) }
     requires room { vec_len book.old.log < vec_capacity book.old.log }
     requires says { (said : List What) × Says said taken }
-    ensures kept { Leaves K.told book.old book.new }
+    ensures kept { Leaves book.old book.new }
     ensures adds { (said : List What) → Says said taken → Adds (at + 1) (index + 1) said book.old.log.items book.new.log.items }
-    ensures readers { ends.new.readers ≡ ends.old.readers }
+    ensures rings { TakesNone ends.old ends.new }
 {
     ends.count(&taken);
     match taken {
         Taken::Nothing => false,
         Taken::Passed => true,
         Taken::Heard(heard) => {
-            enter_output::<K>(book, at, index + 1, heard.what, heard.copy);
+            enter_output(book, at, index + 1, heard.what, heard.copy);
             true
         }
     }
@@ -130,8 +131,9 @@ fn hear_answer<K: Keeper>(
     at: usize,
 ) -> Result<bool, AllocError>
     requires { at < 64 }
-    ensures kept { Keeps K.told at line.old book.old line.new book.new }
+    ensures kept { Keeps (heard_of_hand ends.old.answers) (heard_of_hand ends.new.answers) at line.old book.old line.new book.new }
     ensures readers { ends.new.readers ≡ ends.old.readers }
+    ensures ring { SameOut ends.old.answers ends.new.answers }
     ensures silent { Unheard book.old.log.items book.new.log.items }
 {
     book.reserve()?;
@@ -155,8 +157,9 @@ fn hear<K: Keeper>(
     index: u8,
 ) -> Result<bool, AllocError>
     requires place { (at < length book.old.hall) × (at < 64) × (index < 16) }
-    ensures kept { Leaves K.told book.old book.new }
+    ensures kept { Leaves book.old book.new }
     ensures heard { HearsAt (at + 1) index ends.old.readers book.old.log.items ends.new.readers book.new.log.items }
+    ensures answers { ends.new.answers ≡ ends.old.answers }
 {
     if ends.readers.seems_empty(index) {
         return Ok(false);
@@ -177,7 +180,7 @@ fn is_held_back(book: &Book, over: bool, at: usize, index: u8) -> bool {
 }
 
 /// Takes what the child at a place has, but not for ever. True where there was something.
-#[tactic(auto, using(crate::proofs::Kept::leaves_all, crate::proofs::Kept::leaves_then, crate::proofs::Hearing::hears_at_same, crate::proofs::Hearing::hears_at_then))]
+#[tactic(auto, using(crate::proofs::Kept::leaves_all, crate::proofs::Hearing::hears_at_same))]
 fn hear_child<K: Keeper>(
     alloc: Global,
     book: &mut Book,
@@ -187,8 +190,9 @@ fn hear_child<K: Keeper>(
     index: u8,
 ) -> Result<bool, AllocError>
     requires place { (at < length book.old.hall) × (at < 64) × (index < 16) }
-    ensures kept { Leaves K.told book.old book.new }
+    ensures kept { Leaves book.old book.new }
     ensures heard { HearsAt (at + 1) index ends.old.readers book.old.log.items ends.new.readers book.new.log.items }
+    ensures answers { ends.new.answers ≡ ends.old.answers }
 {
     if is_held_back(book, over, at, index) {
         return Ok(false);
@@ -211,8 +215,9 @@ fn hear_children<K: Keeper>(
     at: usize,
 ) -> Result<bool, AllocError>
     requires place { (at < length book.old.hall) × (at < 64) }
-    ensures kept { Leaves K.told book.old book.new }
+    ensures kept { Leaves book.old book.new }
     ensures heard { Hears (at + 1) ends.old.readers book.old.log.items ends.new.readers book.new.log.items }
+    ensures answers { ends.new.answers ≡ ends.old.answers }
 {
     let mut busy = false;
     for index in 0..ends.children() {
@@ -232,8 +237,8 @@ fn ask<K: Keeper>(
     at: usize,
 ) -> Result<bool, AllocError>
     requires { (at < length book.old.hall) × (at < 64) }
-    ensures kept { Keeps K.told at line.old book.old line.new book.new }
-    ensures readers { ends.new.readers ≡ ends.old.readers }
+    ensures kept { (ts : List Telling) → Keeps ts ts at line.old book.old line.new book.new }
+    ensures rings { TakesNone ends.old ends.new }
     ensures log { book.new.log.items ≡ book.old.log.items }
 {
     if ends.flush() {
@@ -242,11 +247,11 @@ fn ask<K: Keeper>(
     if line.over {
         return Ok(false);
     }
-    ask_next::<K>(book, line, at);
+    ask_next(book, line, at);
     if send_awaited(alloc, line, ends)? {
         return Ok(ends.flush());
     }
-    if enter_end::<K>(book, line, at) {
+    if enter_end(book, line, at) {
         ends.stop();
         return Ok(ends.flush());
     }
@@ -259,7 +264,7 @@ fn send_awaited<K: Keeper>(
     line: &Line,
     ends: &mut Ends<K>,
 ) -> Result<bool, AllocError>
-    ensures { ends.new.readers ≡ ends.old.readers }
+    ensures { TakesNone ends.old ends.new }
 {
     let Some(request) = &line.awaited else {
         return Ok(false);
@@ -272,7 +277,6 @@ fn send_awaited<K: Keeper>(
 }
 
 /// Takes all that came for a script, and puts what it asks for. True where there was something.
-#[tactic(auto, using(crate::proofs::Kept::keeps_left, crate::proofs::Kept::keeps_then, crate::proofs::Kept::keeps_left_then, crate::proofs::Kept::keeps_then_left))]
 fn attend<K: Keeper>(
     alloc: Global,
     book: &mut Book,
@@ -281,8 +285,9 @@ fn attend<K: Keeper>(
     at: usize,
 ) -> Result<bool, AllocError>
     requires { (at < length book.old.hall) × (at < 64) }
-    ensures kept { Keeps K.told at line.old book.old line.new book.new }
+    ensures kept { Keeps (heard_of_hand ends.old.answers) (heard_of_hand ends.new.answers) at line.old book.old line.new book.new }
     ensures heard { Hears (at + 1) ends.old.readers book.old.log.items ends.new.readers book.new.log.items }
+    ensures ring { SameOut ends.old.answers ends.new.answers }
 {
     let answered = hear_answer(book, line, ends, at)?;
     let heard = hear_children(alloc, book, line.over, ends, at)?;
@@ -308,10 +313,10 @@ impl<K: Keeper> Desk<K> {
     /// One turn: a tick where the time went on, then for each script all that came, and what it asks for. True where there was something.
     pub fn turn(&mut self, now: u64) -> Result<bool, AllocError>
         requires { (length self.old.lines.items ≤ length self.old.book.hall) × (length self.old.book.hall ≤ 64) }
-        ensures kept { KeepsAll K.told self.old.lines.items self.old.book self.new.lines.items self.new.book }
+        ensures kept { KeepsAll self.old.lines.items self.old.ends.items self.old.book self.new.lines.items self.new.ends.items self.new.book }
         ensures heard { HearsAll self.old.ends.items self.old.book.log.items self.new.ends.items self.new.book.log.items }
     {
-        tick::<K>(&mut self.book, now)?;
+        tick(&mut self.book, now)?;
         attend_all(self.alloc, &mut self.book, &mut self.lines, &mut self.ends)
     }
 
@@ -320,6 +325,7 @@ impl<K: Keeper> Desk<K> {
         ensures lines { self.new.lines.items ≡ self.old.lines.items }
         ensures book { self.new.book ≡ self.old.book }
         ensures heard { HearsAll self.old.ends.items self.old.book.log.items self.new.ends.items self.new.book.log.items }
+        ensures hands { HearsNoHand self.old.ends.items self.new.ends.items }
     {
         for at in 0..self.ends.len() {
             let over = is_over(self.lines.as_slice(), at);
@@ -357,8 +363,9 @@ impl<K: Keeper> Desk<K> {
         requires place { (at < length self.old.book.hall) × (at < 64) × (index < 16) }
         requires finished { FinishedIn at index finished self.old.ends.items }
         ensures lines { self.new.lines.items ≡ self.old.lines.items }
-        ensures book { Leaves K.told self.old.book self.new.book }
+        ensures book { Leaves self.old.book self.new.book }
         ensures heard { Settles at index self.old.ends.items self.old.book.log.items self.new.ends.items self.new.book.log.items }
+        ensures hands { HearsNoHand self.old.ends.items self.new.ends.items }
         ensures all { OnOk result (TakenIn at index (all_put finished) self.new.ends.items) }
     {
         match self.ends.get_mut(at) {
@@ -369,12 +376,28 @@ impl<K: Keeper> Desk<K> {
 }
 
 impl<K: Keeper> Desk<K> {
+    /// Looks a last time at the ring from the hand of the script at a place, which has finished it: what was taken of it begins all that was ever put
+    /// there.
+    pub fn close(&mut self, at: usize, finished: Finished<Item<K>>)
+        requires { IsEndOf at finished self.old.ends.items }
+        ensures lines { self.new.lines.items ≡ self.old.lines.items }
+        ensures book { self.new.book ≡ self.old.book }
+        ensures heard { HearsAll self.old.ends.items self.old.book.log.items self.new.ends.items self.new.book.log.items }
+        ensures hands { HearsNoHand self.old.ends.items self.new.ends.items }
+        ensures others { (i : ℕ) → i ≢ at → slice_get self.new.ends.items i ≡ slice_get self.old.ends.items i }
+        ensures front { IsFrontIn at (all_put finished) self.new.ends.items }
+    {
+        if let Some(ends) = self.ends.get_mut(at) {
+            ends.close(finished);
+        }
+    }
+
     /// What came of the script at a place. Where its session lives, that is what the script means over its part of the record.
     pub fn report(&self, at: usize) -> Result<Report, ReportFault>
         requires { at < 64 }
-        ensures { IfOk result (λ r. (keeper : Keeping) (script : Script) (line : Line) → InLine K.told keeper script at line self.now.book → Means script line (own (at + 1) self.now.book.log.items) r) }
+        ensures { IfOk result (λ r. (ts : List Telling) (keeper : Keeping) (script : Script) (line : Line) → InLine ts keeper script at line self.now.book → Means script line (own (at + 1) self.now.book.log.items) r) }
     {
-        report_at::<K>(&self.book, at)
+        report_at(&self.book, at)
     }
 
     /// The record.
@@ -407,7 +430,8 @@ fn is_over(lines: &[Line], at: usize) -> bool {
 
 /// Whether something seems to have come for the script at a place that is to be taken now.
 fn has_come_at<K: Keeper>(book: &Book, over: bool, ends: &mut Vec<Ends<K>>, at: usize) -> bool
-    ensures { (es : List HallEvent) → HearsAll ends.old.items es ends.new.items es }
+    ensures heard { (es : List HallEvent) → HearsAll ends.old.items es ends.new.items es }
+    ensures hands { HearsNoHand ends.old.items ends.new.items }
 {
     match ends.get_mut(at) {
         Some(ends) => has_come_to(book, over, ends, at),
@@ -417,7 +441,9 @@ fn has_come_at<K: Keeper>(book: &Book, over: bool, ends: &mut Vec<Ends<K>>, at: 
 
 /// Whether something seems to have come to a script that is to be taken now.
 fn has_come_to<K: Keeper>(book: &Book, over: bool, ends: &mut Ends<K>, at: usize) -> bool
-    ensures { (script : ℕ) (es : List HallEvent) → Hears script ends.old.readers es ends.new.readers es }
+    ensures heard { (script : ℕ) (es : List HallEvent) → Hears script ends.old.readers es ends.new.readers es }
+    ensures ring { SameOut ends.old.answers ends.new.answers }
+    ensures taken { taken_items ends.new.answers ≡ taken_items ends.old.answers }
 {
     if ends.has_answer() {
         return true;
@@ -470,8 +496,9 @@ fn settle_child<K: Keeper>(
 ) -> Result<(), AllocError>
     requires place { (at < length book.old.hall) × (at < 64) × (index < 16) }
     requires finished { FinishedAt index finished ends.old.readers }
-    ensures kept { Leaves K.told book.old book.new }
+    ensures kept { Leaves book.old book.new }
     ensures heard { HearsAt (at + 1) index ends.old.readers book.old.log.items ends.new.readers book.new.log.items }
+    ensures answers { ends.new.answers ≡ ends.old.answers }
     ensures all { OnOk result (TakenAt index (all_put finished) ends.new.readers) }
 {
     let mut finished = finished;
@@ -493,8 +520,9 @@ fn hear_left<K: Keeper>(
 ) -> Result<(), AllocError>
     requires place { (at < length book.old.hall) × (at < 64) × (index < 16) }
     requires seen { SeenAt index ends.old.readers }
-    ensures kept { Leaves K.told book.old book.new }
+    ensures kept { Leaves book.old book.new }
     ensures heard { HearsAt (at + 1) index ends.old.readers book.old.log.items ends.new.readers book.new.log.items }
+    ensures answers { ends.new.answers ≡ ends.old.answers }
     ensures left { OnOk result (LeavesOneLess index ends.old.readers ends.new.readers) }
 {
     book.reserve()?;
@@ -514,7 +542,7 @@ fn attend_at<K: Keeper>(
 ) -> Result<bool, AllocError>
     requires hall { (at < length book.old.hall) × (at < 64) }
     requires place { at < vec_len lines.old }
-    ensures kept { KeepsAll K.told lines.old.items book.old lines.new.items book.new }
+    ensures kept { KeepsAll lines.old.items ends.old.items book.old lines.new.items ends.new.items book.new }
     ensures heard { HearsAll ends.old.items book.old.log.items ends.new.items book.new.log.items }
 {
     let Some(ends) = ends.get_mut(at) else {
@@ -533,7 +561,7 @@ fn attend_all<K: Keeper>(
     ends: &mut Vec<Ends<K>>,
 ) -> Result<bool, AllocError>
     requires { (length lines.old.items ≤ length book.old.hall) × (length book.old.hall ≤ 64) }
-    ensures kept { KeepsAll K.told lines.old.items book.old lines.new.items book.new }
+    ensures kept { KeepsAll lines.old.items ends.old.items book.old lines.new.items ends.new.items book.new }
     ensures heard { HearsAll ends.old.items book.old.log.items ends.new.items book.new.log.items }
 {
     let mut busy = false;

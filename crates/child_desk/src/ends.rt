@@ -1,12 +1,15 @@
 //! A script's ends of its rings.
 
-ghost use Rattle.std.specs.Prelude.{◌≡◌, ◌≤◌};
+ghost use Rattle.std.specs.Prelude.{◌≡◌, ◌≤◌, ◌++◌};
+ghost use Rattle.feed_rings.specs.Ends.{taken_items, all_put, SameOut, IsFinishedOf};
+ghost use Rattle.child_desk.specs.Told.{tells, told_of, heard_of_hand};
+ghost use Rattle.child_desk.specs.Line.{TakesNone, IsFrontOf};
 
 use crate::readers::{Readers, Taken, is_last};
 use child_events::Answer;
 use child_keeper::{Answered, Item, Keeper};
 use expect_core::{Act, Request};
-use feed_rings::{FeedIn, FeedOut};
+use feed_rings::{FeedIn, FeedOut, Finished};
 use std::alloc::{AllocError, Global};
 
 /// A script's ends of its rings, and how far what travels in them is.
@@ -15,7 +18,7 @@ pub struct Ends<K: Keeper> {
     /// To its hand.
     asks: FeedIn<Item<K>>,
     /// From its hand.
-    answers: FeedOut<Item<K>>,
+    pub answers: FeedOut<Item<K>>,
     /// From the readers of its children.
     pub readers: Readers<K>,
     /// What waits for room in the ring to the hand.
@@ -33,7 +36,8 @@ pub struct Ends<K: Keeper> {
 impl<K: Keeper> Ends<K> {
     /// The ends of rings through which nothing has come.
     pub fn new(asks: FeedIn<Item<K>>, answers: FeedOut<Item<K>>, readers: Readers<K>) -> Ends<K>
-        ensures { result.readers ≡ readers }
+        ensures readers { result.readers ≡ readers }
+        ensures answers { result.answers ≡ answers }
     {
         Ends {
             asks,
@@ -61,24 +65,38 @@ impl<K: Keeper> Ends<K> {
 
     /// The next answer, where there is one.
     pub(crate) fn next_answer(&mut self) -> Option<Answered<K>>
-        ensures { self.new.readers ≡ self.old.readers }
+        ensures readers { self.new.readers ≡ self.old.readers }
+        ensures ring { SameOut self.old.answers self.new.answers }
+        ensures told { heard_of_hand self.new.answers ≡ heard_of_hand self.old.answers ++ told_of result }
     {
-        match self.answers.take()? {
-            Item::Answer { answered, .. } => Some(answered),
-            _ => None,
-        }
+        let item = self.answers.take()?;
+        answered_in(item)
     }
 
     /// Whether an answer seems to have come.
     pub(crate) fn has_answer(&mut self) -> bool
-        ensures { self.new.readers ≡ self.old.readers }
+        ensures readers { self.new.readers ≡ self.old.readers }
+        ensures ring { SameOut self.old.answers self.new.answers }
+        ensures taken { taken_items self.new.answers ≡ taken_items self.old.answers }
     {
         !self.answers.is_empty()
     }
 
+    /// Looks at all that the hand, which has finished its ring, ever put there.
+    pub(crate) fn close(&mut self, finished: Finished<Item<K>>)
+        requires finished { IsFinishedOf finished self.old.answers }
+        ensures readers { self.new.readers ≡ self.old.readers }
+        ensures ring { SameOut self.old.answers self.new.answers }
+        ensures taken { taken_items self.new.answers ≡ taken_items self.old.answers }
+        ensures front { IsFrontOf (taken_items self.new.answers) (all_put finished) }
+    {
+        let mut finished = finished;
+        self.answers.left(&mut finished);
+    }
+
     /// Counts the output that ended with what was taken, where it did.
     pub(crate) fn count(&mut self, taken: &Taken)
-        ensures { self.new.readers ≡ self.old.readers }
+        ensures { TakesNone self.old self.new }
     {
         if is_last(taken) {
             self.ended = self.ended.saturating_add(1);
@@ -92,7 +110,7 @@ impl<K: Keeper> Ends<K> {
 
     /// Has a copy of a request put to the hand.
     pub(crate) fn send(&mut self, alloc: Global, request: &Request) -> Result<(), AllocError>
-        ensures { self.new.readers ≡ self.old.readers }
+        ensures { TakesNone self.old self.new }
     {
         let copy = request.copied(alloc)?;
         if let Act::Spawn(_) = &request.act {
@@ -105,7 +123,7 @@ impl<K: Keeper> Ends<K> {
 
     /// The answer to what was sent was entered; it started a child or not.
     pub(crate) fn go_on(&mut self, starts: bool)
-        ensures { self.new.readers ≡ self.old.readers }
+        ensures { TakesNone self.old self.new }
     {
         self.sent = false;
         if starts {
@@ -115,14 +133,14 @@ impl<K: Keeper> Ends<K> {
 
     /// Has the stop put to the hand.
     pub(crate) fn stop(&mut self)
-        ensures { self.new.readers ≡ self.old.readers }
+        ensures { TakesNone self.old self.new }
     {
         self.ready = Some(Item::Stop);
     }
 
     /// Puts what waits for room. True where something was put.
     pub(crate) fn flush(&mut self) -> bool
-        ensures { self.new.readers ≡ self.old.readers }
+        ensures { TakesNone self.old self.new }
     {
         let Some(item) = self.ready.take() else {
             return false;
@@ -134,6 +152,16 @@ impl<K: Keeper> Ends<K> {
                 false
             }
         }
+    }
+}
+
+/// The answer that an item is, if it is one.
+fn answered_in<K: Keeper>(item: Item<K>) -> Option<Answered<K>>
+    ensures { told_of result ≡ tells item }
+{
+    match item {
+        Item::Answer { answered, .. } => Some(answered),
+        _ => None,
     }
 }
 

@@ -1,10 +1,9 @@
 //! A script in its line: the request that waits for its answer, and the answers.
 
-ghost use Rattle.std.specs.Prelude.{◌≡◌, ◌+◌, ◌<◌, [], ℕ, length, slice_get, IsTrue, IfOk, Some, None, vec_len, vec_capacity};
+ghost use Rattle.std.specs.Prelude.{◌≡◌, ◌+◌, ◌<◌, List, [], ◌∷◌, ◌++◌, false, length, IsTrue, IfOk, Some, None, vec_len, vec_capacity};
 ghost use Rattle.child_events.specs.World.{own};
-ghost use Rattle.session.specs.Left.{Kept};
 ghost use Rattle.dialogue_sched.specs.declared.script.Script.{Script};
-ghost use Rattle.dialogue_sched.specs.Hall.{Begins};
+ghost use Rattle.child_desk.specs.Told.{Telling, telling_of};
 ghost use Rattle.child_desk.specs.Line.{Keeping, answer_at, InLine, Keeps, Means, Goes};
 ghost use Rattle.child_desk.specs.Heard.{Unheard};
 
@@ -31,8 +30,8 @@ pub struct Line {
 
 impl Line {
     /// Of a script to which nothing has happened, whose keeper has this name and has made so many calls.
-    pub fn new<K: Keeper>(name: u64, calls: u64) -> Line
-        ensures { (script : Script) (at : ℕ) (k : Kept) (book : Book) → slice_get book.hall at ≡ Some k → book.log.items ≡ [] → Begins script k → InLine K.told (record { name = name; made = calls }) script at result book }
+    pub fn new(name: u64, calls: u64) -> Line
+        ensures { result ≡ record { name = name; last = calls; awaited = None; over = false } }
     {
         Line {
             name,
@@ -44,17 +43,17 @@ impl Line {
 }
 
 /// What came of a script. Where its session lives, that is what the script means over its part of the record.
-pub fn report_at<K: Keeper>(book: &Book, at: usize) -> Result<Report, ReportFault>
+pub fn report_at(book: &Book, at: usize) -> Result<Report, ReportFault>
     requires { at < 64 }
-    ensures { IfOk result (λ r. (keeper : Keeping) (script : Script) (line : Line) → InLine K.told keeper script at line book.now → Means script line (own (at + 1) book.now.log.items) r) }
+    ensures { IfOk result (λ r. (ts : List Telling) (keeper : Keeping) (script : Script) (line : Line) → InLine ts keeper script at line book.now → Means script line (own (at + 1) book.now.log.items) r) }
 {
     book.hall.report(at + 1)
 }
 
 /// Has the hall's next request wait for its answer, where none waits. No other script is touched.
-pub fn ask_next<K: Keeper>(book: &mut Book, line: &mut Line, at: usize)
+pub fn ask_next(book: &mut Book, line: &mut Line, at: usize)
     requires { (at < length book.old.hall) × (at < 64) }
-    ensures kept { Keeps K.told at line.old book.old line.new book.new }
+    ensures kept { (ts : List Telling) → Keeps ts ts at line.old book.old line.new book.new }
     ensures log { book.new.log.items ≡ book.old.log.items }
 {
     if line.awaited.is_some() {
@@ -113,7 +112,7 @@ pub fn enter_answer<K: Keeper>(
 ) -> bool
     requires place { at < 64 }
     requires room { vec_len book.old.log < vec_capacity book.old.log }
-    ensures kept { Keeps K.told at line.old book.old line.new book.new }
+    ensures kept { (ts : List Telling) → Keeps ts (ts ++ telling_of answered ∷ []) at line.old book.old line.new book.new }
     ensures silent { Unheard book.old.log.items book.new.log.items }
 {
     if !is_awaited(line, &answered) {
@@ -142,9 +141,9 @@ fn goes_on(ending: Option<Ending>) -> bool
 }
 
 /// Says that a script is over, where it has ended. True where it has.
-pub fn enter_end<K: Keeper>(book: &Book, line: &mut Line, at: usize) -> bool
+pub fn enter_end(book: &Book, line: &mut Line, at: usize) -> bool
     requires { at < 64 }
-    ensures { Keeps K.told at line.old book.now line.new book.now }
+    ensures { (ts : List Telling) → Keeps ts ts at line.old book.now line.new book.now }
 {
     if goes_on(book.hall.ending(at + 1)) {
         return false;

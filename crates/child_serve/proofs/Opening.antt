@@ -15,14 +15,13 @@ use Rattle.child_hands.specs.declared.work.Fresh.{Fresh}
 use Rattle.child_hands.specs.declared.work.HandEnd.{HandEnd}
 use Rattle.child_hands.specs.declared.work.Work.{Work}
 use Rattle.child_hands.specs.declared.work.Work.TheVariants.{Free, Ended}
-use Rattle.child_hands.specs.Handed.{IsHandEnd, IsGoing, IsWork, AreWorks, requests_of}
+use Rattle.child_hands.specs.Handed.{IsHandEnd, IsGoing, IsWork, AreWorks, AreAnswers, requests_of}
 use Rattle.child_hands.specs.Pumped.{IsPumpList}
 use Rattle.child_desk.specs.declared.ends.Ends.{Ends}
 use Rattle.child_desk.proofs.Places.{nothing_there, one_there}
 use Rattle.child_serve.specs.Joined.{script_of}
 use Rattle.child_serve.specs.Given.{IsPut}
 use Rattle.child_serve.specs.Opened.{AreUnused, ArePaired, AreUntaken, AreRings, IsOpened, OpenedTo, IsLeftAt, IsAllOf, IsFinishOf}
-use Rattle.child_serve.proofs.Giving.{starts_with}
 
 -- lists
 
@@ -128,20 +127,22 @@ module _ {K O : Type 0} {g : Ghosts K O} {r : ReadGhosts O} where
 
   -- a hand that is started
   pub is_opened : (script : ℕ) (keeper : K) (e : Ends K O g r) (hand : PromisedHandle (HandEnd K O g r) (Obeys K O g r)) (works : List (Work K O g r)) (outs : List (FeedOut (Item K O g r))) →
-      hand.promise.script ≡ script → hand.promise.keeper.value ≡ keeper → taken_items hand.promise.asks.value ≡ [] → put_items hand.promise.answers.value ≡ [] → hand.promise.works.value.items ≡ works →
-      e.readers.script ≡ script → e.readers.outs.items ≡ outs → AreRings 16 works outs → IsOpened script keeper e hand
-  is_opened script keeper e hand works outs puts kept asks answers works_are hears outs_are rings = record {
+      hand.promise.script ≡ script → hand.promise.keeper.value ≡ keeper → taken_items hand.promise.asks.value ≡ [] → put_items hand.promise.answers.value ≡ [] → IsPair hand.promise.answers.value e.answers → taken_items e.answers ≡ [] →
+      hand.promise.works.value.items ≡ works → e.readers.script ≡ script → e.readers.outs.items ≡ outs → AreRings 16 works outs → IsOpened script keeper e hand
+  is_opened script keeper e hand works outs puts kept asks answers answering unheard works_are hears outs_are rings = record {
     puts = puts;
     hears = hears;
     kept = kept;
     linked = record {
       asks = asks;
       answers = answers;
+      answering = answering;
       count = ap length works_are ∙ rings.works_count;
       unused = subst (λ (ws : List (Work K O g r)). AreUnused ws) (sym works_are) rings.unused;
       paired = subst (λ (ws : List (Work K O g r)). ArePaired ws e.readers.outs.items) (sym works_are) (subst (λ (os : List (FeedOut (Item K O g r))). ArePaired works os) (sym outs_are) rings.paired);
     };
     outs = ap length outs_are ∙ rings.outs_count;
+    unheard = unheard;
     untaken = subst (λ (os : List (FeedOut (Item K O g r))). AreUntaken os) (sym outs_are) rings.untaken;
   }
 
@@ -248,13 +249,27 @@ module _ {K O : Type 0} {g : Ghosts K O} {r : ReadGhosts O} where
     pub left_at : (outs : List (FeedOut (Item K O g r))) → ArePaired works outs → (i : ℕ) (work : Work K O g r) → slice_get e.works.items i ≡ Some work → (out : FeedOut (Item K O g r)) → slice_get outs i ≡ Some out → IsLeftAt work out
     left_at outs paired i work got out here = let w = was_at i work got in left_by w.fresh.feed out i work (paired i w.fresh out w.first here) w.now
 
-    put_by : (was : FeedIn (Item K O g r)) (i : ℕ) (work : Work K O g r) (items : List (Item K O g r)) → IsWork script (i + 1) name (put_items is.put) was work → IsAllOf work items → IsPut script name (g.made keeper) (i + 1) items
-    put_by was i (Free fresh) items now all = inl all
+    put_by : (was : FeedIn (Item K O g r)) (i : ℕ) (work : Work K O g r) (items : List (Item K O g r)) → IsWork script (i + 1) name (put_items is.put) was work → IsAllOf work items → IsPut script name (i + 1) (put_items is.put) items
+    put_by was i (Free fresh) items now all = inl (now.1, all)
     put_by was i (Ended None) items now all = absurd (nothing_there all.0 all.1)
     put_by was i (Ended (Some f)) items now all =
         let n = now.1 in
         let same : all_put f ≡ items = ap all_put (one_there f all.0 all.1) ∙ sym all.2 in
-        inr (n.1, starts_with script name (g.made keeper) (i + 1) n.0 n.1 (requests_of (taken_items e.asks)) (put_items is.put) last.answers n.2 n.3, subst (IsPumpList script (i + 1) n.1) same n.4)
+        inr (n.0, n.1, n.2, n.3, subst (IsPumpList script (i + 1) n.1) same n.4)
 
-    pub put_at : (i : ℕ) (work : Work K O g r) (items : List (Item K O g r)) → slice_get e.works.items i ≡ Some work → IsAllOf work items → IsPut script (g.named keeper) (g.made keeper) (i + 1) items
+    pub put_at : (i : ℕ) (work : Work K O g r) (items : List (Item K O g r)) → slice_get e.works.items i ≡ Some work → IsAllOf work items → IsPut script (g.named keeper) (i + 1) (put_items is.put) items
     put_at i work items got all = let w = was_at i work got in put_by w.fresh.feed i work items w.now all
+
+    -- the answers that it put
+    pub all_answers : AreAnswers script (g.named keeper) (g.made keeper) (requests_of (taken_items e.asks)) (put_items is.put)
+    all_answers = last.answers
+
+    pub answers_at : (out : FeedOut (Item K O g r)) → IsPair answers out → IfSome e.answers (λ f. IsFinishedOf f out)
+    answers_at out pair = by_case e.answers is.finished
+      where
+        by_case : (o : Option (Finished (Item K O g r))) → IfSome o (λ f. EndsRingOf answers f × (all_put f ≡ put_items is.put)) → IfSome o (λ f. IsFinishedOf f out)
+        by_case None h = tt
+        by_case (Some f) h = ended_left answers f out h.0 pair
+
+    pub all_answered : (f : Finished (Item K O g r)) → e.answers ≡ Some f → all_put f ≡ put_items is.put
+    all_answered f got = (subst (λ (o : Option (Finished (Item K O g r))). IfSome o (λ x. EndsRingOf answers x × (all_put x ≡ put_items is.put))) got is.finished).1

@@ -1,6 +1,6 @@
 -- From what each worker has served to what all have.
 use Rattle.std.proofs.Common.{◌≡◌, ◌≢◌, ◌⊎◌, inl, inr, ℕ, zero, suc, ◌+◌, ◌-◌, ◌*◌, ◌/◌, ◌%◌, ◌<◌, List, [], ◌∷◌, ◌++◌, map, length, Option, Some, None, refl, sym, ap, subst, ◌∙◌, arith}
-use Rattle.std.specs.Prelude.{slice_get, Contains}
+use Rattle.std.specs.Prelude.{slice_get, Contains, ◌==◌, ◌&&◌, if◌then◌else◌}
 use Rattle.std.specs.List.{flat_map}
 use Rattle.std.proofs.Math.Nat.{mod-lt}
 use Rattle.std.proofs.lemmas.Nat.{div-add-mod'}
@@ -23,13 +23,13 @@ use Rattle.child_serve.specs.declared.served.Unsettled.{Unsettled}
 use Rattle.child_serve.specs.Joined.{script_of, EachSees}
 use Rattle.child_desk.specs.Book.{Ascends}
 use Rattle.child_serve.specs.Turns.{in_turn}
-use Rattle.child_serve.specs.Given.{IsGiven}
+use Rattle.child_hands.specs.Handed.{starts}
+use Rattle.child_serve.specs.Given.{IsGiven, started_by}
 use Rattle.child_desk.specs.Heard.{said_in, said_by}
 use Rattle.child_desk.specs.Told.{answer_in, answers_in, AreTold}
 use Rattle.child_desk.specs.Line.{Keeping}
 use Rattle.child_serve.specs.Served.{IsServed, AreServed, IsPart, AreParts, records_of}
 use Rattle.child_serve.proofs.Merging.{ascends_own}
-use Rattle.child_desk.proofs.Telling.{told_more}
 use Rattle.child_serve.proofs.Turning.{Enough, turn_length, turn_at}
 
 -- ticks bring no answer and no output
@@ -45,6 +45,24 @@ same_said child xs ys (kept e es more p) = ap (λ (l : List What). said_in child
 same_said child xs ys (tick m es more p) = same_said child es more p
 
 module _ (told : ℕ → ℕ → Request → Answer → Type 0) (gives : ℕ → ℕ → Option (List ℕ) → Type 0) where
+  -- more requests than those that were answered
+
+  told_more : (name n : ℕ) (xs : List Answer) (qs more : List Request) → AreTold told name n xs qs → AreTold told name n xs (qs ++ more)
+  told_more name n [] qs more t = tt
+  told_more name n (a ∷ xs) [] more t = absurd t
+  told_more name n (a ∷ xs) (q ∷ qs) more t = (t.0, told_more name (n + 1) xs qs more t.1)
+
+  started_more : (name child n : ℕ) (xs : List Answer) (qs more : List Request) → AreTold told name n xs qs → started_by child n xs (qs ++ more) ≡ started_by child n xs qs
+  started_more name child n [] qs more t = refl
+  started_more name child n (a ∷ xs) [] more t = absurd t
+  started_more name child n (a ∷ xs) (q ∷ qs) more t = ap (λ (o : Option ℕ). if (q.child == child) && starts q a then Some (n + 1) else o) (started_more name child (n + 1) xs qs more t.1)
+
+  given_more : (name made child : ℕ) (xs : List Answer) (qs more : List Request) (said : List What) → AreTold told name made xs qs → IsGiven told gives name made child xs qs said → IsGiven told gives name made child xs (qs ++ more) said
+  given_more name made child xs qs more said t s = record {
+    started = λ call is. s.started call (sym (started_more name child made xs qs more t) ∙ is);
+    any = s.any;
+  }
+
   -- a script's part of its worker's record, and of the joined one
 
   ended_on : (script : Script) (report : Report) (es more : List Event) → Rises more → WithTicks es more →
@@ -59,8 +77,12 @@ module _ (told : ℕ → ℕ → Request → Answer → Type 0) (gives : ℕ →
   served_on number keeper script report old new es more up p among s = record {
     ended = ended_on script report es more up p s.ended;
     answers = subst (λ (xs : List Answer). AreTold told keeper.name keeper.made xs asked) (sym (same_answers es more p))
-        (subst (AreTold told keeper.name keeper.made (answers_in es)) (sym grown.asked) (told_more told keeper.name keeper.made (answers_in es) before grown.more s.answers));
-    given = λ child low high apart. subst (IsGiven told gives keeper.name keeper.made child) (sym (same_said child es more p)) (s.given child low high (λ listed. apart (among _ listed)));
+        (subst (AreTold told keeper.name keeper.made (answers_in es)) (sym grown.asked) (told_more keeper.name keeper.made (answers_in es) before grown.more s.answers));
+    given = λ child low high apart.
+        subst (IsGiven told gives keeper.name keeper.made child (answers_in more) asked) (sym (same_said child es more p))
+        (subst (λ (xs : List Answer). IsGiven told gives keeper.name keeper.made child xs asked (said_by child es)) (sym (same_answers es more p))
+        (subst (λ (qs : List Request). IsGiven told gives keeper.name keeper.made child (answers_in es) qs (said_by child es)) (sym grown.asked)
+        (given_more keeper.name keeper.made child (answers_in es) before grown.more (said_by child es) s.answers (s.given child low high (λ listed. apart (among _ listed))))));
   }
     where
       before : List Request

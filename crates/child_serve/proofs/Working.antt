@@ -24,7 +24,14 @@ use Rattle.child_desk.specs.declared.book.Book.{Book}
 use Rattle.child_desk.specs.declared.line.Line.{Line}
 use Rattle.child_desk.specs.Book.{Ascends, AllTaken, IsRecord}
 use Rattle.child_desk.specs.Heard.{recorded}
-use Rattle.child_desk.specs.Line.{Keeping, InLine, Means, Leaves, KeepsAll, AllOver}
+use Rattle.std.specs.declared.io.traits.Read.{Ghosts as ReadGhosts}
+use Rattle.child_keeper.specs.declared.keeper.Keeper.{Ghosts}
+use Rattle.child_keeper.specs.declared.items.Item.{Item}
+use Rattle.feed_rings.specs.Ends.{taken_items}
+use Rattle.child_desk.specs.declared.ends.Ends.{Ends}
+use Rattle.child_desk.specs.Told.{Telling, AreAmong, answers_in, all_told, heard_of_hand}
+use Rattle.child_desk.specs.Line.{Keeping, InLine, Means, KeepsAll, AllOver}
+use Rattle.child_desk.proofs.Places.{one_there}
 use Rattle.child_desk.proofs.Lining.{first_line}
 use Rattle.child_serve.specs.declared.served.Served.{Served}
 use Rattle.child_serve.specs.declared.worker.Team.{Team}
@@ -33,6 +40,7 @@ use Rattle.child_serve.specs.Given.{IsGiven}
 use Rattle.child_serve.specs.Served.{IsServed}
 use Rattle.child_serve.specs.Whole.{keeping_of}
 use Rattle.child_serve.specs.Teams.{AreFirst, AllShown, IsTeam, IsWork}
+use Rattle.child_serve.proofs.Giving.{among_told}
 use Rattle.child_serve.proofs.Wholes.{mapped, unmapped, map_length}
 
 -- an entry that a hall takes is within the limits
@@ -139,10 +147,10 @@ pub first_length : {K : Type 0} (named made : K → ℕ) (keepers : List K) (lin
 first_length named made keepers lines are = ap length are ∙ map_length (line_of named made) keepers
 
 -- what was shown so far, of the first scripts
-pub record ShownTo (told : ℕ → ℕ → Request → Answer → Type 0) (lines : List Line) (book : Book) (n : ℕ) (reports : List Report) : Type 0 where
+pub record ShownTo (lines : List Line) (book : Book) (n : ℕ) (reports : List Report) : Type 0 where
   pub count : length reports ≡ n
   pub each : (at : ℕ) (line : Line) (report : Report) → slice_get lines at ≡ Some line → slice_get reports at ≡ Some report →
-      (keeper : Keeping) (script : Script) → InLine told keeper script at line book → Means script line (own (at + 1) book.log.items) report
+      (ts : List Telling) (keeper : Keeping) (script : Script) → InLine ts keeper script at line book → Means script line (own (at + 1) book.log.items) report
 
 last_of : (rs : List Report) (r : Report) (i : ℕ) (s : Report) → slice_get (rs ++ r ∷ []) i ≡ Some s → (slice_get rs i ≡ Some s) ⊎ ((i ≡ length rs) × (r ≡ s))
 last_of [] r zero s got = inr (refl, (cc))
@@ -157,72 +165,87 @@ one_longer : (rs : List Report) (r : Report) → length (rs ++ r ∷ []) ≡ len
 one_longer [] r = refl
 one_longer (x ∷ rs) r = let e = one_longer rs r in omega (arith, e)
 
-module _ (told : ℕ → ℕ → Request → Answer → Type 0) (lines : List Line) (book : Book) where
-  pub none_shown : ShownTo told lines book 0 []
+module _ (lines : List Line) (book : Book) where
+  pub none_shown : ShownTo lines book 0 []
   none_shown = record { count = refl; each = λ at line report here got. absurd (let none : ◌≡◌ {A = Option Report} None (Some report) = got in cc) }
 
   pub one_shown : (n : ℕ) (reports more : List Report) (report : Report) → more ≡ reports ++ report ∷ [] →
-      ((keeper : Keeping) (script : Script) (line : Line) → InLine told keeper script n line book → Means script line (own (n + 1) book.log.items) report) → ShownTo told lines book n reports → ShownTo told lines book (n + 1) more
+      ((ts : List Telling) (keeper : Keeping) (script : Script) (line : Line) → InLine ts keeper script n line book → Means script line (own (n + 1) book.log.items) report) → ShownTo lines book n reports → ShownTo lines book (n + 1) more
   one_shown n reports more report is means s = record {
     count = ap length is ∙ one_longer reports report ∙ ap (λ (k : ℕ). k + 1) s.count;
     each = λ at line got here there. by_place at line got here (last_of reports report at got (ap (λ (l : List Report). slice_get l at) (sym is) ∙ there));
   }
     where
       by_place : (at : ℕ) (line : Line) (got : Report) → slice_get lines at ≡ Some line → (slice_get reports at ≡ Some got) ⊎ ((at ≡ length reports) × (report ≡ got)) →
-          (keeper : Keeping) (script : Script) → InLine told keeper script at line book → Means script line (own (at + 1) book.log.items) got
-      by_place at line got here (inl old) keeper script l = s.each at line got here old keeper script l
-      by_place at line got here (inr (last, same)) keeper script l =
+          (ts : List Telling) (keeper : Keeping) (script : Script) → InLine ts keeper script at line book → Means script line (own (at + 1) book.log.items) got
+      by_place at line got here (inl old) ts keeper script l = s.each at line got here old ts keeper script l
+      by_place at line got here (inr (last, same)) ts keeper script l =
           subst (Means script line (own (at + 1) book.log.items)) same
           (subst (λ (k : ℕ). Means script line (own (k + 1) book.log.items) report) (sym (last ∙ s.count))
-          (means keeper script line (subst (λ (k : ℕ). InLine told keeper script k line book) (last ∙ s.count) l)))
+          (means ts keeper script line (subst (λ (k : ℕ). InLine ts keeper script k line book) (last ∙ s.count) l)))
 
-  pub all_shown : (n : ℕ) (reports : List Report) → n ≡ length lines → ShownTo told lines book n reports → AllShown told lines book reports
+  pub all_shown : (n : ℕ) (reports : List Report) → n ≡ length lines → ShownTo lines book n reports → AllShown lines book reports
   all_shown n reports all s = record { count = s.count ∙ all; each = s.each }
 
 -- The lines and the hall at the start, what turning left of them, what was taken behind that, the reports, and what the record has of each child.
-module _ {K C : Type 0} (told : ℕ → ℕ → Request → Answer → Type 0) (gives : ℕ → ℕ → Option (List ℕ) → Type 0) (named made : K → ℕ) (n w : ℕ) (team : Team K C) (first lines : List Line) (begun turned settled : Book) (s : Served)
+module _ {K C O : Type 0} {g : Ghosts K O} {r : ReadGhosts O} (n w : ℕ) (team : Team K C) (first lines : List Line) (opened between ends : List (Ends K O g r)) (begun turned settled : Book) (s : Served)
     (is : IsTeam n w team)
-    (are : AreFirst named made team.keepers.items first) (begin : AllBegin team.scripts.items begun.hall) (empty : begun.log.items ≡ []) (good : IsRecord begun)
-    (kept : KeepsAll told first begun lines turned) (over : AllOver lines)
-    (left : Leaves told turned settled)
-    (shown : AllShown told lines settled s.reports) (logged : s.logged ≡ settled.log.items)
-    (given : (i index : ℕ) (keeper : K) → slice_get team.keepers.items i ≡ Some keeper → index < 16 → (Contains s.unsettled.items (record { script = script_of n w (i + 1); child = index + 1 }) → ⊥) →
-    IsGiven told gives (named keeper) (made keeper) (index + 1) (recorded (i + 1) (index + 1) settled.log.items)) where
+    (are : AreFirst g.named g.made team.keepers.items first) (begin : AllBegin team.scripts.items begun.hall) (empty : begun.log.items ≡ []) (good : IsRecord begun)
+    (unheard : (i : ℕ) (keeper : K) → slice_get team.keepers.items i ≡ Some keeper → (e : Ends K O g r) × (slice_get opened i ≡ Some e) × (taken_items e.answers ≡ []))
+    (kept : KeepsAll first opened begun lines between turned) (over : AllOver lines)
+    (left : KeepsAll lines between turned lines ends settled)
+    (shown : AllShown lines settled s.reports) (logged : s.logged ≡ settled.log.items)
+    (given : (i index : ℕ) (keeper : K) (e : Ends K O g r) (xs : List Answer) (qs : List Request) → slice_get team.keepers.items i ≡ Some keeper → slice_get ends i ≡ Some e → AreAmong (heard_of_hand e.answers) (g.named keeper) (g.made keeper) xs qs →
+    index < 16 → (Contains s.unsettled.items (record { script = script_of n w (i + 1); child = index + 1 }) → ⊥) →
+    IsGiven g.told g.gives (g.named keeper) (g.made keeper) (index + 1) xs qs (recorded (i + 1) (index + 1) settled.log.items)) where
   ended_by : (script : Script) (line : Line) (es : List Event) (report : Report) → IsTrue line.over → Means script line es report →
       ((report ≡ meaning script.source script.settings es) × (report.ending ≢ Waiting)) ⊎ (report.ending ≡ Memory)
   ended_by script line es report o (inl (same, ends)) = inl (same, ends o)
   ended_by script line es report o (inr memory) = inr memory
 
-  of_one : (i : ℕ) (keeper : Keeping) (script : Script) (report : Report) → slice_get (map (keeping_of named made) team.keepers.items) i ≡ Some keeper → slice_get team.scripts.items i ≡ Some script → slice_get s.reports i ≡ Some report →
-      IsServed told gives (script_of n w (i + 1)) keeper script report s.unsettled.items (own (i + 1) s.logged)
+  of_one : (i : ℕ) (keeper : Keeping) (script : Script) (report : Report) → slice_get (map (keeping_of g.named g.made) team.keepers.items) i ≡ Some keeper → slice_get team.scripts.items i ≡ Some script → slice_get s.reports i ≡ Some report →
+      IsServed g.told g.gives (script_of n w (i + 1)) keeper script report s.unsettled.items (own (i + 1) s.logged)
   of_one i keeper script report got_keeper got_script got_report =
-      subst (λ (es : List HallEvent). IsServed told gives (script_of n w (i + 1)) keeper script report s.unsettled.items (own (i + 1) es)) (sym logged) (record {
-        ended = ended_by script line.0 (own (i + 1) settled.log.items) report (over i line.0 line.1) (shown.each i line.0 report line.1 got_report keeper script last);
-        answers = last.2.answers;
+      subst (λ (es : List HallEvent). IsServed g.told g.gives (script_of n w (i + 1)) keeper script report s.unsettled.items (own (i + 1) es)) (sym logged) (record {
+        ended = ended_by script line.0 (own (i + 1) settled.log.items) report (over i line.0 line.2) (shown.each i line.0 report line.2 got_report (heard_of_hand last.0.answers) keeper script last.2);
+        answers = among_told (taken_items last.0.answers) keeper.name keeper.made (answers_in (own (i + 1) settled.log.items)) asked last.2.2.answers;
         given = given_one;
       })
     where
-      k : (x : K) × (slice_get team.keepers.items i ≡ Some x) × (keeping_of named made x ≡ keeper)
-      k = unmapped (keeping_of named made) team.keepers.items i keeper got_keeper
+      k : (x : K) × (slice_get team.keepers.items i ≡ Some x) × (keeping_of g.named g.made x ≡ keeper)
+      k = unmapped (keeping_of g.named g.made) team.keepers.items i keeper got_keeper
 
-      given_one : (child : ℕ) → 1 ≤ child → child ≤ 16 → (Contains s.unsettled.items (record { script = script_of n w (i + 1); child = child }) → ⊥) → IsGiven told gives keeper.name keeper.made child (recorded (i + 1) child settled.log.items)
-      given_one child low high apart =
-          let e : child - 1 + 1 ≡ child = omega (arith, low) in
-          subst (λ (c : ℕ). IsGiven told gives keeper.name keeper.made c (recorded (i + 1) c settled.log.items)) e
-          (subst (λ (x : Keeping). IsGiven told gives x.name x.made (child - 1 + 1) (recorded (i + 1) (child - 1 + 1) settled.log.items)) k.2
-          (given i (child - 1) k.0 k.1 (omega (arith, low, high)) (λ listed. apart (subst (λ (c : ℕ). Contains s.unsettled.items (record { script = script_of n w (i + 1); child = c })) e listed))))
+      asked : List Request
+      asked = (meaning script.source script.settings (own (i + 1) settled.log.items)).requests
 
       b : (x : Kept) × (slice_get begun.hall i ≡ Some x) × Begins script x
       b = begun_at team.scripts.items begun.hall i script begin got_script
 
-      start : InLine told keeper script i (line_of named made k.0) begun
-      start = subst (λ (x : Keeping). InLine told x script i (line_of named made k.0) begun) k.2 (first_line told (named k.0) (made k.0) i script b.0 begun b.1 empty b.2)
+      start : InLine [] keeper script i (line_of g.named g.made k.0) begun
+      start = subst (λ (x : Keeping). InLine [] x script i (line_of g.named g.made k.0) begun) k.2 (first_line (g.named k.0) (g.made k.0) i script b.0 begun b.1 empty b.2)
 
-      line : (x : Line) × (slice_get lines i ≡ Some x) × InLine told keeper script i x turned
-      line = kept.each keeper script i (line_of named made k.0) (ap (λ (l : List Line). slice_get l i) are ∙ mapped (line_of named made) team.keepers.items i k.0 k.1) start
+      e : (x : Ends K O g r) × (slice_get opened i ≡ Some x) × (taken_items x.answers ≡ [])
+      e = unheard i k.0 k.1
 
-      last : InLine told keeper script i line.0 settled
-      last = left.lines keeper script i line.0 line.2
+      line : (x : Line) × (y : Ends K O g r) × (slice_get lines i ≡ Some x) × (slice_get between i ≡ Some y) × InLine (heard_of_hand y.answers) keeper script i x turned
+      line = kept.each keeper script i (line_of g.named g.made k.0) e.0 (ap (λ (l : List Line). slice_get l i) are ∙ mapped (line_of g.named g.made) team.keepers.items i k.0 k.1) e.1
+          (subst (λ (xs : List (Item K O g r)). InLine (all_told xs) keeper script i (line_of g.named g.made k.0) begun) (sym e.2) start)
+
+      -- where the script is at the end
+      last : (y : Ends K O g r) × (slice_get ends i ≡ Some y) × InLine (heard_of_hand y.answers) keeper script i line.0 settled
+      last =
+          let p = left.each keeper script i line.0 line.1 line.2 line.3 line.4 in
+          (p.1, p.3, subst (λ (l : Line). InLine (heard_of_hand p.1.answers) keeper script i l settled) (one_there p.0 line.0 (sym p.2 ∙ line.2)) p.4)
+
+      given_one : (child : ℕ) → 1 ≤ child → child ≤ 16 → (Contains s.unsettled.items (record { script = script_of n w (i + 1); child = child }) → ⊥) →
+          IsGiven g.told g.gives keeper.name keeper.made child (answers_in (own (i + 1) settled.log.items)) asked (recorded (i + 1) child settled.log.items)
+      given_one child low high apart =
+          let back : child - 1 + 1 ≡ child = omega (arith, low) in
+          let xs = answers_in (own (i + 1) settled.log.items) in
+          let among = subst (λ (x : Keeping). AreAmong (heard_of_hand last.0.answers) x.name x.made xs asked) (sym k.2) last.2.2.answers in
+          subst (λ (c : ℕ). IsGiven g.told g.gives keeper.name keeper.made c xs asked (recorded (i + 1) c settled.log.items)) back
+          (subst (λ (x : Keeping). IsGiven g.told g.gives x.name x.made (child - 1 + 1) xs asked (recorded (i + 1) (child - 1 + 1) settled.log.items)) k.2
+          (given i (child - 1) k.0 last.0 xs asked k.1 last.1 among (omega (arith, low, high)) (λ listed. apart (subst (λ (c : ℕ). Contains s.unsettled.items (record { script = script_of n w (i + 1); child = c })) back listed))))
 
   in_record : IsRecord settled
   in_record = left.book (kept.book good)
@@ -233,10 +256,10 @@ module _ {K C : Type 0} (told : ℕ → ℕ → Request → Answer → Type 0) (
   taken : AllTaken (length team.scripts.items) settled.stamp s.logged
   taken = subst (AllTaken (length team.scripts.items) settled.stamp) (sym logged) (subst (λ (k : ℕ). AllTaken k settled.stamp settled.log.items) as_many in_record.taken)
 
-  pub is_work : IsWork told gives named made n w team s
+  pub is_work : IsWork g.told g.gives g.named g.made n w team s
   is_work = record {
     served = record {
-      count = shown.count ∙ kept.count ∙ first_length named made team.keepers.items first are ∙ is.keepers;
+      count = shown.count ∙ kept.count ∙ first_length g.named g.made team.keepers.items first are ∙ is.keepers;
       each = of_one;
     };
     fits = record {

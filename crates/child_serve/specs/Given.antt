@@ -1,5 +1,5 @@
 -- What children put out, as their keepers gave it.
-use Rattle.std.specs.Prelude.{◌≡◌, ◌⊎◌, ◌<◌, ℕ, List, [], ◌∷◌, ◌++◌, map, Option}
+use Rattle.std.specs.Prelude.{◌≡◌, ◌⊎◌, ◌<◌, ℕ, ◌+◌, List, [], ◌∷◌, ◌++◌, map, Option, None, Some, ◌==◌, ◌&&◌, if◌then◌else◌}
 use Rattle.std.specs.List.{concat}
 use Rattle.std.specs.Io.KnownBytes.{Consumes, IsAtEnd}
 use Rattle.std.specs.declared.io.traits.Read.{Ghosts as ReadGhosts}
@@ -12,6 +12,7 @@ use Rattle.expect_core.specs.declared.request.Act.TheVariants.{Spawn}
 use Rattle.expect_core.specs.declared.request.Request.{Request}
 use Rattle.child_keeper.specs.declared.items.Item.{Item}
 use Rattle.child_keeper.specs.declared.keeper.Keeper.{Ghosts}
+use Rattle.child_hands.specs.Handed.{starts, spawn_call}
 use Rattle.child_hands.specs.Pumped.{AllPieces, IsPumpList}
 
 -- pieces of 1 to 4,096 bytes that joined begin these bytes, and then the end, where they are all, or a read failure
@@ -22,17 +23,28 @@ pub record IsOutputOf (bytes : Option (List ℕ)) (said : List What) : Type 0 wh
   pub begins : Consumes bytes rest (concat pieces)
   pub last : ((said ≡ map (λ p. Out p) pieces ++ Eof ∷ []) × IsAtEnd rest) ⊎ ((cause : Cause) × (said ≡ map (λ p. Out p) pieces ++ ReadFail cause ∷ []))
 
+-- The number of the call that first started a child, where a keeper's calls behind n gave these answers to these requests.
+abbrev pub started_by : ℕ → ℕ → List Answer → List Request → Option ℕ
+started_by child n [] qs = None
+started_by child n (a ∷ xs) [] = None
+started_by child n (a ∷ xs) (q ∷ qs) = if (q.child == child) && starts q a then Some (n + 1) else started_by child (n + 1) xs qs
+
 module _ (told : ℕ → ℕ → Request → Answer → Type 0) (gives : ℕ → ℕ → Option (List ℕ) → Type 0) where
   -- the keeper of this name gave these bytes in a call behind the first `made`, which it told to be the start of this child
   abbrev pub StartsWith : ℕ → ℕ → ℕ → Option (List ℕ) → Type 0
   StartsWith name made child bytes =
       (call : ℕ) × (words : List (List ℕ)) × (made < call) × ∥ told name call (record { child = child; act = Spawn words }) Ok ∥₁ × gives name call bytes
 
-  -- What is said of a child: nothing, or the output of the bytes that its keeper gave when it started the child.
-  abbrev pub IsGiven : ℕ → ℕ → ℕ → List What → Type 0
-  IsGiven name made child said = (said ≡ []) ⊎ ((bytes : Option (List ℕ)) × StartsWith name made child bytes × IsOutputOf bytes said)
+  -- What is said of a child whose script's requests have these answers. Where one of them started it: the output of the bytes that its keeper gave in the
+  -- call of that answer. In any case nothing, or the output of the bytes that its keeper gave when it started the child.
+  pub record IsGiven (name made child : ℕ) (answers : List Answer) (requests : List Request) (said : List What) : Type 0 where
+    pub started : (call : ℕ) → started_by child made answers requests ≡ Some call → (bytes : Option (List ℕ)) × gives name call bytes × IsOutputOf bytes said
+    pub any : (said ≡ []) ⊎ ((bytes : Option (List ℕ)) × StartsWith name made child bytes × IsOutputOf bytes said)
 
 module _ {K O : Type 0} {g : Ghosts K O} {r : ReadGhosts O} where
-  -- these items say that, as items of a script's child
-  abbrev pub IsPut : ℕ → ℕ → ℕ → ℕ → List (Item K O g r) → Type 0
-  IsPut script name made child items = (items ≡ []) ⊎ ((bytes : Option (List ℕ)) × StartsWith g.told g.gives name made child bytes × IsPumpList script child bytes items)
+  -- What was put of a child whose hand put these answers: nothing where none of them started it, else the bytes that its keeper gave in the call that
+  -- first did.
+  abbrev pub IsPut : ℕ → ℕ → ℕ → List (Item K O g r) → List (Item K O g r) → Type 0
+  IsPut script name child put items =
+      ((spawn_call child put ≡ None) × (items ≡ []))
+      ⊎ ((call : ℕ) × (bytes : Option (List ℕ)) × (spawn_call child put ≡ Some call) × g.gives name call bytes × IsPumpList script child bytes items)

@@ -1,7 +1,9 @@
 -- Hands that were started, and the ends of their rings.
-use Rattle.std.specs.Prelude.{◌≡◌, ◌≢◌, ◌<◌, ◌≤◌, ℕ, ◌+◌, List, [], length, slice_get, Some, IfSome, Contains}
+use Rattle.std.specs.Prelude.{◌≡◌, ◌≢◌, ◌<◌, ◌≤◌, ℕ, ◌+◌, List, [], length, slice_get, Option, Some, IfSome, Contains}
 use Rattle.std.specs.declared.io.traits.Read.{Ghosts as ReadGhosts}
 use Rattle.std.specs.declared.thread.PromisedHandle.{PromisedHandle}
+use Rattle.expect_core.specs.declared.request.Request.{Request}
+use Rattle.child_hands.specs.Handed.{AreAnswers}
 use Rattle.child_keeper.specs.declared.items.Item.{Item}
 use Rattle.child_keeper.specs.declared.keeper.Keeper.{Ghosts}
 use Rattle.feed_rings.specs.Ends.{put_items, taken_items, all_put, IsPair, IsFinishedOf}
@@ -13,8 +15,8 @@ use Rattle.child_hands.specs.declared.work.HandEnd.{HandEnd}
 use Rattle.child_hands.specs.declared.work.Work.{Work}
 use Rattle.child_hands.specs.declared.work.Work.TheVariants.{Free, Ended}
 use Rattle.child_desk.specs.declared.ends.Ends.{Ends}
-use Rattle.child_desk.specs.declared.readers.Readers.{Readers}
 use Rattle.child_desk.specs.Heard.{TakenIn}
+use Rattle.child_desk.specs.Line.{IsFrontIn}
 use Rattle.child_serve.specs.declared.served.Unsettled.{Unsettled}
 use Rattle.child_serve.specs.Joined.{script_of}
 use Rattle.child_serve.specs.Given.{IsPut}
@@ -44,25 +46,27 @@ module _ {K O : Type 0} {g : Ghosts K O} {r : ReadGhosts O} where
     pub paired : ArePaired works outs
     pub untaken : AreUntaken outs
 
-  -- a hand was started with nothing in its own rings and none of its children started, and these are the other ends of the children's rings
-  pub record IsLinked (hand : PromisedHandle (HandEnd K O g r) (Obeys K O g r)) (readers : Readers K O g r) : Type 0 where
+  -- a hand was started with nothing in its own rings and none of its children started, and these are the other ends of the rings from it and its children
+  pub record IsLinked (hand : PromisedHandle (HandEnd K O g r) (Obeys K O g r)) (e : Ends K O g r) : Type 0 where
     pub asks : taken_items hand.promise.asks.value ≡ []
     pub answers : put_items hand.promise.answers.value ≡ []
+    pub answering : IsPair hand.promise.answers.value e.answers
     pub count : length hand.promise.works.value.items ≡ 16
     pub unused : AreUnused hand.promise.works.value.items
-    pub paired : ArePaired hand.promise.works.value.items readers.outs.items
+    pub paired : ArePaired hand.promise.works.value.items e.readers.outs.items
 
   -- those of each hand, at a desk
   abbrev pub AreLinked : List (PromisedHandle (HandEnd K O g r) (Obeys K O g r)) → List (Ends K O g r) → Type 0
-  AreLinked hands ends = (at : ℕ) (hand : PromisedHandle (HandEnd K O g r) (Obeys K O g r)) → slice_get hands at ≡ Some hand → (e : Ends K O g r) × (slice_get ends at ≡ Some e) × IsLinked hand e.readers
+  AreLinked hands ends = (at : ℕ) (hand : PromisedHandle (HandEnd K O g r) (Obeys K O g r)) → slice_get hands at ≡ Some hand → (e : Ends K O g r) × (slice_get ends at ≡ Some e) × IsLinked hand e
 
   -- a hand was started for a script and its keeper, and nothing has come through its rings
   pub record IsOpened (script : ℕ) (keeper : K) (e : Ends K O g r) (hand : PromisedHandle (HandEnd K O g r) (Obeys K O g r)) : Type 0 where
     pub puts : hand.promise.script ≡ script
     pub hears : e.readers.script ≡ script
     pub kept : hand.promise.keeper.value ≡ keeper
-    pub linked : IsLinked hand e.readers
+    pub linked : IsLinked hand e
     pub outs : length e.readers.outs.items ≡ 16
+    pub unheard : taken_items e.answers ≡ []
     pub untaken : AreUntaken e.readers.outs.items
 
   -- those of the first scripts of a worker, as many as there are hands
@@ -109,10 +113,25 @@ module _ {K O : Type 0} {g : Ghosts K O} {r : ReadGhosts O} where
   abbrev pub SameElsewhere : ℕ → List (Ends K O g r) → List (Ends K O g r) → Type 0
   SameElsewhere at ends ends' = (i : ℕ) → i ≢ at → slice_get ends' i ≡ slice_get ends i
 
+  -- what was taken at a desk from the ring of a hand that finished it begins all that was ever put there
+  abbrev pub IsClosedIn : ℕ → Option (Finished (Item K O g r)) → List (Ends K O g r) → Type 0
+  IsClosedIn at answers ends = (f : Finished (Item K O g r)) × (answers ≡ Some f) × IsFrontIn at (all_put f) ends
+
+  -- where a child isn't listed, that is so
+  abbrev pub AreClosedIn : ℕ → ℕ → Option (Finished (Item K O g r)) → ℕ → List (Ends K O g r) → List Unsettled → Type 0
+  AreClosedIn at script answers count ends unsettled = (index : ℕ) → index < count → (Contains unsettled (record { script = script; child = index + 1 }) → ⊥) → IsClosedIn at answers ends
+
+  -- these are all answers that a hand put, of which a desk took the first
+  pub record IsAnswered (at : ℕ) (hand : PromisedHandle (HandEnd K O g r) (Obeys K O g r)) (ends : List (Ends K O g r)) : Type 0 where
+    pub put : List (Item K O g r)
+    pub requests : List Request
+    pub answers : AreAnswers hand.promise.script (g.named hand.promise.keeper.value) (g.made hand.promise.keeper.value) requests put
+    pub front : IsFrontIn at put ends
+
   -- Of each child of a hand's script that isn't listed, what was taken at a desk is what its keeper gave, if anything.
   abbrev pub IsSettled : ℕ → ℕ → PromisedHandle (HandEnd K O g r) (Obeys K O g r) → List (Ends K O g r) → List Unsettled → Type 0
   IsSettled script at hand ends unsettled = (index : ℕ) → index < 16 → (Contains unsettled (record { script = script; child = index + 1 }) → ⊥) →
-      (items : List (Item K O g r)) × IsPut hand.promise.script (g.named hand.promise.keeper.value) (g.made hand.promise.keeper.value) (index + 1) items × TakenIn at index items ends
+      (a : IsAnswered at hand ends) × (items : List (Item K O g r)) × IsPut hand.promise.script (g.named hand.promise.keeper.value) (index + 1) a.put items × TakenIn at index items ends
 
   -- of each hand of a worker
   abbrev pub AreSettled : ℕ → ℕ → List (PromisedHandle (HandEnd K O g r) (Obeys K O g r)) → List (Ends K O g r) → List Unsettled → Type 0

@@ -26,7 +26,7 @@ module _ (told : ℕ → ℕ → Request → Answer → Type 0) (gives : ℕ →
   pub record IsServed (number : ℕ) (keeper : Keeping) (script : Script) (report : Report) (unsettled : List Unsettled) (es : List Event) : Type 0 where
     pub ended : ((report ≡ meaning script.source script.settings es) × (report.ending ≢ Waiting)) ⊎ (report.ending ≡ Memory)
     pub answers : AreTold told keeper.name keeper.made (answers_in es) (meaning script.source script.settings es).requests
-    pub given : (child : ℕ) → 1 ≤ child → child ≤ 16 → (Contains unsettled (record { script = number; child = child }) → ⊥) → IsGiven told gives keeper.name keeper.made child (said_by child es)
+    pub given : (child : ℕ) → 1 ≤ child → child ≤ 16 → (Contains unsettled (record { script = number; child = child }) → ⊥) → IsGiven told gives keeper.name keeper.made child (answers_in es) (meaning script.source script.settings es).requests (said_by child es)
 
   -- of several scripts, whose numbers a function gives, from their places
   pub record AreServed (number : ℕ → ℕ) (keepers : List Keeping) (scripts : List Script) (s : Served) : Type 0 where

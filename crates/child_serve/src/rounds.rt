@@ -1,7 +1,7 @@
 //! Turning a desk until nothing more can come.
 
 ghost use Rattle.std.specs.Prelude.{◌≡◌, ◌≤◌, length, OnOk};
-ghost use Rattle.child_desk.specs.Line.{KeepsAll, AllOver};
+ghost use Rattle.child_desk.specs.Line.{KeepsAll, HearsNoHand, AllOver};
 ghost use Rattle.child_desk.specs.Heard.{HearsAll};
 
 use child_desk::Desk;
@@ -25,7 +25,7 @@ pub fn turn_all<K: Keeper, C: Clock, W: Wait + std::time::Clock>(
     clock: &mut C,
 ) -> Result<(), AllocError>
     requires { (length desk.old.lines.items ≤ length desk.old.book.hall) × (length desk.old.book.hall ≤ 64) }
-    ensures kept { KeepsAll K.told desk.old.lines.items desk.old.book desk.new.lines.items desk.new.book }
+    ensures kept { KeepsAll desk.old.lines.items desk.old.ends.items desk.old.book desk.new.lines.items desk.new.ends.items desk.new.book }
     ensures over { OnOk result (AllOver desk.new.lines.items) }
     ensures heard { HearsAll desk.old.ends.items desk.old.book.log.items desk.new.ends.items desk.new.book.log.items }
 {
@@ -50,6 +50,7 @@ pub fn turn_all<K: Keeper, C: Clock, W: Wait + std::time::Clock>(
 fn rest<K: Keeper, W: Wait + std::time::Clock>(rt: &W, bell: &Bell, desk: &mut Desk<K>)
     ensures same { (desk.new.lines.items ≡ desk.old.lines.items) × (desk.new.book ≡ desk.old.book) }
     ensures heard { HearsAll desk.old.ends.items desk.old.book.log.items desk.new.ends.items desk.new.book.log.items }
+    ensures hands { HearsNoHand desk.old.ends.items desk.new.ends.items }
 {
     Backoff::new().spin();
     if !desk.has_come() {

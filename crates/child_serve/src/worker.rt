@@ -1,11 +1,11 @@
 //! A worker: scripts at one desk, to their end.
 
-ghost use Rattle.std.specs.Prelude.{◌≡◌, ◌<◌, ◌≤◌, ◌+◌, [], length, IfOk, IfSome, OnOk, None};
+ghost use Rattle.std.specs.Prelude.{◌≡◌, ◌<◌, ◌≤◌, ◌+◌, [], length, IsTrue, Contains, IfOk, IfSome, OnOk, None};
 ghost use Rattle.dialogue_sched.specs.Hall.{AllBegin, opening_fault};
-ghost use Rattle.child_desk.specs.Line.{Leaves};
+ghost use Rattle.child_desk.specs.Line.{Leaves, HearsNoHand, IsEndOf};
 ghost use Rattle.child_desk.specs.Heard.{HearsAll, Settles};
 ghost use Rattle.child_serve.specs.Joined.{script_of};
-ghost use Rattle.child_serve.specs.Opened.{AreNumbers, AreOpened, AreLinked, IsLeftIn, AreLeftIn, IsFinishOf, IsTakenIn, AreTakenIn, SameElsewhere, AreSettled, KeepsListed};
+ghost use Rattle.child_serve.specs.Opened.{AreNumbers, AreOpened, AreLinked, IsLeftIn, AreLeftIn, IsFinishOf, IsTakenIn, AreTakenIn, IsClosedIn, AreClosedIn, SameElsewhere, AreSettled, KeepsListed};
 ghost use Rattle.child_serve.specs.Teams.{IsTeam, IsWork, AreFirst, AllShown};
 
 use crate::hands::{Hand, start};
@@ -79,13 +79,7 @@ fn lines_of<K: Keeper>(alloc: Global, keepers: &[K]) -> Result<Vec<Line>, AllocE
 {
     let mut lines = Vec::new(alloc);
     for keeper in keepers {
-        let line = Line {
-            name: keeper.name(),
-            last: keeper.calls(),
-            awaited: None,
-            over: false,
-        };
-        lines.push(line)?;
+        lines.push(Line::new(keeper.name(), keeper.calls()))?;
     }
     Ok(lines)
 }
@@ -173,29 +167,61 @@ fn finished_of<K: Keeper>(work: Work<K>) -> Option<Finished<Item<K>>>
     }
 }
 
-/// Takes what is left of the child at a place. Where that can't be had, the child isn't settled.
+/// Looks a last time at what the hand of the script at a place answered. False where that can't be had.
+fn close<K: Keeper>(desk: &mut Desk<K>, at: usize, answers: Option<Finished<Item<K>>>) -> bool
+    requires { IfSome answers (λ f. IsEndOf at f desk.old.ends.items) }
+    ensures lines { desk.new.lines.items ≡ desk.old.lines.items }
+    ensures book { desk.new.book ≡ desk.old.book }
+    ensures heard { HearsAll desk.old.ends.items desk.old.book.log.items desk.new.ends.items desk.new.book.log.items }
+    ensures hands { HearsNoHand desk.old.ends.items desk.new.ends.items }
+    ensures others { SameElsewhere at desk.old.ends.items desk.new.ends.items }
+    ensures closed { IsTrue result → IsClosedIn at answers desk.new.ends.items }
+{
+    let Some(finished) = answers else {
+        return false;
+    };
+    desk.close(at, finished);
+    true
+}
+
+/// Takes what is left of the child at a place. Where that can't be had, or what its hand answered, the child isn't settled.
 fn settle_child<K: Keeper>(
     desk: &mut Desk<K>,
     at: usize,
     script: u8,
     index: u8,
+    closed: bool,
     work: Work<K>,
     settled: &mut Settled,
 ) -> Result<(), AllocError>
     requires place { (at < length desk.old.book.hall) × (at < 64) × (index < 16) }
     requires left { IsLeftIn at index work desk.old.ends.items }
     ensures lines { desk.new.lines.items ≡ desk.old.lines.items }
-    ensures book { Leaves K.told desk.old.book desk.new.book }
+    ensures book { Leaves desk.old.book desk.new.book }
     ensures heard { Settles at index desk.old.ends.items desk.old.book.log.items desk.new.ends.items desk.new.book.log.items }
+    ensures hands { HearsNoHand desk.old.ends.items desk.new.ends.items }
     ensures listed { KeepsListed settled.old.unsettled.items settled.new.unsettled.items }
     ensures taken { OnOk result (IsTakenIn at script index work desk.new.ends.items settled.new.unsettled.items) }
+    ensures closed { OnOk result ((Contains settled.new.unsettled.items (record { script = script; child = index + 1 }) → ⊥) → IsTrue closed) }
 {
-    let Some(finished) = finished_of(work) else {
-        let child = index + 1;
-        settled.unsettled.push(Unsettled { script, child })?;
-        return Ok(());
-    };
-    desk.settle(at, index, finished)
+    if !closed {
+        return list_child(script, index, settled);
+    }
+    match finished_of(work) {
+        Some(finished) => desk.settle(at, index, finished),
+        None => list_child(script, index, settled),
+    }
+}
+
+/// Lists the child at a place, which isn't settled.
+fn list_child(script: u8, index: u8, settled: &mut Settled) -> Result<(), AllocError>
+    requires { index < 16 }
+    ensures kept { KeepsListed settled.old.unsettled.items settled.new.unsettled.items }
+    ensures listed { OnOk result (Contains settled.new.unsettled.items (record { script = script; child = index + 1 })) }
+{
+    let child = index + 1;
+    settled.unsettled.push(Unsettled { script, child })?;
+    Ok(())
 }
 
 /// Takes what is left of the children of the script at a place, whose hand has ended.
@@ -208,17 +234,21 @@ fn settle_script<K: Keeper>(
 ) -> Result<(), AllocError>
     requires place { (at < length desk.old.book.hall) × (at < 64) × (length end.works.items ≤ 16) }
     requires left { AreLeftIn at end.works.items desk.old.ends.items }
+    requires answers { IfSome end.answers (λ f. IsEndOf at f desk.old.ends.items) }
     ensures lines { desk.new.lines.items ≡ desk.old.lines.items }
-    ensures book { Leaves K.told desk.old.book desk.new.book }
+    ensures book { Leaves desk.old.book desk.new.book }
     ensures heard { HearsAll desk.old.ends.items desk.old.book.log.items desk.new.ends.items desk.new.book.log.items }
+    ensures hands { HearsNoHand desk.old.ends.items desk.new.ends.items }
     ensures others { SameElsewhere at desk.old.ends.items desk.new.ends.items }
     ensures listed { KeepsListed settled.old.unsettled.items settled.new.unsettled.items }
     ensures taken { OnOk result (AreTakenIn at script end.works.items desk.new.ends.items settled.new.unsettled.items) }
+    ensures closed { OnOk result (AreClosedIn at script end.answers (length end.works.items) desk.new.ends.items settled.new.unsettled.items) }
 {
     settled.forced = settled.forced.saturating_add(end.forced);
+    let closed = close(desk, at, end.answers);
     let mut index: u8 = 0;
     for work in end.works {
-        settle_child(desk, at, script, index, work, settled)?;
+        settle_child(desk, at, script, index, closed, work, settled)?;
         index += 1;
     }
     Ok(())
@@ -236,8 +266,9 @@ fn settle_all<K: Keeper, W: Threads>(
     requires numbers { AreNumbers place.workers place.worker (length hands.items) }
     requires linked { AreLinked hands.items desk.old.ends.items }
     ensures lines { desk.new.lines.items ≡ desk.old.lines.items }
-    ensures book { Leaves K.told desk.old.book desk.new.book }
+    ensures book { Leaves desk.old.book desk.new.book }
     ensures heard { HearsAll desk.old.ends.items desk.old.book.log.items desk.new.ends.items desk.new.book.log.items }
+    ensures hands { HearsNoHand desk.old.ends.items desk.new.ends.items }
     ensures settled { IfOk result (λ s. AreSettled place.workers place.worker hands.items desk.new.ends.items s.unsettled.items) }
 {
     let mut settled = Settled {
@@ -257,7 +288,7 @@ fn settle_all<K: Keeper, W: Threads>(
 /// What came of each script.
 fn reports_of<K: Keeper>(alloc: Global, desk: &Desk<K>) -> Result<Reports, WorkFault>
     requires { length desk.now.lines.items ≤ 64 }
-    ensures { IfOk result (λ rs. AllShown K.told desk.now.lines.items desk.now.book rs) }
+    ensures { IfOk result (λ rs. AllShown desk.now.lines.items desk.now.book rs) }
 {
     let mut list = Vec::new(alloc);
     for at in 0..desk.lines.len() {

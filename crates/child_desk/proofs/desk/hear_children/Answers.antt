@@ -1,11 +1,12 @@
-use Rattle.std.proofs.Common.{◌+◌}
+use Rattle.std.proofs.Common.{◌+◌, ◌∙◌, refl}
 use Rattle.child_desk.proofs.Kept.{leaves_all, leaves_then}
 use Rattle.child_desk.proofs.Hearing.{hears_same, hears_then, hears_of}
 use Rattle.child_desk.proofs.desk.hear_children.Goals as goal
 
 pub loop-index-init : goal.loop-index-init
 loop-index-init g c = record {
-  kept = leaves_all g.K.Keeper.told c.args.book.now;
+  kept = leaves_all c.args.book.now;
+  answers = refl;
   heard = hears_same (c.args.at + 1) c.args.ends.now.readers c.args.book.now.log.items;
 }
 
@@ -21,7 +22,8 @@ loop-index-preserved g c =
     let now = c.loop-index in
     let new = c.hear_child.new in
     record {
-      kept = leaves_then g.K.Keeper.told c.args.book.now now.book new.book now.invariant.kept c.hear_child.ensures.kept;
+      kept = leaves_then c.args.book.now now.book new.book now.invariant.kept c.hear_child.ensures.kept;
+      answers = c.hear_child.ensures.answers ∙ now.invariant.answers;
       heard =
           hears_then (c.args.at + 1) c.args.ends.now.readers now.ends.readers new.ends.readers c.args.book.now.log.items now.book.log.items new.book.log.items now.invariant.heard
           (hears_of (c.args.at + 1) now.index now.ends.readers new.ends.readers now.book.log.items new.book.log.items c.hear_child.ensures.heard);

@@ -1,4 +1,4 @@
-use Rattle.std.proofs.Common.{◌+◌}
+use Rattle.std.proofs.Common.{◌+◌, ◌∙◌}
 use Rattle.child_desk.proofs.Kept.{leaves_then}
 use Rattle.child_desk.proofs.Hearing.{hears_at_then, left_step}
 use Rattle.child_desk.proofs.desk.settle_child.Goals as goal
@@ -8,7 +8,8 @@ loop-preserved g c =
     let now = c.loop in
     let new = c.hear_left.new in
     record {
-      kept = leaves_then g.K.Keeper.told c.args.book.now now.book new.book now.invariant.kept c.hear_left.ensures.kept;
+      kept = leaves_then c.args.book.now now.book new.book now.invariant.kept c.hear_left.ensures.kept;
+      answers = c.hear_left.ensures.answers ∙ now.invariant.answers;
       heard =
           hears_at_then (c.args.at + 1) c.args.index c.args.ends.now.readers now.ends.readers new.ends.readers c.args.book.now.log.items now.book.log.items new.book.log.items
           now.invariant.heard c.hear_left.ensures.heard;

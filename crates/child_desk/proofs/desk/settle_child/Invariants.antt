@@ -7,7 +7,8 @@ use Rattle.child_desk.proofs.desk.settle_child.Given as goal
 
 abbrev pub invariant-loop : goal.invariant-loop
 invariant-loop g l = record {
-  kept : Leaves g.K.Keeper.told l.fn.book l.book;
+  kept : Leaves l.fn.book l.book;
+  answers : l.ends.answers ≡ l.fn.ends.answers;
   heard : HearsAt (l.at + 1) l.index l.fn.ends.readers l.fn.book.log.items l.ends.readers l.book.log.items;
   left : AreLeft l.index l.counter l.count l.finished l.ends.readers;
   put : all_put l.finished ≡ all_put l.fn.finished;

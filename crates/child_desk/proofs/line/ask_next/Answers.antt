@@ -9,6 +9,6 @@ none_from None h = refl
 none_from (Some r) h = absurd (cc)
 
 pub returns-clause-kept : goal.returns-clause-kept
-returns-clause-kept g c =
-    keeps_asked g.K.Keeper.told c.args.at c.args.line.now c.request.result c.args.book.now _ c.requires.0
+returns-clause-kept c = λ ts.
+    keeps_asked ts c.args.at c.args.line.now c.request.result c.args.book.now _ c.requires.0
     (none_from c.args.line.now.awaited (sym (c.if-is_some.ensures))) c.request.ensures refl refl

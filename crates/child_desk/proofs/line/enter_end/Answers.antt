@@ -4,6 +4,6 @@ use Rattle.child_desk.proofs.Kept.{keeps_ended}
 use Rattle.child_desk.proofs.line.enter_end.Goals as goal
 
 pub returns : goal.returns
-returns g c =
-    keeps_ended g.K.Keeper.told c.args.at c.args.line.now c.args.book.now c.ending.result c.ending.ensures
+returns c = λ ts.
+    keeps_ended ts c.args.at c.args.line.now c.args.book.now c.ending.result c.ending.ensures
     (subst (λ (b : Bool). Goes c.ending.result b) c.if-goes_on.false c.goes_on.ensures)

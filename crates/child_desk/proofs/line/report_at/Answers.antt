@@ -2,4 +2,4 @@ use Rattle.child_desk.proofs.Lining.{reported_means}
 use Rattle.child_desk.proofs.line.report_at.Goals as goal
 
 pub returns : goal.returns
-returns g c = reported_means g.K.Keeper.told c.args.at c.args.book.now c.report.result c.report.ensures
+returns c = reported_means c.args.at c.args.book.now c.report.result c.report.ensures

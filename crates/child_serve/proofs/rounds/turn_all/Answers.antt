@@ -1,18 +1,17 @@
 use Rattle.std.proofs.Common.{◌∙◌}
 use Rattle.child_desk.proofs.Hearing.{all_then as hears_then}
-use Rattle.child_desk.proofs.Kept.{all_then}
+use Rattle.child_desk.proofs.Kept.{all_then, no_hand_then}
 use Rattle.child_serve.proofs.Rounding.{kept_same}
 use Rattle.child_serve.proofs.rounds.turn_all.Goals as goal
 
 pub returns-in_err-turn-2-clause-kept : goal.returns-in_err-turn-2-clause-kept
 returns-in_err-turn-2-clause-kept g c =
-    let told = g.K.Keeper.told in
     let was = c.args.desk.now in
     let now = c.loop.desk in
     let desk = c.has_come.new.self in
     let left = c.turn-then-is_due.new.self in
-    all_then told was.lines.items desk.lines.items left.lines.items was.book desk.book left.book
-    (kept_same told was.lines.items now.lines.items desk.lines.items was.book now.book desk.book c.loop.invariant.kept c.has_come.ensures.lines c.has_come.ensures.book) c.turn-then-is_due.ensures.kept
+    all_then was.lines.items desk.lines.items left.lines.items was.ends.items desk.ends.items left.ends.items was.book desk.book left.book
+    (kept_same was.lines.items now.lines.items desk.lines.items was.ends.items now.ends.items desk.ends.items was.book now.book desk.book c.loop.invariant.kept c.has_come.ensures.lines c.has_come.ensures.hands c.has_come.ensures.book) c.turn-then-is_due.ensures.kept
 
 pub returns-in_err-turn-2-clause-heard : goal.returns-in_err-turn-2-clause-heard
 returns-in_err-turn-2-clause-heard g c =
@@ -25,14 +24,13 @@ returns-in_err-turn-2-clause-heard g c =
 
 pub loop-preserved-in_ok-turn-2 : goal.loop-preserved-in_ok-turn-2
 loop-preserved-in_ok-turn-2 g c =
-    let told = g.K.Keeper.told in
     let was = c.args.desk.now in
     let now = c.loop.desk in
     let desk = c.has_come.new.self in
     let left = c.turn-then-is_due.new.self in
     record {
-      kept = all_then told was.lines.items desk.lines.items left.lines.items was.book desk.book left.book
-          (kept_same told was.lines.items now.lines.items desk.lines.items was.book now.book desk.book c.loop.invariant.kept c.has_come.ensures.lines c.has_come.ensures.book) c.turn-then-is_due.ensures.kept;
+      kept = all_then was.lines.items desk.lines.items left.lines.items was.ends.items desk.ends.items left.ends.items was.book desk.book left.book
+          (kept_same was.lines.items now.lines.items desk.lines.items was.ends.items now.ends.items desk.ends.items was.book now.book desk.book c.loop.invariant.kept c.has_come.ensures.lines c.has_come.ensures.hands c.has_come.ensures.book) c.turn-then-is_due.ensures.kept;
       heard = hears_then was.ends.items desk.ends.items left.ends.items was.book.log.items desk.book.log.items left.book.log.items
           (hears_then was.ends.items now.ends.items desk.ends.items was.book.log.items now.book.log.items desk.book.log.items c.loop.invariant.heard c.has_come.ensures.heard) c.turn-then-is_due.ensures.heard;
     }
@@ -44,7 +42,8 @@ loop-preserved-then-not-is_due g c =
     let desk = c.has_come.new.self in
     let left = c.rest.new.desk in
     record {
-      kept = kept_same g.K.Keeper.told was.lines.items now.lines.items left.lines.items was.book now.book left.book c.loop.invariant.kept (c.rest.ensures.same.0 ∙ c.has_come.ensures.lines) (c.rest.ensures.same.1 ∙ c.has_come.ensures.book);
+      kept = kept_same was.lines.items now.lines.items left.lines.items was.ends.items now.ends.items left.ends.items was.book now.book left.book c.loop.invariant.kept (c.rest.ensures.same.0 ∙ c.has_come.ensures.lines)
+          (no_hand_then now.ends.items desk.ends.items left.ends.items c.has_come.ensures.hands c.rest.ensures.hands) (c.rest.ensures.same.1 ∙ c.has_come.ensures.book);
       heard = hears_then was.ends.items desk.ends.items left.ends.items was.book.log.items desk.book.log.items left.book.log.items
           (hears_then was.ends.items now.ends.items desk.ends.items was.book.log.items now.book.log.items desk.book.log.items c.loop.invariant.heard c.has_come.ensures.heard) c.rest.ensures.heard;
     }
@@ -55,6 +54,6 @@ loop-preserved g c =
     let now = c.loop.desk in
     let desk = c.has_come.new.self in
     record {
-      kept = kept_same g.K.Keeper.told was.lines.items now.lines.items desk.lines.items was.book now.book desk.book c.loop.invariant.kept c.has_come.ensures.lines c.has_come.ensures.book;
+      kept = kept_same was.lines.items now.lines.items desk.lines.items was.ends.items now.ends.items desk.ends.items was.book now.book desk.book c.loop.invariant.kept c.has_come.ensures.lines c.has_come.ensures.hands c.has_come.ensures.book;
       heard = hears_then was.ends.items now.ends.items desk.ends.items was.book.log.items now.book.log.items desk.book.log.items c.loop.invariant.heard c.has_come.ensures.heard;
     }

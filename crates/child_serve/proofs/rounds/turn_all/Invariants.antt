@@ -4,6 +4,6 @@ use Rattle.child_serve.proofs.rounds.turn_all.Given as goal
 
 abbrev pub invariant-loop : goal.invariant-loop
 invariant-loop g l = record {
-  kept : KeepsAll g.K.Keeper.told l.fn.desk.lines.items l.fn.desk.book l.desk.lines.items l.desk.book;
+  kept : KeepsAll l.fn.desk.lines.items l.fn.desk.ends.items l.fn.desk.book l.desk.lines.items l.desk.ends.items l.desk.book;
   heard : HearsAll l.fn.desk.ends.items l.fn.desk.book.log.items l.desk.ends.items l.desk.book.log.items;
 }

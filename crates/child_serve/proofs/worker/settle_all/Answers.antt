@@ -1,10 +1,10 @@
 use Rattle.std.proofs.Common.{◌≡◌, ℕ, ◌+◌, length, refl, ap, subst, ◌∙◌, arith}
 use Rattle.child_desk.proofs.Hearing.{all_same, all_then}
-use Rattle.child_desk.proofs.Kept.{leaves_all, leaves_then}
+use Rattle.child_desk.proofs.Kept.{leaves_all, leaves_then, no_hand_same, no_hand_then, rings_of}
 use Rattle.child_serve.specs.Joined.{script_of}
-use Rattle.child_serve.specs.Opened.{AreTakenIn}
+use Rattle.child_serve.specs.Opened.{AreTakenIn, AreClosedIn}
 use Rattle.child_serve.proofs.Opening.{rest_whole, rest_first, rest_next}
-use Rattle.child_serve.proofs.Settling.{linked_still, left_of, settled_of, settled_next, settled_all}
+use Rattle.child_serve.proofs.Settling.{linked_still, left_of, end_of, settled_of, settled_next, settled_all}
 use Rattle.child_serve.proofs.worker.settle_all.Goals as goal
 
 pub loop-hand-init : goal.loop-hand-init
@@ -16,8 +16,9 @@ loop-hand-init g c =
       rest = rest_whole c.args.hands.items c.into_iter-hand-iterator.result.rest.items all;
       count = omega (arith, size);
       lines = refl;
-      book = leaves_all g.K.Keeper.told was.book;
+      book = leaves_all was.book;
       heard = all_same was.ends.items was.book.log.items;
+      hands = no_hand_same was.ends.items;
       settled = λ at hand lt got. absurd (omega (arith, lt));
     }
 
@@ -41,7 +42,20 @@ settle_script-requires-clause-left g c κs within =
     let hands = c.args.hands.items in
     let mine = rest_first hands c.loop-hand.at c.loop-hand.hand-iterator.rest.items c.next.new.self.rest.items c.in-Some.hand c.loop-hand.invariant.rest c.in-Some.ensures.steps.0 in
     left_of c.loop-hand.at c.in-Some.hand c.join-end.result hands now.ends.items
-    (linked_still hands was.ends.items now.ends.items was.book.log.items now.book.log.items c.loop-hand.invariant.heard c.requires.linked) mine c.join-end.ensures
+    (linked_still hands was.ends.items now.ends.items was.book.log.items now.book.log.items c.loop-hand.invariant.heard (rings_of was.ends.items now.ends.items c.loop-hand.invariant.hands) c.requires.linked) mine c.join-end.ensures
+
+pub settle_script-requires-clause-answers : goal.settle_script-requires-clause-answers
+settle_script-requires-clause-answers g c κs within =
+    let was = c.args.desk.now in
+    let now = c.loop-hand.desk in
+    let hands = c.args.hands.items in
+    let mine = rest_first hands c.loop-hand.at c.loop-hand.hand-iterator.rest.items c.next.new.self.rest.items c.in-Some.hand c.loop-hand.invariant.rest c.in-Some.ensures.steps.0 in
+    end_of c.loop-hand.at c.in-Some.hand c.join-end.result hands now.ends.items
+    (linked_still hands was.ends.items now.ends.items was.book.log.items now.book.log.items c.loop-hand.invariant.heard (rings_of was.ends.items now.ends.items c.loop-hand.invariant.hands) c.requires.linked) mine c.join-end.ensures
+
+pub returns-in_err-settle_script-clause-hands : goal.returns-in_err-settle_script-clause-hands
+returns-in_err-settle_script-clause-hands g c =
+    no_hand_then c.args.desk.now.ends.items c.loop-hand.desk.ends.items c.settle_script.new.desk.ends.items c.loop-hand.invariant.hands c.settle_script.ensures.hands
 
 pub returns-in_err-settle_script-clause-heard : goal.returns-in_err-settle_script-clause-heard
 returns-in_err-settle_script-clause-heard g c =
@@ -68,14 +82,16 @@ loop-hand-preserved g c =
     let listed = c.settle_script.new.settled.unsettled.items in
     let mine = rest_first hands at rest c.next.new.self.rest.items hand c.loop-hand.invariant.rest step in
     let taken = subst (λ (n : ℕ). AreTakenIn at n end.works.items left.ends.items listed) c.number_of-number.ensures c.in_ok-settle_script.ensures.taken in
+    let closed = subst (λ (n : ℕ). AreClosedIn at n end.answers (length end.works.items) left.ends.items listed) c.number_of-number.ensures c.in_ok-settle_script.ensures.closed in
     record {
       rest = rest_next hands at rest c.next.new.self.rest.items hand c.loop-hand.invariant.rest step;
       count = omega (arith, size, less);
       lines = c.settle_script.ensures.lines ∙ c.loop-hand.invariant.lines;
-      book = leaves_then g.K.Keeper.told was.book now.book left.book c.loop-hand.invariant.book c.settle_script.ensures.book;
+      book = leaves_then was.book now.book left.book c.loop-hand.invariant.book c.settle_script.ensures.book;
       heard = all_then was.ends.items now.ends.items left.ends.items was.book.log.items now.book.log.items left.book.log.items c.loop-hand.invariant.heard c.settle_script.ensures.heard;
-      settled = settled_next at workers worker hand hands now.ends.items left.ends.items c.loop-hand.settled.unsettled.items listed mine c.settle_script.ensures.others c.settle_script.ensures.listed
-          (settled_of at (script_of workers worker (at + 1)) hand end hands was.ends.items left.ends.items listed c.requires.linked mine c.join-end.ensures taken) c.loop-hand.invariant.settled;
+      hands = no_hand_then was.ends.items now.ends.items left.ends.items c.loop-hand.invariant.hands c.settle_script.ensures.hands;
+      settled = settled_next at workers worker hand hands now.ends.items left.ends.items c.loop-hand.settled.unsettled.items listed mine c.settle_script.ensures.others c.settle_script.ensures.hands c.settle_script.ensures.listed
+          (settled_of at (script_of workers worker (at + 1)) hand end hands was.ends.items left.ends.items listed c.requires.linked mine c.join-end.ensures taken closed) c.loop-hand.invariant.settled;
     }
 
 pub returns-clause-settled : goal.returns-clause-settled

@@ -4,9 +4,10 @@ use Rattle.child_desk.specs.declared.book.Book.{Book}
 use Rattle.child_desk.specs.declared.line.Line.{Line}
 use Rattle.child_desk.specs.Book.{IsRecord}
 use Rattle.child_desk.proofs.Hearing.{all_then}
+use Rattle.child_desk.proofs.Kept.{all_still}
 use Rattle.child_serve.specs.Opened.{AreOpened}
 use Rattle.child_serve.specs.Teams.{AllShown}
-use Rattle.child_serve.proofs.Settling.{linked_all, linked_still, given_all}
+use Rattle.child_serve.proofs.Settling.{linked_all, linked_still, given_all, unheard_all}
 use Rattle.child_serve.proofs.Working.{begun_length, first_length, line_of, is_work}
 use Rattle.child_serve.proofs.worker.work.Goals as goal
 
@@ -33,7 +34,7 @@ settle_all-requires-clause-linked g c κs within =
     let hands = c.open_all-outcome.new.opened.hands.items in
     let desk = c.new-desk.result in
     let turned = c.turn_all.new.desk in
-    linked_still hands desk.ends.items turned.ends.items desk.book.log.items turned.book.log.items c.turn_all.ensures.heard
+    linked_still hands desk.ends.items turned.ends.items desk.book.log.items turned.book.log.items c.turn_all.ensures.heard c.turn_all.ensures.kept.rings
     (linked_all workers worker keepers desk.ends.items hands (subst (λ es. AreOpened workers worker keepers es hands) (sym c.new-desk.ensures.ends) c.in_default.ensures.opened))
 
 pub returns : goal.returns
@@ -47,17 +48,19 @@ returns g c =
     let settled = c.settle_all.new.desk in
     let hands = c.open_all-outcome.new.opened.hands.items in
     let empty = ap (λ (b : Book). b.log.items) c.new-desk.ensures.book ∙ c.new-book.ensures.log in
-    is_work g.K.Keeper.told g.K.Keeper.gives g.K.Keeper.named g.K.Keeper.made workers worker c.args.team desk.lines.items turned.lines.items begun turned.book settled.book _
+    let are_opened = subst (λ es. AreOpened workers worker keepers es hands) (sym c.new-desk.ensures.ends) c.in_default.ensures.opened in
+    is_work workers worker c.args.team desk.lines.items turned.lines.items desk.ends.items turned.ends.items settled.ends.items begun turned.book settled.book _
     c.requires
     (c.new-desk.ensures.lines ∙ c.in_ok-lines.ensures ∙ ap (map (line_of g.K.Keeper.named g.K.Keeper.made)) c.as_slice.ensures.value)
     (subst (AllBegin c.args.team.scripts.items) (sym (ap (λ (b : Book). b.hall) c.new-desk.ensures.book ∙ c.new-book.ensures.hall)) c.in_ok-hall_of.ensures)
     empty
     (subst IsRecord (sym c.new-desk.ensures.book) c.new-book.ensures.record)
+    (unheard_all workers worker keepers desk.ends.items hands are_opened)
     c.turn_all.ensures.kept
     c.in-Ok.ensures.over
-    c.settle_all.ensures.book
-    (subst (λ (ls : List Line). AllShown g.K.Keeper.told ls settled.book c.in_ok-reports.reports) c.settle_all.ensures.lines c.in_ok-reports.ensures)
+    (all_still turned.lines.items turned.ends.items settled.ends.items turned.book settled.book c.settle_all.ensures.book c.settle_all.ensures.hands)
+    (subst (λ (ls : List Line). AllShown ls settled.book c.in_ok-reports.reports) c.settle_all.ensures.lines c.in_ok-reports.ensures)
     c.into_record.ensures
     (given_all workers worker keepers desk.ends.items settled.ends.items begun.log.items settled.book.log.items hands c.in_ok-settled.settled.unsettled.items empty
-    (subst (λ es. AreOpened workers worker keepers es hands) (sym c.new-desk.ensures.ends) c.in_default.ensures.opened)
+    are_opened
     (all_then desk.ends.items turned.ends.items settled.ends.items begun.log.items turned.book.log.items settled.book.log.items c.turn_all.ensures.heard c.settle_all.ensures.heard) c.in_ok-settled.ensures.settled)

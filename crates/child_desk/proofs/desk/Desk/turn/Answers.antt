@@ -4,8 +4,14 @@ use Rattle.child_desk.proofs.desk.Desk.turn.Goals as goal
 
 pub returns-clause-kept : goal.returns-clause-kept
 returns-clause-kept g c =
-    all_then g.K.Keeper.told c.args.self.now.lines.items c.args.self.now.lines.items c.attend_all.new.lines.items c.args.self.now.book c.tick.new.book c.attend_all.new.book
-    (all_left g.K.Keeper.told c.args.self.now.lines.items c.args.self.now.book c.tick.new.book c.tick.ensures.kept) c.attend_all.ensures.kept
+    let was = c.args.self.now in
+    all_then was.lines.items was.lines.items c.attend_all.new.lines.items was.ends.items was.ends.items c.attend_all.new.ends.items was.book c.tick.new.book c.attend_all.new.book
+    (all_left was.lines.items was.ends.items was.book c.tick.new.book c.tick.ensures.kept) c.attend_all.ensures.kept
+
+pub returns-in_err-tick-clause-kept : goal.returns-in_err-tick-clause-kept
+returns-in_err-tick-clause-kept g c =
+    let was = c.args.self.now in
+    all_left was.lines.items was.ends.items was.book c.tick.new.book c.tick.ensures.kept
 
 pub returns-clause-heard : goal.returns-clause-heard
 returns-clause-heard g c =
