@@ -11,6 +11,7 @@ use Rattle.child_serve.specs.declared.served.Served.{Served}
 use Rattle.child_serve.specs.declared.serving.ServeFault.TheVariants as serve
 use Rattle.child_serve.specs.Whole.{IsServing}
 use Rattle.expect_prog.specs.declared.driving.DriveFault.{DriveFault}
+use Rattle.expect_prog.specs.declared.driving.Output.{Output}
 use Rattle.expect_prog.specs.declared.driving.DriveFault.TheVariants.{Serve, WriteLog, Write, Memory}
 use Rattle.expect_prog.specs.Report.{reports_bytes, all_done}
 use Rattle.expect_prog.specs.Devices.{WasPut}
@@ -60,6 +61,22 @@ module _ (told : ℕ → ℕ → Request → Answer → Type 0) (gives : ℕ →
   Serves (Err WriteLog) = ⊥
   Serves (Err Write) = ⊥
   Serves (Err Memory) = Unit {0}
+
+-- what is to be written of what was served, and whether all ended well
+abbrev pub IsOutput : Bool → Served → Result Output DriveFault → Type 0
+IsOutput vars served (Ok o) = LogText o.record served.logged × (o.reports ≡ reports_bytes vars 1 served.reports) × (o.well ≡ all_done served.reports)
+IsOutput vars served (Err (Serve f)) = ⊥
+IsOutput vars served (Err WriteLog) = ⊥
+IsOutput vars served (Err Write) = ⊥
+IsOutput vars served (Err Memory) = Unit {0}
+
+-- what is answered where that was written, or a front of it
+abbrev pub Puts : Output → Option (List ℕ) → Option (List ℕ) → Option (List ℕ) → Option (List ℕ) → Result Bool DriveFault → Type 0
+Puts o log log' out out' (Ok well) = (well ≡ o.well) × Appends log log' o.record × Appends out out' o.reports
+Puts o log log' out out' (Err (Serve f)) = ⊥
+Puts o log log' out out' (Err WriteLog) = WasPut log log' o.record
+Puts o log log' out out' (Err Write) = Appends log log' o.record × WasPut out out' o.reports
+Puts o log log' out out' (Err Memory) = ⊥
 
 -- a fault before the first byte is written
 abbrev pub IsBefore : DriveFault → Type 0

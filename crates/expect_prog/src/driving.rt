@@ -1,9 +1,10 @@
 //! Scripts over children, whose record and reports go to any two writers.
 
 ghost use Rattle.std.specs.Prelude.{◌≡◌, ◌<◌, ◌≤◌, length, map, IfErr, Err};
+ghost use Rattle.child_events.specs.Log.{AllFit};
 ghost use Rattle.child_serve.specs.Whole.{keeping_of};
 ghost use Rattle.expect_prog.specs.Devices.{GaveUp};
-ghost use Rattle.expect_prog.specs.Drive.{Drives, Serves, IsBefore};
+ghost use Rattle.expect_prog.specs.Drive.{Drives, Serves, IsOutput, Puts, IsBefore};
 
 use crate::devices::write_all;
 use crate::texts::{all_done, report_text};
@@ -15,6 +16,7 @@ use std::alloc::{AllocError, Global};
 use std::io::Write;
 use std::sync::Wait;
 use std::thread::Threads;
+use tcl_words::Text;
 
 /// Why not all of a run was written.
 #[derive(Clone, Copy, Debug, PartialEq, Eq)]
@@ -66,6 +68,53 @@ fn served_by<
     }
 }
 
+/// What a run writes, and whether each of its scripts ended with status 0.
+#[derive(Drop)]
+struct Output {
+    record: Text,
+    reports: Text,
+    well: bool,
+}
+
+/// The log text of the record of what was served and the text of its reports, with their variables or without.
+fn output_of(alloc: Global, vars: bool, served: &Served) -> Result<Output, DriveFault>
+    requires { AllFit served.now.logged }
+    ensures { IsOutput vars served.now result }
+{
+    let record = write_log(alloc, served.logged.as_slice())?;
+    let reports = report_text(alloc, vars, served.reports.as_slice())?;
+    let well = all_done(served.reports.as_slice());
+    Ok(Output {
+        record,
+        reports,
+        well,
+    })
+}
+
+/// Writes the record, and then the reports.
+fn write_both<L: Write, O: Write>(
+    output: &Output,
+    log: &mut Counted<L>,
+    out: &mut Counted<O>,
+) -> Result<bool, DriveFault>
+    requires log_failures { log.old.failures ≡ 0 }
+    requires log_calls { log.old.calls ≡ 0 }
+    requires out_failures { out.old.failures ≡ 0 }
+    requires out_calls { out.old.calls ≡ 0 }
+    ensures answers { Puts output.now (L.contents log.old.device) (L.contents log.new.device) (O.contents out.old.device) (O.contents out.new.device) result }
+    ensures reports { result ≡ Err DriveFault.WriteLog → out.new ≡ out.old }
+    ensures log { result ≡ Err DriveFault.WriteLog → GaveUp log.new.failures log.new.calls }
+    ensures out { result ≡ Err DriveFault.Write → GaveUp out.new.failures out.new.calls }
+{
+    match write_all(log, output.record.as_slice()) {
+        Ok(()) => match write_all(out, output.reports.as_slice()) {
+            Ok(()) => Ok(output.well),
+            Err(_) => Err(DriveFault::Write),
+        },
+        Err(_) => Err(DriveFault::WriteLog),
+    }
+}
+
 /// Serves scripts, each with its keeper, by as many workers as there are clocks. Writes the record's log text to `log` and then the reports to
 /// `out`, with their variables or without. The answer says whether each script ended with status 0.
 ///
@@ -103,13 +152,6 @@ pub fn drive<
     ensures out { result ≡ Err DriveFault.Write → GaveUp out.new.failures out.new.calls }
 {
     let served = served_by(rt, alloc, scripts, keepers, clocks, gate)?;
-    let record = write_log(alloc, served.logged.as_slice())?;
-    let text = report_text(alloc, vars, served.reports.as_slice())?;
-    match write_all(log, record.as_slice()) {
-        Ok(()) => match write_all(out, text.as_slice()) {
-            Ok(()) => Ok(all_done(served.reports.as_slice())),
-            Err(_) => Err(DriveFault::Write),
-        },
-        Err(_) => Err(DriveFault::WriteLog),
-    }
+    let output = output_of(alloc, vars, &served)?;
+    write_both(&output, log, out)
 }
