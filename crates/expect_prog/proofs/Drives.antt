@@ -10,33 +10,28 @@ use Rattle.child_serve.specs.Whole.{IsServing}
 use Rattle.expect_prog.specs.declared.driving.DriveFault.{DriveFault}
 use Rattle.expect_prog.specs.declared.driving.DriveFault.TheVariants.{Serve, WriteLog, Write, Memory}
 use Rattle.expect_prog.specs.declared.driving.Output.{Output}
+use Rattle.child_events.specs.Log.{LogText}
 use Rattle.expect_prog.specs.Devices.{WasPut}
-use Rattle.expect_prog.specs.Drive.{Drives, IsOutput, Puts, IsBefore}
+use Rattle.expect_prog.specs.Report.{reports_bytes, all_done}
+use Rattle.expect_prog.specs.Drive.{Drives, Puts}
 
 pub drives_of : (told : ℕ → ℕ → Request → Answer → Type 0) (gives : ℕ → ℕ → Option (List ℕ) → Type 0) (workers : ℕ) (keepers : List Keeping) (scripts : List Script) (vars : Bool) (served : Served) (o : Output) (log log' out out' : Option (List ℕ)) (result : Result Bool DriveFault) →
-    IsServing told gives workers keepers scripts (Ok served) → IsOutput vars served (Ok o) → Puts o log log' out out' result → Drives told gives workers keepers scripts vars log log' out out' result
-drives_of told gives workers keepers scripts vars served o log log' out out' (Ok well) s is (done, logged, written) = record {
+    IsServing told gives workers keepers scripts (Ok served) → LogText o.record served.logged → o.reports ≡ reports_bytes vars 1 served.reports → o.well ≡ all_done served.reports → Puts o log log' out out' result → Drives told gives workers keepers scripts vars log log' out out' result
+drives_of told gives workers keepers scripts vars served o log log' out out' (Ok well) s record_is reports_are well_is (done, logged, written) = record {
   served = served;
   text = o.record;
-  was = record { serves = s; log = is.0 };
+  was = record { serves = s; log = record_is };
   logged = logged;
-  written = subst (λ (t : List ℕ). Appends out out' t) is.1 written;
-  done = done ∙ is.2;
+  written = subst (λ (t : List ℕ). Appends out out' t) reports_are written;
+  done = done ∙ well_is;
 }
-drives_of told gives workers keepers scripts vars served o log log' out out' (Err (Serve f)) s is put = absurd put
-drives_of told gives workers keepers scripts vars served o log log' out out' (Err WriteLog) s is put = record { served = served; text = o.record; was = record { serves = s; log = is.0 }; logged = put }
-drives_of told gives workers keepers scripts vars served o log log' out out' (Err Write) s is (logged, front) = record {
+drives_of told gives workers keepers scripts vars served o log log' out out' (Err (Serve f)) s record_is reports_are well_is put = absurd put
+drives_of told gives workers keepers scripts vars served o log log' out out' (Err WriteLog) s record_is reports_are well_is put = record { served = served; text = o.record; was = record { serves = s; log = record_is }; logged = put }
+drives_of told gives workers keepers scripts vars served o log log' out out' (Err Write) s record_is reports_are well_is (logged, front) = record {
   served = served;
   text = o.record;
-  was = record { serves = s; log = is.0 };
+  was = record { serves = s; log = record_is };
   logged = logged;
-  written = subst (λ (t : List ℕ). WasPut out out' t) is.1 front;
+  written = subst (λ (t : List ℕ). WasPut out out' t) reports_are front;
 }
-drives_of told gives workers keepers scripts vars served o log log' out out' (Err Memory) s is put = absurd put
-
--- where something was to be written, no fault came before
-pub none_before : (o : Output) (log log' out out' : Option (List ℕ)) (result : Result Bool DriveFault) (fault : DriveFault) → result ≡ Err fault → Puts o log log' out out' result → IsBefore fault → ⊥
-none_before o log log' out out' result (Serve f) is put before = subst (Puts o log log' out out') is put
-none_before o log log' out out' result WriteLog is put before = before
-none_before o log log' out out' result Write is put before = before
-none_before o log log' out out' result Memory is put before = subst (Puts o log log' out out') is put
+drives_of told gives workers keepers scripts vars served o log log' out out' (Err Memory) s record_is reports_are well_is put = absurd put

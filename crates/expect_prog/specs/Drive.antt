@@ -62,15 +62,7 @@ module _ (told : ℕ → ℕ → Request → Answer → Type 0) (gives : ℕ →
   Serves (Err Write) = ⊥
   Serves (Err Memory) = Unit {0}
 
--- what is to be written of what was served, and whether all ended well
-abbrev pub IsOutput : Bool → Served → Result Output DriveFault → Type 0
-IsOutput vars served (Ok o) = LogText o.record served.logged × (o.reports ≡ reports_bytes vars 1 served.reports) × (o.well ≡ all_done served.reports)
-IsOutput vars served (Err (Serve f)) = ⊥
-IsOutput vars served (Err WriteLog) = ⊥
-IsOutput vars served (Err Write) = ⊥
-IsOutput vars served (Err Memory) = Unit {0}
-
--- what is answered where that was written, or a front of it
+-- what is answered where an output was written, or a front of it
 abbrev pub Puts : Output → Option (List ℕ) → Option (List ℕ) → Option (List ℕ) → Option (List ℕ) → Result Bool DriveFault → Type 0
 Puts o log log' out out' (Ok well) = (well ≡ o.well) × Appends log log' o.record × Appends out out' o.reports
 Puts o log log' out out' (Err (Serve f)) = ⊥

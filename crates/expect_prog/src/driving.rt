@@ -1,10 +1,11 @@
 //! Scripts over children, whose record and reports go to any two writers.
 
-ghost use Rattle.std.specs.Prelude.{◌≡◌, ◌<◌, ◌≤◌, length, map, IfErr, Err};
-ghost use Rattle.child_events.specs.Log.{AllFit};
+ghost use Rattle.std.specs.Prelude.{◌≡◌, ◌<◌, ◌≤◌, length, map, IfOk, IfErr, Err};
+ghost use Rattle.child_events.specs.Log.{AllFit, LogText};
 ghost use Rattle.child_serve.specs.Whole.{keeping_of};
 ghost use Rattle.expect_prog.specs.Devices.{GaveUp};
-ghost use Rattle.expect_prog.specs.Drive.{Drives, Serves, IsOutput, Puts, IsBefore};
+ghost use Rattle.expect_prog.specs.Drive.{Drives, Serves, Puts, IsBefore};
+ghost use Rattle.expect_prog.specs.Report.{reports_bytes, all_done as all_done_of};
 
 use crate::devices::write_all;
 use crate::texts::{all_done, report_text};
@@ -79,7 +80,10 @@ struct Output {
 /// The log text of the record of what was served and the text of its reports, with their variables or without.
 fn output_of(alloc: Global, vars: bool, served: &Served) -> Result<Output, DriveFault>
     requires { AllFit served.now.logged }
-    ensures { IsOutput vars served.now result }
+    ensures record { IfOk result (λ o. LogText o.record served.now.logged) }
+    ensures reports { IfOk result (λ o. o.reports ≡ reports_bytes vars 1 served.now.reports) }
+    ensures well { IfOk result (λ o. o.well ≡ all_done_of served.now.reports) }
+    ensures fault { IfErr result (λ fault. fault ≡ DriveFault.Memory) }
 {
     let record = write_log(alloc, served.logged.as_slice())?;
     let reports = report_text(alloc, vars, served.reports.as_slice())?;
