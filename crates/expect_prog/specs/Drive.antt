@@ -5,7 +5,6 @@ use Rattle.child_events.specs.declared.event.Answer.{Answer}
 use Rattle.child_events.specs.Log.{LogText}
 use Rattle.expect_core.specs.declared.request.Request.{Request}
 use Rattle.dialogue_sched.specs.declared.script.Script.{Script}
-use Rattle.dialogue_sched.specs.declared.hall.HallFault.TheVariants as halls
 use Rattle.child_desk.specs.Line.{Keeping}
 use Rattle.child_serve.specs.declared.served.Served.{Served}
 use Rattle.child_serve.specs.declared.serving.ServeFault.TheVariants as serve
