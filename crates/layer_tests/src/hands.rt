@@ -6,10 +6,11 @@ use child_hands::pump::pump;
 use child_hands::{Fresh, Outcome, Work, start_hand};
 use child_keeper::Item;
 use expect_core::{Act, Request};
-use feed_rings::{Bell, FeedIn, feed_pair, take_waiting};
+use feed_rings::{Bell, FeedIn, FeedOut, feed_pair, take_waiting};
 use std::io;
 use std::io::{ErrorKind, Read};
-use std::sync::Arc;
+use std::process::Abort;
+use std::sync::{Arc, Wait};
 use std::test::Fail;
 use tcl_words::{Text, Texts};
 
@@ -34,13 +35,22 @@ impl Read for Flaky {
     }
 }
 
-fn is_line(item: Item<Liner>) -> bool {
+/// Whether an item is the line of this child of script 3.
+fn is_line(item: Item<Liner>, of: u8) -> bool {
     match item {
         Item::Out {
             script,
             child,
             piece,
-        } => script == 3 && child == 2 && piece.text().as_slice() == LINE,
+        } => script == 3 && child == of && piece.text().as_slice() == LINE,
+        _ => false,
+    }
+}
+
+/// Whether an item is the end of the output of this child of script 3.
+fn is_end(item: Option<Item<Liner>>, of: u8) -> bool {
+    match item {
+        Some(Item::End { script, child }) => script == 3 && child == of,
         _ => false,
     }
 }
@@ -52,16 +62,8 @@ fn a_reader_puts_pieces_and_then_the_end(rt: HostRuntime) -> Result<(), Fail> {
     let (feed, mut out) = feed_pair::<Item<Liner>>(alloc, 2, &bell, &bell)?;
     let mut device = Counted::new(Line::new(None));
     assert!(rt; pump(&rt, alloc, &bell, 3, 2, &mut device, feed).is_some());
-    assert!(rt; is_line(take_waiting(&rt, &bell, &mut out)));
-    assert!(rt;
-        matches!(
-            out.take(),
-            Some(Item::End {
-                script: 3,
-                child: 2
-            })
-        )
-    );
+    assert!(rt; is_line(take_waiting(&rt, &bell, &mut out), 2));
+    assert!(rt; is_end(out.take(), 2));
     assert!(rt; out.take().is_none());
     let (feed, mut out) = feed_pair::<Item<Liner>>(alloc, 2, &bell, &bell)?;
     let mut device = Counted::new(Flaky { turn: 0 });
@@ -81,6 +83,20 @@ fn a_reader_puts_pieces_and_then_the_end(rt: HostRuntime) -> Result<(), Fail> {
 
 fn ask(asks: &mut FeedIn<Item<Liner>>, child: u8, act: Act) -> bool {
     asks.put(Item::Ask(Request { child, act })).is_ok()
+}
+
+/// The answers to a start, a write and a wait come in this order, each with the number of its call.
+fn answers_come<R: Wait + Abort>(rt: &R, desk: &Bell, answers: &mut FeedOut<Item<Liner>>) {
+    let wanted = [Answer::Ok, Answer::Fail(Cause::Broken), Answer::Exit(5)];
+    for (answer, call) in wanted.into_iter().zip(1u64..) {
+        match take_waiting(rt, desk, answers) {
+            Item::Answer { script, answered } => {
+                assert_eq!(rt; (script, answered.name, answered.call), (3, 7, call));
+                assert!(rt; answered.answer == answer);
+            }
+            _ => assert!(rt; false),
+        }
+    }
 }
 
 #[test]
@@ -111,37 +127,11 @@ fn a_hand_asks_its_keeper(rt: HostRuntime) -> Result<(), Fail> {
     assert!(rt; ask(&mut asks, 1, Act::Spawn(Texts::new(alloc))));
     assert!(rt; ask(&mut asks, 1, Act::Write(Text::new(alloc))));
     assert!(rt; ask(&mut asks, 2, Act::Wait));
-    let wanted = [Answer::Ok, Answer::Fail(Cause::Broken), Answer::Exit(5)];
-    for (answer, call) in wanted.into_iter().zip(1u64..) {
-        match take_waiting(&rt, &desk, &mut answers) {
-            Item::Answer { script, answered } => {
-                assert_eq!(rt; (script, answered.name, answered.call), (3, 7, call));
-                assert!(rt; answered.answer == answer);
-            }
-            _ => assert!(rt; false),
-        }
-    }
-    assert!(rt;
-        matches!(
-            take_waiting(&rt, &desk, &mut output),
-            Item::Out {
-                script: 3,
-                child: 1,
-                ..
-            }
-        )
-    );
+    answers_come(&rt, &desk, &mut answers);
+    assert!(rt; is_line(take_waiting(&rt, &desk, &mut output), 1));
     assert!(rt; asks.put(Item::Stop).is_ok());
     let mut end = hand.join(&rt);
-    assert!(rt;
-        matches!(
-            output.take(),
-            Some(Item::End {
-                script: 3,
-                child: 1
-            })
-        )
-    );
+    assert!(rt; is_end(output.take(), 1));
     assert!(rt; end.outcome == Outcome::Stopped);
     assert_eq!(rt; end.forced, 1);
     assert_eq!(rt; gate.asked(), 10_008);
