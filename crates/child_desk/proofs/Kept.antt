@@ -1,6 +1,6 @@
 -- What calls at a desk keep, one after another.
 use Rattle.std.proofs.Common.{◌≡◌, ◌≢◌, ◌⊎◌, inl, inr, ℕ, zero, suc, ◌+◌, ◌≤◌, ◌<◌, List, [], ◌∷◌, ◌++◌, length, Bool, true, false, Option, Some, None, refl, sym, ap, subst, ◌∙◌, append-nil, arith}
-use Rattle.std.specs.Prelude.{slice_get, slice_set, ◌==◌, IsTrue, Contains, MatchOption, if◌then◌else◌}
+use Rattle.std.specs.Prelude.{slice_get, slice_set, ◌==◌, IsTrue, Contains, MatchOption, is_some, if◌then◌else◌}
 use Rattle.std.proofs.lemmas.Bool.{cases_eq}
 use Rattle.child_events.specs.declared.event.Answer.{Answer}
 use Rattle.child_events.specs.declared.event.HallEvent.{HallEvent}
@@ -16,7 +16,8 @@ use Rattle.child_keeper.specs.declared.items.Item.{Item}
 use Rattle.feed_rings.specs.Ends.{taken_items, SameOut}
 use Rattle.feed_rings.specs.declared.feed.FeedOut.{FeedOut}
 use Rattle.child_desk.specs.declared.ends.Ends.{Ends as HandEnds}
-use Rattle.child_desk.specs.Told.{Telling, answers_in, all_told, heard_of_hand}
+use Rattle.child_desk.specs.Told.{Telling, Reply, Put, Asks, Stops, Rings, telling, asking, answers_in, replies_in, all_told, asked_of_hand, heard_of_hand, rings_of}
+use Rattle.child_desk.specs.Turn.{HasNoRequest, Waits}
 use Rattle.child_desk.specs.declared.book.Book.{Book}
 use Rattle.child_desk.specs.declared.line.Line.{Line}
 use Rattle.child_desk.specs.Book.{Enters, IsRecord, AscendsFrom, AllTaken, moment_in}
@@ -27,14 +28,17 @@ use Rattle.child_events.specs.declared.event.Event.TheVariants as event
 use Rattle.child_events.specs.declared.event.HallEvent.TheVariants as hall
 use Rattle.child_events.specs.World.{after_own}
 use Rattle.tcl_eval.specs.declared.ending.Ending.{Ending}
-use Rattle.tcl_eval.specs.declared.ending.Ending.TheVariants.{Waiting}
+use Rattle.tcl_eval.specs.declared.ending.Ending.TheVariants.{Waiting, Memory}
+use Rattle.session.specs.declared.report.Report.{Report}
 use Rattle.session.specs.Left.{left, HandsOut}
 use Rattle.dialogue_sched.specs.Hall.{Requested, EndsAt, Ends}
 use Rattle.child_desk.specs.Ends.{IsOutput, output_at}
 use Rattle.child_desk.specs.Line.{answer_at, Goes, AllOver}
 use Rattle.child_desk.proofs.Places.{nothing_there, one_there, set_here, set_there, set_length}
 use Rattle.child_desk.proofs.Telling.{IsWithin}
-use Rattle.child_desk.proofs.Lining.{numbered, handed_at, more_told, answers_own, answers_other, asked_line, passed_line, answered_line, ended_line, passes_all}
+use Rattle.child_desk.proofs.Answering.{own_reply, replies_append, no_replies}
+use Rattle.child_desk.proofs.Hears.{same_out, then_out}
+use Rattle.child_desk.proofs.Lining.{numbered, handed_at, more_told, answers_own, answers_other, asked_line, passed_line, answered_line, sent_line, ended_line, passes_all}
 
 -- an entry with the book's stamp makes no moment go back
 ascends_on : (least last : ℕ) (e : HallEvent) (es : List HallEvent) (scripts : ℕ) → least ≤ last → AscendsFrom least es → AllTaken scripts last es → moment_in e ≡ last → AscendsFrom least (es ++ e ∷ [])
@@ -57,10 +61,10 @@ took_length n es (x ∷ olds) (y ∷ news) t = ap suc (took_length (n + 1) es ol
 
 pub entered_halls : (e : HallEvent) (took : Bool) (old new : Book) → Enters e took old new → length new.hall ≡ length old.hall
 entered_halls e true old new t = took_length 1 (e ∷ []) old.hall new.hall t.1
-entered_halls e false old new t = ap (λ (b : Book). length b.hall) t
+entered_halls e false old new t = ap (λ (b : Book). length b.hall) t.0
 
 pub entered_record : (e : HallEvent) (took : Bool) (old new : Book) → Enters e took old new → moment_in e ≡ old.stamp → IsRecord old → IsRecord new
-entered_record e false old new t m r = subst IsRecord (sym t) r
+entered_record e false old new t m r = subst IsRecord (sym t.0) r
 entered_record e true old new t m r = record {
   ascends = subst (AscendsFrom 0) (sym t.2) (ascends_on 0 old.stamp e old.log.items (length old.hall) (let z : 0 ≤ old.stamp = omega arith in z) r.ascends r.taken m);
   taken = subst (λ (n : ℕ). AllTaken (length new.hall) n new.log.items) (sym t.3)
@@ -70,7 +74,8 @@ entered_record e true old new t m r = record {
 
 pub leaves_same : (old new : Book) → new.hall ≡ old.hall → new.log.items ≡ old.log.items → new.stamp ≡ old.stamp → Leaves old new
 leaves_same old new h l s = record {
-  lines = λ ts keeper script at line is. in_line_same ts keeper script at line is;
+  lines = λ rings keeper script at line is. in_line_same rings keeper script at line is;
+  answers = λ n. ap (λ (es : List HallEvent). replies_in (own n es)) l;
   book = λ r. record {
     ascends = subst (AscendsFrom 0) (sym l) r.ascends;
     taken = subst (λ (n : ℕ). AllTaken (length new.hall) n new.log.items) (sym s) (subst (λ (ks : List Kept). AllTaken (length ks) old.stamp new.log.items) (sym h) (subst (AllTaken (length old.hall) old.stamp) (sym l) r.taken));
@@ -78,47 +83,61 @@ leaves_same old new h l s = record {
   halls = ap length h;
 }
   where
-    in_line_same : (ts : List Telling) (keeper : Keeping) (script : Script) (at : ℕ) (line : Line) → InLine ts keeper script at line old → InLine ts keeper script at line new
-    in_line_same ts keeper script at line (k, here, is) =
-        (k, ap (λ (ks : List Kept). slice_get ks at) h ∙ here, subst (λ (es : List HallEvent). IsInLine ts keeper script line k (own (at + 1) es)) (sym l) is)
+    in_line_same : (rings : Rings) (keeper : Keeping) (script : Script) (at : ℕ) (line : Line) → InLine rings keeper script at line old → InLine rings keeper script at line new
+    in_line_same rings keeper script at line (k, here, is) =
+        (k, ap (λ (ks : List Kept). slice_get ks at) h ∙ here, subst (λ (es : List HallEvent). IsInLine rings keeper script line k (own (at + 1) es)) (sym l) is)
 
 pub leaves_then : (a b c : Book) → Leaves a b → Leaves b c → Leaves a c
 leaves_then a b c f g = record {
-  lines = λ ts keeper script at line is. g.lines ts keeper script at line (f.lines ts keeper script at line is);
+  lines = λ rings keeper script at line is. g.lines rings keeper script at line (f.lines rings keeper script at line is);
+  answers = λ n. g.answers n ∙ f.answers n;
   book = λ r. g.book (f.book r);
   halls = g.halls ∙ f.halls;
 }
 
+entered_silent : (e : HallEvent) (took : Bool) (old new : Book) → Enters e took old new → ((n : ℕ) → answers_in (own n (e ∷ [])) ≡ []) → (n : ℕ) → replies_in (own n new.log.items) ≡ replies_in (own n old.log.items)
+entered_silent e false old new t none n = ap (λ (b : Book). replies_in (own n b.log.items)) t.0
+entered_silent e true old new t none n =
+    ap (λ (es : List HallEvent). replies_in (own n es)) t.2
+    ∙ replies_append n old.log.items (e ∷ [])
+    ∙ ap (λ (xs : List Reply). replies_in (own n old.log.items) ++ xs) (no_replies (own n (e ∷ [])) (none n))
+    ∙ append-nil (replies_in (own n old.log.items))
+
 -- an event that answers nothing
 pub leaves_entered : (e : HallEvent) (took : Bool) (old new : Book) → Enters e took old new → ((n : ℕ) → answers_in (own n (e ∷ [])) ≡ []) → moment_in e ≡ old.stamp → Leaves old new
 leaves_entered e took old new t none m = record {
-  lines = λ ts keeper script at line is. passes_all e took old new t ts keeper script at line (none (at + 1)) is;
+  lines = λ rings keeper script at line is. passes_all e took old new t rings keeper script at line (none (at + 1)) is;
+  answers = entered_silent e took old new t none;
   book = entered_record e took old new t m;
   halls = entered_halls e took old new t;
 }
 
-pub keeps_left : (ts : List Telling) (at : ℕ) (line : Line) (old new : Book) → Leaves old new → Keeps ts ts at line old line new
-keeps_left ts at line old new f = record {
-  here = λ keeper script is. f.lines ts keeper script at line is;
-  others = λ us keeper script i other differs is. f.lines us keeper script i other is;
+pub keeps_left : (rings : Rings) (at : ℕ) (line : Line) (old new : Book) → Leaves old new → Keeps rings rings at line old line new
+keeps_left rings at line old new f = record {
+  here = λ keeper script is. f.lines rings keeper script at line is;
+  others = λ theirs keeper script i other differs is. f.lines theirs keeper script i other is;
   book = f.book;
   halls = f.halls;
 }
 
-pub keeps_then : (ts us vs : List Telling) (at : ℕ) (x y z : Line) (a b c : Book) → Keeps ts us at x a y b → Keeps us vs at y b z c → Keeps ts vs at x a z c
-keeps_then ts us vs at x y z a b c f g = record {
+pub keeps_then : (rs ss ts : Rings) (at : ℕ) (x y z : Line) (a b c : Book) → Keeps rs ss at x a y b → Keeps ss ts at y b z c → Keeps rs ts at x a z c
+keeps_then rs ss ts at x y z a b c f g = record {
   here = λ keeper script is. g.here keeper script (f.here keeper script is);
-  others = λ ws keeper script i other differs is. g.others ws keeper script i other differs (f.others ws keeper script i other differs is);
+  others = λ theirs keeper script i other differs is. g.others theirs keeper script i other differs (f.others theirs keeper script i other differs is);
   book = λ r. g.book (f.book r);
   halls = g.halls ∙ f.halls;
 }
 
 module _ {K O : Type 0} {g : Ghosts K O} {r : ReadGhosts O} where
-  same_out : (a : FeedOut (Item K O g r)) → SameOut a a
-  same_out a = (refl, refl, refl, refl)
+  -- more was told in a script's rings, or put
+  pub rings_told : (e e' : HandEnds K O g r) (more : List Telling) → heard_of_hand e'.answers ≡ heard_of_hand e.answers ++ more → asked_of_hand e' ≡ asked_of_hand e → rings_of e' ≡ telling (rings_of e) more
+  rings_told e e' more told asked = ap (λ (ts : List Telling). record { told = ts; asked = asked_of_hand e' }) told ∙ ap (λ (ps : List Put). record { told = heard_of_hand e.answers ++ more; asked = ps }) asked
 
-  then_out : (a b c : FeedOut (Item K O g r)) → SameOut a b → SameOut b c → SameOut a c
-  then_out a b c p q = (q.0 ∙ p.0, q.1 ∙ p.1, q.2 ∙ p.2, q.3 ∙ p.3)
+  pub rings_asked : (e e' : HandEnds K O g r) (more : List Put) → e'.answers ≡ e.answers → asked_of_hand e' ≡ asked_of_hand e ++ more → rings_of e' ≡ asking (rings_of e) more
+  rings_asked e e' more same asked = ap (λ (o : FeedOut (Item K O g r)). record { told = heard_of_hand o; asked = asked_of_hand e' }) same ∙ ap (λ (ps : List Put). record { told = heard_of_hand e.answers; asked = ps }) asked
+
+  pub rings_kept : (e e' : HandEnds K O g r) → heard_of_hand e'.answers ≡ heard_of_hand e.answers → asked_of_hand e' ≡ asked_of_hand e → rings_of e' ≡ rings_of e
+  rings_kept e e' told asked = ap (λ (ts : List Telling). record { told = ts; asked = asked_of_hand e' }) told ∙ ap (λ (ps : List Put). record { told = heard_of_hand e.answers; asked = ps }) asked
 
   rings_same : (ends : List (HandEnds K O g r)) → SameRings ends ends
   rings_same ends at e here = (e, here, same_out e.answers)
@@ -140,7 +159,7 @@ module _ {K O : Type 0} {g : Ghosts K O} {r : ReadGhosts O} where
 
   pub all_left : (lines : List Line) (ends : List (HandEnds K O g r)) (old new : Book) → Leaves old new → KeepsAll lines ends old lines ends new
   all_left lines ends old new f = record {
-    each = λ keeper script at line e here there is. (line, e, here, there, f.lines (heard_of_hand e.answers) keeper script at line is);
+    each = λ keeper script at line e here there is. (line, e, here, there, f.lines (rings_of e) keeper script at line is);
     rings = rings_same ends;
     book = f.book;
     halls = f.halls;
@@ -170,43 +189,50 @@ module _ {K O : Type 0} {g : Ghosts K O} {r : ReadGhosts O} where
   -- nothing more was taken from the rings from hands
 
   pub no_hand_same : (ends : List (HandEnds K O g r)) → HearsNoHand ends ends
-  no_hand_same ends = record { each = λ at e here. (e, here, same_out e.answers, refl); count = refl }
+  no_hand_same ends = record { each = λ at e here. (e, here, same_out e.answers, refl, refl); count = refl }
 
   pub no_hand_then : (a b c : List (HandEnds K O g r)) → HearsNoHand a b → HearsNoHand b c → HearsNoHand a c
   no_hand_then a b c f h = record {
     each = λ at e here.
         let p = f.each at e here in
         let q = h.each at p.0 p.1 in
-        (q.0, q.1, then_out e.answers p.0.answers q.0.answers p.2 q.2, q.3 ∙ p.3);
+        (q.0, q.1, then_out e.answers p.0.answers q.0.answers p.2 q.2, q.3 ∙ p.3, q.4 ∙ p.4);
     count = h.count ∙ f.count;
   }
 
-  pub no_hand_set : (at : ℕ) (ends : List (HandEnds K O g r)) (e e' : HandEnds K O g r) → slice_get ends at ≡ Some e → SameOut e.answers e'.answers → taken_items e'.answers ≡ taken_items e.answers → HearsNoHand ends (slice_set ends at e')
-  no_hand_set at ends e e' here ring taken = record {
+  pub no_hand_set : (at : ℕ) (ends : List (HandEnds K O g r)) (e e' : HandEnds K O g r) → slice_get ends at ≡ Some e → SameOut e.answers e'.answers → taken_items e'.answers ≡ taken_items e.answers → asked_of_hand e' ≡ asked_of_hand e → HearsNoHand ends (slice_set ends at e')
+  no_hand_set at ends e e' here ring taken asked = record {
     each = λ n x got. by_place n x got (cases_eq n at);
     count = set_length at ends e';
   }
     where
-      by_place : (n : ℕ) (x : HandEnds K O g r) → slice_get ends n ≡ Some x → (n ≡ at) ⊎ (n ≡ at → ⊥) → (x' : HandEnds K O g r) × (slice_get (slice_set ends at e') n ≡ Some x') × SameOut x.answers x'.answers × (taken_items x'.answers ≡ taken_items x.answers)
+      by_place : (n : ℕ) (x : HandEnds K O g r) → slice_get ends n ≡ Some x → (n ≡ at) ⊎ (n ≡ at → ⊥) → (x' : HandEnds K O g r) × (slice_get (slice_set ends at e') n ≡ Some x') × SameOut x.answers x'.answers × (taken_items x'.answers ≡ taken_items x.answers) × (asked_of_hand x' ≡ asked_of_hand x)
       by_place n x got (inl same) =
           let one : e ≡ x = one_there e x (sym here ∙ subst (λ (k : ℕ). slice_get ends k ≡ Some x) same got) in (
             e',
             subst (λ (k : ℕ). slice_get (slice_set ends at e') k ≡ Some e') (sym same) (set_here at ends e e' here),
             subst (λ (y : HandEnds K O g r). SameOut y.answers e'.answers) one ring,
             subst (λ (y : HandEnds K O g r). taken_items e'.answers ≡ taken_items y.answers) one taken,
+            subst (λ (y : HandEnds K O g r). asked_of_hand e' ≡ asked_of_hand y) one asked,
           )
-      by_place n x got (inr other) = (x, set_there at n ends e' other ∙ got, same_out x.answers, refl)
+      by_place n x got (inr other) = (x, set_there at n ends e' other ∙ got, same_out x.answers, refl, refl)
 
-  pub rings_of : (ends ends' : List (HandEnds K O g r)) → HearsNoHand ends ends' → SameRings ends ends'
-  rings_of ends ends' h at e here = let p = h.each at e here in (p.0, p.1, p.2)
+  pub same_rings : (ends ends' : List (HandEnds K O g r)) → HearsNoHand ends ends' → SameRings ends ends'
+  same_rings ends ends' h at e here = let p = h.each at e here in (p.0, p.1, p.2)
 
   -- scripts stay in their lines where nothing is taken from those rings
   pub all_still : (lines : List Line) (a b : List (HandEnds K O g r)) (old new : Book) → Leaves old new → HearsNoHand a b → KeepsAll lines a old lines b new
   all_still lines a b old new f h = record {
     each = λ keeper script at line e here there is.
-        let p = h.each at e there in
-        (line, p.0, here, p.1, subst (λ (xs : List (Item K O g r)). InLine (all_told xs) keeper script at line new) (sym p.3) (f.lines (heard_of_hand e.answers) keeper script at line is));
-    rings = rings_of a b h;
+        let p = h.each at e there in (
+          line,
+          p.0,
+          here,
+          p.1,
+          subst (λ (xs : List (Item K O g r)). InLine (record { told = all_told xs; asked = asked_of_hand p.0 }) keeper script at line new) (sym p.3)
+              (subst (λ (ps : List Put). InLine (record { told = heard_of_hand e.answers; asked = ps }) keeper script at line new) (sym p.4) (f.lines (rings_of e) keeper script at line is)),
+        );
+    rings = same_rings a b h;
     book = f.book;
     halls = f.halls;
     count = refl;
@@ -214,7 +240,7 @@ module _ {K O : Type 0} {g : Ghosts K O} {r : ReadGhosts O} where
 
   -- the script at a place went on
   pub all_kept : (at : ℕ) (lines : List Line) (ends : List (HandEnds K O g r)) (line line' : Line) (e e' : HandEnds K O g r) (old new : Book) → slice_get lines at ≡ Some line → slice_get ends at ≡ Some e → SameOut e.answers e'.answers →
-      Keeps (heard_of_hand e.answers) (heard_of_hand e'.answers) at line old line' new → KeepsAll lines ends old (slice_set lines at line') (slice_set ends at e') new
+      Keeps (rings_of e) (rings_of e') at line old line' new → KeepsAll lines ends old (slice_set lines at line') (slice_set ends at e') new
   all_kept at lines ends line line' e e' old new here end ring f = record {
     each = λ keeper script i other x there got is. by_place i other x there got is (cases_eq i at);
     rings = rings_set at ends e e' end ring;
@@ -225,17 +251,17 @@ module _ {K O : Type 0} {g : Ghosts K O} {r : ReadGhosts O} where
     where
       -- what a script is in, at a place
       Goes : Keeping → Script → ℕ → Type 0
-      Goes keeper script i = (l : Line) × (y : HandEnds K O g r) × (slice_get (slice_set lines at line') i ≡ Some l) × (slice_get (slice_set ends at e') i ≡ Some y) × InLine (heard_of_hand y.answers) keeper script i l new
+      Goes keeper script i = (l : Line) × (y : HandEnds K O g r) × (slice_get (slice_set lines at line') i ≡ Some l) × (slice_get (slice_set ends at e') i ≡ Some y) × InLine (rings_of y) keeper script i l new
 
-      by_place : {keeper : Keeping} {script : Script} (i : ℕ) (other : Line) (x : HandEnds K O g r) → slice_get lines i ≡ Some other → slice_get ends i ≡ Some x → InLine (heard_of_hand x.answers) keeper script i other old → (i ≡ at) ⊎ (i ≡ at → ⊥) → Goes keeper script i
+      by_place : {keeper : Keeping} {script : Script} (i : ℕ) (other : Line) (x : HandEnds K O g r) → slice_get lines i ≡ Some other → slice_get ends i ≡ Some x → InLine (rings_of x) keeper script i other old → (i ≡ at) ⊎ (i ≡ at → ⊥) → Goes keeper script i
       by_place {keeper} {script} i other x there got is (inl same) =
           let one = one_there line other (sym here ∙ subst (λ (k : ℕ). slice_get lines k ≡ Some other) same there) in
           let other_end = one_there e x (sym end ∙ subst (λ (k : ℕ). slice_get ends k ≡ Some x) same got) in
-          let was = subst (λ (y : HandEnds K O g r). InLine (heard_of_hand y.answers) keeper script at line old) (sym other_end)
-          (subst (λ (l : Line). InLine (heard_of_hand x.answers) keeper script at l old) (sym one) (subst (λ (k : ℕ). InLine (heard_of_hand x.answers) keeper script k other old) same is)) in
+          let was = subst (λ (y : HandEnds K O g r). InLine (rings_of y) keeper script at line old) (sym other_end)
+          (subst (λ (l : Line). InLine (rings_of x) keeper script at l old) (sym one) (subst (λ (k : ℕ). InLine (rings_of x) keeper script k other old) same is)) in
           subst (Goes keeper script) (sym same) (line', e', set_here at lines line line' here, set_here at ends e e' end, f.here keeper script was)
       by_place {keeper} {script} i line x there got is (inr other) =
-          (line, x, set_there at i lines line' other ∙ there, set_there at i ends e' other ∙ got, f.others (heard_of_hand x.answers) keeper script i line other is)
+          (line, x, set_there at i lines line' other ∙ there, set_there at i ends e' other ∙ got, f.others (rings_of x) keeper script i line other is)
 
 -- a tick answers nothing
 pub tick_silent : (m n : ℕ) → answers_in (own n (hall.Tick m ∷ [])) ≡ []
@@ -253,12 +279,13 @@ output_silent s c m w out n = by_script (s == n) w out
     by_script true (what.Answer a) out = absurd out
 
 -- a tick, in a book that was stamped for it
-pub leaves_ticked : (now : ℕ) (took : Bool) (old mid new : Book) → mid.hall ≡ old.hall → mid.log.items ≡ old.log.items → mid.stamp ≡ now → old.stamp ≤ now → Enters (hall.Tick now) took mid new → Leaves old new
-leaves_ticked now took old mid new h l s le t = leaves_then old mid new stamped (leaves_entered (hall.Tick now) took mid new t (tick_silent now) (sym s))
+pub leaves_ticked : (now : ℕ) (old mid new : Book) → mid.hall ≡ old.hall → mid.log.items ≡ old.log.items → mid.stamp ≡ now → old.stamp ≤ now → Enters (hall.Tick now) true mid new → Leaves old new
+leaves_ticked now old mid new h l s le t = leaves_then old mid new stamped (leaves_entered (hall.Tick now) true mid new t (tick_silent now) (sym s))
   where
     stamped : Leaves old mid
     stamped = record {
-      lines = λ ts keeper script at line is. (is.0, ap (λ (ks : List Kept). slice_get ks at) h ∙ is.1, subst (λ (es : List HallEvent). IsInLine ts keeper script line is.0 (own (at + 1) es)) (sym l) is.2);
+      lines = λ rings keeper script at line is. (is.0, ap (λ (ks : List Kept). slice_get ks at) h ∙ is.1, subst (λ (es : List HallEvent). IsInLine rings keeper script line is.0 (own (at + 1) es)) (sym l) is.2);
+      answers = λ n. ap (λ (es : List HallEvent). replies_in (own n es)) l;
       book = λ r. record {
         ascends = subst (AscendsFrom 0) (sym l) r.ascends;
         taken = subst (λ (ks : List Kept). AllTaken (length ks) mid.stamp mid.log.items) (sym h) (subst (AllTaken (length old.hall) mid.stamp) (sym l)
@@ -268,10 +295,10 @@ leaves_ticked now took old mid new h l s le t = leaves_then old mid new stamped 
     }
 
 -- the hall's next request waits
-pub keeps_asked : (ts : List Telling) (at : ℕ) (line : Line) (request : Option Request) (old new : Book) → at < length old.hall → line.awaited ≡ None → Requested (at + 1) old.hall request new.hall → new.log.items ≡ old.log.items → new.stamp ≡ old.stamp →
-    Keeps ts ts at line old (record line { awaited = request }) new
-keeps_asked ts at line request old new lt free req log stamp = record {
-  here = λ keeper script is. asked_line ts keeper script at line request old new lt free req log is;
+pub keeps_asked : (rings : Rings) (at : ℕ) (line : Line) (request : Option Request) (old new : Book) → at < length old.hall → line.awaited ≡ None → Requested (at + 1) old.hall request new.hall → new.log.items ≡ old.log.items → new.stamp ≡ old.stamp →
+    Keeps rings rings at line old (record line { awaited = request }) new
+keeps_asked rings at line request old new lt free req log stamp = record {
+  here = λ keeper script is. asked_line rings keeper script at line request old new lt free req log is;
   others = λ us keeper script i other differs is. (
     is.0,
     ap (λ (ks : List Kept). slice_get ks i) h.4 ∙ set_there at i old.hall h.1 differs ∙ is.1,
@@ -291,20 +318,31 @@ keeps_asked ts at line request old new lt free req log stamp = record {
     size = ap length h.4 ∙ set_length at old.hall h.1
 
 -- the answer comes that is awaited
-pub keeps_answered : (ts us : List Telling) (at child : ℕ) (line : Line) (e : HallEvent) (old new : Book) (r : Request) (a : Answer) → Enters e true old new → e ≡ answer_at at child old.stamp a → line.awaited ≡ Some r → IsWithin ts us →
-    Contains us (record { name = line.name; call = line.last + 1; request = r; answer = a }) → Keeps ts us at line old (record line { last = line.last + 1; awaited = None }) new
-keeps_answered ts us at child line e old new r a t is waits within telling = record {
-  here = λ keeper script l. answered_line ts keeper script us within at line e old new r a t.1 t.2 (ap (λ (x : HallEvent). answers_in (own (at + 1) (x ∷ []))) is ∙ answers_own at child old.stamp a) waits telling l;
-  others = λ ws keeper script i other differs l. passed_line ws keeper script i other e old new t.1 t.2 (ap (λ (x : HallEvent). answers_in (own (i + 1) (x ∷ []))) is ∙ answers_other at i child old.stamp a differs) l;
+pub keeps_answered : (rings : Rings) (us : List Telling) (at : ℕ) (line : Line) (e : HallEvent) (old new : Book) (r : Request) (a : Answer) → Enters e true old new → e ≡ answer_at at r.child old.stamp a → IsTrue line.sent → line.awaited ≡ Some r → IsWithin rings.told us →
+    Contains us (record { name = line.name; call = line.last + 1; request = r; answer = a }) → Keeps rings (record rings { told = us }) at line old (record line { last = line.last + 1; awaited = None; sent = false }) new
+keeps_answered rings us at line e old new r a t is sent waits within telling = record {
+  here = λ keeper script l.
+      answered_line rings keeper script us within at line e old new r a t.1 t.2 (ap (λ (x : HallEvent). answers_in (own (at + 1) (x ∷ []))) is ∙ answers_own at r.child old.stamp a)
+      (ap (λ (x : HallEvent). replies_in (own (at + 1) (x ∷ []))) is ∙ own_reply at r.child old.stamp a) sent waits telling l;
+  others = λ theirs keeper script i other differs l. passed_line theirs keeper script i other e old new t.1 t.2 (ap (λ (x : HallEvent). answers_in (own (i + 1) (x ∷ []))) is ∙ answers_other at i r.child old.stamp a differs) l;
   book = entered_record e true old new t (ap moment_in is);
   halls = entered_halls e true old new t;
 }
 
+-- the request that waits is put to the hand
+pub keeps_sent : (rings : Rings) (at : ℕ) (line : Line) (r : Request) (book : Book) → line.over ≡ false → line.sent ≡ false → line.awaited ≡ Some r → Keeps rings (asking rings (Asks r ∷ [])) at line book (record line { sent = true }) book
+keeps_sent rings at line r book still unsent waits = record {
+  here = λ keeper script l. sent_line rings keeper script at line r book still unsent waits l;
+  others = λ theirs keeper script i other differs l. l;
+  book = λ b. b;
+  halls = refl;
+}
+
 -- the script at a place has ended
-pub keeps_ended : (ts : List Telling) (at : ℕ) (line : Line) (book : Book) (ending : Option Ending) → EndsAt (at + 1) book.hall ending → Goes ending false → Keeps ts ts at line book (record line { over = true }) book
-keeps_ended ts at line book ending ends (e, is, over) = record {
-  here = λ keeper script l. ended_line ts keeper script at line book ended l;
-  others = λ us keeper script i other differs l. l;
+pub keeps_ended : (rings : Rings) (at : ℕ) (line : Line) (book : Book) (ending : Option Ending) → line.over ≡ false → EndsAt (at + 1) book.hall ending → Goes ending false → Keeps rings (asking rings (Stops ∷ [])) at line book (record line { over = true }) book
+keeps_ended rings at line book ending still ends (e, is, over) = record {
+  here = λ keeper script l. ended_line rings keeper script at line book still ended l;
+  others = λ theirs keeper script i other differs l. l;
   book = λ r. r;
   halls = refl;
 }
@@ -316,6 +354,28 @@ keeps_ended ts at line book ending ends (e, is, over) = record {
     ended k here lives =
         let of_k : Ends k e = subst (λ (o : Option Kept). MatchOption o ⊥ (λ (x : Kept). Ends x e)) (numbered at book.hall ∙ here) at_e in
         subst (λ (x : Ending). x ≢ Waiting) (of_k.lives lives) over
+
+-- a script that goes on waits, and its session lives
+pub waits_on : (at : ℕ) (book : Book) (ending : Option Ending) → EndsAt (at + 1) book.hall ending → Goes ending true → Waits at book
+waits_on at book ending ends (inl none) k here =
+    absurd (nothing_there k (sym (subst (EndsAt (at + 1) book.hall) none ends) ∙ numbered at book.hall ∙ here))
+waits_on at book ending ends (inr waiting) k here = by_life k.lives refl
+  where
+    of_k : Ends k Waiting
+    of_k = subst (λ (o : Option Kept). MatchOption o ⊥ (λ (x : Kept). Ends x Waiting)) (numbered at book.hall ∙ here) (subst (EndsAt (at + 1) book.hall) waiting ends)
+
+    by_life : (b : Bool) → k.lives ≡ b → IsTrue k.lives × ((left k []).ending ≡ Waiting)
+    by_life true lives = (lives, sym (of_k.lives lives))
+    by_life false spent = absurd (let e : ◌≡◌ {A = Ending} Waiting Memory = of_k.spent spent in cc)
+
+-- a session that handed out no request has none
+pub no_request_left : (at : ℕ) (request : Option Request) (old new : Book) → at < length old.hall → Requested (at + 1) old.hall request new.hall → request ≡ None → HasNoRequest at new
+no_request_left at request old new lt req none k here lives =
+    let h = handed_at at request old.hall new.hall lt req in
+    let one : h.1 ≡ k = one_there h.1 k (sym (ap (λ (ks : List Kept). slice_get ks at) h.4 ∙ set_here at old.hall h.0 h.1 h.2) ∙ here) in
+    let count : h.1.handed ≡ h.0.handed = h.3.counted ∙ ap (λ (o : Option Request). if is_some o then h.0.handed + 1 else h.0.handed) none in
+    subst (λ (x : Kept). slice_get (left x []).requests x.handed ≡ None) one
+    (ap (λ (x : Report). slice_get x.requests h.1.handed) (h.3.says []) ∙ ap (slice_get (left h.0 []).requests) count ∙ sym (h.3.next (subst IsTrue h.3.lives (subst (λ (x : Kept). IsTrue x.lives) (sym one) lives))) ∙ none)
 
 -- scripts that are over, one after another
 pub one_over : (line : Line) (lines : List Line) → IsTrue line.over → AllOver lines → AllOver (line ∷ lines)
@@ -329,32 +389,33 @@ pub leaves_all : (book : Book) → Leaves book book
 leaves_all book = leaves_same book book refl refl refl
 
 -- what is known to have been told may be more than before
-pub keeps_more : (ts us : List Telling) (at : ℕ) (line : Line) (book : Book) → IsWithin ts us → Keeps ts us at line book line book
-keeps_more ts us at line book within = record {
-  here = λ keeper script l. more_told ts keeper script us within at line book l;
-  others = λ ws keeper script i other differs l. l;
+pub keeps_more : (rings : Rings) (us : List Telling) (at : ℕ) (line : Line) (book : Book) → IsWithin rings.told us → Keeps rings (record rings { told = us }) at line book line book
+keeps_more rings us at line book within = record {
+  here = λ keeper script l. more_told rings keeper script us within at line book l;
+  others = λ theirs keeper script i other differs l. l;
   book = λ b. b;
   halls = refl;
 }
 
--- what was heard behind a book's room was made is what is known to have been told
-pub keeps_heard : (ts us more : List Telling) (at : ℕ) (x y : Line) (a b c : Book) → us ≡ ts ++ more → Leaves a b → Keeps ts (ts ++ more) at x b y c → Keeps ts us at x a y c
-keeps_heard ts us more at x y a b c is f g = subst (λ (ws : List Telling). Keeps ts ws at x a y c) (sym is) (keeps_then ts ts (ts ++ more) at x x y a b c (keeps_left ts at x a b f) g)
-
--- nothing was heard
-pub keeps_silent : (ts us : List Telling) (at : ℕ) (line : Line) (a b : Book) → us ≡ ts ++ [] → Leaves a b → Keeps ts us at line a line b
-keeps_silent ts us at line a b is f = subst (λ (ws : List Telling). Keeps ts ws at line a line b) (sym (is ∙ append-nil ts)) (keeps_left ts at line a b f)
-
 -- an entry that is refused
-pub keeps_refused : (ts us : List Telling) (at : ℕ) (line : Line) (e : HallEvent) (old new : Book) → Enters e false old new → IsWithin ts us → Keeps ts us at line old line new
-keeps_refused ts us at line e old new same within = subst (λ (b : Book). Keeps ts us at line old line b) (sym same) (keeps_more ts us at line old within)
+pub keeps_refused : (rings : Rings) (us : List Telling) (at : ℕ) (line : Line) (e : HallEvent) (old new : Book) → Enters e false old new → IsWithin rings.told us → Keeps rings (record rings { told = us }) at line old line new
+keeps_refused rings us at line e old new same within = subst (λ (b : Book). Keeps rings (record rings { told = us }) at line old line b) (sym same.0) (keeps_more rings us at line old within)
 
-pub keeps_then_left : (ts us vs : List Telling) (at : ℕ) (x y : Line) (a b c : Book) → vs ≡ us → Keeps ts us at x a y b → Leaves b c → Keeps ts vs at x a y c
-keeps_then_left ts us vs at x y a b c same f g = subst (λ (ws : List Telling). Keeps ts ws at x a y c) (sym same) (keeps_then ts us us at x y y a b c f (keeps_left us at y b c g))
+-- behind a book's room was made
+pub keeps_behind : (rs ss ts : Rings) (at : ℕ) (x y : Line) (a b c : Book) → ts ≡ ss → Leaves a b → Keeps rs ss at x b y c → Keeps rs ts at x a y c
+keeps_behind rs ss ts at x y a b c is f g = subst (λ (us : Rings). Keeps rs us at x a y c) (sym is) (keeps_then rs rs ss at x x y a b c (keeps_left rs at x a b f) g)
+
+-- and in front of calls that leave the lines
+pub keeps_then_left : (rs ss ts : Rings) (at : ℕ) (x y : Line) (a b c : Book) → ts ≡ ss → Keeps rs ss at x a y b → Leaves b c → Keeps rs ts at x a y c
+keeps_then_left rs ss ts at x y a b c same f g = subst (λ (us : Rings). Keeps rs us at x a y c) (sym same) (keeps_then rs ss ss at x y y a b c f (keeps_left ss at y b c g))
+
+-- rings that stay as they are
+pub keeps_rings : (rs ss : Rings) (at : ℕ) (line : Line) (a b : Book) → ss ≡ rs → Leaves a b → Keeps rs ss at line a line b
+keeps_rings rs ss at line a b same f = subst (λ (us : Rings). Keeps rs us at line a line b) (sym same) (keeps_left rs at line a b f)
 
 -- one after another
-pub keeps_three : (ts us vs : List Telling) (at : ℕ) (x y z : Line) (a b c d : Book) → vs ≡ us → Keeps ts us at x a y b → Leaves b c → ((ws : List Telling) → Keeps ws ws at y c z d) → Keeps ts vs at x a z d
-keeps_three ts us vs at x y z a b c d same f g h = subst (λ (ws : List Telling). Keeps ts ws at x a z d) (sym same) (keeps_then ts us us at x y z a b d f (keeps_then us us us at y y z b c d (keeps_left us at y b c g) (h us)))
+pub keeps_three : (rs ss us ts : Rings) (at : ℕ) (x y z : Line) (a b c d : Book) → us ≡ ss → Keeps rs ss at x a y b → Leaves b c → Keeps us ts at y c z d → Keeps rs ts at x a z d
+keeps_three rs ss us ts at x y z a b c d same f g h = keeps_then rs us ts at x y z a c d (keeps_then_left rs ss us at x y a b c same f g) h
 
 pub leaves_output : (at child : ℕ) (w : What) (e : HallEvent) (took : Bool) (old new : Book) → Enters e took old new → e ≡ output_at at child old.stamp w → IsOutput w → Leaves old new
 leaves_output at child w e took old new t is out =

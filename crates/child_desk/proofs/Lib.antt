@@ -1,5 +1,7 @@
 pub mod Places
 pub mod Telling
+pub mod Answering
 pub mod Lining
+pub mod Coming
 pub mod Kept
-pub mod Hearing
+pub mod Hears

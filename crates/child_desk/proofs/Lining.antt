@@ -1,6 +1,8 @@
 -- A script at its desk.
-use Rattle.std.proofs.Common.{◌≡◌, ◌≢◌, inl, inr, ℕ, zero, suc, ◌+◌, ◌-◌, ◌<◌, List, [], ◌∷◌, ◌++◌, length, Bool, true, false, Option, Some, None, Result, Ok, Err, refl, sym, ap, subst, ◌∙◌, append_assoc, append-nil, arith}
-use Rattle.std.specs.Prelude.{slice_get, slice_set, IsTrue, Contains, is_some, MatchOption, IfOk, ◌==◌, if◌then◌else◌}
+use Rattle.std.proofs.Common.{◌≡◌, ◌≢◌, inl, inr, ℕ, zero, suc, ◌+◌, ◌-◌, ◌<◌, ◌≤◌, List, [], ◌∷◌, ◌++◌, length, Bool, true, false, Option, Some, None, Result, Ok, Err, refl, sym, ap, subst, ◌∙◌, append_assoc, append-nil, arith}
+use Rattle.std.specs.Prelude.{slice_get, slice_set, map, take, nat_lt, nat_le, All, IsTrue, Contains, is_some, MatchOption, IfOk, IfErr, ◌==◌, if◌then◌else◌}
+use Rattle.std.proofs.lemmas.List.{take-append-le}
+use Rattle.std.proofs.lemmas.Option.{slice_get_within, get_or_from_slice_get}
 use Rattle.std.proofs.lemmas.Grind.{flat_map-append}
 use Rattle.std.proofs.lemmas.Bool.Decides.{nat_tests}
 use Rattle.child_events.specs.declared.event.Answer.{Answer}
@@ -12,6 +14,9 @@ use Rattle.child_events.specs.World.{own, after_own}
 use Rattle.child_events.proofs.Worlds.{own-append}
 use Rattle.expect_core.specs.declared.request.Request.{Request}
 use Rattle.session.specs.declared.report.Report.{Report}
+use Rattle.expect_core.specs.Numbered.{NamesAChild}
+use Rattle.session.proofs.Numbering.{all_name_a_child}
+use Rattle.dialogue_sched.specs.Refusal.{refusal_of}
 use Rattle.session.specs.Meaning.{meaning}
 use Rattle.session.specs.Left.{Kept, left, HandsOut}
 use Rattle.session.specs.Growth.{Continues}
@@ -21,13 +26,15 @@ use Rattle.dialogue_sched.specs.declared.script.Script.{Script}
 use Rattle.dialogue_sched.specs.Took.{Took, AllTook}
 use Rattle.dialogue_sched.specs.Hall.{Begins, Reports, session_at, Requested, Reported}
 use Rattle.dialogue_sched.specs.declared.hall.ReportFault.{ReportFault}
+use Rattle.dialogue_sched.specs.declared.hall.ReportFault.TheVariants as reports
 use Rattle.dialogue_sched.proofs.Running.{Took_lives, Took_says}
 use Rattle.child_desk.specs.declared.line.Line.{Line}
-use Rattle.child_desk.specs.Told.{Telling, answer_in, answers_in, AreAmong}
+use Rattle.child_desk.specs.Told.{Telling, Reply, Put, Asks, Stops, Rings, no_rings, asking, answer_in, answers_in, reply_in, replies_in, AreAmong, AreOf}
 use Rattle.child_desk.specs.declared.book.Book.{Book}
 use Rattle.child_desk.specs.Book.{Enters}
 use Rattle.child_desk.specs.Line.{Keeping, answer_at, PassesAll, IsInLine, InLine, Means}
-use Rattle.child_desk.proofs.Telling.{IsWithin, among_more, told_more, told_last}
+use Rattle.child_desk.proofs.Telling.{IsWithin, among_more, among_few, told_more, told_last, of_more, of_last}
+use Rattle.child_desk.proofs.Answering.{no_replies, replies_counted}
 use Rattle.child_desk.proofs.Places.{nothing_there, one_there, set_here}
 
 pub numbered : (i : ℕ) (ks : List Kept) → session_at (i + 1) ks ≡ slice_get ks i
@@ -85,19 +92,62 @@ still_there i [] more q h = absurd (no_request q h)
 still_there zero (x ∷ qs) more q h = h
 still_there (suc i) (x ∷ qs) more q h = still_there i qs more q h
 
-module _ (ts : List Telling) (keeper : Keeping) (script : Script) where
+-- one more of those in front
+take_one : {X : Type 0} (n : ℕ) (xs : List X) (x : X) → slice_get xs n ≡ Some x → take (suc n) xs ≡ take n xs ++ x ∷ []
+take_one n [] x got = absurd (nothing_there x got)
+take_one zero (y ∷ xs) x got = ap (λ z. z ∷ []) (one_there y x got)
+take_one (suc n) (y ∷ xs) x got = ap (λ l. y ∷ l) (take_one n xs x got)
+
+map_one : (qs : List Request) (q : Request) → map Asks (qs ++ q ∷ []) ≡ map Asks qs ++ Asks q ∷ []
+map_one [] q = refl
+map_one (r ∷ qs) q = ap (λ l. Asks r ∷ l) (map_one qs q)
+
+all_there : (qs : List Request) (i : ℕ) (q : Request) → All NamesAChild qs → slice_get qs i ≡ Some q → NamesAChild q
+all_there qs i q all got = subst NamesAChild (get_or_from_slice_get qs i q q got) (all i q (slice_get_within qs i q got))
+
+lt_true : (a b : ℕ) → a < b → nat_lt a b ≡ true
+lt_true a b h = grind (arith, nat_tests)
+
+le_true : (a b : ℕ) → a ≤ b → nat_le a b ≡ true
+le_true a b h = grind (arith, nat_tests)
+
+answer_taken : (scripts at child m : ℕ) (a : Answer) → at < scripts → 1 ≤ child → child ≤ 16 → m ≤ 9000000000000000 → refusal_of scripts (answer_at at child m a) ≡ None
+answer_taken scripts at child m a within low high early =
+    rw (lt_true 0 (at + 1) (omega arith), le_true (at + 1) scripts (omega arith), lt_true 0 child (omega arith), le_true child 16 high, le_true m 9000000000000000 early)
+
+module _ (rings : Rings) (keeper : Keeping) (script : Script) where
   abbrev asked_by : List Event → List Request
   asked_by es = (meaning script.source script.settings es).requests
 
+  -- how many requests were put to the hand
+  abbrev put_count : Line → List Event → ℕ
+  put_count line es = length (answers_in es) + (if line.sent then 1 else 0)
+
+  -- the stop, where the script is over
+  abbrev stop_of : Line → List Put
+  stop_of line = if line.over then Stops ∷ [] else []
+
+  -- there are as many
+  put_within : (line : Line) (k : Kept) (es : List Event) → IsInLine rings keeper script line k es → put_count line es ≤ length (asked_by es)
+  put_within line k es l = by_sent line.sent refl line.awaited refl
+    where
+      by_sent : (b : Bool) → line.sent ≡ b → (o : Option Request) → line.awaited ≡ o → length (answers_in es) + (if b then 1 else 0) ≤ length (asked_by es)
+      by_sent false is o waits = let few = among_few rings.told keeper.name keeper.made (answers_in es) (asked_by es) l.answers in omega (arith, few)
+      by_sent true is None waits = absurd (let e : false ≡ true = ap is_some (sym waits) ∙ l.sent is in cc)
+      by_sent true is (Some r) waits = let within = slice_get_within (asked_by es) (length (answers_in es)) r (l.next r waits) in omega (arith, within)
+
   -- the hall's next request waits
-  asked : (line : Line) (request : Option Request) (k k' : Kept) (es : List Event) → line.awaited ≡ None → HandsOut k request k' → IsInLine ts keeper script line k es → IsInLine ts keeper script (record line { awaited = request }) k' es
+  asked : (line : Line) (request : Option Request) (k k' : Kept) (es : List Event) → line.awaited ≡ None → HandsOut k request k' → IsInLine rings keeper script line k es → IsInLine rings keeper script (record line { awaited = request }) k' es
   asked line request k k' es free h l = record {
     name = l.name;
     last = l.last;
     answers = l.answers;
+    children = l.children;
     says = λ lives later. h.says later ∙ l.says (subst IsTrue h.lives lives) later;
     handed = counted request h.counted;
     next = λ r is. by_life k.lives refl r is;
+    sent = λ s. absurd (let e : false ≡ true = ap is_some (sym free) ∙ l.sent s in cc);
+    asked = l.asked;
     over = λ o lives. l.over o (subst IsTrue h.lives lives);
   }
     where
@@ -126,18 +176,21 @@ module _ (ts : List Telling) (keeper : Keeping) (script : Script) where
       Took_says more k k' t lives later ∙ says (Took_lives more k k' t lives) (more ++ later) ∙ ap (meaning script.source script.settings) (sym (append_assoc es more later))
 
   -- events come that answer nothing
-  passed : (line : Line) (k k' : Kept) (es more : List Event) → Took k more k' → answers_in more ≡ [] → IsInLine ts keeper script line k es → IsInLine ts keeper script line k' (es ++ more)
+  passed : (line : Line) (k k' : Kept) (es more : List Event) → Took k more k' → answers_in more ≡ [] → IsInLine rings keeper script line k es → IsInLine rings keeper script line k' (es ++ more)
   passed line k k' es more t none l = record {
     name = l.name;
     last = l.last ∙ ap (λ (xs : List Answer). keeper.made + length xs) (sym same);
-    answers = subst (λ (xs : List Answer). AreAmong ts keeper.name keeper.made xs (asked_by (es ++ more))) (sym same)
-        (subst (AreAmong ts keeper.name keeper.made (answers_in es)) (sym on.asked) (told_more ts keeper.name keeper.made (answers_in es) (asked_by es) on.more l.answers));
+    answers = subst (λ (xs : List Answer). AreAmong rings.told keeper.name keeper.made xs (asked_by (es ++ more))) (sym same)
+        (subst (AreAmong rings.told keeper.name keeper.made (answers_in es)) (sym on.asked) (told_more rings.told keeper.name keeper.made (answers_in es) (asked_by es) on.more l.answers));
+    children = subst (λ (xs : List Reply). AreOf xs (asked_by (es ++ more))) (sym as_before) (subst (AreOf (replies_in es)) (sym on.asked) (of_more (replies_in es) (asked_by es) on.more l.children));
     says = says_on k k' es more t l.says;
     handed = took_handed more k k' t ∙ l.handed ∙ ap (λ (xs : List Answer). length xs + (if is_some line.awaited then 1 else 0)) (sym same);
     next = λ r is.
         ap (λ (qs : List Request). slice_get qs (length (answers_in (es ++ more)))) on.asked
         ∙ ap (λ (xs : List Answer). slice_get (asked_by es ++ on.more) (length xs)) same
         ∙ still_there (length (answers_in es)) (asked_by es) on.more r (l.next r is);
+    sent = l.sent;
+    asked = l.asked ∙ ap (λ (qs : List Request). map Asks qs ++ stop_of line) (sym grown);
     over = λ o lives. ended_on es more (l.over o (Took_lives more k k' t lives));
   }
     where
@@ -147,20 +200,35 @@ module _ (ts : List Telling) (keeper : Keeping) (script : Script) where
       same : answers_in (es ++ more) ≡ answers_in es
       same = flat_map-append answer_in es more ∙ ap (λ (xs : List Answer). answers_in es ++ xs) none ∙ append-nil (answers_in es)
 
+      as_before : replies_in (es ++ more) ≡ replies_in es
+      as_before = flat_map-append reply_in es more ∙ ap (λ (xs : List Reply). replies_in es ++ xs) (no_replies more none) ∙ append-nil (replies_in es)
+
+      grown : take (put_count line (es ++ more)) (asked_by (es ++ more)) ≡ take (put_count line es) (asked_by es)
+      grown =
+          ap (λ (xs : List Answer). take (length xs + (if line.sent then 1 else 0)) (asked_by (es ++ more))) same
+          ∙ ap (take (put_count line es)) on.asked
+          ∙ take-append-le (put_count line es) (asked_by es) on.more (put_within line k es l)
+
   -- the answer comes that is awaited
-  answered : (us : List Telling) → IsWithin ts us → (line : Line) (k k' : Kept) (es more : List Event) (r : Request) (a : Answer) → Took k more k' → answers_in more ≡ a ∷ [] → line.awaited ≡ Some r → Contains us (record { name = line.name; call = line.last + 1; request = r; answer = a }) →
-      IsInLine ts keeper script line k es → IsInLine us keeper script (record line { last = line.last + 1; awaited = None }) k' (es ++ more)
-  answered us within line k k' es more r a t one waits is l = record {
+  answered : (us : List Telling) → IsWithin rings.told us → (line : Line) (k k' : Kept) (es more : List Event) (r : Request) (a : Answer) → Took k more k' → answers_in more ≡ a ∷ [] → replies_in more ≡ record { child = r.child; answer = a } ∷ [] →
+      IsTrue line.sent → line.awaited ≡ Some r → Contains us (record { name = line.name; call = line.last + 1; request = r; answer = a }) →
+      IsInLine rings keeper script line k es → IsInLine (record rings { told = us }) keeper script (record line { last = line.last + 1; awaited = None; sent = false }) k' (es ++ more)
+  answered us within line k k' es more r a t one reply sent waits is l = record {
     name = l.name;
     last = ap (λ (n : ℕ). n + 1) l.last ∙ (let e : keeper.made + length (answers_in es) + 1 ≡ keeper.made + (length (answers_in es) + 1) = omega arith in e) ∙ ap (λ (n : ℕ). keeper.made + n) (sym longer);
     answers = subst (λ (xs : List Answer). AreAmong us keeper.name keeper.made xs (asked_by (es ++ more))) (sym same)
         (subst (AreAmong us keeper.name keeper.made (answers_in es ++ a ∷ [])) (sym on.asked)
         (told_more us keeper.name keeper.made (answers_in es ++ a ∷ []) (asked_by es) on.more
-        (told_last us keeper.name keeper.made (answers_in es) a (asked_by es) r (among_more ts us within keeper.name keeper.made (answers_in es) (asked_by es) l.answers) (l.next r waits)
+        (told_last us keeper.name keeper.made (answers_in es) a (asked_by es) r (among_more rings.told us within keeper.name keeper.made (answers_in es) (asked_by es) l.answers) (l.next r waits)
         (subst (λ (n : ℕ). Contains us (record { name = keeper.name; call = n + 1; request = r; answer = a })) l.last (subst (λ (n : ℕ). Contains us (record { name = n; call = line.last + 1; request = r; answer = a })) l.name is)))));
+    children = subst (λ (xs : List Reply). AreOf xs (asked_by (es ++ more))) (sym one_more) (subst (AreOf (replies_in es ++ record { child = r.child; answer = a } ∷ [])) (sym on.asked)
+        (of_more (replies_in es ++ record { child = r.child; answer = a } ∷ []) (asked_by es) on.more
+        (of_last (replies_in es) (record { child = r.child; answer = a }) (asked_by es) r l.children (ap (slice_get (asked_by es)) (replies_counted es) ∙ l.next r waits) refl)));
     says = says_on k k' es more t l.says;
     handed = took_handed more k k' t ∙ l.handed ∙ ap (λ (o : Option Request). length (answers_in es) + (if is_some o then 1 else 0)) waits ∙ (let n : ℕ = length (answers_in es) in let e : n + 1 ≡ n + 1 + 0 = omega arith in e) ∙ ap (λ (n : ℕ). n + 0) (sym longer);
     next = λ q none. absurd (let e : ◌≡◌ {A = Option Request} None (Some q) = none in cc);
+    sent = λ s. absurd (let e : false ≡ true = s in cc);
+    asked = l.asked ∙ ap (λ (qs : List Request). map Asks qs ++ stop_of line) (sym grown);
     over = λ o lives. ended_on es more (l.over o (Took_lives more k k' t lives));
   }
     where
@@ -177,14 +245,23 @@ module _ (ts : List Telling) (keeper : Keeping) (script : Script) where
       longer : length (answers_in (es ++ more)) ≡ length (answers_in es) + 1
       longer = ap length same ∙ snoc (answers_in es)
 
+      one_more : replies_in (es ++ more) ≡ replies_in es ++ record { child = r.child; answer = a } ∷ []
+      one_more = flat_map-append reply_in es more ∙ ap (λ (xs : List Reply). replies_in es ++ xs) reply
+
+      as_many : length (answers_in (es ++ more)) + 0 ≡ put_count line es
+      as_many = (let n = longer in let e : length (answers_in (es ++ more)) + 0 ≡ length (answers_in es) + 1 = omega (arith, n) in e) ∙ ap (λ (b : Bool). length (answers_in es) + (if b then 1 else 0)) (sym sent)
+
+      grown : take (length (answers_in (es ++ more)) + 0) (asked_by (es ++ more)) ≡ take (put_count line es) (asked_by es)
+      grown = ap (λ (n : ℕ). take n (asked_by (es ++ more))) as_many ∙ ap (take (put_count line es)) on.asked ∙ take-append-le (put_count line es) (asked_by es) on.more (put_within line k es l)
+
   pub asked_line : (at : ℕ) (line : Line) (request : Option Request) (old new : Book) → at < length old.hall → line.awaited ≡ None → Requested (at + 1) old.hall request new.hall → new.log.items ≡ old.log.items →
-      InLine ts keeper script at line old → InLine ts keeper script at (record line { awaited = request }) new
+      InLine rings keeper script at line old → InLine rings keeper script at (record line { awaited = request }) new
   asked_line at line request old new lt free req log (k, here, l) =
       let h = handed_at at request old.hall new.hall lt req in
       let is : h.0 ≡ k = one_there h.0 k (sym h.2 ∙ here) in (
         h.1,
         ap (λ (ks : List Kept). slice_get ks at) h.4 ∙ set_here at old.hall k h.1 here,
-        subst (λ (es : List HallEvent). IsInLine ts keeper script (record line { awaited = request }) h.1 (own (at + 1) es)) (sym log)
+        subst (λ (es : List HallEvent). IsInLine rings keeper script (record line { awaited = request }) h.1 (own (at + 1) es)) (sym log)
             (asked line request k h.1 (own (at + 1) old.log.items) free (subst (λ (x : Kept). HandsOut x request h.1) is h.3) l),
       )
 
@@ -192,57 +269,115 @@ module _ (ts : List Telling) (keeper : Keeping) (script : Script) where
   number at = omega arith
 
   pub passed_line : (at : ℕ) (line : Line) (e : HallEvent) (old new : Book) → AllTook 1 (e ∷ []) old.hall new.hall → new.log.items ≡ old.log.items ++ e ∷ [] → answers_in (own (at + 1) (e ∷ [])) ≡ [] →
-      InLine ts keeper script at line old → InLine ts keeper script at line new
+      InLine rings keeper script at line old → InLine rings keeper script at line new
   passed_line at line e old new t log none (k, here, l) =
       let w = took_at 1 at (e ∷ []) old.hall new.hall k t here in
       let took : Took k (own (at + 1) (e ∷ [])) w.0 = subst (λ (n : ℕ). Took k (own n (e ∷ [])) w.0) (number at) w.2 in
-      (w.0, w.1, subst (IsInLine ts keeper script line w.0) (sym (ap (own (at + 1)) log ∙ own-append (at + 1) old.log.items (e ∷ []))) (passed line k w.0 (own (at + 1) old.log.items) (own (at + 1) (e ∷ [])) took none l))
+      (w.0, w.1, subst (IsInLine rings keeper script line w.0) (sym (ap (own (at + 1)) log ∙ own-append (at + 1) old.log.items (e ∷ []))) (passed line k w.0 (own (at + 1) old.log.items) (own (at + 1) (e ∷ [])) took none l))
 
-  pub answered_line : (us : List Telling) → IsWithin ts us → (at : ℕ) (line : Line) (e : HallEvent) (old new : Book) (r : Request) (a : Answer) → AllTook 1 (e ∷ []) old.hall new.hall → new.log.items ≡ old.log.items ++ e ∷ [] → answers_in (own (at + 1) (e ∷ [])) ≡ a ∷ [] →
-      line.awaited ≡ Some r → Contains us (record { name = line.name; call = line.last + 1; request = r; answer = a }) → InLine ts keeper script at line old → InLine us keeper script at (record line { last = line.last + 1; awaited = None }) new
-  answered_line us within at line e old new r a t log one waits is (k, here, l) =
+  pub answered_line : (us : List Telling) → IsWithin rings.told us → (at : ℕ) (line : Line) (e : HallEvent) (old new : Book) (r : Request) (a : Answer) → AllTook 1 (e ∷ []) old.hall new.hall → new.log.items ≡ old.log.items ++ e ∷ [] → answers_in (own (at + 1) (e ∷ [])) ≡ a ∷ [] →
+      replies_in (own (at + 1) (e ∷ [])) ≡ record { child = r.child; answer = a } ∷ [] → IsTrue line.sent → line.awaited ≡ Some r → Contains us (record { name = line.name; call = line.last + 1; request = r; answer = a }) →
+      InLine rings keeper script at line old → InLine (record rings { told = us }) keeper script at (record line { last = line.last + 1; awaited = None; sent = false }) new
+  answered_line us within at line e old new r a t log one reply sent waits is (k, here, l) =
       let w = took_at 1 at (e ∷ []) old.hall new.hall k t here in
       let took : Took k (own (at + 1) (e ∷ [])) w.0 = subst (λ (n : ℕ). Took k (own n (e ∷ [])) w.0) (number at) w.2 in (
         w.0,
         w.1,
-        subst (IsInLine us keeper script (record line { last = line.last + 1; awaited = None }) w.0) (sym (ap (own (at + 1)) log ∙ own-append (at + 1) old.log.items (e ∷ [])))
-            (answered us within line k w.0 (own (at + 1) old.log.items) (own (at + 1) (e ∷ [])) r a took one waits is l),
+        subst (IsInLine (record rings { told = us }) keeper script (record line { last = line.last + 1; awaited = None; sent = false }) w.0) (sym (ap (own (at + 1)) log ∙ own-append (at + 1) old.log.items (e ∷ [])))
+            (answered us within line k w.0 (own (at + 1) old.log.items) (own (at + 1) (e ∷ [])) r a took one reply sent waits is l),
       )
 
   -- what is known to have been told may be more than before
-  pub more_told : (us : List Telling) → IsWithin ts us → (at : ℕ) (line : Line) (book : Book) → InLine ts keeper script at line book → InLine us keeper script at line book
+  pub more_told : (us : List Telling) → IsWithin rings.told us → (at : ℕ) (line : Line) (book : Book) → InLine rings keeper script at line book → InLine (record rings { told = us }) keeper script at line book
   more_told us within at line book (k, here, l) = (
     k,
     here,
     record {
       name = l.name;
       last = l.last;
-      answers = among_more ts us within keeper.name keeper.made (answers_in (own (at + 1) book.log.items)) (asked_by (own (at + 1) book.log.items)) l.answers;
+      answers = among_more rings.told us within keeper.name keeper.made (answers_in (own (at + 1) book.log.items)) (asked_by (own (at + 1) book.log.items)) l.answers;
+      children = l.children;
       says = l.says;
       handed = l.handed;
       next = l.next;
+      sent = l.sent;
+      asked = l.asked;
       over = l.over;
     },
   )
 
-  -- the session of a script has an ending
-  pub ended_line : (at : ℕ) (line : Line) (book : Book) → ((k : Kept) → slice_get book.hall at ≡ Some k → IsTrue k.lives → (left k []).ending ≢ Waiting) → InLine ts keeper script at line book → InLine ts keeper script at (record line { over = true }) book
-  ended_line at line book ended (k, here, l) = (
+  -- the request that waits is put to the hand
+  pub sent_line : (at : ℕ) (line : Line) (r : Request) (book : Book) → line.over ≡ false → line.sent ≡ false → line.awaited ≡ Some r → InLine rings keeper script at line book → InLine (asking rings (Asks r ∷ [])) keeper script at (record line { sent = true }) book
+  sent_line at line r book open_still unsent waits (k, here, l) = (
     k,
     here,
     record {
       name = l.name;
       last = l.last;
       answers = l.answers;
+      children = l.children;
       says = l.says;
       handed = l.handed;
       next = l.next;
+      sent = λ s. ap is_some waits;
+      asked =
+          ap (λ (ps : List Put). ps ++ Asks r ∷ []) was
+          ∙ sym (map_one (take count asks) r)
+          ∙ ap (map Asks) (sym (take_one count asks r (l.next r waits)))
+          ∙ ap (λ (n : ℕ). map Asks (take n asks)) (let e : suc count ≡ count + 1 = omega arith in e)
+          ∙ sym (append-nil (map Asks (take (count + 1) asks)))
+          ∙ ap (λ (b : Bool). map Asks (take (count + 1) asks) ++ (if b then Stops ∷ [] else [])) (sym open_still);
+      over = l.over;
+    },
+  )
+    where
+      asks : List Request
+      asks = asked_by (own (at + 1) book.log.items)
+
+      count : ℕ
+      count = length (answers_in (own (at + 1) book.log.items))
+
+      was : rings.asked ≡ map Asks (take count asks)
+      was =
+          l.asked
+          ∙ ap (λ (b : Bool). map Asks (take (count + (if b then 1 else 0)) asks) ++ stop_of line) unsent
+          ∙ ap (λ (b : Bool). map Asks (take (count + 0) asks) ++ (if b then Stops ∷ [] else [])) open_still
+          ∙ append-nil (map Asks (take (count + 0) asks))
+          ∙ ap (λ (n : ℕ). map Asks (take n asks)) (let e : count + 0 ≡ count = omega arith in e)
+
+  -- the session of a script has an ending
+  pub ended_line : (at : ℕ) (line : Line) (book : Book) → line.over ≡ false → ((k : Kept) → slice_get book.hall at ≡ Some k → IsTrue k.lives → (left k []).ending ≢ Waiting) →
+      InLine rings keeper script at line book → InLine (asking rings (Stops ∷ [])) keeper script at (record line { over = true }) book
+  ended_line at line book open_still ended (k, here, l) = (
+    k,
+    here,
+    record {
+      name = l.name;
+      last = l.last;
+      answers = l.answers;
+      children = l.children;
+      says = l.says;
+      handed = l.handed;
+      next = l.next;
+      sent = l.sent;
+      asked = ap (λ (ps : List Put). ps ++ Stops ∷ []) (l.asked ∙ ap (λ (b : Bool). asks ++ (if b then Stops ∷ [] else [])) open_still ∙ append-nil asks);
       over = λ o lives. subst (λ (r : Report). r.ending ≢ Waiting) (l.says lives [] ∙ ap (meaning script.source script.settings) (append-nil (own (at + 1) book.log.items))) (ended k here lives);
     },
   )
+    where
+      asks : List Put
+      asks = map Asks (take (put_count line (own (at + 1) book.log.items)) (asked_by (own (at + 1) book.log.items)))
+
+  -- the request that waits names a child from 1 to 16, so a hall takes its answer
+  pub never_refused : (at : ℕ) (line : Line) (book : Book) (r : Request) (a : Answer) (e : HallEvent) → e ≡ answer_at at r.child book.stamp a → book.stamp ≤ 9000000000000000 → line.awaited ≡ Some r → InLine rings keeper script at line book →
+      refusal_of (length book.hall) e ≢ None → ⊥
+  never_refused at line book r a e is early waits (k, here, l) refused =
+      let es = own (at + 1) book.log.items in
+      let names = all_there (asked_by es) (length (answers_in es)) r (all_name_a_child script.source script.settings es) (l.next r waits) in
+      refused (ap (refusal_of (length book.hall)) is ∙ answer_taken (length book.hall) at r.child book.stamp a (slice_get_within book.hall at k here) names.0 names.1 early)
 
   -- and at the end
-  pub means : (at : ℕ) (line : Line) (book : Book) (r : Report) → MatchOption (session_at (at + 1) book.hall) ⊥ (λ (k : Kept). Reports k r) → InLine ts keeper script at line book → Means script line (own (at + 1) book.log.items) r
+  pub means : (at : ℕ) (line : Line) (book : Book) (r : Report) → MatchOption (session_at (at + 1) book.hall) ⊥ (λ (k : Kept). Reports k r) → InLine rings keeper script at line book → Means script line (own (at + 1) book.log.items) r
   means at line book r reported (k, here, l) = by_life k.lives refl
     where
       es : List Event
@@ -259,26 +394,39 @@ module _ (ts : List Telling) (keeper : Keeping) (script : Script) where
       by_life false spent = inr (reports.spent spent)
 
 pub passes_all : (e : HallEvent) (took : Bool) (old new : Book) → Enters e took old new → PassesAll e old new
-passes_all e true old new t ts keeper script at line none l = passed_line ts keeper script at line e old new t.1 t.2 none l
-passes_all e false old new t ts keeper script at line none l = subst (InLine ts keeper script at line) (sym t) l
+passes_all e true old new t rings keeper script at line none l = passed_line rings keeper script at line e old new t.1 t.2 none l
+passes_all e false old new t rings keeper script at line none l = subst (InLine rings keeper script at line) (sym t.0) l
 
 -- at the start
-pub first_line : (name calls at : ℕ) (script : Script) (k : Kept) (book : Book) → slice_get book.hall at ≡ Some k → book.log.items ≡ [] → Begins script k → InLine [] (record { name = name; made = calls }) script at (record { name = name; last = calls; awaited = None; over = false }) book
+pub first_line : (name calls at : ℕ) (script : Script) (k : Kept) (book : Book) → slice_get book.hall at ≡ Some k → book.log.items ≡ [] → Begins script k → InLine no_rings (record { name = name; made = calls }) script at (record { name = name; last = calls; awaited = None; sent = false; over = false }) book
 first_line name calls at script k book here empty b = (
   k,
   here,
-  subst (λ (es : List HallEvent). IsInLine [] (record { name = name; made = calls }) script (record { name = name; last = calls; awaited = None; over = false }) k (own (at + 1) es)) (sym empty) (record {
+  subst (λ (es : List HallEvent). IsInLine no_rings (record { name = name; made = calls }) script (record { name = name; last = calls; awaited = None; sent = false; over = false }) k (own (at + 1) es)) (sym empty) (record {
     name = refl;
     last = (let e : calls ≡ calls + 0 = omega arith in e);
     answers = tt;
+    children = tt;
     says = b.says;
     handed = b.handed ∙ (let e : 0 ≡ 0 + 0 = omega arith in e);
     next = λ r none. absurd (let e : ◌≡◌ {A = Option Request} None (Some r) = none in cc);
+    sent = λ s. absurd (let e : false ≡ true = s in cc);
+    asked = refl;
     over = λ o lives. absurd (let e : false ≡ true = o in cc);
   }),
 )
 
 pub reported_means : (at : ℕ) (book : Book) (o : Result Report ReportFault) → Reported (at + 1) book.hall o →
-    IfOk o (λ r. (ts : List Telling) (keeper : Keeping) (script : Script) (line : Line) → InLine ts keeper script at line book → Means script line (own (at + 1) book.log.items) r)
-reported_means at book (Ok r) h = λ ts keeper script line l. means ts keeper script at line book r h l
+    IfOk o (λ r. (rings : Rings) (keeper : Keeping) (script : Script) (line : Line) → InLine rings keeper script at line book → Means script line (own (at + 1) book.log.items) r)
+reported_means at book (Ok r) h = λ rings keeper script line l. means rings keeper script at line book r h l
 reported_means at book (Err f) h = tt
+
+nothing_at : {X : Type 0} (i : ℕ) (xs : List X) → slice_get xs i ≡ None → length xs ≤ i
+nothing_at i [] none = omega arith
+nothing_at zero (x ∷ xs) none = absurd (nothing_there x (sym none))
+nothing_at (suc i) (x ∷ xs) none = let le = nothing_at i xs none in omega (arith, le)
+
+pub reported_missing : (at : ℕ) (book : Book) (o : Result Report ReportFault) → Reported (at + 1) book.hall o → IfErr o (λ fault. fault ≡ reports.NoSuchScript → length book.hall ≤ at)
+reported_missing at book (Ok r) h = tt
+reported_missing at book (Err reports.NoSuchScript) h = λ is. nothing_at at book.hall (sym (numbered at book.hall) ∙ h)
+reported_missing at book (Err reports.Memory) h = λ is. absurd (let e : ◌≡◌ {A = ReportFault} reports.Memory reports.NoSuchScript = is in cc)

@@ -1,5 +1,5 @@
 -- A hall, and the record of what it took.
-use Rattle.std.specs.Prelude.{◌≡◌, ℕ, ◌≤◌, nat_lt, List, [], ◌∷◌, ◌++◌, length, Bool, true, false, Option, None, Some}
+use Rattle.std.specs.Prelude.{◌≡◌, ◌≢◌, ℕ, ◌≤◌, nat_lt, List, [], ◌∷◌, ◌++◌, length, Bool, true, false, Option, None, Some}
 use Rattle.std.specs.List.{AllByRecursion}
 use Rattle.child_events.specs.declared.event.HallEvent.{HallEvent}
 use Rattle.child_events.specs.declared.event.HallEvent.TheVariants as hall
@@ -32,7 +32,7 @@ pub record IsRecord (book : Book) : Type 0 where
 -- the hall took the event and the record has it, or the hall refuses it and nothing changed
 abbrev pub Enters : HallEvent → Bool → Book → Book → Type 0
 Enters e true old new = (refusal_of (length old.hall) e ≡ None) × AllTook 1 (e ∷ []) old.hall new.hall × (new.log.items ≡ old.log.items ++ e ∷ []) × (new.stamp ≡ old.stamp)
-Enters e false old new = new ≡ old
+Enters e false old new = (new ≡ old) × (refusal_of (length old.hall) e ≢ None)
 
 -- the moment is behind another, where there is one
 abbrev pub is_behind : ℕ → Option ℕ → Bool

@@ -3,3 +3,4 @@ pub mod Book
 pub mod Line
 pub mod Ends
 pub mod Heard
+pub mod Turn

@@ -1,5 +1,5 @@
 -- A script in its line.
-use Rattle.std.specs.Prelude.{◌≡◌, ◌≢◌, ◌⊎◌, ℕ, ◌+◌, List, [], ◌∷◌, ◌++◌, length, slice_get, Bool, true, false, IsTrue, is_some, if◌then◌else◌, Option, Some}
+use Rattle.std.specs.Prelude.{◌≡◌, ◌≢◌, ◌⊎◌, ℕ, ◌+◌, List, [], ◌∷◌, ◌++◌, length, map, take, slice_get, Bool, true, false, IsTrue, is_some, if◌then◌else◌, Option, Some, None}
 use Rattle.std.specs.declared.io.traits.Read.{Ghosts as ReadGhosts}
 use Rattle.child_events.specs.declared.event.Answer.{Answer}
 use Rattle.child_events.specs.declared.event.Event.{Event}
@@ -18,7 +18,7 @@ use Rattle.child_keeper.specs.declared.keeper.Keeper.{Ghosts}
 use Rattle.child_keeper.specs.declared.items.Item.{Item}
 use Rattle.feed_rings.specs.Ends.{taken_items, SameOut, IsFinishedOf}
 use Rattle.feed_rings.specs.declared.feed.Finished.{Finished}
-use Rattle.child_desk.specs.Told.{Telling, answers_in, AreAmong, heard_of_hand}
+use Rattle.child_desk.specs.Told.{answers_in, replies_in, AreAmong, AreOf, Asks, Stops, Rings, asked_of_hand, rings_of}
 use Rattle.child_desk.specs.Book.{IsRecord}
 use Rattle.child_desk.specs.declared.book.Book.{Book}
 use Rattle.child_desk.specs.declared.line.Line.{Line}
@@ -33,25 +33,29 @@ pub record Keeping : Type 0 where
 abbrev pub answer_at : ℕ → ℕ → ℕ → Answer → HallEvent
 answer_at at child moment a = hall.Child (at + 1) child moment (what.Answer a)
 
--- Of a script whose part of the record is es, and whose session is k: the answers were told for its requests in order by its keeper's calls in order, the
--- session says what the script means, the request that waits is the next one without an answer, and a script that is over has an ending.
-pub record IsInLine (ts : List Telling) (keeper : Keeping) (script : Script) (line : Line) (k : Kept) (es : List Event) : Type 0 where
+-- Of a script whose part of the record is es, and whose session is k: the answers were told for its requests in order by its keeper's calls in order, each
+-- of the child of its request; the session says what the script means; the request that waits is the next one without an answer; what was put to the hand are
+-- its requests in order, those that have answers and the one that was sent, and then the stop, where it is over; one that is over has an ending.
+pub record IsInLine (rings : Rings) (keeper : Keeping) (script : Script) (line : Line) (k : Kept) (es : List Event) : Type 0 where
   pub name : line.name ≡ keeper.name
   pub last : line.last ≡ keeper.made + length (answers_in es)
-  pub answers : AreAmong ts keeper.name keeper.made (answers_in es) (meaning script.source script.settings es).requests
+  pub answers : AreAmong rings.told keeper.name keeper.made (answers_in es) (meaning script.source script.settings es).requests
+  pub children : AreOf (replies_in es) (meaning script.source script.settings es).requests
   pub says : IsTrue k.lives → (later : List Event) → left k later ≡ meaning script.source script.settings (es ++ later)
   pub handed : k.handed ≡ length (answers_in es) + (if is_some line.awaited then 1 else 0)
   pub next : (request : Request) → line.awaited ≡ Some request → slice_get (meaning script.source script.settings es).requests (length (answers_in es)) ≡ Some request
+  pub sent : IsTrue line.sent → IsTrue (is_some line.awaited)
+  pub asked : rings.asked ≡ map Asks (take (length (answers_in es) + (if line.sent then 1 else 0)) (meaning script.source script.settings es).requests) ++ (if line.over then Stops ∷ [] else [])
   pub over : IsTrue line.over → IsTrue k.lives → (meaning script.source script.settings es).ending ≢ Waiting
 
--- the script at a place of the hall, whose keeper is known to have told these
-abbrev pub InLine : List Telling → Keeping → Script → ℕ → Line → Book → Type 0
-InLine ts keeper script at line book = (k : Kept) × (slice_get book.hall at ≡ Some k) × IsInLine ts keeper script line k (own (at + 1) book.log.items)
+-- the script at a place of the hall, of whose rings this is known
+abbrev pub InLine : Rings → Keeping → Script → ℕ → Line → Book → Type 0
+InLine rings keeper script at line book = (k : Kept) × (slice_get book.hall at ≡ Some k) × IsInLine rings keeper script line k (own (at + 1) book.log.items)
 
 -- an event that answers nothing of a script leaves that script in its line
 abbrev pub PassesAll : HallEvent → Book → Book → Type 0
-PassesAll e old new = (ts : List Telling) (keeper : Keeping) (script : Script) (at : ℕ) (line : Line) → answers_in (own (at + 1) (e ∷ [])) ≡ [] →
-    InLine ts keeper script at line old → InLine ts keeper script at line new
+PassesAll e old new = (rings : Rings) (keeper : Keeping) (script : Script) (at : ℕ) (line : Line) → answers_in (own (at + 1) (e ∷ [])) ≡ [] →
+    InLine rings keeper script at line old → InLine rings keeper script at line new
 
 -- a report of a script over its own part of the record, which has an ending where the script is over; or the script was refused memory
 abbrev pub Means : Script → Line → List Event → Report → Type 0
@@ -59,16 +63,17 @@ Means script line es r = ((r ≡ meaning script.source script.settings es) × (I
 
 -- What a call at a desk keeps, of a book and of each script in its line.
 
--- each script stays in its line as it was
+-- each script stays in its line as it was, and no answer is recorded
 pub record Leaves (old new : Book) : Type 0 where
-  pub lines : (ts : List Telling) (keeper : Keeping) (script : Script) (at : ℕ) (line : Line) → InLine ts keeper script at line old → InLine ts keeper script at line new
+  pub lines : (rings : Rings) (keeper : Keeping) (script : Script) (at : ℕ) (line : Line) → InLine rings keeper script at line old → InLine rings keeper script at line new
+  pub answers : (script : ℕ) → replies_in (own script new.log.items) ≡ replies_in (own script old.log.items)
   pub book : IsRecord old → IsRecord new
   pub halls : length new.hall ≡ length old.hall
 
--- the script at a place goes on in its line, whose keeper was known to have told these, and then those; each other stays in its line as it was
-pub record Keeps (ts ts' : List Telling) (at : ℕ) (line : Line) (old : Book) (line' : Line) (new : Book) : Type 0 where
-  pub here : (keeper : Keeping) (script : Script) → InLine ts keeper script at line old → InLine ts' keeper script at line' new
-  pub others : (us : List Telling) (keeper : Keeping) (script : Script) (i : ℕ) (other : Line) → i ≢ at → InLine us keeper script i other old → InLine us keeper script i other new
+-- the script at a place goes on in its line, of whose rings this was known, and then that; each other stays in its line as it was
+pub record Keeps (rings rings' : Rings) (at : ℕ) (line : Line) (old : Book) (line' : Line) (new : Book) : Type 0 where
+  pub here : (keeper : Keeping) (script : Script) → InLine rings keeper script at line old → InLine rings' keeper script at line' new
+  pub others : (theirs : Rings) (keeper : Keeping) (script : Script) (i : ℕ) (other : Line) → i ≢ at → InLine theirs keeper script i other old → InLine theirs keeper script i other new
   pub book : IsRecord old → IsRecord new
   pub halls : length new.hall ≡ length old.hall
 
@@ -81,9 +86,10 @@ module _ {K O : Type 0} {g : Ghosts K O} {r : ReadGhosts O} where
   abbrev pub SameRings : List (Ends K O g r) → List (Ends K O g r) → Type 0
   SameRings ends ends' = (at : ℕ) (e : Ends K O g r) → slice_get ends at ≡ Some e → (e' : Ends K O g r) × (slice_get ends' at ≡ Some e') × SameOut e.answers e'.answers
 
-  -- nothing is taken from them
+  -- nothing is taken from them, and nothing more is put to hands
   pub record HearsNoHand (ends ends' : List (Ends K O g r)) : Type 0 where
-    pub each : (at : ℕ) (e : Ends K O g r) → slice_get ends at ≡ Some e → (e' : Ends K O g r) × (slice_get ends' at ≡ Some e') × SameOut e.answers e'.answers × (taken_items e'.answers ≡ taken_items e.answers)
+    pub each : (at : ℕ) (e : Ends K O g r) → slice_get ends at ≡ Some e →
+        (e' : Ends K O g r) × (slice_get ends' at ≡ Some e') × SameOut e.answers e'.answers × (taken_items e'.answers ≡ taken_items e.answers) × (asked_of_hand e' ≡ asked_of_hand e)
     pub count : length ends' ≡ length ends
 
   -- these items begin those
@@ -100,8 +106,8 @@ module _ {K O : Type 0} {g : Ghosts K O} {r : ReadGhosts O} where
 
   -- each script goes on in its line
   pub record KeepsAll (lines : List Line) (ends : List (Ends K O g r)) (old : Book) (lines' : List Line) (ends' : List (Ends K O g r)) (new : Book) : Type 0 where
-    pub each : (keeper : Keeping) (script : Script) (at : ℕ) (line : Line) (e : Ends K O g r) → slice_get lines at ≡ Some line → slice_get ends at ≡ Some e → InLine (heard_of_hand e.answers) keeper script at line old →
-        (line' : Line) × (e' : Ends K O g r) × (slice_get lines' at ≡ Some line') × (slice_get ends' at ≡ Some e') × InLine (heard_of_hand e'.answers) keeper script at line' new
+    pub each : (keeper : Keeping) (script : Script) (at : ℕ) (line : Line) (e : Ends K O g r) → slice_get lines at ≡ Some line → slice_get ends at ≡ Some e → InLine (rings_of e) keeper script at line old →
+        (line' : Line) × (e' : Ends K O g r) × (slice_get lines' at ≡ Some line') × (slice_get ends' at ≡ Some e') × InLine (rings_of e') keeper script at line' new
     pub rings : SameRings ends ends'
     pub book : IsRecord old → IsRecord new
     pub halls : length new.hall ≡ length old.hall
@@ -109,7 +115,7 @@ module _ {K O : Type 0} {g : Ghosts K O} {r : ReadGhosts O} where
 
 -- a script of this ending goes on, or it has ended
 abbrev pub Goes : Option Ending → Bool → Type 0
-Goes ending true = Unit {0}
+Goes ending true = (ending ≡ None) ⊎ (ending ≡ Some Waiting)
 Goes ending false = (e : Ending) × (ending ≡ Some e) × (e ≢ Waiting)
 
 -- each script is over

@@ -1,5 +1,5 @@
 -- The answers in a script's part of the record, and what its keeper told.
-use Rattle.std.specs.Prelude.{ℕ, ◌+◌, List, [], ◌∷◌, Option, None, Some, Contains}
+use Rattle.std.specs.Prelude.{◌≡◌, ℕ, ◌+◌, List, [], ◌∷◌, ◌++◌, map, Option, None, Some, Contains}
 use Rattle.std.specs.List.{flat_map}
 use Rattle.std.specs.declared.io.traits.Read.{Ghosts as ReadGhosts}
 use Rattle.child_events.specs.declared.event.Answer.{Answer}
@@ -11,8 +11,9 @@ use Rattle.child_keeper.specs.declared.items.Answered.{Answered}
 use Rattle.child_keeper.specs.declared.items.Item.{Item}
 use Rattle.child_keeper.specs.declared.items.Item.TheVariants as item
 use Rattle.child_keeper.specs.declared.keeper.Keeper.{Ghosts}
-use Rattle.feed_rings.specs.Ends.{taken_items}
+use Rattle.feed_rings.specs.Ends.{put_items, taken_items}
 use Rattle.feed_rings.specs.declared.feed.FeedOut.{FeedOut}
+use Rattle.child_desk.specs.declared.ends.Ends.{Ends}
 
 -- the answers among events, in order
 abbrev pub answer_in : Event → List Answer
@@ -24,6 +25,28 @@ answer_in (event.Child c m (what.ReadFail cause)) = []
 
 abbrev pub answers_in : List Event → List Answer
 answers_in es = flat_map answer_in es
+
+-- an answer, and the child that it names
+pub record Reply : Type 0 where
+  pub child : ℕ
+  pub answer : Answer
+
+-- the answers among events, with their children
+abbrev pub reply_in : Event → List Reply
+reply_in (event.Tick m) = []
+reply_in (event.Child c m (what.Answer a)) = record { child = c; answer = a } ∷ []
+reply_in (event.Child c m (what.Out piece)) = []
+reply_in (event.Child c m what.Eof) = []
+reply_in (event.Child c m (what.ReadFail cause)) = []
+
+abbrev pub replies_in : List Event → List Reply
+replies_in es = flat_map reply_in es
+
+-- each answer names the child of the request in the same place
+abbrev pub AreOf : List Reply → List Request → Type 0
+AreOf [] qs = Unit {0}
+AreOf (x ∷ xs) [] = ⊥
+AreOf (x ∷ xs) (q ∷ qs) = (x.child ≡ q.child) × AreOf xs qs
 
 -- Each answer was told by the call of its number, counted behind n, as the answer to the request in the same place; there are no more answers than
 -- requests.
@@ -45,6 +68,29 @@ abbrev pub AreAmong : List Telling → ℕ → ℕ → List Answer → List Requ
 AreAmong ts name n [] qs = Unit {0}
 AreAmong ts name n (a ∷ xs) [] = ⊥
 AreAmong ts name n (a ∷ xs) (q ∷ qs) = Contains ts (record { name = name; call = n + 1; request = q; answer = a }) × AreAmong ts name (n + 1) xs qs
+
+-- what is put to a script's hand: a request or the stop
+pub data Put : Type 0 where
+  Asks : (request : Request) → Put
+  Stops : Put
+  Else : Put
+
+-- what is known of a script's rings to its hand and from it: what its keeper told, and what was put, or waits for room
+pub record Rings : Type 0 where
+  pub told : List Telling
+  pub asked : List Put
+
+-- rings through which nothing has come
+abbrev pub no_rings : Rings
+no_rings = record { told = []; asked = [] }
+
+-- more was told
+abbrev pub telling : Rings → List Telling → Rings
+telling rings more = record rings { told = rings.told ++ more }
+
+-- more was put
+abbrev pub asking : Rings → List Put → Rings
+asking rings more = record rings { asked = rings.asked ++ more }
 
 module _ {K O : Type 0} {g : Ghosts K O} {r : ReadGhosts O} where
   abbrev pub telling_of : Answered K O g r → Telling
@@ -69,3 +115,22 @@ module _ {K O : Type 0} {g : Ghosts K O} {r : ReadGhosts O} where
   -- what the items tell that were taken from a ring
   abbrev pub heard_of_hand : FeedOut (Item K O g r) → List Telling
   heard_of_hand out = all_told (taken_items out)
+
+  abbrev pub put_of : Item K O g r → Put
+  put_of (item.Ask request) = Asks request
+  put_of item.Stop = Stops
+  put_of (item.Answer s a) = Else
+  put_of (item.Out s c piece) = Else
+  put_of (item.End s c) = Else
+  put_of (item.ReadFail s c cause) = Else
+
+  abbrev pub waiting : Option (Item K O g r) → List Put
+  waiting None = []
+  waiting (Some x) = put_of x ∷ []
+
+  -- what was put to the hand, and then what waits for room
+  abbrev pub asked_of_hand : Ends K O g r → List Put
+  asked_of_hand e = map put_of (put_items e.asks) ++ waiting e.ready
+
+  abbrev pub rings_of : Ends K O g r → Rings
+  rings_of e = record { told = heard_of_hand e.answers; asked = asked_of_hand e }

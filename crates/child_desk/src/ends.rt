@@ -1,8 +1,8 @@
 //! A script's ends of its rings.
 
-ghost use Rattle.std.specs.Prelude.{◌≡◌, ◌≤◌, ◌++◌};
+ghost use Rattle.std.specs.Prelude.{◌≡◌, ◌≤◌, ◌++◌, [], ◌∷◌, None, OnOk, IfErr, is_some};
 ghost use Rattle.feed_rings.specs.Ends.{taken_items, all_put, SameOut, IsFinishedOf};
-ghost use Rattle.child_desk.specs.Told.{tells, told_of, heard_of_hand};
+ghost use Rattle.child_desk.specs.Told.{Asks, Stops, tells, told_of, heard_of_hand, asked_of_hand};
 ghost use Rattle.child_desk.specs.Line.{TakesNone, IsFrontOf};
 
 use crate::readers::{Readers, Taken, is_last};
@@ -16,15 +16,13 @@ use std::alloc::{AllocError, Global};
 #[derive(Drop)]
 pub struct Ends<K: Keeper> {
     /// To its hand.
-    asks: FeedIn<Item<K>>,
+    pub asks: FeedIn<Item<K>>,
     /// From its hand.
     pub answers: FeedOut<Item<K>>,
     /// From the readers of its children.
     pub readers: Readers<K>,
     /// What waits for room in the ring to the hand.
-    ready: Option<Item<K>>,
-    /// The request that waits for its answer was put, or waits for room.
-    sent: bool,
+    pub ready: Option<Item<K>>,
     /// The greatest number of a child that was to be started.
     greatest: u8,
     /// How many children were started.
@@ -38,13 +36,14 @@ impl<K: Keeper> Ends<K> {
     pub fn new(asks: FeedIn<Item<K>>, answers: FeedOut<Item<K>>, readers: Readers<K>) -> Ends<K>
         ensures readers { result.readers ≡ readers }
         ensures answers { result.answers ≡ answers }
+        ensures asks { result.asks ≡ asks }
+        ensures ready { result.ready ≡ None }
     {
         Ends {
             asks,
             answers,
             readers,
             ready: None,
-            sent: false,
             greatest: 0,
             started: 0,
             ended: 0,
@@ -68,6 +67,7 @@ impl<K: Keeper> Ends<K> {
         ensures readers { self.new.readers ≡ self.old.readers }
         ensures ring { SameOut self.old.answers self.new.answers }
         ensures told { heard_of_hand self.new.answers ≡ heard_of_hand self.old.answers ++ told_of result }
+        ensures asked { asked_of_hand self.new ≡ asked_of_hand self.old }
     {
         let item = self.answers.take()?;
         answered_in(item)
@@ -78,6 +78,7 @@ impl<K: Keeper> Ends<K> {
         ensures readers { self.new.readers ≡ self.old.readers }
         ensures ring { SameOut self.old.answers self.new.answers }
         ensures taken { taken_items self.new.answers ≡ taken_items self.old.answers }
+        ensures asked { asked_of_hand self.new ≡ asked_of_hand self.old }
     {
         !self.answers.is_empty()
     }
@@ -89,6 +90,7 @@ impl<K: Keeper> Ends<K> {
         ensures ring { SameOut self.old.answers self.new.answers }
         ensures taken { taken_items self.new.answers ≡ taken_items self.old.answers }
         ensures front { IsFrontOf (taken_items self.new.answers) (all_put finished) }
+        ensures asked { asked_of_hand self.new ≡ asked_of_hand self.old }
     {
         let mut finished = finished;
         self.answers.left(&mut finished);
@@ -96,51 +98,58 @@ impl<K: Keeper> Ends<K> {
 
     /// Counts the output that ended with what was taken, where it did.
     pub(crate) fn count(&mut self, taken: &Taken)
-        ensures { TakesNone self.old self.new }
+        ensures rings { TakesNone self.old self.new }
+        ensures asked { asked_of_hand self.new ≡ asked_of_hand self.old }
     {
         if is_last(taken) {
             self.ended = self.ended.saturating_add(1);
         }
     }
 
-    /// Whether the request that waits for its answer was put, or waits for room.
-    pub(crate) fn is_sent(&self) -> bool {
-        self.sent
+    /// Counts a child, where it was started.
+    pub(crate) fn count_start(&mut self, started: bool)
+        ensures rings { TakesNone self.old self.new }
+        ensures asked { asked_of_hand self.new ≡ asked_of_hand self.old }
+    {
+        if started {
+            self.started = self.started.saturating_add(1);
+        }
+    }
+
+    /// Whether something waits for room in the ring to the hand.
+    pub(crate) fn is_waiting(&self) -> bool
+        ensures { result ≡ is_some self.now.ready }
+    {
+        self.ready.is_some()
     }
 
     /// Has a copy of a request put to the hand.
     pub(crate) fn send(&mut self, alloc: Global, request: &Request) -> Result<(), AllocError>
-        ensures { TakesNone self.old self.new }
+        requires { self.old.ready ≡ None }
+        ensures rings { TakesNone self.old self.new }
+        ensures asked { OnOk result (asked_of_hand self.new ≡ asked_of_hand self.old ++ Asks request.now ∷ []) }
+        ensures refused { IfErr result (λ _. asked_of_hand self.new ≡ asked_of_hand self.old) }
     {
         let copy = request.copied(alloc)?;
         if let Act::Spawn(_) = &request.act {
             self.greatest = self.greatest.max(request.child);
         }
         self.ready = Some(Item::Ask(copy));
-        self.sent = true;
         Ok(())
     }
 
-    /// The answer to what was sent was entered; it started a child or not.
-    pub(crate) fn go_on(&mut self, starts: bool)
-        ensures { TakesNone self.old self.new }
-    {
-        self.sent = false;
-        if starts {
-            self.started = self.started.saturating_add(1);
-        }
-    }
-
-    /// Has the stop put to the hand.
+    /// Has the stop put to the hand, in place of what waits for room.
     pub(crate) fn stop(&mut self)
-        ensures { TakesNone self.old self.new }
+        ensures rings { TakesNone self.old self.new }
+        ensures asked { self.old.ready ≡ None → asked_of_hand self.new ≡ asked_of_hand self.old ++ Stops ∷ [] }
     {
         self.ready = Some(Item::Stop);
     }
 
     /// Puts what waits for room. True where something was put.
     pub(crate) fn flush(&mut self) -> bool
-        ensures { TakesNone self.old self.new }
+        ensures rings { TakesNone self.old self.new }
+        ensures asked { asked_of_hand self.new ≡ asked_of_hand self.old }
     {
         let Some(item) = self.ready.take() else {
             return false;

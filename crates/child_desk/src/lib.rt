@@ -1,10 +1,12 @@
 //! A worker's desk: a hall with the ends of its scripts' rings, and the record of what came.
 #![tactic(auto)]
 
+mod attending;
 mod book;
 mod desk;
 mod ends;
 mod entering;
+mod hearing;
 mod line;
 mod readers;
 

@@ -1,11 +1,13 @@
 //! A script in its line: the request that waits for its answer, and the answers.
 
-ghost use Rattle.std.specs.Prelude.{◌≡◌, ◌+◌, ◌<◌, List, [], ◌∷◌, ◌++◌, false, length, IsTrue, IfOk, Some, None, vec_len, vec_capacity};
+ghost use Rattle.std.specs.Prelude.{◌≡◌, ◌≤◌, ◌+◌, ◌<◌, ◌↔◌, [], ◌∷◌, false, length, IsTrue, IfOk, IfErr, Some, None, vec_len, vec_capacity};
 ghost use Rattle.child_events.specs.World.{own};
 ghost use Rattle.dialogue_sched.specs.declared.script.Script.{Script};
-ghost use Rattle.child_desk.specs.Told.{Telling, telling_of};
+ghost use Rattle.dialogue_sched.specs.declared.hall.ReportFault.TheVariants.{NoSuchScript};
+ghost use Rattle.child_desk.specs.Told.{Rings, Stops, telling_of, telling, asking};
 ghost use Rattle.child_desk.specs.Line.{Keeping, answer_at, InLine, Keeps, Means, Goes};
 ghost use Rattle.child_desk.specs.Heard.{Unheard};
+ghost use Rattle.child_desk.specs.Turn.{Comes, IsAwaited, IsTold, HasNoRequest, Waits};
 
 use crate::book::Book;
 use crate::entering::enter;
@@ -24,6 +26,8 @@ pub struct Line {
     pub last: u64,
     /// The request that waits for its answer.
     pub awaited: Option<Request>,
+    /// It was put to the hand, or waits for room in the ring to it.
+    pub sent: bool,
     /// The script has ended.
     pub over: bool,
 }
@@ -31,12 +35,13 @@ pub struct Line {
 impl Line {
     /// Of a script to which nothing has happened, whose keeper has this name and has made so many calls.
     pub fn new(name: u64, calls: u64) -> Line
-        ensures { result ≡ record { name = name; last = calls; awaited = None; over = false } }
+        ensures { result ≡ record { name = name; last = calls; awaited = None; sent = false; over = false } }
     {
         Line {
             name,
             last: calls,
             awaited: None,
+            sent: false,
             over: false,
         }
     }
@@ -45,7 +50,8 @@ impl Line {
 /// What came of a script. Where its session lives, that is what the script means over its part of the record.
 pub fn report_at(book: &Book, at: usize) -> Result<Report, ReportFault>
     requires { at < 64 }
-    ensures { IfOk result (λ r. (ts : List Telling) (keeper : Keeping) (script : Script) (line : Line) → InLine ts keeper script at line book.now → Means script line (own (at + 1) book.now.log.items) r) }
+    ensures means { IfOk result (λ r. (rings : Rings) (keeper : Keeping) (script : Script) (line : Line) → InLine rings keeper script at line book.now → Means script line (own (at + 1) book.now.log.items) r) }
+    ensures missing { IfErr result (λ fault. fault ≡ NoSuchScript → length book.now.hall ≤ at) }
 {
     book.hall.report(at + 1)
 }
@@ -53,8 +59,11 @@ pub fn report_at(book: &Book, at: usize) -> Result<Report, ReportFault>
 /// Has the hall's next request wait for its answer, where none waits. No other script is touched.
 pub fn ask_next(book: &mut Book, line: &mut Line, at: usize)
     requires { (at < length book.old.hall) × (at < 64) }
-    ensures kept { (ts : List Telling) → Keeps ts ts at line.old book.old line.new book.new }
+    ensures kept { (rings : Rings) → Keeps rings rings at line.old book.old line.new book.new }
     ensures log { book.new.log.items ≡ book.old.log.items }
+    ensures comes { Comes at book.old book.new }
+    ensures line { line.new ≡ record line.old { awaited = line.new.awaited } }
+    ensures next { line.new.awaited ≡ None → HasNoRequest at book.new }
 {
     if line.awaited.is_some() {
         return;
@@ -62,23 +71,30 @@ pub fn ask_next(book: &mut Book, line: &mut Line, at: usize)
     line.awaited = book.hall.request(at + 1);
 }
 
-/// Whether it is the answer that is awaited: the keeper's next one, to the request that waits.
+/// Whether it is the answer that is awaited: of the keeper's next call, to the request that was sent.
 fn is_awaited<K: Keeper>(line: &Line, answered: &Answered<K>) -> bool
-    ensures { IsTrue result → (line.now.awaited ≡ Some answered.now.request) × (answered.now.name ≡ line.now.name) × (answered.now.call ≡ line.now.last + 1) }
+    ensures { IsTrue result ↔ IsAwaited line.now (telling_of answered.now) }
 {
-    let Some(awaited) = &line.awaited else {
-        return false;
-    };
-    if answered.name != line.name {
-        return false;
+    line.sent
+        && is_to_request(line, &answered.request)
+        && is_next(line, answered.name, answered.call)
+}
+
+/// Whether a request is the one that waits for its answer.
+fn is_to_request(line: &Line, request: &Request) -> bool
+    ensures { IsTrue result ↔ (line.now.awaited ≡ Some request.now) }
+{
+    match &line.awaited {
+        Some(awaited) => awaited.is_same(request),
+        None => false,
     }
-    if line.last == u64::MAX {
-        return false;
-    }
-    if answered.call != line.last + 1 {
-        return false;
-    }
-    awaited.is_same(&answered.request)
+}
+
+/// Whether a call is the next one of the script's keeper.
+fn is_next(line: &Line, name: u64, call: u64) -> bool
+    ensures { IsTrue result ↔ (name ≡ line.now.name) × (call ≡ line.now.last + 1) }
+{
+    name == line.name && line.last < call && call - line.last == 1
 }
 
 /// The event that an answer is to a script at a place.
@@ -94,13 +110,13 @@ fn answer_event(at: usize, child: u8, moment: u64, answer: Answer) -> HallEvent
     }
 }
 
-/// Nothing waits any more.
-fn go_on(line: &mut Line)
-    requires { line.old.last < 18446744073709551615 }
-    ensures { line.new ≡ record line.old { last = line.old.last + 1; awaited = None } }
+/// Nothing waits any more, behind the answer of a call.
+fn go_on(line: &mut Line, call: u64)
+    ensures { line.new ≡ record line.old { last = call; awaited = None; sent = false } }
 {
-    line.last += 1;
+    line.last = call;
     line.awaited = None;
+    line.sent = false;
 }
 
 /// Enters an answer, if it is the one that is awaited. Another one is passed over.
@@ -112,12 +128,15 @@ pub fn enter_answer<K: Keeper>(
 ) -> bool
     requires place { at < 64 }
     requires room { vec_len book.old.log < vec_capacity book.old.log }
-    ensures kept { (ts : List Telling) → Keeps ts (ts ++ telling_of answered ∷ []) at line.old book.old line.new book.new }
+    ensures kept { (rings : Rings) → Keeps rings (telling rings (telling_of answered ∷ [])) at line.old book.old line.new book.new }
     ensures silent { Unheard book.old.log.items book.new.log.items }
+    ensures comes { Comes at book.old book.new }
+    ensures entered { (rings : Rings) (keeper : Keeping) (script : Script) → InLine rings keeper script at line.old book.old → IsTold at line.old (telling_of answered) book.old book.new }
 {
     if !is_awaited(line, &answered) {
         return false;
     }
+    let call = answered.call;
     let child = answered.request.child;
     let answer = answered.answer;
     let event = answer_event(at, child, book.stamp, answer);
@@ -125,7 +144,7 @@ pub fn enter_answer<K: Keeper>(
     if !enter(book, event, copy) {
         return false;
     }
-    go_on(line);
+    go_on(line, call);
     true
 }
 
@@ -142,8 +161,10 @@ fn goes_on(ending: Option<Ending>) -> bool
 
 /// Says that a script is over, where it has ended. True where it has.
 pub fn enter_end(book: &Book, line: &mut Line, at: usize) -> bool
-    requires { at < 64 }
-    ensures { (ts : List Telling) → Keeps ts ts at line.old book.now line.new book.now }
+    requires place { at < 64 }
+    requires goes { line.old.over ≡ false }
+    ensures ended { IsTrue result → ((rings : Rings) → Keeps rings (asking rings (Stops ∷ [])) at line.old book.now line.new book.now) × IsTrue line.new.over }
+    ensures waits { result ≡ false → (line.new ≡ line.old) × Waits at book.now }
 {
     if goes_on(book.hall.ending(at + 1)) {
         return false;

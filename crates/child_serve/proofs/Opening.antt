@@ -1,6 +1,6 @@
 -- Rings that are made, hands that are started, and what they leave.
 use Rattle.std.proofs.Common.{◌≡◌, ◌⊎◌, inl, inr, ℕ, zero, suc, ◌+◌, ◌<◌, List, [], ◌∷◌, ◌++◌, length, Option, Some, None, refl, sym, ap, subst, ◌∙◌, arith}
-use Rattle.std.specs.Prelude.{slice_get, IfSome}
+use Rattle.std.specs.Prelude.{slice_get, map, IfSome}
 use Rattle.std.proofs.lemmas.Option.{slice_get_within}
 use Rattle.std.specs.declared.io.traits.Read.{Ghosts as ReadGhosts}
 use Rattle.std.specs.declared.thread.PromisedHandle.{PromisedHandle}
@@ -18,6 +18,7 @@ use Rattle.child_hands.specs.declared.work.Work.TheVariants.{Free, Ended}
 use Rattle.child_hands.specs.Handed.{IsHandEnd, IsGoing, IsWork, AreWorks, AreAnswers, requests_of}
 use Rattle.child_hands.specs.Pumped.{IsPumpList}
 use Rattle.child_desk.specs.declared.ends.Ends.{Ends}
+use Rattle.child_desk.specs.Told.{put_of, waiting, asked_of_hand}
 use Rattle.child_desk.proofs.Places.{nothing_there, one_there}
 use Rattle.child_serve.specs.Joined.{script_of}
 use Rattle.child_serve.specs.Given.{IsPut}
@@ -125,11 +126,15 @@ module _ {K O : Type 0} {g : Ghosts K O} {r : ReadGhosts O} where
       by_place i f o (inr a) (inr b) =
           subst (λ (x : Fresh K O g r). IsPair x.feed o) (free_there fresh f a.1) (subst (λ (x : FeedOut (Item K O g r)). IsPair fresh.feed x) b.1 pair)
 
+  -- nothing was put to it
+  pub none_asked : (e : Ends K O g r) → put_items e.asks ≡ [] → e.ready ≡ None → asked_of_hand e ≡ []
+  none_asked e none free = ap (λ (xs : List (Item K O g r)). map put_of xs ++ waiting e.ready) none ∙ ap (λ (o : Option (Item K O g r)). waiting o) free
+
   -- a hand that is started
   pub is_opened : (script : ℕ) (keeper : K) (e : Ends K O g r) (hand : PromisedHandle (HandEnd K O g r) (Obeys K O g r)) (works : List (Work K O g r)) (outs : List (FeedOut (Item K O g r))) →
-      hand.promise.script ≡ script → hand.promise.keeper.value ≡ keeper → taken_items hand.promise.asks.value ≡ [] → put_items hand.promise.answers.value ≡ [] → IsPair hand.promise.answers.value e.answers → taken_items e.answers ≡ [] →
+      hand.promise.script ≡ script → hand.promise.keeper.value ≡ keeper → taken_items hand.promise.asks.value ≡ [] → put_items hand.promise.answers.value ≡ [] → IsPair hand.promise.answers.value e.answers → taken_items e.answers ≡ [] → asked_of_hand e ≡ [] →
       hand.promise.works.value.items ≡ works → e.readers.script ≡ script → e.readers.outs.items ≡ outs → AreRings 16 works outs → IsOpened script keeper e hand
-  is_opened script keeper e hand works outs puts kept asks answers answering unheard works_are hears outs_are rings = record {
+  is_opened script keeper e hand works outs puts kept asks answers answering unheard unasked works_are hears outs_are rings = record {
     puts = puts;
     hears = hears;
     kept = kept;
@@ -143,6 +148,7 @@ module _ {K O : Type 0} {g : Ghosts K O} {r : ReadGhosts O} where
     };
     outs = ap length outs_are ∙ rings.outs_count;
     unheard = unheard;
+    unasked = unasked;
     untaken = subst (λ (os : List (FeedOut (Item K O g r))). AreUntaken os) (sym outs_are) rings.untaken;
   }
 

@@ -12,7 +12,7 @@ use Rattle.feed_rings.specs.Ends.{put_items, taken_items, all_put, SameOut, IsFi
 use Rattle.feed_rings.specs.declared.feed.Finished.{Finished}
 use Rattle.child_events.specs.declared.event.Answer.{Answer}
 use Rattle.expect_core.specs.declared.request.Request.{Request}
-use Rattle.child_desk.specs.Told.{AreAmong, heard_of_hand}
+use Rattle.child_desk.specs.Told.{AreAmong, asked_of_hand, heard_of_hand}
 use Rattle.child_desk.specs.Line.{SameRings, HearsNoHand, IsEndOf, IsFrontIn}
 use Rattle.feed_rings.specs.declared.feed.FeedOut.{FeedOut}
 use Rattle.child_hands.specs.declared.thread.Obeys.{Obeys}
@@ -23,7 +23,7 @@ use Rattle.child_hands.specs.Handed.{IsHandEnd, AreAnswers, requests_of}
 use Rattle.child_desk.specs.declared.ends.Ends.{Ends}
 use Rattle.child_desk.specs.Heard.{recorded, heard, HearsMore, HearsOwn, HearsAll, TakenIn, Settles}
 use Rattle.child_desk.proofs.Places.{one_there}
-use Rattle.child_desk.proofs.Hearing.{takes_none, hears_at_none, hears_of, more_none}
+use Rattle.child_desk.proofs.Hears.{takes_none, hears_at_none, hears_of, more_none}
 use Rattle.child_serve.specs.declared.served.Unsettled.{Unsettled}
 use Rattle.child_serve.specs.Joined.{script_of}
 use Rattle.child_serve.specs.Given.{IsGiven, IsPut}
@@ -292,11 +292,12 @@ module _ {K O : Type 0} {g : Ghosts K O} {r : ReadGhosts O} where
 
   -- nothing was heard of hands at first
   pub unheard_all : (n w : ℕ) (keepers : List K) (ends : List (Ends K O g r)) (hands : List (PromisedHandle (HandEnd K O g r) (Obeys K O g r))) → AreOpened n w keepers ends hands →
-      (i : ℕ) (keeper : K) → slice_get keepers i ≡ Some keeper → (e : Ends K O g r) × (slice_get ends i ≡ Some e) × (taken_items e.answers ≡ [])
+      (i : ℕ) (keeper : K) → slice_get keepers i ≡ Some keeper → (e : Ends K O g r) × (slice_get ends i ≡ Some e) × (taken_items e.answers ≡ []) × (asked_of_hand e ≡ [])
   unheard_all n w keepers ends hands opened i keeper got =
       let within = slice_get_within keepers i keeper got in
       let count = opened.0.count in
       let all = opened.1 in
       let hand = there hands i (omega (arith, within, all)) in
       let e = there ends i (omega (arith, within, all, count)) in
-      (e.0, e.1, (opened.0.each i keeper e.0 hand.0 got e.1 hand.1).unheard)
+      let is = opened.0.each i keeper e.0 hand.0 got e.1 hand.1 in
+      (e.0, e.1, is.unheard, is.unasked)

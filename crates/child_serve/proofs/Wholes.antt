@@ -26,7 +26,8 @@ use Rattle.child_serve.specs.Turns.{in_turn}
 use Rattle.child_hands.specs.Handed.{starts}
 use Rattle.child_serve.specs.Given.{IsGiven, started_by}
 use Rattle.child_desk.specs.Heard.{said_in, said_by}
-use Rattle.child_desk.specs.Told.{answer_in, answers_in, AreTold}
+use Rattle.child_desk.specs.Told.{Reply, answer_in, answers_in, reply_in, replies_in, AreTold, AreOf}
+use Rattle.child_desk.proofs.Telling.{of_more}
 use Rattle.child_desk.specs.Line.{Keeping}
 use Rattle.child_serve.specs.Served.{IsServed, AreServed, IsPart, AreParts, records_of}
 use Rattle.child_serve.proofs.Merging.{ascends_own}
@@ -38,6 +39,11 @@ same_answers : (es more : List Event) → WithTicks es more → answers_in more 
 same_answers xs ys none = refl
 same_answers xs ys (kept e es more p) = ap (λ (l : List Answer). answer_in e ++ l) (same_answers es more p)
 same_answers xs ys (tick m es more p) = same_answers es more p
+
+same_replies : (es more : List Event) → WithTicks es more → replies_in more ≡ replies_in es
+same_replies xs ys none = refl
+same_replies xs ys (kept e es more p) = ap (λ (l : List Reply). reply_in e ++ l) (same_replies es more p)
+same_replies xs ys (tick m es more p) = same_replies es more p
 
 same_said : (child : ℕ) (es more : List Event) → WithTicks es more → said_by child more ≡ said_by child es
 same_said child xs ys none = refl
@@ -78,6 +84,7 @@ module _ (told : ℕ → ℕ → Request → Answer → Type 0) (gives : ℕ →
     ended = ended_on script report es more up p s.ended;
     answers = subst (λ (xs : List Answer). AreTold told keeper.name keeper.made xs asked) (sym (same_answers es more p))
         (subst (AreTold told keeper.name keeper.made (answers_in es)) (sym grown.asked) (told_more keeper.name keeper.made (answers_in es) before grown.more s.answers));
+    children = subst (λ (xs : List Reply). AreOf xs asked) (sym (same_replies es more p)) (subst (AreOf (replies_in es)) (sym grown.asked) (of_more (replies_in es) before grown.more s.children));
     given = λ child low high apart.
         subst (IsGiven told gives keeper.name keeper.made child (answers_in more) asked) (sym (same_said child es more p))
         (subst (λ (xs : List Answer). IsGiven told gives keeper.name keeper.made child xs asked (said_by child es)) (sym (same_answers es more p))

@@ -29,7 +29,7 @@ use Rattle.child_keeper.specs.declared.keeper.Keeper.{Ghosts}
 use Rattle.child_keeper.specs.declared.items.Item.{Item}
 use Rattle.feed_rings.specs.Ends.{taken_items}
 use Rattle.child_desk.specs.declared.ends.Ends.{Ends}
-use Rattle.child_desk.specs.Told.{Telling, AreAmong, answers_in, all_told, heard_of_hand}
+use Rattle.child_desk.specs.Told.{Put, Rings, no_rings, AreAmong, answers_in, all_told, heard_of_hand, asked_of_hand, rings_of}
 use Rattle.child_desk.specs.Line.{Keeping, InLine, Means, KeepsAll, AllOver}
 use Rattle.child_desk.proofs.Places.{one_there}
 use Rattle.child_desk.proofs.Lining.{first_line}
@@ -141,7 +141,7 @@ begun_length (x ∷ scripts) [] b = absurd b
 begun_length (x ∷ scripts) (k ∷ ks) b = ap suc (begun_length scripts ks b.1)
 
 abbrev pub line_of : {K : Type 0} → (K → ℕ) → (K → ℕ) → K → Line
-line_of named made k = record { name = named k; last = made k; awaited = None; over = false }
+line_of named made k = record { name = named k; last = made k; awaited = None; sent = false; over = false }
 
 pub first_length : {K : Type 0} (named made : K → ℕ) (keepers : List K) (lines : List Line) → AreFirst named made keepers lines → length lines ≡ length keepers
 first_length named made keepers lines are = ap length are ∙ map_length (line_of named made) keepers
@@ -150,7 +150,7 @@ first_length named made keepers lines are = ap length are ∙ map_length (line_o
 pub record ShownTo (lines : List Line) (book : Book) (n : ℕ) (reports : List Report) : Type 0 where
   pub count : length reports ≡ n
   pub each : (at : ℕ) (line : Line) (report : Report) → slice_get lines at ≡ Some line → slice_get reports at ≡ Some report →
-      (ts : List Telling) (keeper : Keeping) (script : Script) → InLine ts keeper script at line book → Means script line (own (at + 1) book.log.items) report
+      (rings : Rings) (keeper : Keeping) (script : Script) → InLine rings keeper script at line book → Means script line (own (at + 1) book.log.items) report
 
 last_of : (rs : List Report) (r : Report) (i : ℕ) (s : Report) → slice_get (rs ++ r ∷ []) i ≡ Some s → (slice_get rs i ≡ Some s) ⊎ ((i ≡ length rs) × (r ≡ s))
 last_of [] r zero s got = inr (refl, (cc))
@@ -170,19 +170,19 @@ module _ (lines : List Line) (book : Book) where
   none_shown = record { count = refl; each = λ at line report here got. absurd (let none : ◌≡◌ {A = Option Report} None (Some report) = got in cc) }
 
   pub one_shown : (n : ℕ) (reports more : List Report) (report : Report) → more ≡ reports ++ report ∷ [] →
-      ((ts : List Telling) (keeper : Keeping) (script : Script) (line : Line) → InLine ts keeper script n line book → Means script line (own (n + 1) book.log.items) report) → ShownTo lines book n reports → ShownTo lines book (n + 1) more
+      ((rings : Rings) (keeper : Keeping) (script : Script) (line : Line) → InLine rings keeper script n line book → Means script line (own (n + 1) book.log.items) report) → ShownTo lines book n reports → ShownTo lines book (n + 1) more
   one_shown n reports more report is means s = record {
     count = ap length is ∙ one_longer reports report ∙ ap (λ (k : ℕ). k + 1) s.count;
     each = λ at line got here there. by_place at line got here (last_of reports report at got (ap (λ (l : List Report). slice_get l at) (sym is) ∙ there));
   }
     where
       by_place : (at : ℕ) (line : Line) (got : Report) → slice_get lines at ≡ Some line → (slice_get reports at ≡ Some got) ⊎ ((at ≡ length reports) × (report ≡ got)) →
-          (ts : List Telling) (keeper : Keeping) (script : Script) → InLine ts keeper script at line book → Means script line (own (at + 1) book.log.items) got
-      by_place at line got here (inl old) ts keeper script l = s.each at line got here old ts keeper script l
-      by_place at line got here (inr (last, same)) ts keeper script l =
+          (rings : Rings) (keeper : Keeping) (script : Script) → InLine rings keeper script at line book → Means script line (own (at + 1) book.log.items) got
+      by_place at line got here (inl old) rings keeper script l = s.each at line got here old rings keeper script l
+      by_place at line got here (inr (last, same)) rings keeper script l =
           subst (Means script line (own (at + 1) book.log.items)) same
           (subst (λ (k : ℕ). Means script line (own (k + 1) book.log.items) report) (sym (last ∙ s.count))
-          (means ts keeper script line (subst (λ (k : ℕ). InLine ts keeper script k line book) (last ∙ s.count) l)))
+          (means rings keeper script line (subst (λ (k : ℕ). InLine rings keeper script k line book) (last ∙ s.count) l)))
 
   pub all_shown : (n : ℕ) (reports : List Report) → n ≡ length lines → ShownTo lines book n reports → AllShown lines book reports
   all_shown n reports all s = record { count = s.count ∙ all; each = s.each }
@@ -191,7 +191,7 @@ module _ (lines : List Line) (book : Book) where
 module _ {K C O : Type 0} {g : Ghosts K O} {r : ReadGhosts O} (n w : ℕ) (team : Team K C) (first lines : List Line) (opened between ends : List (Ends K O g r)) (begun turned settled : Book) (s : Served)
     (is : IsTeam n w team)
     (are : AreFirst g.named g.made team.keepers.items first) (begin : AllBegin team.scripts.items begun.hall) (empty : begun.log.items ≡ []) (good : IsRecord begun)
-    (unheard : (i : ℕ) (keeper : K) → slice_get team.keepers.items i ≡ Some keeper → (e : Ends K O g r) × (slice_get opened i ≡ Some e) × (taken_items e.answers ≡ []))
+    (unheard : (i : ℕ) (keeper : K) → slice_get team.keepers.items i ≡ Some keeper → (e : Ends K O g r) × (slice_get opened i ≡ Some e) × (taken_items e.answers ≡ []) × (asked_of_hand e ≡ []))
     (kept : KeepsAll first opened begun lines between turned) (over : AllOver lines)
     (left : KeepsAll lines between turned lines ends settled)
     (shown : AllShown lines settled s.reports) (logged : s.logged ≡ settled.log.items)
@@ -207,8 +207,9 @@ module _ {K C O : Type 0} {g : Ghosts K O} {r : ReadGhosts O} (n w : ℕ) (team 
       IsServed g.told g.gives (script_of n w (i + 1)) keeper script report s.unsettled.items (own (i + 1) s.logged)
   of_one i keeper script report got_keeper got_script got_report =
       subst (λ (es : List HallEvent). IsServed g.told g.gives (script_of n w (i + 1)) keeper script report s.unsettled.items (own (i + 1) es)) (sym logged) (record {
-        ended = ended_by script line.0 (own (i + 1) settled.log.items) report (over i line.0 line.2) (shown.each i line.0 report line.2 got_report (heard_of_hand last.0.answers) keeper script last.2);
+        ended = ended_by script line.0 (own (i + 1) settled.log.items) report (over i line.0 line.2) (shown.each i line.0 report line.2 got_report (rings_of last.0) keeper script last.2);
         answers = among_told (taken_items last.0.answers) keeper.name keeper.made (answers_in (own (i + 1) settled.log.items)) asked last.2.2.answers;
+        children = last.2.2.children;
         given = given_one;
       })
     where
@@ -221,21 +222,22 @@ module _ {K C O : Type 0} {g : Ghosts K O} {r : ReadGhosts O} (n w : ℕ) (team 
       b : (x : Kept) × (slice_get begun.hall i ≡ Some x) × Begins script x
       b = begun_at team.scripts.items begun.hall i script begin got_script
 
-      start : InLine [] keeper script i (line_of g.named g.made k.0) begun
-      start = subst (λ (x : Keeping). InLine [] x script i (line_of g.named g.made k.0) begun) k.2 (first_line (g.named k.0) (g.made k.0) i script b.0 begun b.1 empty b.2)
+      start : InLine no_rings keeper script i (line_of g.named g.made k.0) begun
+      start = subst (λ (x : Keeping). InLine no_rings x script i (line_of g.named g.made k.0) begun) k.2 (first_line (g.named k.0) (g.made k.0) i script b.0 begun b.1 empty b.2)
 
-      e : (x : Ends K O g r) × (slice_get opened i ≡ Some x) × (taken_items x.answers ≡ [])
+      e : (x : Ends K O g r) × (slice_get opened i ≡ Some x) × (taken_items x.answers ≡ []) × (asked_of_hand x ≡ [])
       e = unheard i k.0 k.1
 
-      line : (x : Line) × (y : Ends K O g r) × (slice_get lines i ≡ Some x) × (slice_get between i ≡ Some y) × InLine (heard_of_hand y.answers) keeper script i x turned
+      line : (x : Line) × (y : Ends K O g r) × (slice_get lines i ≡ Some x) × (slice_get between i ≡ Some y) × InLine (rings_of y) keeper script i x turned
       line = kept.each keeper script i (line_of g.named g.made k.0) e.0 (ap (λ (l : List Line). slice_get l i) are ∙ mapped (line_of g.named g.made) team.keepers.items i k.0 k.1) e.1
-          (subst (λ (xs : List (Item K O g r)). InLine (all_told xs) keeper script i (line_of g.named g.made k.0) begun) (sym e.2) start)
+          (subst (λ (xs : List (Item K O g r)). InLine (record { told = all_told xs; asked = asked_of_hand e.0 }) keeper script i (line_of g.named g.made k.0) begun) (sym e.2)
+          (subst (λ (ps : List Put). InLine (record { told = []; asked = ps }) keeper script i (line_of g.named g.made k.0) begun) (sym e.3) start))
 
       -- where the script is at the end
-      last : (y : Ends K O g r) × (slice_get ends i ≡ Some y) × InLine (heard_of_hand y.answers) keeper script i line.0 settled
+      last : (y : Ends K O g r) × (slice_get ends i ≡ Some y) × InLine (rings_of y) keeper script i line.0 settled
       last =
           let p = left.each keeper script i line.0 line.1 line.2 line.3 line.4 in
-          (p.1, p.3, subst (λ (l : Line). InLine (heard_of_hand p.1.answers) keeper script i l settled) (one_there p.0 line.0 (sym p.2 ∙ line.2)) p.4)
+          (p.1, p.3, subst (λ (l : Line). InLine (rings_of p.1) keeper script i l settled) (one_there p.0 line.0 (sym p.2 ∙ line.2)) p.4)
 
       given_one : (child : ℕ) → 1 ≤ child → child ≤ 16 → (Contains s.unsettled.items (record { script = script_of n w (i + 1); child = child }) → ⊥) →
           IsGiven g.told g.gives keeper.name keeper.made child (answers_in (own (i + 1) settled.log.items)) asked (recorded (i + 1) child settled.log.items)

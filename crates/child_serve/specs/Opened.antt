@@ -16,6 +16,7 @@ use Rattle.child_hands.specs.declared.work.Work.{Work}
 use Rattle.child_hands.specs.declared.work.Work.TheVariants.{Free, Ended}
 use Rattle.child_desk.specs.declared.ends.Ends.{Ends}
 use Rattle.child_desk.specs.Heard.{TakenIn}
+use Rattle.child_desk.specs.Told.{asked_of_hand}
 use Rattle.child_desk.specs.Line.{IsFrontIn}
 use Rattle.child_serve.specs.declared.served.Unsettled.{Unsettled}
 use Rattle.child_serve.specs.Joined.{script_of}
@@ -67,6 +68,7 @@ module _ {K O : Type 0} {g : Ghosts K O} {r : ReadGhosts O} where
     pub linked : IsLinked hand e
     pub outs : length e.readers.outs.items ≡ 16
     pub unheard : taken_items e.answers ≡ []
+    pub unasked : asked_of_hand e ≡ []
     pub untaken : AreUntaken e.readers.outs.items
 
   -- those of the first scripts of a worker, as many as there are hands

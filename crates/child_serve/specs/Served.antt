@@ -19,13 +19,14 @@ use Rattle.child_serve.specs.Dealt.{IsDealt}
 use Rattle.child_serve.specs.Given.{IsGiven}
 use Rattle.child_serve.specs.Joined.{script_of, IsJoined}
 use Rattle.child_desk.specs.Heard.{said_by}
-use Rattle.child_desk.specs.Told.{answers_in, AreTold}
+use Rattle.child_desk.specs.Told.{answers_in, replies_in, AreTold, AreOf}
 
 module _ (told : ℕ → ℕ → Request → Answer → Type 0) (gives : ℕ → ℕ → Option (List ℕ) → Type 0) where
   -- of one script: its number, its keeper, its report, the children that aren't settled, and its own part of the record
   pub record IsServed (number : ℕ) (keeper : Keeping) (script : Script) (report : Report) (unsettled : List Unsettled) (es : List Event) : Type 0 where
     pub ended : ((report ≡ meaning script.source script.settings es) × (report.ending ≢ Waiting)) ⊎ (report.ending ≡ Memory)
     pub answers : AreTold told keeper.name keeper.made (answers_in es) (meaning script.source script.settings es).requests
+    pub children : AreOf (replies_in es) (meaning script.source script.settings es).requests
     pub given : (child : ℕ) → 1 ≤ child → child ≤ 16 → (Contains unsettled (record { script = number; child = child }) → ⊥) → IsGiven told gives keeper.name keeper.made child (answers_in es) (meaning script.source script.settings es).requests (said_by child es)
 
   -- of several scripts, whose numbers a function gives, from their places

@@ -1,5 +1,5 @@
 use Rattle.std.proofs.Common.{◌∙◌}
-use Rattle.child_desk.proofs.Hearing.{all_then as hears_then}
+use Rattle.child_desk.proofs.Hears.{all_then as hears_then}
 use Rattle.child_desk.proofs.Kept.{all_then, no_hand_then}
 use Rattle.child_serve.proofs.Rounding.{kept_same}
 use Rattle.child_serve.proofs.rounds.turn_all.Goals as goal

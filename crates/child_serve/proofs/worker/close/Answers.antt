@@ -1,4 +1,4 @@
-use Rattle.child_desk.proofs.Hearing.{all_same}
+use Rattle.child_desk.proofs.Hears.{all_same}
 use Rattle.child_serve.proofs.worker.close.Goals as goal
 
 pub returns-in_default-clause-heard : goal.returns-in_default-clause-heard

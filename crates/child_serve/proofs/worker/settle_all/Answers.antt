@@ -1,6 +1,6 @@
 use Rattle.std.proofs.Common.{◌≡◌, ℕ, ◌+◌, length, refl, ap, subst, ◌∙◌, arith}
-use Rattle.child_desk.proofs.Hearing.{all_same, all_then}
-use Rattle.child_desk.proofs.Kept.{leaves_all, leaves_then, no_hand_same, no_hand_then, rings_of}
+use Rattle.child_desk.proofs.Hears.{all_same, all_then}
+use Rattle.child_desk.proofs.Kept.{leaves_all, leaves_then, no_hand_same, no_hand_then, same_rings}
 use Rattle.child_serve.specs.Joined.{script_of}
 use Rattle.child_serve.specs.Opened.{AreTakenIn, AreClosedIn}
 use Rattle.child_serve.proofs.Opening.{rest_whole, rest_first, rest_next}
@@ -42,7 +42,7 @@ settle_script-requires-clause-left g c κs within =
     let hands = c.args.hands.items in
     let mine = rest_first hands c.loop-hand.at c.loop-hand.hand-iterator.rest.items c.next.new.self.rest.items c.in-Some.hand c.loop-hand.invariant.rest c.in-Some.ensures.steps.0 in
     left_of c.loop-hand.at c.in-Some.hand c.join-end.result hands now.ends.items
-    (linked_still hands was.ends.items now.ends.items was.book.log.items now.book.log.items c.loop-hand.invariant.heard (rings_of was.ends.items now.ends.items c.loop-hand.invariant.hands) c.requires.linked) mine c.join-end.ensures
+    (linked_still hands was.ends.items now.ends.items was.book.log.items now.book.log.items c.loop-hand.invariant.heard (same_rings was.ends.items now.ends.items c.loop-hand.invariant.hands) c.requires.linked) mine c.join-end.ensures
 
 pub settle_script-requires-clause-answers : goal.settle_script-requires-clause-answers
 settle_script-requires-clause-answers g c κs within =
@@ -51,7 +51,7 @@ settle_script-requires-clause-answers g c κs within =
     let hands = c.args.hands.items in
     let mine = rest_first hands c.loop-hand.at c.loop-hand.hand-iterator.rest.items c.next.new.self.rest.items c.in-Some.hand c.loop-hand.invariant.rest c.in-Some.ensures.steps.0 in
     end_of c.loop-hand.at c.in-Some.hand c.join-end.result hands now.ends.items
-    (linked_still hands was.ends.items now.ends.items was.book.log.items now.book.log.items c.loop-hand.invariant.heard (rings_of was.ends.items now.ends.items c.loop-hand.invariant.hands) c.requires.linked) mine c.join-end.ensures
+    (linked_still hands was.ends.items now.ends.items was.book.log.items now.book.log.items c.loop-hand.invariant.heard (same_rings was.ends.items now.ends.items c.loop-hand.invariant.hands) c.requires.linked) mine c.join-end.ensures
 
 pub returns-in_err-settle_script-clause-hands : goal.returns-in_err-settle_script-clause-hands
 returns-in_err-settle_script-clause-hands g c =

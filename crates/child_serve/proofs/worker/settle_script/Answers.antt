@@ -1,6 +1,6 @@
 use Rattle.std.proofs.Common.{◌≡◌, length, sym, ap, subst, ◌∙◌, arith}
 use Rattle.child_desk.specs.Line.{Leaves}
-use Rattle.child_desk.proofs.Hearing.{all_then}
+use Rattle.child_desk.proofs.Hears.{all_then}
 use Rattle.child_desk.proofs.Kept.{leaves_all, leaves_then, no_hand_then}
 use Rattle.child_serve.proofs.Opening.{rest_whole, rest_first, rest_next}
 use Rattle.child_serve.proofs.Settling.{settles_hears, left_still, taken_next, taken_all, closed_next, closed_still}

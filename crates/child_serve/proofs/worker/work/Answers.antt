@@ -3,7 +3,7 @@ use Rattle.dialogue_sched.specs.Hall.{AllBegin}
 use Rattle.child_desk.specs.declared.book.Book.{Book}
 use Rattle.child_desk.specs.declared.line.Line.{Line}
 use Rattle.child_desk.specs.Book.{IsRecord}
-use Rattle.child_desk.proofs.Hearing.{all_then}
+use Rattle.child_desk.proofs.Hears.{all_then}
 use Rattle.child_desk.proofs.Kept.{all_still}
 use Rattle.child_serve.specs.Opened.{AreOpened}
 use Rattle.child_serve.specs.Teams.{AllShown}

@@ -5,7 +5,7 @@ use Rattle.feed_rings.specs.Ends.{taken_items, all_put}
 use Rattle.child_desk.specs.Line.{IsFrontOf}
 use Rattle.child_desk.proofs.Places.{one_there, none_past, set_here, set_there}
 use Rattle.child_desk.proofs.Kept.{no_hand_set}
-use Rattle.child_desk.proofs.Hearing.{all_same, all_set, hears_silent}
+use Rattle.child_desk.proofs.Hears.{all_same, all_set, hears_silent}
 use Rattle.child_desk.proofs.desk.Desk.close.Goals as goal
 
 pub close-requires-clause-finished : goal.close-requires-clause-finished
@@ -27,7 +27,7 @@ returns-in-Some-clause-hands g c =
     let ends = c.args.self.now.ends in
     let e = c.in-Some.ends.now in
     let here : slice_get ends.items c.args.at ≡ Some e = slice_get_read ends.items ends.len c.args.at e ends.ok.0 (c.in-Some.ensures.variant.0 refl) c.in-Some.ensures.value in
-    no_hand_set c.args.at ends.items e c.close.new.self here c.close.ensures.ring c.close.ensures.taken
+    no_hand_set c.args.at ends.items e c.close.new.self here c.close.ensures.ring c.close.ensures.taken c.close.ensures.asked
 
 pub returns-in-Some-clause-others : goal.returns-in-Some-clause-others
 returns-in-Some-clause-others g c = λ i other. set_there c.args.at i c.args.self.now.ends.items c.close.new.self other

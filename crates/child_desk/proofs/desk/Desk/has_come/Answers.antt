@@ -3,7 +3,7 @@ use Rattle.child_events.specs.declared.event.HallEvent.{HallEvent}
 use Rattle.child_desk.specs.declared.book.Book.{Book}
 use Rattle.child_desk.specs.Heard.{HearsAll}
 use Rattle.child_desk.proofs.Kept.{no_hand_same, no_hand_then}
-use Rattle.child_desk.proofs.Hearing.{all_same, all_then}
+use Rattle.child_desk.proofs.Hears.{all_same, all_then}
 use Rattle.child_desk.proofs.desk.Desk.has_come.Goals as goal
 
 pub loop-at-init : goal.loop-at-init

@@ -5,7 +5,7 @@ use Rattle.std.proofs.lemmas.Result.{on_ok_weaker}
 use Rattle.feed_rings.specs.Ends.{taken_items, all_put, SameOut}
 use Rattle.child_desk.proofs.Places.{none_past}
 use Rattle.child_desk.proofs.Kept.{no_hand_same, no_hand_set}
-use Rattle.child_desk.proofs.Hearing.{taken_in, settles_set, settles_none}
+use Rattle.child_desk.proofs.Hears.{taken_in, settles_set, settles_none}
 use Rattle.child_desk.proofs.desk.Desk.settle.Goals as goal
 
 pub returns-in-Some-clause-heard : goal.returns-in-Some-clause-heard
@@ -37,7 +37,7 @@ returns-in-Some-clause-hands g c =
     let ends = c.args.self.now.ends in
     let e = c.in-Some.ends.now in
     let here : slice_get ends.items c.args.at ≡ Some e = slice_get_read ends.items ends.len c.args.at e ends.ok.0 (c.in-Some.ensures.variant.0 refl) c.in-Some.ensures.value in
-    no_hand_set c.args.at ends.items e c.settle_child.new.ends here (subst (SameOut e.answers) (sym c.settle_child.ensures.answers) (refl, refl, refl, refl)) (ap taken_items c.settle_child.ensures.answers)
+    no_hand_set c.args.at ends.items e c.settle_child.new.ends here (subst (SameOut e.answers) (sym c.settle_child.ensures.hand.0) (refl, refl, refl, refl)) (ap taken_items c.settle_child.ensures.hand.0) c.settle_child.ensures.hand.1
 
 pub returns-in-None-clause-hands : goal.returns-in-None-clause-hands
 returns-in-None-clause-hands g c = no_hand_same c.args.self.now.ends.items

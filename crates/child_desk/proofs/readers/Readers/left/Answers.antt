@@ -3,7 +3,7 @@ use Rattle.std.specs.List.{slice_get}
 use Rattle.std.proofs.lemmas.Option.{slice_get_read}
 use Rattle.feed_rings.specs.Ends.{taken_items}
 use Rattle.child_desk.proofs.Places.{none_past}
-use Rattle.child_desk.proofs.Hearing.{takes_read, left_read}
+use Rattle.child_desk.proofs.Hears.{takes_read, left_read}
 use Rattle.child_desk.proofs.readers.Readers.left.Goals as goal
 
 pub returns-in-Some-clause-taken : goal.returns-in-Some-clause-taken

@@ -1,7 +1,7 @@
 use Rattle.std.proofs.Common.{◌≡◌, refl, Some}
 use Rattle.std.specs.List.{slice_get}
 use Rattle.std.proofs.lemmas.Option.{slice_get_read}
-use Rattle.child_desk.proofs.Hearing.{takes_some, takes_no}
+use Rattle.child_desk.proofs.Hears.{takes_some, takes_no}
 use Rattle.child_desk.proofs.readers.Readers.next_item.Goals as goal
 
 pub returns-clause-some : goal.returns-clause-some

@@ -2,7 +2,7 @@ use Rattle.std.proofs.Common.{◌≡◌, ℕ, [], ◌∷◌, refl, subst, Some}
 use Rattle.std.specs.List.{slice_get}
 use Rattle.std.proofs.lemmas.Option.{slice_get_read}
 use Rattle.child_desk.proofs.Places.{none_past}
-use Rattle.child_desk.proofs.Hearing.{takes_none, takes_read, one_taken, one_less}
+use Rattle.child_desk.proofs.Hears.{takes_none, takes_read, one_taken, one_less}
 use Rattle.child_desk.proofs.readers.Readers.next_left.Goals as goal
 
 pub take_seen-requires : goal.take_seen-requires

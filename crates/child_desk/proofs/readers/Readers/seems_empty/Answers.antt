@@ -2,7 +2,7 @@ use Rattle.std.proofs.Common.{◌≡◌, [], refl, sym, ◌∙◌, append-nil, S
 use Rattle.std.specs.List.{slice_get}
 use Rattle.std.proofs.lemmas.Option.{slice_get_read}
 use Rattle.feed_rings.specs.Ends.{taken_items}
-use Rattle.child_desk.proofs.Hearing.{takes_read}
+use Rattle.child_desk.proofs.Hears.{takes_read}
 use Rattle.child_desk.proofs.readers.Readers.seems_empty.Goals as goal
 
 pub returns-in-Some : goal.returns-in-Some

@@ -1,9 +1,0 @@
-use Rattle.std.proofs.Common.{◌+◌}
-use Rattle.child_desk.proofs.Hearing.{hears_taken}
-use Rattle.child_desk.proofs.desk.hear.Goals as goal
-
-pub returns-clause-heard : goal.returns-clause-heard
-returns-clause-heard g c =
-    hears_taken (c.args.at + 1) c.args.index c.args.ends.now.readers c.seems_empty.new.self c.next-taken.new.self c.enter_heard.new.ends.readers
-    c.args.book.now.log.items c.reserve.new.self.log.items c.enter_heard.new.book.log.items c.next-taken.result
-    c.seems_empty.ensures c.in_ok-reserve.ensures.log c.next-taken.ensures c.enter_heard.ensures.rings.0 c.enter_heard.ensures.adds

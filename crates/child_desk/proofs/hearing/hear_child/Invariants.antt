@@ -1,0 +1,14 @@
+use Rattle.std.proofs.Common.{◌≡◌, ◌+◌}
+use Rattle.child_desk.specs.Line.{Leaves}
+use Rattle.child_desk.specs.Told.{asked_of_hand}
+use Rattle.child_desk.specs.Turn.{Comes}
+use Rattle.child_desk.specs.Heard.{HearsAt}
+use Rattle.child_desk.proofs.hearing.hear_child.Given as goal
+
+abbrev pub invariant-loop-turn : goal.invariant-loop-turn
+invariant-loop-turn g l = record {
+  kept : Leaves l.fn.book l.book;
+  hand : (l.ends.answers ≡ l.fn.ends.answers) × (asked_of_hand l.ends ≡ asked_of_hand l.fn.ends);
+  comes : Comes l.at l.fn.book l.book;
+  heard : HearsAt (l.at + 1) l.index l.fn.ends.readers l.fn.book.log.items l.ends.readers l.book.log.items;
+}

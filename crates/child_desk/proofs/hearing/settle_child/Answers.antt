@@ -1,0 +1,23 @@
+use Rattle.std.proofs.Common.{◌+◌, ◌∙◌}
+use Rattle.child_desk.proofs.Kept.{leaves_then}
+use Rattle.child_desk.proofs.Hears.{hears_at_then, left_step}
+use Rattle.child_desk.proofs.hearing.settle_child.Goals as goal
+
+pub loop-preserved : goal.loop-preserved
+loop-preserved g c =
+    let now = c.loop in
+    let new = c.hear_left.new in
+    record {
+      kept = leaves_then c.args.book.now now.book new.book now.invariant.kept c.hear_left.ensures.kept;
+      hand = (c.hear_left.ensures.hand.0 ∙ now.invariant.hand.0, c.hear_left.ensures.hand.1 ∙ now.invariant.hand.1);
+      heard =
+          hears_at_then (c.args.at + 1) c.args.index c.args.ends.now.readers now.ends.readers new.ends.readers c.args.book.now.log.items now.book.log.items new.book.log.items
+          now.invariant.heard c.hear_left.ensures.heard;
+      left = left_step c.args.index now.counter c.left-count.result c.left-count.new.finished now.ends.readers new.ends.readers c.loop-test.true now.invariant.left c.in_ok-hear_left.ensures.left;
+      put = now.invariant.put;
+    }
+
+pub returns-in_err-hear_left-clause-hand : goal.returns-in_err-hear_left-clause-hand
+returns-in_err-hear_left-clause-hand g c =
+    let now = c.loop in
+    (c.hear_left.ensures.hand.0 ∙ now.invariant.hand.0, c.hear_left.ensures.hand.1 ∙ now.invariant.hand.1)

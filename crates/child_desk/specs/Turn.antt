@@ -1,0 +1,120 @@
+-- What a turn of a desk does.
+use Rattle.std.specs.Prelude.{◌≡◌, ◌⊎◌, ℕ, ◌+◌, nat_lt, nat_le, List, [], ◌∷◌, ◌++◌, slice_get, Bool, ◌&&◌, IsTrue, is_some, if◌then◌else◌, Some, None}
+use Rattle.std.specs.List.{AllByRecursion}
+use Rattle.std.specs.declared.io.traits.Read.{Ghosts as ReadGhosts}
+use Rattle.child_events.specs.declared.event.What.{What}
+use Rattle.child_events.specs.declared.event.HallEvent.{HallEvent}
+use Rattle.child_events.specs.declared.event.HallEvent.TheVariants as hall
+use Rattle.child_events.specs.World.{own}
+use Rattle.tcl_eval.specs.declared.ending.Ending.TheVariants.{Waiting}
+use Rattle.session.specs.Left.{Kept, left}
+use Rattle.dialogue_sched.specs.declared.script.Script.{Script}
+use Rattle.child_keeper.specs.declared.keeper.Keeper.{Ghosts}
+use Rattle.child_desk.specs.declared.book.Book.{Book}
+use Rattle.child_desk.specs.declared.line.Line.{Line}
+use Rattle.child_desk.specs.declared.ends.Ends.{Ends}
+use Rattle.child_desk.specs.Told.{Telling, Reply, replies_in, heard_of_hand, rings_of}
+use Rattle.child_desk.specs.Line.{Keeping, InLine}
+
+-- whether a moment is behind the stamp, and not past the last one
+abbrev pub goes_on : ℕ → ℕ → Bool
+goes_on stamp now = nat_lt stamp now && nat_le now 9000000000000000
+
+-- the tick that such a moment is
+abbrev pub ticks : ℕ → ℕ → List HallEvent
+ticks stamp now = if goes_on stamp now then hall.Tick now ∷ [] else []
+
+-- and the stamp of what comes then
+abbrev pub stamp_by : ℕ → ℕ → ℕ
+stamp_by stamp now = if goes_on stamp now then now else stamp
+
+-- something that came to the script at a place, or an answer to it, under a stamp
+abbrev pub CameTo : ℕ → ℕ → HallEvent → Type 0
+CameTo stamp at e = (child : ℕ) × (w : What) × (e ≡ hall.Child (at + 1) child stamp w)
+
+-- or to any script
+abbrev pub Came : ℕ → HallEvent → Type 0
+Came stamp e = (script child : ℕ) × (w : What) × (e ≡ hall.Child script child stamp w)
+
+-- Nothing is recorded but what came to the script at a place, under the book's stamp, and no other session changed.
+pub record Comes (at : ℕ) (old new : Book) : Type 0 where
+  pub more : List HallEvent
+  pub log : new.log.items ≡ old.log.items ++ more
+  pub each : AllByRecursion (CameTo old.stamp at) more
+  pub stamp : new.stamp ≡ old.stamp
+  pub others : (i : ℕ) → (i ≡ at → ⊥) → slice_get new.hall i ≡ slice_get old.hall i
+
+-- nothing is recorded behind these entries but what came to scripts, under this stamp, which is the book's
+pub record ComesTo (stamp : ℕ) (front : List HallEvent) (new : Book) : Type 0 where
+  pub more : List HallEvent
+  pub log : new.log.items ≡ front ++ more
+  pub each : AllByRecursion (Came stamp) more
+  pub stamped : new.stamp ≡ stamp
+
+-- one tick, where the time went on, and the book has its stamp
+abbrev pub Ticks : ℕ → Book → Book → Type 0
+Ticks now old new = (new.log.items ≡ old.log.items ++ ticks old.stamp now) × (new.stamp ≡ stamp_by old.stamp now)
+
+-- one tick, where the time went on, and then what came
+abbrev pub Turns : ℕ → Book → Book → Type 0
+Turns now old new = ComesTo (stamp_by old.stamp now) (old.log.items ++ ticks old.stamp now) new
+
+-- nothing is recorded
+abbrev pub Stays : Book → Book → Type 0
+Stays old new = (new.log.items ≡ old.log.items) × (new.stamp ≡ old.stamp)
+
+-- the answer that a script waits for: of its keeper's next call, to the request that was sent
+abbrev pub IsAwaited : Line → Telling → Type 0
+IsAwaited line t = IsTrue line.sent × (line.awaited ≡ Some t.request) × (t.name ≡ line.name) × (t.call ≡ line.last + 1)
+
+-- What is recorded of what was told in a turn, which is one answer at most: it, where it's the one that is awaited. Any other is passed over.
+abbrev pub IsEntered : Line → List Telling → List Reply → Type 0
+IsEntered line [] replies = replies ≡ []
+IsEntered line (t ∷ u ∷ ts) replies = ⊥
+IsEntered line (t ∷ []) replies = (IsAwaited line t × (replies ≡ record { child = t.request.child; answer = t.answer } ∷ [])) ⊎ ((IsAwaited line t → ⊥) × (replies ≡ []))
+
+-- so many more answers to the script at a place are recorded
+abbrev pub Replies : ℕ → List HallEvent → List Reply → List HallEvent → Type 0
+Replies at es replies es' = replies_in (own (at + 1) es') ≡ replies_in (own (at + 1) es) ++ replies
+
+-- what is recorded of an answer that was told
+abbrev pub IsTold : ℕ → Line → Telling → Book → Book → Type 0
+IsTold at line t old new = (replies : List Reply) × Replies at old.log.items replies new.log.items × IsEntered line (t ∷ []) replies
+
+-- what more a script's hand told, from these to those, is recorded
+pub record HearsHand (at : ℕ) (line : Line) (told : List Telling) (es : List HallEvent) (told' : List Telling) (es' : List HallEvent) : Type 0 where
+  pub more : List Telling
+  pub heard : told' ≡ told ++ more
+  pub replies : List Reply
+  pub recorded : Replies at es replies es'
+  pub entered : IsEntered line more replies
+
+-- the session at a place, where it lives, has no request left to hand out
+abbrev pub HasNoRequest : ℕ → Book → Type 0
+HasNoRequest at book = (k : Kept) → slice_get book.hall at ≡ Some k → IsTrue k.lives → slice_get (left k []).requests k.handed ≡ None
+
+-- the session at a place lives, and its script waits
+abbrev pub Waits : ℕ → Book → Type 0
+Waits at book = (k : Kept) → slice_get book.hall at ≡ Some k → IsTrue k.lives × ((left k []).ending ≡ Waiting)
+
+-- the script at a place is over, or the request that was sent waits for its answer, or it waits and has no request left
+abbrev pub IsServed : ℕ → Line → Book → Type 0
+IsServed at line book = IsTrue line.over ⊎ (IsTrue line.sent ⊎ (Waits at book × HasNoRequest at book))
+
+module _ {K O : Type 0} {g : Ghosts K O} {r : ReadGhosts O} where
+  -- so it is, or something waits for room in the ring to its hand
+  abbrev pub HasAsked : ℕ → Line → Ends K O g r → Book → Type 0
+  HasAsked at line e book = IsTrue (is_some e.ready) ⊎ IsServed at line book
+
+  -- other scripts at a desk, and their rings, stay as they were
+  abbrev pub SameElsewhere : ℕ → List Line → List (Ends K O g r) → List Line → List (Ends K O g r) → Type 0
+  SameElsewhere at lines ends lines' ends' = (i : ℕ) → (i ≡ at → ⊥) → (slice_get lines' i ≡ slice_get lines i) × (slice_get ends' i ≡ slice_get ends i)
+
+  -- so it is of the script at a place of a desk
+  abbrev pub HasAskedIn : ℕ → List Line → List (Ends K O g r) → Book → Type 0
+  HasAskedIn at lines ends book = (line : Line) (e : Ends K O g r) → slice_get lines at ≡ Some line → slice_get ends at ≡ Some e → HasAsked at line e book
+
+  -- of the script at a place, what more its hand told is recorded
+  abbrev pub HearsHandIn : ℕ → List Line → List (Ends K O g r) → Book → List (Ends K O g r) → Book → Type 0
+  HearsHandIn at lines ends old ends' new = (keeper : Keeping) (script : Script) (line : Line) (e : Ends K O g r) → slice_get lines at ≡ Some line → slice_get ends at ≡ Some e → InLine (rings_of e) keeper script at line old →
+      (e' : Ends K O g r) × (slice_get ends' at ≡ Some e') × HearsHand at line (heard_of_hand e.answers) old.log.items (heard_of_hand e'.answers) new.log.items

@@ -1,0 +1,210 @@
+//! What a turn does for a script: it takes what came, and puts what the script asks for.
+
+ghost use Rattle.std.specs.Prelude.{◌≡◌, ◌<◌, ◌≤◌, ◌+◌, ℕ, length, true, false, OnOk, IfErr, None, vec_len};
+ghost use Rattle.dialogue_sched.specs.declared.script.Script.{Script};
+ghost use Rattle.feed_rings.specs.Ends.{SameOut};
+ghost use Rattle.child_desk.specs.Told.{Rings, heard_of_hand, rings_of};
+ghost use Rattle.child_desk.specs.Line.{Keeping, InLine, Leaves, Keeps, KeepsAll, TakesNone};
+ghost use Rattle.child_desk.specs.Heard.{Unheard, Hears, HearsAll};
+ghost use Rattle.child_desk.specs.Turn.{Comes, ComesTo, Stays, Ticks, HearsHand, HearsHandIn, HasAsked, HasAskedIn, HasNoRequest, IsServed, SameElsewhere, goes_on as is_later};
+
+use crate::book::Book;
+use crate::ends::{Ends, starts};
+use crate::entering::enter_taken;
+use crate::hearing::hear_children;
+use crate::line::{Line, ask_next, enter_answer, enter_end};
+use child_events::HallEvent;
+use child_keeper::Keeper;
+use std::alloc::{AllocError, Global};
+
+/// The last moment.
+const MOMENT_LIMIT: u64 = 9_000_000_000_000_000;
+
+/// Whether the time went on, and isn't past the last moment.
+fn goes_on(stamp: u64, now: u64) -> bool
+    ensures { result ≡ is_later stamp now }
+{
+    stamp < now && now <= MOMENT_LIMIT
+}
+
+/// Stamps what comes next with a moment.
+fn set_stamp(book: &mut Book, now: u64)
+    requires { is_later book.old.stamp now ≡ true }
+    ensures hall { book.new.hall ≡ book.old.hall }
+    ensures log { book.new.log ≡ book.old.log }
+    ensures stamp { book.new.stamp ≡ now }
+{
+    book.stamp = now;
+}
+
+/// A tick, where the time went on.
+pub(crate) fn tick(book: &mut Book, now: u64) -> Result<(), AllocError>
+    ensures kept { Leaves book.old book.new }
+    ensures silent { Unheard book.old.log.items book.new.log.items }
+    ensures ticked { OnOk result (Ticks now book.old book.new) }
+    ensures refused { IfErr result (λ _. Stays book.old book.new) }
+{
+    if !goes_on(book.stamp, now) {
+        return Ok(());
+    }
+    book.reserve()?;
+    set_stamp(book, now);
+    enter_taken(
+        book,
+        HallEvent::Tick { moment: now },
+        HallEvent::Tick { moment: now },
+    );
+    Ok(())
+}
+
+/// Takes the next answer from a script's hand, and enters it where it is the one that is awaited. True where there was one.
+fn hear_answer<K: Keeper>(
+    book: &mut Book,
+    line: &mut Line,
+    ends: &mut Ends<K>,
+    at: usize,
+) -> Result<bool, AllocError>
+    requires { at < 64 }
+    ensures kept { Keeps (rings_of ends.old) (rings_of ends.new) at line.old book.old line.new book.new }
+    ensures readers { ends.new.readers ≡ ends.old.readers }
+    ensures ring { SameOut ends.old.answers ends.new.answers }
+    ensures silent { Unheard book.old.log.items book.new.log.items }
+    ensures comes { Comes at book.old book.new }
+    ensures entered { (keeper : Keeping) (script : Script) → InLine (rings_of ends.old) keeper script at line.old book.old → HearsHand at line.old (heard_of_hand ends.old.answers) book.old.log.items (heard_of_hand ends.new.answers) book.new.log.items }
+{
+    book.reserve()?;
+    let Some(answered) = ends.next_answer() else {
+        return Ok(false);
+    };
+    let starts = starts(&answered);
+    let entered = enter_answer(book, line, at, answered);
+    ends.count_start(entered && starts);
+    Ok(true)
+}
+
+/// Makes ready what is to be put to a script's hand: the request that waits, where it wasn't sent, or the stop, where the script has ended.
+fn prepare<K: Keeper>(
+    alloc: Global,
+    book: &Book,
+    line: &mut Line,
+    ends: &mut Ends<K>,
+    at: usize,
+) -> Result<(), AllocError>
+    requires place { at < 64 }
+    requires open { line.old.over ≡ false }
+    requires free { ends.old.ready ≡ None }
+    requires next { line.old.awaited ≡ None → HasNoRequest at book.now }
+    ensures kept { Keeps (rings_of ends.old) (rings_of ends.new) at line.old book.now line.new book.now }
+    ensures rings { TakesNone ends.old ends.new }
+    ensures served { OnOk result (IsServed at line.new book.now) }
+{
+    if line.sent {
+        return Ok(());
+    }
+    if let Some(request) = &line.awaited {
+        ends.send(alloc, request)?;
+        line.sent = true;
+        return Ok(());
+    }
+    if enter_end(book, line, at) {
+        ends.stop();
+    }
+    Ok(())
+}
+
+/// Puts what a script asks for next, or the stop behind its ending. True where something was put.
+fn ask<K: Keeper>(
+    alloc: Global,
+    book: &mut Book,
+    line: &mut Line,
+    ends: &mut Ends<K>,
+    at: usize,
+) -> Result<bool, AllocError>
+    requires { (at < length book.old.hall) × (at < 64) }
+    ensures kept { Keeps (rings_of ends.old) (rings_of ends.new) at line.old book.old line.new book.new }
+    ensures rings { TakesNone ends.old ends.new }
+    ensures log { book.new.log.items ≡ book.old.log.items }
+    ensures comes { Comes at book.old book.new }
+    ensures asked { OnOk result (HasAsked at line.new ends.new book.new) }
+{
+    let put = ends.flush();
+    if line.over {
+        return Ok(put);
+    }
+    if ends.is_waiting() {
+        return Ok(put);
+    }
+    ask_next(book, line, at);
+    prepare(alloc, book, line, ends, at)?;
+    Ok(put | ends.flush())
+}
+
+/// Takes all that came for a script, and puts what it asks for. True where there was something.
+fn attend<K: Keeper>(
+    alloc: Global,
+    book: &mut Book,
+    line: &mut Line,
+    ends: &mut Ends<K>,
+    at: usize,
+) -> Result<bool, AllocError>
+    requires { (at < length book.old.hall) × (at < 64) }
+    ensures kept { Keeps (rings_of ends.old) (rings_of ends.new) at line.old book.old line.new book.new }
+    ensures heard { Hears (at + 1) ends.old.readers book.old.log.items ends.new.readers book.new.log.items }
+    ensures ring { SameOut ends.old.answers ends.new.answers }
+    ensures comes { Comes at book.old book.new }
+    ensures entered { (keeper : Keeping) (script : Script) → InLine (rings_of ends.old) keeper script at line.old book.old → HearsHand at line.old (heard_of_hand ends.old.answers) book.old.log.items (heard_of_hand ends.new.answers) book.new.log.items }
+    ensures asked { OnOk result (HasAsked at line.new ends.new book.new) }
+{
+    let answered = hear_answer(book, line, ends, at)?;
+    let heard = hear_children(alloc, book, line.over, ends, at)?;
+    let asked = ask(alloc, book, line, ends, at)?;
+    Ok(answered | heard | asked)
+}
+
+/// Attends to the script at a place.
+fn attend_at<K: Keeper>(
+    alloc: Global,
+    book: &mut Book,
+    lines: &mut Vec<Line>,
+    ends: &mut Vec<Ends<K>>,
+    at: usize,
+) -> Result<bool, AllocError>
+    requires hall { (at < length book.old.hall) × (at < 64) }
+    requires place { at < vec_len lines.old }
+    ensures kept { KeepsAll lines.old.items ends.old.items book.old lines.new.items ends.new.items book.new }
+    ensures heard { HearsAll ends.old.items book.old.log.items ends.new.items book.new.log.items }
+    ensures comes { Comes at book.old book.new }
+    ensures elsewhere { SameElsewhere at lines.old.items ends.old.items lines.new.items ends.new.items }
+    ensures entered { HearsHandIn at lines.old.items ends.old.items book.old ends.new.items book.new }
+    ensures asked { OnOk result (HasAskedIn at lines.new.items ends.new.items book.new) }
+{
+    let Some(ends) = ends.get_mut(at) else {
+        return Ok(false);
+    };
+    let line = &mut lines[at];
+    attend(alloc, book, line, ends, at)
+}
+
+/// Attends to each script.
+#[tactic(auto, using(crate::proofs::Kept::all_same, crate::proofs::Kept::all_then))]
+pub(crate) fn attend_all<K: Keeper>(
+    alloc: Global,
+    book: &mut Book,
+    lines: &mut Vec<Line>,
+    ends: &mut Vec<Ends<K>>,
+) -> Result<bool, AllocError>
+    requires { (length lines.old.items ≤ length book.old.hall) × (length book.old.hall ≤ 64) }
+    ensures kept { KeepsAll lines.old.items ends.old.items book.old lines.new.items ends.new.items book.new }
+    ensures heard { HearsAll ends.old.items book.old.log.items ends.new.items book.new.log.items }
+    ensures comes { ComesTo book.old.stamp book.old.log.items book.new }
+    ensures entered { (at : ℕ) → HearsHandIn at lines.old.items ends.old.items book.old ends.new.items book.new }
+    ensures asked { OnOk result ((at : ℕ) → HasAskedIn at lines.new.items ends.new.items book.new) }
+{
+    let mut busy = false;
+    for at in 0..lines.len() {
+        if attend_at(alloc, book, lines, ends, at)? {
+            busy = true;
+        }
+    }
+    Ok(busy)
+}
