@@ -1,8 +1,10 @@
 """Edits that the prover must refuse: crates/NAME/edits/*.edit, in the format of must-fail/.
 
 A line `file: PATH` names a file of src/, and pairs of lines `old: TEXT` and `new: TEXT` follow; each old text stands
-there exactly once. Two lines more may stand at the head: `judge: FUNCTION` names a function beside the edited one
-that must refuse, and `refused-by: termination` says that the end of a recursion or a loop is what the edit is about.
+there exactly once. More lines may stand at the head: `judge: FUNCTION` names a function beside the edited one that
+must refuse, `refused-by: termination` says that the end of a recursion or a loop is what the edit is about, and
+`goal: FUNCTION GOAL` names a goal at which it is refused, so that the search that has to end there is written out at
+once. `tests/edits/run --goals` writes those.
 """
 
 import re
@@ -16,12 +18,20 @@ class BadEdit(Exception):
 
 
 class Edit(NamedTuple):
-    """An edit: its name, the texts that it takes and puts by file, its judges, and whether it is about an end."""
+    """An edit: its name, the texts that it takes and puts by file, its judges, and whether it is about an end.
+
+    Of the goals at which it is refused it has those that it names, each behind its function.
+    """
 
     name: str
     pairs: tuple
     judges: tuple
     of_termination: bool
+    goals: tuple = ()
+
+    def goals_of(self, function):
+        """The goals that it names of a function."""
+        return [goal for of, goal in self.goals if of == function]
 
 
 class Change(NamedTuple):
@@ -33,7 +43,7 @@ class Change(NamedTuple):
 
 def read_edit(path):
     """The edit in a file."""
-    file, old, pairs, judges, of_termination = None, None, [], [], False
+    file, old, pairs, judges, goals, of_termination = None, None, [], [], [], False
     for line in path.read_text(encoding="utf-8").split("\n"):
         word, _, rest = line.partition(":")
         rest = rest[1:] if rest.startswith(" ") else rest
@@ -45,6 +55,8 @@ def read_edit(path):
             judges.append(rest.strip())
         elif word == "refused-by" and rest.strip() == "termination":
             of_termination = True
+        elif word == "goal" and len(rest.split()) == 2:
+            goals.append(tuple(rest.split()))
         elif word == "old":
             old = rest
         elif word == "new":
@@ -53,10 +65,10 @@ def read_edit(path):
             pairs.append((file, old, rest))
             old = None
         elif line:
-            raise BadEdit(f"a line says neither file, old, new, judge nor refused-by: {line}")
+            raise BadEdit(f"a line says neither file, old, new, judge, refused-by nor goal: {line}")
     if not pairs:
         raise BadEdit("it has no old and new text")
-    return Edit(path.stem, tuple(pairs), tuple(judges), of_termination)
+    return Edit(path.stem, tuple(pairs), tuple(judges), of_termination, tuple(goals))
 
 
 def edited(edit, texts):

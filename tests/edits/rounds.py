@@ -119,9 +119,10 @@ def with_holes(source, turn, room):
         write_hole(source.crate, function, room)
     for trial in turn.trials:
         for function in trial.concerned(source):
-            goals = trial.searched.get(function.name)
+            goals = trial.searched.get(function.name) if trial.searched else trial.edit.goals_of(function.name)
             if goals:
-                write_searches(source.crate, function, source.texts[function.file], goals, room)
+                text, replaces = source.texts[function.file], bool(trial.searched)
+                write_searches(source.crate, function, text, goals, room, replaces)
     return list(proved)
 
 

@@ -194,6 +194,20 @@ EDITS = {
     "a_caller_alone": (edit(*NEXT_ENSURES), "NOT REFUSED: only small::second refuses it"),
     "the_end_as_meant": (edit("    down(n - 1)", "    down(n)", head="refused-by: termination\n"), "refused at"),
     "the_end_unmeant": (edit("    down(n - 1)", "    down(n)"), "what is refused isn't what the edit is about"),
+    "a_value_at_its_goal": (edit("    n + 1", "    n + 3", head="goal: next returns\n"), "refused at returns"),
+    "an_answer_at_its_goal": (
+        edit("    number + same(number)", "    number + same(1)", head="goal: doubled returns\n"),
+        "refused at returns",
+    ),
+    "holds_at_its_goal": (
+        edit("    number + same(number)", "    same(number) + number", head="goal: doubled returns\n"),
+        "NOT REFUSED: it is still proved",
+    ),
+    "answers_alone_at_its_goal": (
+        edit("    n + same(n)", "    equal(n) + n", head="goal: twice returns\n"),
+        "only a written proof no longer fits",
+    ),
+    "no_such_goal": (edit("    n + 1", "    n + 4", head="goal: next returns-then\n"), "refused alone at returns"),
     "answers_alone": (edit("    n + same(n)", "    n + equal(n)"), "only a written proof no longer fits"),
     "still_proved": (edit("    LEAST", "    LEAST - 0"), "NOT REFUSED: it is still proved"),
     "nothing": (edit("    n + 1", "    n + 1"), "BAD EDIT: it changes nothing"),

@@ -1,4 +1,4 @@
-"""Searches that are written out for goals of a function, in place of its answers or where it has none.
+"""Searches that are written out for goals of a function: in place of its answers, beside them, or where it has none.
 
 They have what the prover has at such a goal: its rules, and the lemmas and definitions that the function's
 attribute `tactic` names.
@@ -8,6 +8,8 @@ import re
 
 from copies import folder_of
 
+# How the name of a search that stands beside an answer ends.
+BESIDE = "-sought"
 ATTRIBUTE = re.compile(r"#\[tactic\((.*?)\)\]\n", re.S)
 
 
@@ -44,8 +46,31 @@ def searched(paragraph, goal, unfolding, search):
     return f"{head[1]}{own}{head[2]} {search}"
 
 
-def write_searches(crate, function, text, goals, room):
-    """Has a search answer these goals of a function, whose source has this text, in a copy of its crate."""
+def answered_goals(folder):
+    """The goals to which a folder of proofs has written answers."""
+    file = folder / "Answers.antt"
+    return re.findall(r"(?m)^pub (\S+) :", file.read_text(encoding="utf-8")) if file.is_file() else []
+
+
+def has_answer(paragraphs, goal):
+    """Whether a goal has a written answer."""
+    return any(re.search(rf"(?m)^pub {re.escape(goal)} :", it) for it in paragraphs)
+
+
+def beside(paragraphs, goal):
+    """The answers of a function with one more for a goal that has one, under a name of its own."""
+    found = next((it for it in paragraphs if re.search(rf"(?m)^pub {re.escape(goal)} :", it)), None)
+    if found is None:
+        return paragraphs
+    lines = [it for it in found.split("\n") if not it.startswith("--")]
+    return [*paragraphs, re.sub(rf"(?m)^(pub )?{re.escape(goal)}(?=[ \n])", rf"\g<1>{goal}{BESIDE}", "\n".join(lines))]
+
+
+def write_searches(crate, function, text, goals, room, replaces=True):
+    """Has a search answer these goals of a function, whose source has this text, in a copy of its crate.
+
+    Answers that are written stay, and have the search beside them, where it replaces none.
+    """
     folder = folder_of(function, room)
     file, attribute = folder / "Answers.antt", attribute_of(function, text)
     unfolding, using = paths_in("unfolding", attribute), paths_in("using", attribute)
@@ -55,9 +80,11 @@ def write_searches(crate, function, text, goals, room):
     if file.is_file():
         before = file.read_text(encoding="utf-8")
     paragraphs = before.rstrip("\n").split("\n\n")
-    for goal in goals:
+    for goal in () if replaces else goals:
+        paragraphs = beside(paragraphs, goal)
+    for goal in [it + BESIDE if has_answer(paragraphs, it + BESIDE) else it for it in goals]:
         answer = f"pub {goal} : goal.{goal}\n{goal} {'t c' if function.cycle else 'c'} = ?"
-        if not any(re.search(rf"(?m)^pub {re.escape(goal)} :", it) for it in paragraphs):
+        if not has_answer(paragraphs, goal):
             paragraphs.append(answer)
         paragraphs = [searched(it, goal, [last(path) for path in unfolding], search) for it in paragraphs]
     uses = ["use Rattle.std.proofs.Common.{rules}", *(import_of(crate, it) for it in (*unfolding, *using))]

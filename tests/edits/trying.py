@@ -5,9 +5,12 @@ import tempfile
 from typing import NamedTuple
 
 from checks import FRONT
+from copies import folder_of
 from edits import BadEdit, change_of, read_edit
+from noting import goals_to_note
 from rounds import Trial, next_round, run_alone, run_round, source_of
-from verdicts import Verdict, open_goals, refusals_of, verdict_of
+from searches import answered_goals
+from verdicts import Verdict, open_goals, refusals_of, verdict_of, with_sought
 
 WHY = {
     "files": "only a written proof no longer fits, and nothing shows that the goal doesn't hold",
@@ -25,11 +28,15 @@ class Tried(NamedTuple):
 
 
 class Trying:
-    """The edits of one crate while they are tried, each check over what those before it proved."""
+    """The edits of one crate while they are tried, each check over what those before it proved.
+
+    Of each that a round refused it has the goals to note in it.
+    """
 
     def __init__(self, crate):
         self.source = source_of(crate)
         self.tried, self.controls, self.seconds, self.rounds = [], [], 0, 0
+        self.goals = {}
         self.kept = None
 
     def tell(self, edit, is_refused, said):
@@ -71,6 +78,7 @@ class Trying:
                 verdict, goals = self.verdict(trial, found)
                 if verdict.word == "refused":
                     self.tell(trial.edit.name, True, f"refused at {verdict.goal}")
+                    self.goals[trial.edit.name] = goals_to_note(self.source, trial, found)
                 elif verdict.word == "open":
                     again.append(trial._replace(searched=goals))
                 else:
@@ -80,10 +88,20 @@ class Trying:
 
     def verdict(self, trial, found):
         """The verdict of a check on an edit, and the goals by function for which a search is to be written out."""
-        by_function = {it.name: refusals_of(self.source.crate, it, found) for it in trial.concerned(self.source)}
+        split = {}
+        for it in trial.concerned(self.source):
+            named = set() if trial.searched else set(trial.edit.goals_of(it.name))
+            named -= set(answered_goals(folder_of(it, pathlib.Path(self.source.crate.folder))))
+            split[it.name] = with_sought(refusals_of(self.source.crate, it, found), named)
+        goals = {name: open_goals(answers) for name, (answers, _) in split.items()}
         searched = {goal: how for goals in trial.searched.values() for goal, how in goals.items()}
-        verdict = verdict_of(trial.edit, [it for refusals in by_function.values() for it in refusals], searched)
-        return verdict, {name: open_goals(refusals) for name, refusals in by_function.items()}
+        verdict = verdict_of(trial.edit, [it for answers, _ in split.values() for it in answers], searched)
+        sought = [it for _, sought in split.values() for it in sought]
+        if verdict.word == "open" and sought:
+            left = {goal: how for of in goals.values() for goal, how in of.items()}
+            beside = verdict_of(trial.edit, sought, left)
+            verdict = beside if beside.word == "refused" else verdict
+        return verdict, goals
 
     def readable(self, trials, found):
         """The trials of a round that no function was checked in, without those that the front end refuses."""

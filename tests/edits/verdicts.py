@@ -9,6 +9,8 @@ names what is no more there, only values at which a goal fails decide.
 import re
 from typing import NamedTuple
 
+from searches import BESIDE
+
 
 class Verdict(NamedTuple):
     """What a check tells of an edit, and the goal that shows it.
@@ -52,6 +54,18 @@ def is_end_in(function, goal):
 def open_goals(refusals):
     """The goals for which a search is to be written out, with how each was refused."""
     return {it.goal: it.how for it in refusals if it.how in ("unfit", "names") or it.how == "limit" and it.is_search}
+
+
+def with_sought(refusals, goals):
+    """The refusals of answers, and how the searches beside answers that decide nothing were refused in their place.
+
+    The second has the answers' goals, as a check over those searches alone would tell of them. A search alone was
+    written for the given goals; one that isn't there tells nothing.
+    """
+    answers = [it for it in refusals if not (it.goal.endswith(BESIDE) or it.goal in goals and it.how == "names")]
+    answers = [it._replace(is_search=it.is_search or it.how == "shown" and it.goal in goals) for it in answers]
+    sought = [it._replace(goal=it.goal.removesuffix(BESIDE)) for it in refusals if it.goal.endswith(BESIDE)]
+    return answers, [it for it in sought if it.goal in open_goals(answers)]
 
 
 def is_decisive(refusal, searched):
