@@ -31,12 +31,18 @@ class Source(NamedTuple):
 class Trial(NamedTuple):
     """An edit that is to be tried, what it changes, and the goals for which a search is written out.
 
-    Of each such goal it has how it was refused before, by the function's name.
+    Of each such goal it has how it was refused before, by the function's name. It is bare where the goals that the
+    edit names were left out.
     """
 
     edit: Edit
     change: Change
     searched: dict
+    is_bare: bool = False
+
+    def bare(self):
+        """The same without the goals that the edit names: the searches that are written out for them decide nothing."""
+        return self._replace(edit=self.edit._replace(goals=()), is_bare=True)
 
     def concerned(self, source):
         """The functions that may refuse the edit: those that it changes, and its judges."""

@@ -207,7 +207,7 @@ EDITS = {
         edit("    n + same(n)", "    equal(n) + n", head="goal: twice returns\n"),
         "only a written proof no longer fits",
     ),
-    "no_such_goal": (edit("    n + 1", "    n + 4", head="goal: next returns-then\n"), "refused alone at returns"),
+    "no_such_goal": (edit("    n + 1", "    n + 4", head="goal: next returns-then\n"), "refused at returns"),
     "answers_alone": (edit("    n + same(n)", "    n + equal(n)"), "only a written proof no longer fits"),
     "still_proved": (edit("    LEAST", "    LEAST - 0"), "NOT REFUSED: it is still proved"),
     "nothing": (edit("    n + 1", "    n + 1"), "BAD EDIT: it changes nothing"),

@@ -78,9 +78,11 @@ class Trying:
                 verdict, goals = self.verdict(trial, found)
                 if verdict.word == "refused":
                     self.tell(trial.edit.name, True, f"refused at {verdict.goal}")
-                    self.goals[trial.edit.name] = goals_to_note(self.source, trial, found)
+                    self.goals[trial.edit.name] = () if trial.is_bare else goals_to_note(self.source, trial, found)
                 elif verdict.word == "open":
                     again.append(trial._replace(searched=goals))
+                elif trial.edit.goals and not trial.searched:
+                    again.append(trial.bare())
                 else:
                     undecided.append((trial, verdict))
             trials = again + trials

@@ -62,6 +62,18 @@ fn push_value(
     push_step(alloc, text, expr.advance(alloc, &mut log))
 }
 
+fn push_expression(
+    alloc: Global,
+    text: &mut Text,
+    source: &[u8],
+    values: &[Text],
+) -> Result<(), Complaint> {
+    match parse(alloc, source) {
+        Ok(expr) => push_value(alloc, text, &expr, values),
+        Err(fault) => push_fault(alloc, text, &fault),
+    }
+}
+
 /// Each call has an expression, and the values of operands. A line says what was asked for and what it came to.
 pub fn shown_expressions(alloc: Global, calls: &[Vec<Text>]) -> Result<Text, Complaint> {
     let mut text = Text::new(alloc);
@@ -69,10 +81,7 @@ pub fn shown_expressions(alloc: Global, calls: &[Vec<Text>]) -> Result<Text, Com
         let [source, values @ ..] = call.as_slice() else {
             return Err(Complaint::Call);
         };
-        match parse(alloc, source.as_slice()) {
-            Ok(expr) => push_value(alloc, &mut text, &expr, values)?,
-            Err(fault) => push_fault(alloc, &mut text, &fault)?,
-        }
+        push_expression(alloc, &mut text, source.as_slice(), values)?;
         text.push(b'\n')?;
     }
     Ok(text)

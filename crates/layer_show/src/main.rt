@@ -86,12 +86,16 @@ fn layer_of(name: &str) -> Option<Layer> {
     }
 }
 
-fn asked(rt: &(impl Env + AllocGlobal), alloc: Global) -> Result<Layer, Complaint> {
-    let words: Vec<String> = env::args(rt)?.collect(alloc)?;
-    match words.as_slice() {
+fn layer_in(words: &[String]) -> Result<Layer, Complaint> {
+    match words {
         [_, word] => layer_of(word.as_str()).ok_or(Complaint::Usage),
         _ => Err(Complaint::Usage),
     }
+}
+
+fn asked(rt: &(impl Env + AllocGlobal), alloc: Global) -> Result<Layer, Complaint> {
+    let words: Vec<String> = env::args(rt)?.collect(alloc)?;
+    layer_in(words.as_slice())
 }
 
 fn shown<R: Read>(alloc: Global, layer: Layer, input: &mut R) -> Result<Text, Complaint> {

@@ -23,14 +23,15 @@ fn push_chosen(alloc: Global, text: &mut Text, chosen: Chosen) -> Result<(), Com
     Ok(())
 }
 
-fn refused(alloc: Global, fault: PatternFault) -> Result<Text, Complaint> {
+fn push_refused(alloc: Global, text: &mut Text, fault: PatternFault) -> Result<(), Complaint> {
     let line = match fault {
         PatternFault::BadFlag(index) => format!(in alloc; "bad flag {index}\n")?,
         PatternFault::BadRegex(index) => format!(in alloc; "bad regular expression {index}\n")?,
         PatternFault::Refused => format!(in alloc; "refused\n")?,
         PatternFault::Memory => return Err(Complaint::Memory),
     };
-    Ok(Text::from_slice(alloc, line.as_bytes())?)
+    text.extend(line.as_bytes())?;
+    Ok(())
 }
 
 /// Every group of a list.
@@ -57,20 +58,29 @@ fn push_test(
     push_chosen(alloc, text, chosen)
 }
 
+/// A line for each test.
+fn push_tests(
+    alloc: Global,
+    text: &mut Text,
+    list: &PatternList,
+    tests: &[Vec<Text>],
+) -> Result<(), Complaint> {
+    let groups = all_groups(alloc, list)?;
+    'tests: for test in tests {
+        push_test(alloc, text, list, groups.as_slice(), test.as_slice())?;
+    }
+    Ok(())
+}
+
 /// The first call has the arguments of `expect`; each other one the most bytes that are kept, and bytes. A line
 /// has the pattern that is chosen, with its spans.
 pub fn shown_patterns(alloc: Global, calls: &[Vec<Text>]) -> Result<Text, Complaint> {
     let mut text = Text::new(alloc);
-    let [arguments, tests @ ..] = calls else {
-        return Ok(text);
-    };
-    let list = match PatternList::build(alloc, arguments.as_slice()) {
-        Ok(list) => list,
-        Err(fault) => return refused(alloc, fault),
-    };
-    let groups = all_groups(alloc, &list)?;
-    'tests: for test in tests {
-        push_test(alloc, &mut text, &list, groups.as_slice(), test.as_slice())?;
+    if let [arguments, tests @ ..] = calls {
+        match PatternList::build(alloc, arguments.as_slice()) {
+            Ok(list) => push_tests(alloc, &mut text, &list, tests)?,
+            Err(fault) => push_refused(alloc, &mut text, fault)?,
+        }
     }
     Ok(text)
 }

@@ -88,6 +88,31 @@ fn push_counts(
     Ok(())
 }
 
+/// What a machine comes to, and how often it paused.
+fn end_of_run(
+    alloc: Global,
+    machine: &mut Machine<SmallHost>,
+    host: &mut SmallHost,
+    meter: &mut Meter,
+) -> Result<(Text, u64), Complaint> {
+    let (pause, waits) = run_on(machine, host, meter)?;
+    Ok((shown_pause(alloc, &pause, host.is_spent)?, waits))
+}
+
+/// Whether a machine that has come to its end stays so.
+fn push_whether_it_stays(
+    alloc: Global,
+    text: &mut Text,
+    machine: &mut Machine<SmallHost>,
+    host: &mut SmallHost,
+    meter: &mut Meter,
+    end: &Text,
+) -> Result<(), Complaint> {
+    let is_same = stays(alloc, machine, host, meter, end)?;
+    text.extend(if is_same { b" stays\n" } else { b" strays\n" })?;
+    Ok(())
+}
+
 /// A line of what a machine comes to.
 fn push_run(
     alloc: Global,
@@ -96,13 +121,10 @@ fn push_run(
     host: &mut SmallHost,
     meter: &mut Meter,
 ) -> Result<(), Complaint> {
-    let (pause, waits) = run_on(machine, host, meter)?;
-    let end = shown_pause(alloc, &pause, host.is_spent)?;
+    let (end, waits) = end_of_run(alloc, machine, host, meter)?;
     text.extend(end.as_slice())?;
     push_counts(alloc, text, host, meter.count(), waits)?;
-    let is_same = stays(alloc, machine, host, meter, &end)?;
-    text.extend(if is_same { b" stays\n" } else { b" strays\n" })?;
-    Ok(())
+    push_whether_it_stays(alloc, text, machine, host, meter, &end)
 }
 
 /// Runs a script from its start.

@@ -56,6 +56,17 @@ fn scanned(
     Ok(found)
 }
 
+/// How often what the words of the first line say matches in data.
+fn count_of(alloc: Global, words: &[Text], data: &[u8]) -> Result<u64, Complaint> {
+    let [size, arguments @ ..] = words else {
+        return Err(Complaint::Call);
+    };
+    let Ok(list) = PatternList::build(alloc, arguments) else {
+        return Err(Complaint::Call);
+    };
+    scanned(alloc, &list, Buffer::new(alloc, number(size)?)?, data)
+}
+
 /// The first line has a buffer's size and the arguments of `expect`. What follows comes to the buffer in
 /// pieces of 4,096 bytes; what a pattern matches is taken off. A line says how often one matched.
 pub fn shown_scan(alloc: Global, src: &[u8]) -> Result<Text, Complaint> {
@@ -67,13 +78,6 @@ pub fn shown_scan(alloc: Global, src: &[u8]) -> Result<Text, Complaint> {
         return Err(Complaint::Call);
     };
     let words = read_list(alloc, line)?;
-    let [size, arguments @ ..] = words.as_slice() else {
-        return Err(Complaint::Call);
-    };
-    let Ok(list) = PatternList::build(alloc, arguments) else {
-        return Err(Complaint::Call);
-    };
-    let buffer = Buffer::new(alloc, number(size)?)?;
-    let found = scanned(alloc, &list, buffer, data)?;
+    let found = count_of(alloc, words.as_slice(), data)?;
     Ok(Text::from_slice(alloc, format!(in alloc; "{found}\n")?.as_bytes())?)
 }

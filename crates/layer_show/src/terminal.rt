@@ -42,20 +42,29 @@ fn push_sent(
     push_actions(alloc, text, &actions)
 }
 
+fn push_call(
+    alloc: Global,
+    text: &mut Text,
+    line: &mut Line,
+    modes: Modes,
+    call: &[Text],
+) -> Result<(), Complaint> {
+    let [name, bytes] = call else {
+        return Err(Complaint::Call);
+    };
+    match name.as_slice() {
+        b"send" => push_sent(alloc, text, line, modes, bytes.as_slice()),
+        b"print" => push_mapped(alloc, text, modes, bytes.as_slice()),
+        _ => Err(Complaint::Call),
+    }
+}
+
 /// A line for each call.
 fn shown_calls(alloc: Global, modes: Modes, calls: &[Vec<Text>]) -> Result<Text, Complaint> {
     let mut line = Line::new(alloc, modes);
     let mut text = Text::new(alloc);
     'calls: for call in calls {
-        match call.as_slice() {
-            [name, bytes] if name.as_slice() == b"send".as_slice() => {
-                push_sent(alloc, &mut text, &mut line, modes, bytes.as_slice())?;
-            }
-            [name, bytes] if name.as_slice() == b"print".as_slice() => {
-                push_mapped(alloc, &mut text, modes, bytes.as_slice())?;
-            }
-            _ => return Err(Complaint::Call),
-        }
+        push_call(alloc, &mut text, &mut line, modes, call.as_slice())?;
         text.push(b'\n')?;
     }
     Ok(text)

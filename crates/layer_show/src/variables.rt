@@ -114,6 +114,32 @@ fn assign(
     }
 }
 
+/// Sets a variable.
+fn set(
+    alloc: Global,
+    text: &mut Text,
+    vars: &mut Vars,
+    name: &[u8],
+    bytes: &[u8],
+) -> Result<(), Complaint> {
+    let value = Value::from_slice(alloc, bytes)?;
+    push_done(text, vars.set(name, value))
+}
+
+/// The element at a place of a variable.
+fn push_element_of(
+    alloc: Global,
+    text: &mut Text,
+    vars: &Vars,
+    name: &[u8],
+    place: &Text,
+) -> Result<(), Complaint> {
+    match vars.get(name) {
+        Ok(value) => push_element(alloc, text, &value, number(place)?),
+        Err(fault) => push_refusal(text, fault),
+    }
+}
+
 fn on_word(
     alloc: Global,
     text: &mut Text,
@@ -124,17 +150,11 @@ fn on_word(
 ) -> Result<(), Complaint> {
     let bytes = word.as_slice();
     match act {
-        b"set" => {
-            let value = Value::from_slice(alloc, bytes)?;
-            push_done(text, vars.set(name, value))
-        }
+        b"set" => set(alloc, text, vars, name, bytes),
         b"append" => push_done(text, vars.append(name, bytes)),
         b"assign" => assign(alloc, text, vars, name, bytes),
         b"member" => push_value(alloc, text, vars.get_member(name, bytes)),
-        b"element" => match vars.get(name) {
-            Ok(value) => push_element(alloc, text, &value, number(word)?),
-            Err(fault) => push_refusal(text, fault),
-        },
+        b"element" => push_element_of(alloc, text, vars, name, word),
         _ => Err(Complaint::Call),
     }
 }
