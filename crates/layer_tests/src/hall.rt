@@ -4,6 +4,7 @@ use child_events::{Answer, HallEvent, What};
 use dialogue_sched::{Hall, HallFault, HallRefusal, Script};
 use session::{Act, Ending, Pairs, Settings};
 use std::alloc::Global;
+use std::process::Abort;
 use std::test::Fail;
 use tcl_words::Text;
 
@@ -51,29 +52,64 @@ fn output(alloc: Global, len: usize) -> Result<HallEvent, Fail> {
 
 const DIALOGUE: &[u8] = b"spawn p; send \"a\\n\"; expect -ex b; puts done";
 
+fn step(hall: &mut Hall, event: HallEvent) -> Result<(), Fail> {
+    hall.step(event).ok().ok_or("refused")?;
+    Ok(())
+}
+
+fn is_refused(hall: &mut Hall, event: HallEvent, why: HallRefusal) -> bool {
+    hall.step(event).is_err_and(|r| r == why)
+}
+
+/// Whether the first script waits, having asked for its start alone.
+fn waits_for_its_start(hall: &Hall) -> Result<bool, Fail> {
+    let report = hall.report(1).ok().ok_or("no report")?;
+    Ok(matches!(report.ending, Ending::Waiting) && report.requests.len() == 1)
+}
+
 // An event of no script, of no child, too late and too long: the first reason counts, and the hall is as it was.
 #[test]
 fn refusals(rt: HostRuntime) -> Result<(), Fail> {
     let alloc = rt.alloc();
     let mut hall = hall(alloc, &[DIALOGUE])?;
-    let no_script = hall
-        .step(answered(65, 17, 1))
-        .is_err_and(|r| r == HallRefusal::NoSuchScript);
-    let no_child = hall
-        .step(answered(1, 17, 9_000_000_000_000_001))
-        .is_err_and(|r| r == HallRefusal::NoSuchChild);
-    let too_late = hall
-        .step(answered(1, 1, 9_000_000_000_000_001))
-        .is_err_and(|r| r == HallRefusal::MomentTooLarge);
-    let too_long = hall
-        .step(output(alloc, 4097)?)
-        .is_err_and(|r| r == HallRefusal::PieceTooLong);
-    assert!(rt; no_script && no_child && too_late && too_long);
-    let report = hall.report(1).ok().ok_or("no report")?;
-    assert!(rt; matches!(report.ending, Ending::Waiting));
-    assert_eq!(rt; report.requests.len(), 1);
-    assert!(rt; hall.report(2).is_err() && hall.report(0).is_err());
+    let piece = output(alloc, 4097)?;
+    refuses(&rt, &mut hall, piece);
+    assert!(rt; waits_for_its_start(&hall)?);
     Ok(())
+}
+
+/// The reasons in turn; the piece is too long.
+fn refuses<R: Abort>(rt: &R, hall: &mut Hall, piece: HallEvent) {
+    let late = 9_000_000_000_000_001;
+    assert!(rt; is_refused(hall, answered(65, 17, 1), HallRefusal::NoSuchScript));
+    assert!(rt; is_refused(hall, answered(1, 17, late), HallRefusal::NoSuchChild));
+    assert!(rt; is_refused(hall, answered(1, 1, late), HallRefusal::MomentTooLarge));
+    assert!(rt; is_refused(hall, piece, HallRefusal::PieceTooLong));
+    assert!(rt; hall.report(2).is_err() && hall.report(0).is_err());
+}
+
+/// Whether the first script starts its first child next.
+fn starts_a_child(hall: &mut Hall) -> bool {
+    match hall.request(1) {
+        Some(request) => matches!(request.act, Act::Spawn(_)) && request.child == 1,
+        None => false,
+    }
+}
+
+/// Whether the first script writes next.
+fn writes(hall: &mut Hall) -> bool {
+    match hall.request(1) {
+        Some(request) => matches!(request.act, Act::Write(_)),
+        None => false,
+    }
+}
+
+/// Whether the first script has ended, after all that it was to show and send.
+fn is_done(hall: &Hall) -> Result<bool, Fail> {
+    let report = hall.report(1).ok().ok_or("no report")?;
+    let is_shown = report.transcript.as_slice() == b"spawn p\r\na\r\nbdone\n".as_slice();
+    let is_sent = report.sent.as_slice() == [2].as_slice();
+    Ok(matches!(report.ending, Ending::Exit(0)) && is_shown && is_sent)
 }
 
 // Each request goes out once, as soon as the events decide it.
@@ -81,27 +117,22 @@ fn refusals(rt: HostRuntime) -> Result<(), Fail> {
 fn requests_once(rt: HostRuntime) -> Result<(), Fail> {
     let alloc = rt.alloc();
     let mut hall = hall(alloc, &[DIALOGUE, b"puts x"])?;
-    let spawned = hall.request(1).ok_or("no spawn")?;
-    assert!(rt; matches!(spawned.act, Act::Spawn(_)) && spawned.child == 1);
+    goes_on(&rt, &mut hall, output(alloc, 1)?)?;
+    assert!(rt; is_done(&hall)? && hall.request(1).is_none());
+    Ok(())
+}
+
+/// A dialogue up to its end, with this output.
+fn goes_on<R: Abort>(rt: &R, hall: &mut Hall, output: HallEvent) -> Result<(), Fail> {
+    assert!(rt; starts_a_child(hall));
     assert!(rt;
         hall.request(1).is_none() && hall.request(2).is_none() && hall.request(3).is_none()
     );
-    hall.step(answered(1, 1, 1)).ok().ok_or("refused")?;
-    let written = hall.request(1).ok_or("no write")?;
-    assert!(rt; matches!(written.act, Act::Write(_)) && hall.request(1).is_none());
-    hall.step(answered(1, 1, 2)).ok().ok_or("refused")?;
-    hall.step(output(alloc, 1)?).ok().ok_or("refused")?;
-    hall.step(HallEvent::Tick { moment: 9 })
-        .ok()
-        .ok_or("refused")?;
-    let report = hall.report(1).ok().ok_or("no report")?;
-    assert!(rt; matches!(report.ending, Ending::Exit(0)) && hall.request(1).is_none());
-    assert_eq!(rt;
-        report.transcript.as_slice(),
-        b"spawn p\r\na\r\nbdone\n".as_slice()
-    );
-    assert_eq!(rt; report.sent.as_slice(), [2].as_slice());
-    Ok(())
+    step(hall, answered(1, 1, 1))?;
+    assert!(rt; writes(hall) && hall.request(1).is_none());
+    step(hall, answered(1, 1, 2))?;
+    step(hall, output)?;
+    step(hall, HallEvent::Tick { moment: 9 })
 }
 
 // None is a hall too; the 65th script is one too many, and is told before a source that is too long.
@@ -132,9 +163,9 @@ const LOOP: &[u8] = b"for {set i 0} {$i < 10000} {incr i} {append a x}; spawn p;
 /// Whether a script that waits behind a long loop still waits when so many pieces of output came, one after another.
 fn waits(alloc: Global, pieces: usize) -> Result<bool, Fail> {
     let mut hall = hall(alloc, &[LOOP])?;
-    hall.step(answered(1, 1, 1)).ok().ok_or("refused")?;
+    step(&mut hall, answered(1, 1, 1))?;
     for _ in 0..pieces {
-        hall.step(output(alloc, 1)?).ok().ok_or("refused")?;
+        step(&mut hall, output(alloc, 1)?)?;
     }
     let report = hall.report(1).ok().ok_or("no report")?;
     let told = report.transcript.len().checked_sub(9) == Some(pieces);

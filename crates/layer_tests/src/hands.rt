@@ -65,6 +65,13 @@ fn a_reader_puts_pieces_and_then_the_end(rt: HostRuntime) -> Result<(), Fail> {
     assert!(rt; is_line(take_waiting(&rt, &bell, &mut out), 2));
     assert!(rt; is_end(out.take(), 2));
     assert!(rt; out.take().is_none());
+    Ok(())
+}
+
+#[test]
+fn a_reader_puts_what_it_read_and_then_the_failure(rt: HostRuntime) -> Result<(), Fail> {
+    let alloc = rt.alloc();
+    let bell = Bell::new(alloc)?;
     let (feed, mut out) = feed_pair::<Item<Liner>>(alloc, 2, &bell, &bell)?;
     let mut device = Counted::new(Flaky { turn: 0 });
     assert!(rt; pump(&rt, alloc, &bell, 3, 2, &mut device, feed).is_some());
