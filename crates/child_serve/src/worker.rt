@@ -14,7 +14,7 @@ use crate::served::{Served, Unsettled};
 use child_desk::{Book, Desk, Ends, Line};
 use child_hands::{Fresh, HandEnd, Work};
 use child_keeper::{Clock, Gate, Item, Keeper};
-use dialogue_sched::{Hall, HallFault, Reports, Script};
+use dialogue_sched::{Hall, HallFault, ReportFault, Reports, Script};
 use feed_rings::{Bell, Finished};
 use std::alloc::{AllocError, AllocFailed, Global};
 use std::sync::{Arc, Wait};
@@ -287,15 +287,17 @@ fn settle_all<K: Keeper, W: Threads>(
 
 /// What came of each script.
 fn reports_of<K: Keeper>(alloc: Global, desk: &Desk<K>) -> Result<Reports, WorkFault>
-    requires { length desk.now.lines.items ≤ 64 }
+    requires few { length desk.now.lines.items ≤ 64 }
+    requires there { length desk.now.lines.items ≤ length desk.now.book.hall }
     ensures { IfOk result (λ rs. AllShown desk.now.lines.items desk.now.book rs) }
 {
     let mut list = Vec::new(alloc);
     for at in 0..desk.lines.len() {
-        let Ok(report) = desk.report(at) else {
-            return Err(WorkFault::Memory);
-        };
-        list.push(report)?;
+        match desk.report(at) {
+            Ok(report) => list.push(report)?,
+            Err(ReportFault::Memory) => return Err(WorkFault::Memory),
+            Err(ReportFault::NoSuchScript) => unreachable!(),
+        }
     }
     Ok(Reports { list })
 }

@@ -10,7 +10,7 @@ loop-at-init g c =
 pub loop-at-preserved : goal.loop-at-preserved
 loop-at-preserved g c =
     let desk = c.args.desk.now in
-    one_shown desk.lines.items desk.book c.loop-at.at c.loop-at.list.items c.push.new.self.items c.in-Ok.report c.in_ok-push.ensures.items c.in-Ok.ensures.means c.loop-at.invariant
+    one_shown desk.lines.items desk.book c.loop-at.at c.loop-at.list.items c.push.new.self.items c.in-Ok.report c.in_ok-push-in-Ok.ensures.items c.in-Ok.ensures.means c.loop-at.invariant
 
 pub returns : goal.returns
 returns g c =

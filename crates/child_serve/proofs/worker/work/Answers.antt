@@ -17,6 +17,14 @@ turn_all-requires-after_bounds g c κs within =
     let lines = ap length c.new-desk.ensures.lines ∙ first_length g.K.Keeper.named g.K.Keeper.made c.as_slice.result.now c.in_ok-lines.lines.items c.in_ok-lines.ensures ∙ ap length c.as_slice.ensures.value ∙ c.requires.keepers in
     (omega (arith, halls, lines), omega (arith, halls, c.requires.few))
 
+pub reports_of-requires-clause-there : goal.reports_of-requires-clause-there
+reports_of-requires-clause-there g c κs within =
+    let begun = ap (λ (b : Book). length b.hall) c.new-desk.ensures.book ∙ ap length c.new-book.ensures.hall ∙ begun_length c.args.team.scripts.items c.in_ok-hall_of.field-0 c.in_ok-hall_of.ensures in
+    let lines = ap length c.new-desk.ensures.lines ∙ first_length g.K.Keeper.named g.K.Keeper.made c.as_slice.result.now c.in_ok-lines.lines.items c.in_ok-lines.ensures ∙ ap length c.as_slice.ensures.value ∙ c.requires.keepers in
+    let turned = c.turn_all.ensures.kept in
+    let settled = c.settle_all.ensures in
+    omega (arith, begun, lines, turned.halls, turned.count, settled.book.halls, ap length settled.lines)
+
 pub settle_all-requires-clause-few : goal.settle_all-requires-clause-few
 settle_all-requires-clause-few g c κs within =
     let begun = ap (λ (b : Book). length b.hall) c.new-desk.ensures.book ∙ ap length c.new-book.ensures.hall ∙ begun_length c.args.team.scripts.items c.in_ok-hall_of.field-0 c.in_ok-hall_of.ensures in
