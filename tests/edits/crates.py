@@ -30,8 +30,9 @@ def youngest_text(crate):
 def why_not_over(crate):
     """Why a crate can't be checked over what is built below it, or None.
 
-    What `rt lib` and `rt check` built has a stamp of the texts that it was made from. What `rt ci` left has none:
-    it must be younger than the texts.
+    What `rt lib` and `rt check` built has a stamp of the texts that it was made from. What `rt ci` left has none: it
+    must have been put there behind the texts. (The files may be older, since `rt ci` gives what it kept of an earlier run
+    a second name here; the folder they stand in is this checkout's own.)
     """
     youngest = 0.0
     for below in crate.below():
@@ -40,7 +41,7 @@ def why_not_over(crate):
         if not made.is_file():
             return f"{below.name} isn't built: run `rt lib` in crates/{below.name}, or `rt ci`"
         is_stamped = (made.parent.parent / "stamp").is_file()
-        if not (below.is_built() if is_stamped else youngest < made.stat().st_mtime):
+        if not (below.is_built() if is_stamped else youngest < made.parent.stat().st_mtime):
             again = f"run `rt lib` in crates/{below.name}, or remove crates/*/out and run `rt ci`"
             return f"what is built of {below.name} is stale: {again}"
     return None
