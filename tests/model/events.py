@@ -22,10 +22,19 @@ class Event(NamedTuple):
         return front + (b" " + held if held else b"") + b"\n"
 
 
+HEADING = b"exprun-log 2"
+
+
+def write_log(events, script):
+    """The log of a script's events, in version 2."""
+    return HEADING + b"\n" + b"".join(event.line(script) for event in events) + b"total %d\n" % len(events)
+
+
 def read_log(log, script):
-    """The events of a script and the ticks in a log that has no fault."""
+    """The events of a script and the ticks in a log that has no fault, of either version."""
     found = []
-    for line in log.splitlines():
+    lines = log.splitlines()
+    for line in lines[1:-1] if lines[:1] == [HEADING] else lines:
         kind, *fields = line.split(b" ")
         if kind == b"tick":
             found.append(Event("tick", 0, int(fields[0])))

@@ -1,5 +1,5 @@
 -- The numbers of a log are what decimal writes.
-use Rattle.std.proofs.Common.{◌≡◌, ℕ, zero, suc, ◌<◌, ◌≤◌, ◌^◌, List, [], ◌∷◌, length, get_or, Bool, true, false, ◌&&◌, Option, Some, None, Ok, Err, refl, sym, ap, ◌∙◌, arith}
+use Rattle.std.proofs.Common.{◌≡◌, ℕ, zero, suc, ◌<◌, ◌≤◌, ◌^◌, List, [], ◌∷◌, length, get_or, Bool, true, false, ◌&&◌, Option, Some, None, Ok, Err, refl, sym, ap, subst, ◌∙◌, arith}
 use Rattle.std.specs.Prelude.{if◌then◌else◌, nat_le}
 use Rattle.std.specs.Fmt.{decimal}
 use Rattle.std.specs.Str.{all_ascii_digits}
@@ -28,17 +28,25 @@ starts_high [] some high = absurd (omega arith)
 starts_high (d ∷ []) some high = refl
 starts_high (d ∷ e ∷ ds) some high = grind (arith, nat_tests)
 
-pub number_said : (w : List ℕ) (k : ℕ) → number_of w ≡ Some k → w ≡ decimal k
+-- a text that writes a number has at most sixteen digits
+pub record IsNumber (w : List ℕ) (k : ℕ) : Type 0 where
+  pub text : w ≡ decimal k
+  pub small : k < 10 ^ 16
+
+pub number_said : (w : List ℕ) (k : ℕ) → number_of w ≡ Some k → IsNumber w k
 number_said w k h = by_tests (starts_number w) (nat_le (length w) 16) (all_ascii_digits w) refl refl refl h
   where
     by_tests : (p q r : Bool) → starts_number w ≡ p → nat_le (length w) 16 ≡ q → all_ascii_digits w ≡ r →
-        (if p && q then (if r then Some (digits_value 10 w) else None) else None) ≡ Some k → w ≡ decimal k
+        (if p && q then (if r then Some (digits_value 10 w) else None) else None) ≡ Some k → IsNumber w k
     by_tests true true true starts few all said =
         let short : length w ≤ 16 = grind (arith, nat_tests) in
         let small : digits_value 10 w < 10 ^ 16 = digits_value_short digits w 16 all short in
         let fits : digits_value 10 w < 2 ^ 64 = omega arith in
         let value : digits_value 10 w ≡ k = cc in
-        sym (decimal-digits_value digits w all (starts_some w starts) (lone_zero w starts) fits) ∙ ap decimal value
+        record {
+          text = sym (decimal-digits_value digits w all (starts_some w starts) (lone_zero w starts) fits) ∙ ap decimal value;
+          small = subst (λ (m : ℕ). m < 10 ^ 16) value small;
+        }
     by_tests true true false starts few all said = absurd (cc)
     by_tests true false r starts few all said = absurd (cc)
     by_tests false q r starts few all said = absurd (cc)
@@ -75,7 +83,7 @@ within_said n w low high f k h = by_cases (number_of w) refl h
     by_test : (m : ℕ) (p q : Bool) → number_of w ≡ Some m → nat_le low m ≡ p → nat_le m high ≡ q → (if p && q then Ok m else Err f) ≡ Ok k → Within w low high k
     by_test m true true is p q said =
         let same : m ≡ k = cc in
-        record { text = number_said w m is ∙ ap decimal same; above = grind (arith, nat_tests); below = grind (arith, nat_tests) }
+        record { text = (number_said w m is).text ∙ ap decimal same; above = grind (arith, nat_tests); below = grind (arith, nat_tests) }
     by_test m true false is p q said = absurd (cc)
     by_test m false r is p q said = absurd (cc)
 

@@ -6,6 +6,8 @@ pub mod Hexes
 pub mod Plain
 pub mod Said
 pub mod Meant
+pub mod Closing
 pub mod Whole
+pub mod Fronts
 pub mod Worlds
 pub mod Queued

@@ -57,7 +57,7 @@ fit_child s c m w h =
     by_tests true false r t u v hp hq hr ht hu hv h = absurd (cc)
     by_tests false q r t u v hp hq hr ht hu hv h = absurd (cc)
 
-plain_decimal : (k : ℕ) → k < 2 ^ 64 → is_plain (decimal k) ≡ true
+pub plain_decimal : (k : ℕ) → k < 2 ^ 64 → is_plain (decimal k) ≡ true
 plain_decimal k fits = plain_digits (decimal k) (digits_decimal (numerals_by_value (λ ds. all_ascii_digits ds ≡ true) tells_all_ascii_digits) k fits)
 
 plain_kind : (w : What) → is_plain (kind_text w) ≡ true
@@ -219,7 +219,7 @@ fields_meant n (hall.Child s c m w) fit bytes =
     ap (λ (t : Bool). if t then Err (fault.Shape n) else event_of n (fields_of (hall.Child s c m w))) full
     ∙ child_meant n (decimal s) (decimal c) (decimal m) st w bytes f.few (stamp_meant n s c m w f)
 
-fields_parts : (e : HallEvent) → ArePlain (fields_of e) → parts 32 (line_of e) ≡ fields_of e
+pub fields_parts : (e : HallEvent) → ArePlain (fields_of e) → parts 32 (line_of e) ≡ fields_of e
 fields_parts (hall.Tick m) plain = parts_joined (codes "tick") (decimal m ∷ []) plain
 fields_parts (hall.Child s c m w) plain = parts_joined (kind_text w) (decimal s ∷ decimal c ∷ decimal m ∷ held_text w) plain
 

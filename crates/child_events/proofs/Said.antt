@@ -21,7 +21,7 @@ use Rattle.child_events.proofs.Decimals.{Within, within_said}
 use Rattle.child_events.proofs.Hexes.{piece_said}
 use Rattle.child_events.proofs.Plain.{joined-parts}
 
-is_word : (w name : List ℕ) → bytes_eq w name ≡ true → w ≡ name
+pub is_word : (w name : List ℕ) → bytes_eq w name ≡ true → w ≡ name
 is_word w name h = (bytes_eq-Decides w name).0 h
 
 cause_said : (x : List ℕ) (c : Cause) → cause_of x ≡ Some c → x ≡ cause_text c

@@ -1,70 +1,303 @@
 -- Reading a log gives the events whose log it is, and no others have it.
-use Rattle.std.proofs.Common.{◌≡◌, ◌≢◌, ℕ, ◌+◌, ◌<◌, List, [], ◌∷◌, ◌++◌, length, Bool, true, false, None, Result, Ok, Err, refl, sym, ap, subst, ◌∙◌, append_assoc, arith}
-use Rattle.std.specs.Prelude.{◌==◌, if◌then◌else◌, nat_lt, IfOk, IfErr}
-use Rattle.std.specs.List.{AllByRecursion}
+use Rattle.std.proofs.Common.{◌≡◌, ◌≢◌, inl, inr, ℕ, ◌+◌, ◌-◌, ◌<◌, ◌≤◌, ◌^◌, List, [], ◌∷◌, ◌++◌, length, Bool, true, false, Option, Some, None, Result, Ok, Err, refl, sym, ap, subst, ◌∙◌, append_assoc, arith}
+use Rattle.std.specs.Prelude.{◌==◌, ◌&&◌, ◌||◌, not, if◌then◌else◌, nat_lt, codes, IsTrue, IfOk, IfErr}
+use Rattle.std.specs.Fmt.{decimal}
+use Rattle.std.specs.Str.{bytes_eq}
 use Rattle.std.proofs.lemmas.List.{nil_from_length, append-nil}
 use Rattle.std.proofs.lemmas.Bool.{eqb-true}
+use Rattle.std.proofs.lemmas.Bool.Decides.{nat_tests}
+use Rattle.std.proofs.lemmas.Fmt.{length-decimal-le, decimal_nonempty}
+use Rattle.child_events.specs.declared.event.What.TheVariants as what
+use Rattle.child_events.specs.declared.event.Answer.TheVariants as answer
 use Rattle.child_events.specs.declared.event.HallEvent.{HallEvent}
+use Rattle.child_events.specs.declared.event.HallEvent.TheVariants as hall
 use Rattle.child_events.specs.declared.faults.LogFault.{LogFault}
 use Rattle.child_events.specs.declared.faults.LogFault.TheVariants as fault
-use Rattle.child_events.specs.Log.{line_of, log_text, fields_of, joined, AllFit, IsOfBytes, LogText}
-use Rattle.child_events.specs.Reading.{parts, line_event, last_part, with_first, lines_events, log_events, fault_in, first_fault, Reads, Refused}
+use Rattle.child_events.specs.declared.version.Version.{Version}
+use Rattle.child_events.specs.declared.version.Version.TheVariants.{First, Second}
+use Rattle.child_events.specs.Log.{line_of, lines_text, heading, total_line, fields_of, joined, fits, IsOfBytes, AreLogged, LogText1, LogText2, LogText}
+use Rattle.child_events.specs.Reading.{parts, or_fault, number_of, line_event, first_word, version_of, version_events, parts_events, total_of, line_total, closed, last_part, none_where, with_first, with_line, lines_events, log_events, fault_in, first_fault, Reads, Refused, ◌>>=◌}
 use Rattle.child_events.proofs.Parts.{parts_first}
-use Rattle.child_events.proofs.Plain.{without_joined, joined-parts}
+use Rattle.child_events.proofs.Plain.{ArePlain, without_joined, joined-parts, parts_joined, joined_len}
+use Rattle.child_events.proofs.Decimals.{number_said, number_meant}
 use Rattle.child_events.proofs.Lines.{lines_more, parts_some}
-use Rattle.child_events.proofs.Said.{IsLine, line_said}
-use Rattle.child_events.proofs.Meant.{line_meant, plain_fields}
+use Rattle.child_events.proofs.Said.{IsLine, line_said, is_word}
+use Rattle.child_events.proofs.Meant.{line_meant, line_short, plain_fields, plain_decimal, fields_parts}
+use Rattle.child_events.proofs.Closing.{same_number, versioned}
 
-last_said : (n : ℕ) (w : List ℕ) (es : List HallEvent) → last_part n w ≡ Ok es → LogText w es
-last_said n w es h = by_tests (length w == 0) (nat_lt 8219 (length w)) refl h
+-- what stands behind the events of a version, where line n is the next
+abbrev Ends : Version → ℕ → List ℕ → Type 0
+Ends First n rest = rest ≡ []
+Ends Second n rest = (rest ≡ total_line (n - 2)) × (n - 2 < 10 ^ 16)
+
+-- from line n on, the bytes are the lines of these events, and then the end
+record AreLines (v : Version) (n : ℕ) (bytes : List ℕ) (es : List HallEvent) : Type 0 where
+  rest : List ℕ
+  text : bytes ≡ lines_text es ++ rest
+  logged : AreLogged es
+  ends : Ends v (n + length es) rest
+
+-- the first line, and then the others
+lines_first : (e : HallEvent) (es : List HallEvent) (rest : List ℕ) → lines_text (e ∷ es) ++ rest ≡ line_of e ++ 10 ∷ (lines_text es ++ rest)
+lines_first e es rest = append_assoc (line_of e ++ 10 ∷ []) (lines_text es) rest ∙ append_assoc (line_of e) (10 ∷ []) (lines_text es ++ rest)
+
+-- Reading: the end, and the line of a total.
+
+last_said : (v : Version) (n : ℕ) (w : List ℕ) (es : List HallEvent) → none_where (last_part v n w) ≡ Ok es → AreLines v n w es
+last_said Second n w es h = by_tests (nat_lt 8219 (length w)) (length w == 0) h
   where
-    by_tests : (p q : Bool) → (length w == 0) ≡ p → (if p then Ok [] else if q then Err (fault.TooLong n) else Err (fault.Shape n)) ≡ Ok es → LogText w es
-    by_tests true q none said =
-        let same : [] ≡ es = cc in
-        subst (LogText w) same (nil_from_length w (eqb-true (length w) 0 none), tt, tt)
-    by_tests false true none said = absurd (cc)
+    by_tests : (p q : Bool) → none_where (if p then Err (fault.TooLong n) else if not q then Err (fault.Shape n) else Err (fault.Total n)) ≡ Ok es → AreLines Second n w es
+    by_tests true q said = absurd (cc)
+    by_tests false true said = absurd (cc)
+    by_tests false false said = absurd (cc)
+last_said First n w es h = by_tests (nat_lt 8219 (length w)) (length w == 0) refl h
+  where
+    by_tests : (p q : Bool) → (length w == 0) ≡ q → none_where (if p then Err (fault.TooLong n) else if not q then Err (fault.Shape n) else Ok tt) ≡ Ok es → AreLines First n w es
+    by_tests true q none said = absurd (cc)
     by_tests false false none said = absurd (cc)
+    by_tests false true none said =
+        let same : [] ≡ es = cc in
+        subst (AreLines First n w) same (record { rest = []; text = nil_from_length w (eqb-true (length w) 0 none); logged = (tt, tt); ends = refl })
 
-more_said : (n : ℕ) (w rest : List ℕ) (first : Result HallEvent LogFault) (others : Result (List HallEvent) LogFault) (es : List HallEvent) →
-    ((e : HallEvent) → first ≡ Ok e → IsLine w e) → ((fs : List HallEvent) → others ≡ Ok fs → LogText rest fs) → with_first first others ≡ Ok es → LogText (w ++ 10 ∷ rest) es
-more_said n w rest (Err f) others es line behind h = absurd (cc)
-more_said n w rest (Ok e) (Err f) es line behind h = absurd (cc)
-more_said n w rest (Ok e) (Ok fs) es line behind h =
+-- the line is that of k events
+record IsTotal (w : List ℕ) (k : ℕ) : Type 0 where
+  text : w ++ 10 ∷ [] ≡ total_line k
+  small : k < 10 ^ 16
+
+total_said : (n : ℕ) (ws : List (List ℕ)) (k : ℕ) → total_of n ws ≡ Some (Ok k) → IsTotal (joined 32 ws) k
+total_said n [] k h = absurd (cc)
+total_said n (a ∷ []) k h = absurd (cc)
+total_said n (a ∷ m ∷ []) k h = by_tests (bytes_eq a (codes "total")) (length m == 0) (number_of m) refl refl h
+  where
+    total_text : List ℕ → List ℕ
+    total_text x = joined 32 (codes "total" ∷ x ∷ []) ++ 10 ∷ []
+
+    by_tests : (p q : Bool) (o : Option ℕ) → bytes_eq a (codes "total") ≡ p → number_of m ≡ o → (if p && not q then Some (or_fault (fault.Number n) o) else None) ≡ Some (Ok k) → IsTotal (joined 32 (a ∷ m ∷ [])) k
+    by_tests false q o named is said = absurd (cc)
+    by_tests true true o named is said = absurd (cc)
+    by_tests true false None named is said = absurd (cc)
+    by_tests true false (Some j) named is said =
+        let same : j ≡ k = cc in
+        let number = number_said m k (is ∙ ap Some same) in
+        record {
+          text = ap (λ (x : List ℕ). joined 32 (x ∷ m ∷ []) ++ 10 ∷ []) (is_word a (codes "total") named) ∙ ap total_text number.text;
+          small = number.small;
+        }
+total_said n (a ∷ m ∷ x ∷ ws) k h = absurd (cc)
+
+line_total_said : (n : ℕ) (w : List ℕ) (k : ℕ) → line_total Second n w ≡ Some (Ok k) → IsTotal w k
+line_total_said n w k h = by_test (nat_lt 8219 (length w)) h
+  where
+    by_test : (t : Bool) → (if t then None else total_of n (parts 32 w)) ≡ Some (Ok k) → IsTotal w k
+    by_test true said = absurd (cc)
+    by_test false said = subst (λ (v : List ℕ). IsTotal v k) (joined-parts 32 w) (total_said n (parts 32 w) k said)
+
+ended_said : (v : Version) (n : ℕ) (w rest : List ℕ) (behind : List (List ℕ)) (total : Result ℕ LogFault) (es : List HallEvent) →
+    line_total v n w ≡ Some total → joined 10 behind ≡ rest → none_where (total >>= λ k. closed n (n - 2) k behind) ≡ Ok es → AreLines v n (w ++ 10 ∷ rest) es
+ended_said First n w rest behind total es says is h = absurd (cc)
+ended_said Second n w rest behind (Err f) es says is h = absurd (cc)
+ended_said Second n w rest behind (Ok k) es says is h = by_tests (k == n - 2) (length (joined 10 behind) == 0) refl refl h
+  where
+    by_tests : (p q : Bool) → (k == n - 2) ≡ p → (length (joined 10 behind) == 0) ≡ q →
+        none_where (if not p then Err (fault.Total n) else if not q then Err (fault.Total (n + 1)) else Ok tt) ≡ Ok es → AreLines Second n (w ++ 10 ∷ rest) es
+    by_tests false q counts none said = absurd (cc)
+    by_tests true false counts none said = absurd (cc)
+    by_tests true true counts none said =
+        let same : [] ≡ es = cc in
+        let count : k ≡ n + 0 - 2 = eqb-true k (n - 2) counts ∙ omega arith in
+        let total = line_total_said n w k says in
+        let nothing : rest ≡ [] = sym is ∙ nil_from_length (joined 10 behind) (eqb-true (length (joined 10 behind)) 0 none) in
+        subst (AreLines Second n (w ++ 10 ∷ rest)) same (record {
+          rest = w ++ 10 ∷ rest;
+          text = refl;
+          logged = (tt, tt);
+          ends = (
+            ap (λ (r : List ℕ). w ++ 10 ∷ r) nothing ∙ total.text ∙ ap total_line count,
+            subst (λ (j : ℕ). j < 10 ^ 16) count total.small,
+          );
+        })
+
+more_said : (v : Version) (n : ℕ) (w rest : List ℕ) (first : Result HallEvent LogFault) (others : Result (List HallEvent) LogFault) (es : List HallEvent) →
+    ((e : HallEvent) → first ≡ Ok e → IsLine w e) → ((fs : List HallEvent) → others ≡ Ok fs → AreLines v (n + 1) rest fs) → with_first first others ≡ Ok es → AreLines v n (w ++ 10 ∷ rest) es
+more_said v n w rest (Err f) others es line behind h = absurd (cc)
+more_said v n w rest (Ok e) (Err f) es line behind h = absurd (cc)
+more_said v n w rest (Ok e) (Ok fs) es line behind h =
     let same : e ∷ fs ≡ es = cc in
     let is = line e refl in
-    let text = behind fs refl in
-    subst (LogText (w ++ 10 ∷ rest)) same (
-      ap (λ (l : List ℕ). l ++ 10 ∷ rest) is.same ∙ ap (λ (r : List ℕ). line_of e ++ 10 ∷ r) text.0 ∙ sym (append_assoc (line_of e) (10 ∷ []) (log_text fs)),
-      (is.fit, text.1),
-      (is.bytes, text.2),
+    let lines = behind fs refl in
+    let count : n + 1 + length fs ≡ n + length (e ∷ fs) = omega arith in
+    subst (AreLines v n (w ++ 10 ∷ rest)) same (record {
+      rest = lines.rest;
+      text = ap (λ (l : List ℕ). l ++ 10 ∷ rest) is.same ∙ ap (λ (r : List ℕ). line_of e ++ 10 ∷ r) lines.text ∙ sym (lines_first e fs lines.rest);
+      logged = ((is.fit, lines.logged.0), (is.bytes, lines.logged.1));
+      ends = subst (λ (m : ℕ). Ends v m lines.rest) count lines.ends;
+    })
+
+lines_said : (v : Version) (n : ℕ) (ws : List (List ℕ)) (es : List HallEvent) → 0 < length ws → lines_events v n ws ≡ Ok es → AreLines v n (joined 10 ws) es
+lines_said v n [] es some h = absurd (omega arith)
+lines_said v n (w ∷ []) es some h = subst (λ (x : List ℕ). AreLines v n x es) (sym (append-nil w)) (last_said v n w es h)
+lines_said v n (w ∷ x ∷ ws) es some h = by_total (line_total v n w) refl (λ fs. lines_said v (n + 1) (x ∷ ws) fs (omega arith)) h
+  where
+    by_total : (o : Option (Result ℕ LogFault)) → line_total v n w ≡ o → ((fs : List HallEvent) → lines_events v (n + 1) (x ∷ ws) ≡ Ok fs → AreLines v (n + 1) (joined 10 (x ∷ ws)) fs) →
+        with_line n o (x ∷ ws) (line_event n w) (lines_events v (n + 1) (x ∷ ws)) ≡ Ok es → AreLines v n (joined 10 (w ∷ x ∷ ws)) es
+    by_total None none others said = more_said v n w (joined 10 (x ∷ ws)) (line_event n w) (lines_events v (n + 1) (x ∷ ws)) es (line_said n w) others said
+    by_total (Some total) says others said = ended_said v n w (joined 10 (x ∷ ws)) (x ∷ ws) total es says refl said
+
+first_text : (bytes : List ℕ) (es : List HallEvent) → AreLines First 1 bytes es → LogText1 bytes es
+first_text bytes es lines = (lines.text ∙ ap (λ (r : List ℕ). lines_text es ++ r) lines.ends ∙ append-nil (lines_text es), lines.logged)
+
+-- a log of version 2 that may be read
+abbrev IsSecond : List ℕ → List HallEvent → Type 0
+IsSecond bytes es = LogText2 bytes es × (length es < 10 ^ 16)
+
+second_text : (rest : List ℕ) (es : List HallEvent) → AreLines Second 2 rest es → IsSecond (heading ++ rest) es
+second_text rest es lines =
+    let count : 2 + length es - 2 ≡ length es = omega arith in (
+      (
+        ap (λ (r : List ℕ). heading ++ r) lines.text
+            ∙ ap (λ (r : List ℕ). heading ++ (lines_text es ++ r)) (lines.ends.0 ∙ ap total_line count),
+        lines.logged,
+      ),
+      subst (λ (k : ℕ). k < 10 ^ 16) count lines.ends.1,
     )
 
-lines_said : (n : ℕ) (ws : List (List ℕ)) (es : List HallEvent) → 0 < length ws → lines_events n ws ≡ Ok es → LogText (joined 10 ws) es
-lines_said n [] es some h = absurd (omega arith)
-lines_said n (w ∷ []) es some h = subst (λ (v : List ℕ). LogText v es) (sym (append-nil w)) (last_said n w es h)
-lines_said n (w ∷ v ∷ ws) es some h =
-    more_said n w (joined 10 (v ∷ ws)) (line_event n w) (lines_events (n + 1) (v ∷ ws)) es (line_said n w) (λ fs. lines_said (n + 1) (v ∷ ws) fs (omega arith)) h
+version_said : (w : List ℕ) → version_of w ≡ Ok Second → w ≡ codes "exprun-log 2"
+version_said w h = by_tests (nat_lt 8219 (length w) || not (bytes_eq (first_word (parts 32 w)) (codes "exprun-log"))) (bytes_eq w (codes "exprun-log 2")) refl h
+  where
+    by_tests : (p q : Bool) → bytes_eq w (codes "exprun-log 2") ≡ q → (if p then Ok First else if q then Ok Second else Err (fault.Version 1)) ≡ Ok Second → w ≡ codes "exprun-log 2"
+    by_tests true q is said = absurd (cc)
+    by_tests false true is said = is_word w (codes "exprun-log 2") is
+    by_tests false false is said = absurd (cc)
 
 -- what reads as events is their log
 pub log_said : (bytes : List ℕ) (es : List HallEvent) → log_events bytes ≡ Ok es → LogText bytes es
-log_said bytes es h = subst (λ (b : List ℕ). LogText b es) (joined-parts 10 bytes) (lines_said 1 (parts 10 bytes) es (parts_some 10 bytes) h)
+log_said bytes es h = subst (λ (b : List ℕ). LogText b es) (joined-parts 10 bytes) (by_parts (parts 10 bytes) (parts_some 10 bytes) h)
+  where
+    by_version : (w x : List ℕ) (ws : List (List ℕ)) (named : Result Version LogFault) → version_of w ≡ named → (named >>= version_events w (x ∷ ws)) ≡ Ok es → LogText (joined 10 (w ∷ x ∷ ws)) es
+    by_version w x ws (Err f) is said = absurd (cc)
+    by_version w x ws (Ok First) is said = inl (first_text (joined 10 (w ∷ x ∷ ws)) es (lines_said First 1 (w ∷ x ∷ ws) es (omega arith) said))
+    by_version w x ws (Ok Second) is said =
+        inr (subst (λ (v : List ℕ). IsSecond (v ++ 10 ∷ joined 10 (x ∷ ws)) es) (sym (version_said w is)) (second_text (joined 10 (x ∷ ws)) es (lines_said Second 2 (x ∷ ws) es (omega arith) said)))
 
-lines_meant : (n : ℕ) (es : List HallEvent) → AllFit es → AllByRecursion IsOfBytes es → lines_events n (parts 10 (log_text es)) ≡ Ok es
-lines_meant n [] fit bytes = refl
-lines_meant n (e ∷ es) fit bytes =
-    ap (λ (b : List ℕ). lines_events n (parts 10 b)) (append_assoc (line_of e) (10 ∷ []) (log_text es))
-    ∙ ap (lines_events n) (parts_first 10 (line_of e) (log_text es) (without_joined (fields_of e) (plain_fields e fit.0 bytes.0)))
-    ∙ lines_more n (line_of e) (parts 10 (log_text es)) (parts_some 10 (log_text es))
-    ∙ ap (λ (r : Result HallEvent LogFault). with_first r (lines_events (n + 1) (parts 10 (log_text es)))) (line_meant n e fit.0 bytes.0)
-    ∙ ap (with_first (Ok e)) (lines_meant (n + 1) es fit.1 bytes.1)
+    by_parts : (ws : List (List ℕ)) → 0 < length ws → parts_events ws ≡ Ok es → LogText (joined 10 ws) es
+    by_parts [] some said = absurd (omega arith)
+    by_parts (w ∷ []) some said = inl (first_text (joined 10 (w ∷ [])) es (lines_said First 1 (w ∷ []) es (omega arith) said))
+    by_parts (w ∷ x ∷ ws) some said = by_version w x ws (version_of w) refl said
+
+-- Writing: the line of an event names no version and is no total.
+
+not_long : (k : ℕ) → k ≤ 8219 → nat_lt 8219 k ≡ false
+not_long k le = grind (arith, nat_tests)
+
+event_no_total : (v : Version) (n : ℕ) (e : HallEvent) → IsTrue (fits e) → IsOfBytes e → line_total v n (line_of e) ≡ None
+event_no_total First n e fit bytes = refl
+event_no_total Second n e fit bytes =
+    ap (λ (t : Bool). if t then None else total_of n (parts 32 (line_of e))) (not_long (length (line_of e)) (line_short e fit bytes))
+    ∙ ap (total_of n) (fields_parts e (plain_fields e fit bytes))
+    ∙ by_event e
+  where
+    by_event : (x : HallEvent) → total_of n (fields_of x) ≡ None
+    by_event (hall.Tick m) = refl
+    by_event (hall.Child s c m w) = refl
+
+pub event_no_version : (e : HallEvent) → IsTrue (fits e) → IsOfBytes e → version_of (line_of e) ≡ Ok First
+event_no_version e fit bytes = ap (λ (ws : List (List ℕ)). if nat_lt 8219 (length (line_of e)) || not (bytes_eq (first_word ws) (codes "exprun-log")) then Ok First else other) (fields_parts e (plain_fields e fit bytes)) ∙ ap (λ (t : Bool). if t || not (bytes_eq (first_word (fields_of e)) (codes "exprun-log")) then Ok First else other) (not_long (length (line_of e)) (line_short e fit bytes)) ∙ by_event e
+  where
+    other : Result Version LogFault
+    other = if bytes_eq (line_of e) (codes "exprun-log 2") then Ok Second else Err (fault.Version 1)
+
+    by_event : (x : HallEvent) → (if not (bytes_eq (first_word (fields_of x)) (codes "exprun-log")) then Ok First else other) ≡ Ok First
+    by_event (hall.Tick m) = refl
+    by_event (hall.Child s c m (what.Out piece)) = refl
+    by_event (hall.Child s c m what.Eof) = refl
+    by_event (hall.Child s c m (what.ReadFail d)) = refl
+    by_event (hall.Child s c m (what.Answer answer.Ok)) = refl
+    by_event (hall.Child s c m (what.Answer (answer.Fail d))) = refl
+    by_event (hall.Child s c m (what.Answer (answer.Exit k))) = refl
+    by_event (hall.Child s c m (what.Answer answer.Killed)) = refl
+
+fits_word : (k : ℕ) → k < 10 ^ 16 → k < 2 ^ 64
+fits_word k small = omega arith
+
+-- the words of a total
+abbrev total_words : ℕ → List (List ℕ)
+total_words k = codes "total" ∷ decimal k ∷ []
+
+plain_total : (k : ℕ) → k < 10 ^ 16 → ArePlain (total_words k)
+plain_total k small = (refl, (plain_decimal k (fits_word k small), tt))
+
+total_meant : (n k : ℕ) → k < 10 ^ 16 → line_total Second n (joined 32 (total_words k)) ≡ Some (Ok k)
+total_meant n k small =
+    let digits = length-decimal-le 16 k (omega arith) small (fits_word k small) in
+    let whole = joined_len (codes "total") (decimal k ∷ []) in
+    ap (λ (t : Bool). if t then None else total_of n (parts 32 (joined 32 (total_words k)))) (not_long (length (joined 32 (total_words k))) (omega arith))
+    ∙ ap (total_of n) (parts_joined (codes "total") (decimal k ∷ []) (plain_total k small))
+    ∙ ap (λ (t : Bool). if not t then Some (or_fault (fault.Number n) (number_of (decimal k))) else None) (full (length (decimal k)) (decimal_nonempty k (fits_word k small)))
+    ∙ ap (λ (o : Option ℕ). Some (or_fault (fault.Number n) o)) (number_meant k small)
+  where
+    full : (j : ℕ) → 0 < j → (j == 0) ≡ false
+    full j some = grind (arith, nat_tests)
+
+end_meant : (v : Version) (n : ℕ) (rest : List ℕ) → Ends v n rest → lines_events v n (parts 10 rest) ≡ Ok []
+end_meant First n rest ends = ap (λ (r : List ℕ). lines_events First n (parts 10 r)) ends
+end_meant Second n rest ends =
+    ap (λ (r : List ℕ). lines_events Second n (parts 10 r)) ends.0
+    ∙ ap (lines_events Second n) (parts_first 10 (joined 32 (total_words (n - 2))) [] (without_joined (total_words (n - 2)) (plain_total (n - 2) ends.1)))
+    ∙ ap (λ (o : Option (Result ℕ LogFault)). with_line n o ([] ∷ []) (line_event n (joined 32 (total_words (n - 2)))) (lines_events Second (n + 1) ([] ∷ []))) (total_meant n (n - 2) ends.1)
+    ∙ ap (λ (t : Bool). none_where (if not t then Err (fault.Total n) else Ok tt)) (same_number (n - 2) (n - 2) refl)
+
+lines_meant : (v : Version) (n : ℕ) (es : List HallEvent) (rest : List ℕ) → AreLogged es → Ends v (n + length es) rest → lines_events v n (parts 10 (lines_text es ++ rest)) ≡ Ok es
+lines_meant v n [] rest logged ends = let count : n + 0 ≡ n = omega arith in end_meant v n rest (subst (λ (m : ℕ). Ends v m rest) count ends)
+lines_meant v n (e ∷ es) rest logged ends =
+    let fit = logged.0.0 in
+    let bytes = logged.1.0 in
+    let count : n + length (e ∷ es) ≡ n + 1 + length es = omega arith in
+    ap (λ (b : List ℕ). lines_events v n (parts 10 b)) (lines_first e es rest)
+    ∙ ap (lines_events v n) (parts_first 10 (line_of e) (lines_text es ++ rest) (without_joined (fields_of e) (plain_fields e fit bytes)))
+    ∙ lines_more v n (line_of e) (parts 10 (lines_text es ++ rest)) (parts_some 10 (lines_text es ++ rest))
+    ∙ ap (λ (o : Option (Result ℕ LogFault)). with_line n o (parts 10 (lines_text es ++ rest)) (line_event n (line_of e)) (lines_events v (n + 1) (parts 10 (lines_text es ++ rest)))) (event_no_total v n e fit bytes)
+    ∙ ap (λ (r : Result HallEvent LogFault). with_first r (lines_events v (n + 1) (parts 10 (lines_text es ++ rest)))) (line_meant n e fit bytes)
+    ∙ ap (with_first (Ok e)) (lines_meant v (n + 1) es rest (logged.0.1, logged.1.1) (subst (λ (m : ℕ). Ends v m rest) count ends))
+
+first_meant : (bytes : List ℕ) (es : List HallEvent) → LogText1 bytes es → log_events bytes ≡ Ok es
+first_meant bytes [] h = ap log_events h.0
+first_meant bytes (e ∷ es) h =
+    let fit = h.1.0.0 in
+    let of_bytes = h.1.1.0 in
+    let split = parts_first 10 (line_of e) (lines_text es) (without_joined (fields_of e) (plain_fields e fit of_bytes)) in
+    let text : bytes ≡ line_of e ++ 10 ∷ lines_text es = h.0 ∙ append_assoc (line_of e) (10 ∷ []) (lines_text es) in
+    versioned bytes (line_of e) (lines_text es) (Ok First) (ap (parts 10) text ∙ split) (event_no_version e fit of_bytes)
+    ∙ ap (lines_events First 1) (sym split)
+    ∙ ap (λ (b : List ℕ). lines_events First 1 (parts 10 b)) (sym (append_assoc (line_of e) (10 ∷ []) (lines_text es)) ∙ sym (append-nil (lines_text (e ∷ es))))
+    ∙ lines_meant First 1 (e ∷ es) [] h.1 refl
+
+-- behind its first line, version 2 is read as such
+pub headed : (rest : List ℕ) → log_events (heading ++ rest) ≡ lines_events Second 2 (parts 10 rest)
+headed rest = versioned (heading ++ rest) (codes "exprun-log 2") rest (Ok Second) refl refl
+
+pub second_meant : (bytes : List ℕ) (es : List HallEvent) → LogText2 bytes es → length es < 10 ^ 16 → log_events bytes ≡ Ok es
+second_meant bytes es h few =
+    let count : length es ≡ 2 + length es - 2 = omega arith in
+    ap log_events h.0
+    ∙ headed (lines_text es ++ total_line (length es))
+    ∙ lines_meant Second 2 es (total_line (length es)) h.1 (ap total_line count, subst (λ (k : ℕ). k < 10 ^ 16) count few)
+
+pub second_said : (bytes rest : List ℕ) (es : List HallEvent) → bytes ≡ heading ++ rest → log_events bytes ≡ Ok es → LogText2 bytes es
+second_said bytes rest es is h =
+    let lines = lines_said Second 2 (parts 10 rest) es (parts_some 10 rest) (sym (ap log_events is ∙ headed rest) ∙ h) in
+    subst (λ (b : List ℕ). LogText2 b es) (ap (λ (r : List ℕ). heading ++ r) (joined-parts 10 rest) ∙ sym is) (second_text (joined 10 (parts 10 rest)) es lines).0
 
 -- and a log reads as its events
 pub log_meant : (bytes : List ℕ) (es : List HallEvent) → LogText bytes es → log_events bytes ≡ Ok es
-log_meant bytes es h = ap log_events h.0 ∙ lines_meant 1 es h.1 h.2
+log_meant bytes es (inl h) = first_meant bytes es h
+log_meant bytes es (inr h) = second_meant bytes es h.0 h.1
 
--- a list of events has one log at most
-pub log_one_text : (bytes others : List ℕ) (es : List HallEvent) → LogText bytes es → LogText others es → bytes ≡ others
+-- a list of events has one log at most of each version
+pub log_one_text : (bytes others : List ℕ) (es : List HallEvent) → LogText1 bytes es → LogText1 others es → bytes ≡ others
 log_one_text bytes others es hb ho = hb.0 ∙ sym ho.0
+
+pub log_one_written : (bytes others : List ℕ) (es : List HallEvent) → LogText2 bytes es → LogText2 others es → bytes ≡ others
+log_one_written bytes others es hb ho = hb.0 ∙ sym ho.0
 
 -- a text is the log of one list of events at most
 pub log_one_list : (bytes : List ℕ) (es fs : List HallEvent) → LogText bytes es → LogText bytes fs → es ≡ fs

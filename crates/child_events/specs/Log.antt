@@ -1,5 +1,6 @@
--- The text of a list of events: a line for each, ended by a newline.
-use Rattle.std.specs.Prelude.{◌≡◌, ℕ, ◌<◌, nat_le, List, [], ◌∷◌, ◌++◌, length, codes, Bool, ◌&&◌, IsTrue}
+-- The text of a list of events: a line for each, ended by a newline. Version 2 has a line before them that names
+-- it, and one behind them that says how many they are.
+use Rattle.std.specs.Prelude.{◌≡◌, ◌⊎◌, ℕ, ◌<◌, ◌^◌, nat_le, List, [], ◌∷◌, ◌++◌, length, codes, Bool, ◌&&◌, IsTrue}
 use Rattle.std.specs.List.{flat_map, AllByRecursion}
 use Rattle.std.specs.Fmt.{decimal}
 use Rattle.hex.specs.Hex.{encode_lower, IsBytes}
@@ -56,9 +57,21 @@ joined sep (w ∷ ws) = w ++ flat_map (λ v. sep ∷ v) ws
 abbrev pub line_of : HallEvent → List ℕ
 line_of e = joined 32 (fields_of e)
 
--- the one text of a list of events
-abbrev pub log_text : List HallEvent → List ℕ
-log_text es = flat_map (λ e. line_of e ++ 10 ∷ []) es
+-- the lines of a list of events
+abbrev pub lines_text : List HallEvent → List ℕ
+lines_text es = flat_map (λ e. line_of e ++ 10 ∷ []) es
+
+-- the first line of version 2, with its newline
+abbrev pub heading : List ℕ
+heading = codes "exprun-log 2" ++ 10 ∷ []
+
+-- the last line of version 2, with its newline, where n events stand before it
+abbrev pub total_line : ℕ → List ℕ
+total_line n = joined 32 (codes "total" ∷ decimal n ∷ []) ++ 10 ∷ []
+
+-- the text of a list of events in version 2
+abbrev pub counted_text : List HallEvent → List ℕ
+counted_text es = heading ++ lines_text es ++ total_line (length es)
 
 abbrev pub piece_len : What → ℕ
 piece_len (what.Out piece) = length piece
@@ -88,6 +101,18 @@ abbrev pub IsOfBytes : HallEvent → Type 0
 IsOfBytes (hall.Child s c m w) = HoldsBytes w
 IsOfBytes (hall.Tick m) = Unit {0}
 
--- The bytes are the log of these events, which are within the limits.
+-- events within the limits, of bytes
+abbrev pub AreLogged : List HallEvent → Type 0
+AreLogged es = AllFit es × AllByRecursion IsOfBytes es
+
+-- The bytes are the log of these events in version 1.
+abbrev pub LogText1 : List ℕ → List HallEvent → Type 0
+LogText1 bytes es = (bytes ≡ lines_text es) × AreLogged es
+
+-- The bytes are what is written of these events: their log in version 2.
+abbrev pub LogText2 : List ℕ → List HallEvent → Type 0
+LogText2 bytes es = (bytes ≡ counted_text es) × AreLogged es
+
+-- The bytes are a log of these events. A number in it has at most sixteen digits, that of the events too.
 abbrev pub LogText : List ℕ → List HallEvent → Type 0
-LogText bytes es = (bytes ≡ log_text es) × AllFit es × AllByRecursion IsOfBytes es
+LogText bytes es = LogText1 bytes es ⊎ (LogText2 bytes es × (length es < 10 ^ 16))

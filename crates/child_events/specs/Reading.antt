@@ -1,6 +1,7 @@
 -- What the lines of a log say, or the first fault. Lines count from 1; the first bad line decides, and
--- in a line the faults have one order: its length, its shape, then the fields from the left.
-use Rattle.std.specs.Prelude.{◌≡◌, ◌≢◌, ◌<◌, ℕ, ◌+◌, ◌%◌, nat_le, nat_lt, ◌==◌, List, [], ◌∷◌, length, codes, Bool, true, false, not, ◌&&◌, ◌||◌, if◌then◌else◌, Option, Some, None, Result, Ok, Err}
+-- in a line the faults have one order: its length, its shape, then the fields from the left. In version 2 the
+-- first line is that of the version, and the last one that of the total.
+use Rattle.std.specs.Prelude.{◌≡◌, ◌≢◌, ◌<◌, ℕ, ◌+◌, ◌-◌, ◌%◌, nat_le, nat_lt, ◌==◌, List, [], ◌∷◌, length, codes, Bool, true, false, not, ◌&&◌, ◌||◌, if◌then◌else◌, Option, Some, None, Result, Ok, Err, ⊤}
 use Rattle.std.specs.Borrow.{Bor}
 use Rattle.std.specs.Str.{bytes_eq, all_ascii_digits}
 use Rattle.std.specs.Str.Parse.{digits_value}
@@ -16,7 +17,9 @@ use Rattle.child_events.specs.declared.event.HallEvent.TheVariants as hall
 use Rattle.child_events.specs.declared.fields.Stamp.{Stamp}
 use Rattle.child_events.specs.declared.faults.LogFault.{LogFault}
 use Rattle.child_events.specs.declared.faults.LogFault.TheVariants as fault
-use Rattle.child_events.specs.Log.{LogText}
+use Rattle.child_events.specs.declared.version.Version.{Version}
+use Rattle.child_events.specs.declared.version.Version.TheVariants.{First, Second}
+use Rattle.child_events.specs.Log.{joined, LogText}
 
 -- one reading and then another, which the first fault stops
 infixl 10 ◌>>=◌
@@ -152,24 +155,84 @@ fields_event n fields = if any_empty fields then Err (fault.Shape n) else event_
 abbrev pub line_event : ℕ → List ℕ → Result HallEvent LogFault
 line_event n line = if nat_lt 8219 (length line) then Err (fault.TooLong n) else fields_event n (parts 32 line)
 
+-- What only version 2 has: a first line that names it, and a last line with the number of events.
+
+abbrev pub first_word : List (List ℕ) → List ℕ
+first_word [] = []
+first_word (w ∷ ws) = w
+
+-- the version that a first line names, or version 1 where it names none
+abbrev pub version_of : List ℕ → Result Version LogFault
+version_of line =
+    if nat_lt 8219 (length line) || not (bytes_eq (first_word (parts 32 line)) (codes "exprun-log")) then Ok First
+    else if bytes_eq line (codes "exprun-log 2") then Ok Second
+    else Err (fault.Version 1)
+
+-- the line of the first event
+abbrev pub first_line : Version → ℕ
+first_line First = 1
+first_line Second = 2
+
+-- the number in line n, where its fields are those of a total
+abbrev pub total_of : ℕ → List (List ℕ) → Option (Result ℕ LogFault)
+total_of n [] = None
+total_of n (k ∷ []) = None
+total_of n (k ∷ m ∷ []) = if bytes_eq k (codes "total") && not (length m == 0) then Some (or_fault (fault.Number n) (number_of m)) else None
+total_of n (k ∷ m ∷ x ∷ more) = None
+
+abbrev pub line_total : Version → ℕ → List ℕ → Option (Result ℕ LogFault)
+line_total First n line = None
+line_total Second n line = if nat_lt 8219 (length line) then None else total_of n (parts 32 line)
+
+-- Line n says how many events there were, and nothing stands behind it.
+abbrev pub closed : ℕ → ℕ → ℕ → List (List ℕ) → Result ⊤ LogFault
+closed n seen total behind =
+    if not (total == seen) then Err (fault.Total n)
+    else if not (length (joined 10 behind) == 0) then Err (fault.Total (n + 1))
+    else Ok tt
+
+-- where line n would stand, version 1 may end, and version 2 lacks its total
+abbrev pub at_end : Version → ℕ → Result ⊤ LogFault
+at_end First n = Ok tt
+at_end Second n = Err (fault.Total n)
+
 -- behind the last newline there is nothing
-abbrev pub last_part : ℕ → List ℕ → Result (List HallEvent) LogFault
-last_part n w =
-    if length w == 0 then Ok []
-    else if nat_lt 8219 (length w) then Err (fault.TooLong n)
-    else Err (fault.Shape n)
+abbrev pub last_part : Version → ℕ → List ℕ → Result ⊤ LogFault
+last_part v n w =
+    if nat_lt 8219 (length w) then Err (fault.TooLong n)
+    else if not (length w == 0) then Err (fault.Shape n)
+    else at_end v n
+
+-- no events, where a log may end so
+abbrev pub none_where : Result ⊤ LogFault → Result (List HallEvent) LogFault
+none_where ended = ended >>= λ done. Ok []
 
 abbrev pub with_first : Result HallEvent LogFault → Result (List HallEvent) LogFault → Result (List HallEvent) LogFault
 with_first first others = first >>= λ e. others >>= λ es. Ok (e ∷ es)
 
+-- a total ends the log; any other line is an event, with others behind it
+abbrev pub with_line : ℕ → Option (Result ℕ LogFault) → List (List ℕ) → Result HallEvent LogFault → Result (List HallEvent) LogFault → Result (List HallEvent) LogFault
+with_line n (Some total) behind first others = none_where (total >>= λ k. closed n (n - 2) k behind)
+with_line n None behind first others = with_first first others
+
 -- the events of the parts round the newlines, the first of them line n
-abbrev pub lines_events : ℕ → List (List ℕ) → Result (List HallEvent) LogFault
-lines_events n [] = Ok []
-lines_events n (w ∷ []) = last_part n w
-lines_events n (w ∷ v ∷ ws) = with_first (line_event n w) (lines_events (n + 1) (v ∷ ws))
+abbrev pub lines_events : Version → ℕ → List (List ℕ) → Result (List HallEvent) LogFault
+lines_events v n [] = Ok []
+lines_events v n (w ∷ []) = none_where (last_part v n w)
+lines_events v n (w ∷ x ∷ ws) = with_line n (line_total v n w) (x ∷ ws) (line_event n w) (lines_events v (n + 1) (x ∷ ws))
+
+-- where the first line names this version
+abbrev pub version_events : List ℕ → List (List ℕ) → Version → Result (List HallEvent) LogFault
+version_events w behind First = lines_events First 1 (w ∷ behind)
+version_events w behind Second = lines_events Second 2 behind
+
+abbrev pub parts_events : List (List ℕ) → Result (List HallEvent) LogFault
+parts_events [] = Ok []
+parts_events (w ∷ []) = lines_events First 1 (w ∷ [])
+parts_events (w ∷ x ∷ ws) = version_of w >>= version_events w (x ∷ ws)
 
 abbrev pub log_events : List ℕ → Result (List HallEvent) LogFault
-log_events bytes = lines_events 1 (parts 10 bytes)
+log_events bytes = parts_events (parts 10 bytes)
 
 abbrev pub fault_in : {A : Type 0} → Result A LogFault → Option LogFault
 fault_in (Ok x) = None

@@ -17,6 +17,10 @@ pub enum LogFault {
     NoSuchChild(usize),
     /// A line of more than 8,219 bytes, or a piece of more than 4,096.
     TooLong(usize),
+    /// A total that isn't the number of events before it, a line behind it, or no total.
+    Total(usize),
+    /// A version that isn't 2.
+    Version(usize),
     /// Memory was refused.
     Memory,
 }

@@ -2,7 +2,7 @@
 
 ghost use Rattle.std.specs.Prelude.{◌≡◌, ◌≤◌, ◌+◌, ◌<◌, ◌∷◌, [], length, IfOk};
 ghost use Rattle.std.specs.Str.{bytes_eq};
-ghost use Rattle.child_events.specs.Reading.{SplitsAt, starts_number as starts, digits_number as digits_number_of, number_of, number_within as within, is_lower_hex_digit as is_digit, all_lower_hex, piece_of, cause_of, what_alone as alone_of, failed as failed_of, what_failed as failed_with, moment_of, stamp_of, any_empty as any_empty_of, Reads};
+ghost use Rattle.child_events.specs.Reading.{SplitsAt, starts_number as starts, digits_number as digits_number_of, number_of, or_fault, number_within as within, is_lower_hex_digit as is_digit, all_lower_hex, piece_of, cause_of, what_alone as alone_of, failed as failed_of, what_failed as failed_with, moment_of, stamp_of, any_empty as any_empty_of, Reads};
 
 use crate::event::{Answer, Cause, HallEvent, What};
 use crate::faults::LogFault;
@@ -11,6 +11,9 @@ use tcl_words::Text;
 
 /// The greatest moment of a log, in milliseconds.
 const MOST_MOMENT: u64 = 9_000_000_000_000_000;
+
+/// The most bytes of a line, without its newline.
+pub const LONGEST: usize = 8219;
 
 /// The most hexadecimal digits of a piece.
 const MOST_DIGITS: usize = 8192;
@@ -87,6 +90,16 @@ fn number(word: &[u8]) -> Option<u64>
     }
 }
 
+/// A number of any size, in a line.
+pub fn any_number(line: usize, word: &[u8]) -> Result<u64, LogFault>
+    ensures { result ≡ or_fault (LogFault.Number line) (number_of word.now) }
+{
+    let Some(n) = number(word) else {
+        return Err(LogFault::Number(line));
+    };
+    Ok(n)
+}
+
 /// A number between two bounds, in a line.
 fn number_within(
     line: usize,
@@ -98,9 +111,7 @@ fn number_within(
     ensures value { result ≡ within line word.now low high outside }
     ensures bound { IfOk result (λ n. n ≤ high) }
 {
-    let Some(n) = number(word) else {
-        return Err(LogFault::Number(line));
-    };
+    let n = any_number(line, word)?;
     if low <= n && n <= high {
         Ok(n)
     } else {

@@ -10,6 +10,7 @@ mod lane;
 mod queue;
 mod reading;
 mod slot;
+mod version;
 mod world;
 mod writing;
 

@@ -1,20 +1,19 @@
 //! The log of events, read.
 
-ghost use Rattle.std.specs.Prelude.{◌≡◌, ◌≢◌, ◌+◌, ◌≤◌, ◌<◌, ◌∷◌, [], ℕ, List, length, IfOk, IfErr, Option, Result};
-ghost use Rattle.child_events.specs.Log.{LogText};
-ghost use Rattle.child_events.specs.Reading.{parts, stamp_of, failed_event as failed_of, fields_event, line_event, last_part, lines_events, log_events, first_fault, Reads, Refused};
+ghost use Rattle.std.specs.Prelude.{◌≡◌, ◌≢◌, ◌+◌, ◌≤◌, ◌<◌, ◌^◌, ◌∷◌, ◌++◌, [], ℕ, List, length, IfOk, IfErr, Option, Result};
+ghost use Rattle.child_events.specs.Log.{heading, LogText1, LogText2, LogText};
+ghost use Rattle.child_events.specs.Reading.{parts, stamp_of, failed_event as failed_of, fields_event, line_event, first_line, last_part as last_of, lines_events, log_events, first_fault, Reads, Refused};
 ghost use Rattle.child_events.specs.declared.event.HallEvent.{HallEvent};
 
 use crate::event::{Answer, HallEvent, What};
 use crate::faults::LogFault;
 use crate::fields::{
-    StampWords, is, moment, piece, read_stamp, split_first, status, what_alone, what_failed,
+    LONGEST, StampWords, is, moment, piece, read_stamp, split_first, status, what_alone,
+    what_failed,
 };
 use crate::hall_events::HallEvents;
+use crate::version::{Version, close, line_total, version_of};
 use std::alloc::Global;
-
-/// The most bytes of a line, without its newline.
-const LONGEST: usize = 8219;
 
 /// The fewest bytes of a line, with its newline.
 const SHORTEST: usize = 7;
@@ -132,25 +131,53 @@ fn most_events(bytes: &[u8]) -> usize {
     newlines.min(bytes.len() / SHORTEST)
 }
 
-/// The events of a log, or its first fault.
-fn read_lines(alloc: Global, bytes: &[u8]) -> Result<HallEvents, LogFault>
-    ensures { Reads result (log_events bytes.now) }
+/// The end of a log whose last newline stands before these bytes, which would be the line of this number.
+fn last_part(version: Version, number: usize, rest: &[u8]) -> Result<(), LogFault>
+    ensures { result ≡ last_of version number rest.now }
+{
+    if rest.len() > LONGEST {
+        return Err(LogFault::TooLong(number));
+    }
+    if !rest.is_empty() {
+        return Err(LogFault::Shape(number));
+    }
+    match version {
+        Version::First => Ok(()),
+        Version::Second => Err(LogFault::Total(number)),
+    }
+}
+
+/// The events of a log of this version from its first event's line on, or the first fault.
+fn read_lines(alloc: Global, version: Version, bytes: &[u8]) -> Result<HallEvents, LogFault>
+    ensures { Reads result (lines_events version (first_line version) (parts 10 bytes.now)) }
 {
     let mut events = HallEvents::with_capacity(alloc, most_events(bytes))?;
     let mut rest = bytes;
-    let mut number: usize = 1;
+    let mut number = version.first_line();
     'lines: while let Some((line, behind)) = split_first(rest, b'\n') {
+        if let Some(total) = line_total(version, number, line) {
+            close(number, events.len(), total?, behind)?;
+            return Ok(events);
+        }
         let event = read_line(alloc, number, line)?;
         events.push(event)?;
         rest = behind;
         number += 1;
     }
-    if rest.is_empty() {
-        Ok(events)
-    } else if rest.len() > LONGEST {
-        Err(LogFault::TooLong(number))
-    } else {
-        Err(LogFault::Shape(number))
+    last_part(version, number, rest)?;
+    Ok(events)
+}
+
+/// The events of a log of either version, or its first fault.
+fn read_versions(alloc: Global, bytes: &[u8]) -> Result<HallEvents, LogFault>
+    ensures { Reads result (log_events bytes.now) }
+{
+    let Some((line, behind)) = split_first(bytes, b'\n') else {
+        return read_lines(alloc, Version::First, bytes);
+    };
+    match version_of(line)? {
+        Version::First => read_lines(alloc, Version::First, bytes),
+        Version::Second => read_lines(alloc, Version::Second, behind),
     }
 }
 
@@ -163,15 +190,21 @@ pub fn read_log(alloc: Global, bytes: &[u8]) -> Result<HallEvents, LogFault>
     ensures found { IfOk result (λ es. LogText bytes.now es) }
     ensures refused { IfErr result (λ f. f ≢ LogFault.Memory → Refused bytes.now f) }
 {
-    read_lines(alloc, bytes)
+    read_versions(alloc, bytes)
 }
 
-/// Holds of every text and every list of events: a list has one log at most, a text is the log of one list
-/// at most, and it is that of some list exactly where no line of it has a fault. It does nothing when it
-/// runs.
+/// Holds of every text and every list of events: a list has one log at most of each version, a text is the
+/// log of one list at most, and it is that of some list exactly where no line of it has a fault. What was
+/// written in version 2 is read as the events that were written, what was read in version 2 is what is
+/// written of its events, and where its end is lost, and not all of it, there is a fault. It does nothing
+/// when it runs.
 pub fn log_laws()
-    ensures one_text { (bytes others : List ℕ) (es : List HallEvent) → LogText bytes es → LogText others es → bytes ≡ others }
+    ensures one_text { (bytes others : List ℕ) (es : List HallEvent) → LogText1 bytes es → LogText1 others es → bytes ≡ others }
+    ensures one_written { (bytes others : List ℕ) (es : List HallEvent) → LogText2 bytes es → LogText2 others es → bytes ≡ others }
     ensures one_list { (bytes : List ℕ) (es fs : List HallEvent) → LogText bytes es → LogText bytes fs → es ≡ fs }
     ensures sound { (bytes : List ℕ) (es : List HallEvent) → LogText bytes es → first_fault bytes ≡ None }
     ensures complete { (bytes : List ℕ) → first_fault bytes ≡ None → (es : List HallEvent) × LogText bytes es }
+    ensures written_reads { (bytes : List ℕ) (es : List HallEvent) → LogText2 bytes es → length es < 10 ^ 16 → log_events bytes ≡ Ok es }
+    ensures read_writes { (bytes rest : List ℕ) (es : List HallEvent) → bytes ≡ heading ++ rest → log_events bytes ≡ Ok es → LogText2 bytes es }
+    ensures cut_off { (front rest : List ℕ) (es : List HallEvent) → LogText2 (front ++ rest) es → length es < 10 ^ 16 → 0 < length front → 0 < length rest → first_fault front ≢ None }
 {}

@@ -4,7 +4,7 @@ ghost use Rattle.std.specs.Prelude.{◌≡◌, ◌<◌, ◌++◌, ◌∷◌, [],
 ghost use Rattle.std.specs.List.{flat_map};
 ghost use Rattle.std.specs.Fmt.{decimal};
 ghost use Rattle.hex.specs.Hex.{IsBytes};
-ghost use Rattle.child_events.specs.Log.{cause_text, hex_text, kind_text, held_text, line_of, log_text, AllFit, LogText, HoldsBytes, IsOfBytes};
+ghost use Rattle.child_events.specs.Log.{cause_text, hex_text, kind_text, held_text, line_of, heading, lines_text, total_line, AllFit, LogText2, HoldsBytes, IsOfBytes};
 
 use crate::event::{Answer, Cause, HallEvent, What};
 use std::alloc::{AllocError, Global};
@@ -80,6 +80,13 @@ fn push_held(alloc: Global, text: &mut Text, what: &What) -> Result<(), AllocErr
     }
 }
 
+/// Ends the line at the end of the text.
+fn end_line(text: &mut Text) -> Result<(), AllocError>
+    ensures { OnOk result (text.new ≡ text.old ++ 10 ∷ []) }
+{
+    text.push(b'\n')
+}
+
 /// Puts an event's line behind the text, with its newline.
 fn push_line(alloc: Global, text: &mut Text, event: &HallEvent) -> Result<(), AllocError>
     ensures { OnOk result (text.new ≡ text.old ++ (line_of event.now ++ 10 ∷ [])) }
@@ -102,7 +109,16 @@ fn push_line(alloc: Global, text: &mut Text, event: &HallEvent) -> Result<(), Al
             push_number(alloc, text, *moment)?;
         }
     }
-    text.push(b'\n')
+    end_line(text)
+}
+
+/// Puts the line behind the text that says how many events a log has, with its newline.
+fn push_total(alloc: Global, text: &mut Text, count: usize) -> Result<(), AllocError>
+    ensures { OnOk result (text.new ≡ text.old ++ total_line count) }
+{
+    text.extend(b"total")?;
+    push_number(alloc, text, count as u64)?;
+    end_line(text)
 }
 
 /// Says that a slice is of bytes. It does nothing when it runs, as the next two.
@@ -133,16 +149,18 @@ fn tell_event_bytes(event: &HallEvent)
     }
 }
 
-/// The log of a list of events, of which each has a script from 1 to 64, a child from 1 to 16, a moment
-/// of at most 9,000,000,000,000,000 and a piece of at most 4,096 bytes.
+/// The log of a list of events in version 2. Each event has a script from 1 to 64, a child from 1 to 16, a
+/// moment of at most 9,000,000,000,000,000 and a piece of at most 4,096 bytes.
 pub fn write_log(alloc: Global, events: &[HallEvent]) -> Result<Text, AllocError>
     requires { AllFit events.now }
-    ensures { IfOk result (λ t. LogText t events.now) }
+    ensures { IfOk result (λ t. LogText2 t events.now) }
 {
     let mut text = Text::new(alloc);
+    text.extend(b"exprun-log 2\n")?;
     'events: for event in events {
         tell_event_bytes(event);
         push_line(alloc, &mut text, event)?;
     }
+    push_total(alloc, &mut text, events.len())?;
     Ok(text)
 }

@@ -29,6 +29,8 @@ LogLine (logs.Hex n) c = c ≡ line.Log 3 n
 LogLine (logs.NoSuchScript n) c = c ≡ line.Log 4 n
 LogLine (logs.NoSuchChild n) c = c ≡ line.Log 5 n
 LogLine (logs.TooLong n) c = c ≡ line.Log 6 n
+LogLine (logs.Total n) c = c ≡ line.Log 8 n
+LogLine (logs.Version n) c = c ≡ line.Log 9 n
 LogLine logs.Memory c = c ≡ line.Memory
 
 -- a line that names a source's file

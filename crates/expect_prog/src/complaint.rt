@@ -80,6 +80,8 @@ impl<'a> Complaint<'a> {
             LogFault::NoSuchScript(line) => Complaint::Log { number: 4, line },
             LogFault::NoSuchChild(line) => Complaint::Log { number: 5, line },
             LogFault::TooLong(line) => Complaint::Log { number: 6, line },
+            LogFault::Total(line) => Complaint::Log { number: 8, line },
+            LogFault::Version(line) => Complaint::Log { number: 9, line },
             LogFault::Memory => Complaint::Memory,
         }
     }

@@ -16,6 +16,7 @@ pub const REPLAY: &str = "\
 A log is what happened to the children of the scripts, a line an event: what it was, the
 script, its child, and the moment in milliseconds.
 
+    exprun-log 2         the first line: this is version 2 of the log
     ok 1 1 5             what script 1 asked of its child 1 is done
     bad 1 1 5 broken     it failed: notfound, denied, broken, memory or other
     out 1 1 20 68690a    the child wrote these bytes
@@ -24,6 +25,10 @@ script, its child, and the moment in milliseconds.
     exit 1 1 31 0        it ended with this status
     killed 1 1 31        it was ended by a signal
     tick 10031           it is so late now, for all scripts
+    total 8              the last line: how many events there are
+
+Fault 8 at the line behind the last one tells of a log that was cut off. Version 1, without
+the first and the last line, is read too.
 
 A report has a line with the script's ending and counts, and then its transcript. The
 endings are exit:N, error (its text follows the transcript), steplimit, timelimit, memory,
@@ -37,9 +42,11 @@ Example: cat.exp is
 
 and the file log is
 
+    exprun-log 2
     ok 1 1 5
     ok 1 1 10
     out 1 1 20 68690a
+    total 3
 
 Then `exprun replay log cat.exp` prints
 

@@ -1,5 +1,15 @@
-use Rattle.child_events.proofs.Whole.{log_one_text, log_one_list, log_sound, log_complete}
+use Rattle.child_events.proofs.Whole.{log_one_text, log_one_written, log_one_list, log_sound, log_complete, second_meant, second_said}
+use Rattle.child_events.proofs.Fronts.{cut_off}
 use Rattle.child_events.proofs.reading.log_laws.Goals as goal
 
 pub returns : goal.returns
-returns c = record { one_text = log_one_text; one_list = log_one_list; sound = log_sound; complete = log_complete }
+returns c = record {
+  one_text = log_one_text;
+  one_written = log_one_written;
+  one_list = log_one_list;
+  sound = log_sound;
+  complete = log_complete;
+  written_reads = second_meant;
+  read_writes = second_said;
+  cut_off = cut_off;
+}

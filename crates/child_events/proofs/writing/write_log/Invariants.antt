@@ -1,10 +1,10 @@
-use Rattle.std.proofs.Common.{◌≡◌, take}
+use Rattle.std.proofs.Common.{◌≡◌, ◌++◌, take}
 use Rattle.std.specs.List.{AllByRecursion}
-use Rattle.child_events.specs.Log.{log_text, IsOfBytes}
+use Rattle.child_events.specs.Log.{heading, lines_text, IsOfBytes}
 use Rattle.child_events.proofs.writing.write_log.Given as goal
 
 abbrev pub invariant-events : goal.invariant-events
 invariant-events l = record {
-  text : l.text ≡ log_text (take l.event-index l.events);
+  text : l.text ≡ heading ++ lines_text (take l.event-index l.events);
   bytes : AllByRecursion IsOfBytes (take l.event-index l.events);
 }

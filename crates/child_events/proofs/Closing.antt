@@ -1,0 +1,53 @@
+-- The first line of version 2 and its last.
+use Rattle.std.proofs.Common.{◌≡◌, ℕ, ◌+◌, ◌-◌, ◌<◌, List, [], ◌∷◌, ◌++◌, length, Bool, true, false, Some, None, Result, Ok, Err, refl, sym, ap, ◌∙◌, arith}
+use Rattle.std.specs.Prelude.{◌==◌, not, if◌then◌else◌, codes}
+use Rattle.std.proofs.lemmas.Bool.Decides.{nat_tests}
+use Rattle.child_events.specs.declared.faults.LogFault.{LogFault}
+use Rattle.child_events.specs.declared.faults.LogFault.TheVariants as fault
+use Rattle.child_events.specs.declared.version.Version.{Version}
+use Rattle.child_events.specs.declared.version.Version.TheVariants.{First, Second}
+use Rattle.child_events.specs.Log.{joined}
+use Rattle.child_events.specs.Reading.{parts, first_line, version_of, version_events, parts_events, log_events, total_of, line_total, ◌>>=◌, closed}
+use Rattle.child_events.proofs.Lines.{parts_some}
+use Rattle.child_events.proofs.Plain.{joined-parts}
+
+pub same_number : (a b : ℕ) → a ≡ b → (a == b) ≡ true
+same_number a b same = grind (arith, nat_tests)
+
+-- something behind a total
+pub closed_behind : (n seen total : ℕ) (behind : List ℕ) → total ≡ seen → false ≡ (length behind == 0) → Err (fault.Total (n + 1)) ≡ closed n seen total (parts 10 behind)
+closed_behind n seen total behind same some =
+    sym (
+    ap (λ (t : Bool). if not t then Err (fault.Total n) else if not (length (joined 10 (parts 10 behind)) == 0) then Err (fault.Total (n + 1)) else Ok tt) (same_number total seen same)
+    ∙ ap (λ (b : List ℕ). if not (length b == 0) then Err (fault.Total (n + 1)) else Ok tt) (joined-parts 10 behind)
+    ∙ ap (λ (t : Bool). if not t then Err (fault.Total (n + 1)) else Ok tt) (sym some)
+    )
+
+-- fields with others behind them are no total's
+crowded_no : (n : ℕ) (k m : List ℕ) (ws : List (List ℕ)) → 0 < length ws → total_of n (k ∷ m ∷ ws) ≡ None
+crowded_no n k m [] some = absurd (omega arith)
+crowded_no n k m (x ∷ ws) some = refl
+
+module _ (n : ℕ) (line word : List ℕ) (is : line ≡ codes "total " ++ word) where
+  -- what stands behind the first word
+  total_parts : parts 32 line ≡ codes "total" ∷ parts 32 word
+  total_parts = ap (parts 32) is
+
+  -- one with more words is none
+  pub more_no : (first others : List ℕ) → parts 32 word ≡ first ∷ parts 32 others → total_of n (parts 32 line) ≡ None
+  more_no first others split =
+      ap (total_of n) (total_parts ∙ ap (λ (ws : List (List ℕ)). codes "total" ∷ ws) split) ∙ crowded_no n (codes "total") first (parts 32 others) (parts_some 32 others)
+
+-- Version 2 alone has a total; how many events stood before its line, the line's number says.
+pub seen_is : (v : Version) (n seen : ℕ) (line : List ℕ) (total : Result ℕ LogFault) → line_total v n line ≡ Some total → n ≡ seen + first_line v → n - 2 ≡ seen
+seen_is First n seen line total is number = absurd (cc)
+seen_is Second n seen line total is number = omega arith
+
+-- A first line with others behind it says which version this is.
+pub versioned : (bytes line behind : List ℕ) (named : Result Version LogFault) → parts 10 bytes ≡ line ∷ parts 10 behind → version_of line ≡ named → log_events bytes ≡ (named >>= version_events line (parts 10 behind))
+versioned bytes line behind named split is =
+    ap parts_events split ∙ others (parts 10 behind) (parts_some 10 behind) ∙ ap (λ (r : Result Version LogFault). r >>= version_events line (parts 10 behind)) is
+  where
+    others : (ws : List (List ℕ)) → 0 < length ws → parts_events (line ∷ ws) ≡ (version_of line >>= version_events line ws)
+    others [] some = absurd (omega arith)
+    others (w ∷ ws) some = refl

@@ -1,0 +1,92 @@
+//! The versions of a log, and the two lines that only version 2 has: its first and its last.
+
+ghost use Rattle.std.specs.Prelude.{◌≡◌, ◌+◌, ◌<◌, ◌^◌, codes};
+ghost use Rattle.std.specs.Str.{bytes_eq};
+ghost use Rattle.child_events.specs.Reading.{parts, first_word, version_of as version_of_line, first_line, total_of as total_of_fields, line_total as total_of_line, closed};
+
+use crate::faults::LogFault;
+use crate::fields::{LONGEST, any_number, is, split_first};
+
+/// The version of a log.
+#[derive(Clone, Copy, Debug, PartialEq, Eq)]
+pub enum Version {
+    /// Lines of events alone.
+    First,
+    /// The line of the version, lines of events, and a line that says how many they are.
+    Second,
+}
+
+impl Version {
+    /// The number of the first event's line, counted from 1.
+    pub fn first_line(self) -> usize
+        ensures { result ≡ first_line self }
+    {
+        match self {
+            Version::First => 1,
+            Version::Second => 2,
+        }
+    }
+}
+
+/// Whether a line's first word is the name of the format.
+fn names_format(line: &[u8]) -> bool
+    ensures { result ≡ bytes_eq (first_word (parts 32 line.now)) (codes "exprun-log") }
+{
+    match split_first(line, b' ') {
+        Some((word, _)) => is(word, b"exprun-log"),
+        None => is(line, b"exprun-log"),
+    }
+}
+
+/// The version that a first line names, or version 1 where it names none.
+pub fn version_of(line: &[u8]) -> Result<Version, LogFault>
+    ensures { result ≡ version_of_line line.now }
+{
+    if line.len() > LONGEST || !names_format(line) {
+        Ok(Version::First)
+    } else if is(line, b"exprun-log 2") {
+        Ok(Version::Second)
+    } else {
+        Err(LogFault::Version(1))
+    }
+}
+
+/// The number in a line `total N`, or what is wrong with it; `None` of any other line.
+fn total_of(line: usize, text: &[u8]) -> Option<Result<u64, LogFault>>
+    ensures { result ≡ total_of_fields line (parts 32 text.now) }
+{
+    let word = text.strip_prefix(b"total ")?;
+    if word.is_empty() {
+        return None;
+    }
+    match split_first(word, b' ') {
+        Some(_) => None,
+        None => Some(any_number(line, word)),
+    }
+}
+
+/// The total that a line of version 2 says, or what is wrong with its number; `None` of any other line.
+pub fn line_total(version: Version, line: usize, text: &[u8]) -> Option<Result<u64, LogFault>>
+    ensures { result ≡ total_of_line version line text.now }
+{
+    match version {
+        Version::First => None,
+        Version::Second if text.len() > LONGEST => None,
+        Version::Second => total_of(line, text),
+    }
+}
+
+/// Ends a log at a line which says that it has this many events, where it had `seen` of them.
+#[tactic(auto, using(crate::proofs::Closing::closed_behind))]
+pub fn close(line: usize, seen: usize, total: u64, behind: &[u8]) -> Result<(), LogFault>
+    requires { line + 1 < 2 ^ 64 }
+    ensures { result ≡ closed line seen total (parts 10 behind.now) }
+{
+    if total != seen as u64 {
+        Err(LogFault::Total(line))
+    } else if !behind.is_empty() {
+        Err(LogFault::Total(line + 1))
+    } else {
+        Ok(())
+    }
+}
