@@ -5,12 +5,13 @@ use Rattle.exp_glob.specs.declared.element.Element.{Element}
 use Rattle.exp_glob.specs.declared.element.Element.TheVariants.{Star, One, End}
 use Rattle.exp_glob.specs.declared.pattern.Glob.{Glob}
 use Rattle.exp_glob.specs.Spans.{takes, Spans, GlobSpan, FindsFirst}
-use Rattle.exp_glob.specs.Runs.{takes_at, run_end, behind_star, IsLeastRun, IsGreatestRun, FindsLongest}
+use Rattle.exp_glob.specs.Runs.{takes_at, run_end, IsLeastRun, IsGreatestRun, FindsLongest}
+use Rattle.exp_glob.specs.Stars.{behind_star}
 
 above_zero : (a : ℕ) → 0 ≤ a
 above_zero a = omega arith
 
-only_if : (t : Bool) (o : Option ℕ) (m : ℕ) → cond t o None ≡ Some m → (t ≡ true) × (o ≡ Some m)
+pub only_if : (t : Bool) (o : Option ℕ) (m : ℕ) → cond t o None ≡ Some m → (t ≡ true) × (o ≡ Some m)
 only_if true o m e = (refl, e)
 only_if false o m e = absurd (cc)
 

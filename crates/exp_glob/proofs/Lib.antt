@@ -2,3 +2,4 @@ pub mod ReadOn
 pub mod Greedy
 pub mod Starts
 pub mod Found
+pub mod Made

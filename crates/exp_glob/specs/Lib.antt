@@ -1,4 +1,6 @@
 pub mod Elements
+pub mod Stars
 pub mod Spans
 pub mod Runs
+pub mod Literals
 pub mod Search

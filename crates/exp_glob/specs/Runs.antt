@@ -1,15 +1,9 @@
 -- Runs: the elements up to the first star. A run that matches from a place on has one end.
-use Rattle.std.specs.Prelude.{◌≡◌, ℕ, ◌+◌, ◌<◌, ◌≤◌, nat_lt, Bool, true, false, ◌&&◌, ◌==◌, if◌then◌else◌, List, [], ◌∷◌, length, slice_index, Option, Some, None, MatchOption}
+use Rattle.std.specs.Prelude.{◌≡◌, ℕ, ◌+◌, ◌<◌, ◌≤◌, nat_lt, Bool, ◌&&◌, ◌==◌, if◌then◌else◌, List, [], ◌∷◌, length, slice_index, Option, Some, None, MatchOption}
 use Rattle.exp_glob.specs.declared.element.Element.{Element}
 use Rattle.exp_glob.specs.declared.element.Element.TheVariants.{Star, One, End}
 use Rattle.exp_glob.specs.declared.element.Single.{Single}
-use Rattle.exp_glob.specs.declared.element.Single.TheVariants.{Any, Byte, Class}
 use Rattle.exp_glob.specs.Spans.{takes, Spans}
-
-abbrev pub is_star : Element → Bool
-is_star Star = true
-is_star (One single) = false
-is_star End = false
 
 -- the byte at a is there and is taken
 abbrev pub takes_at : Bool → Single → List ℕ → ℕ → Bool
@@ -21,23 +15,6 @@ run_end nocase [] s a = Some a
 run_end nocase (Star ∷ es) s a = Some a
 run_end nocase (One single ∷ es) s a = if takes_at nocase single s a then run_end nocase es s (a + 1) else None
 run_end nocase (End ∷ es) s a = if a == length s then run_end nocase es s a else None
-
--- the byte with which each match of the elements begins, where there is only one
-abbrev pub first_byte : Bool → List Element → Option ℕ
-first_byte nocase [] = None
-first_byte nocase (Star ∷ es) = None
-first_byte nocase (End ∷ es) = None
-first_byte true (One single ∷ es) = None
-first_byte false (One Any ∷ es) = None
-first_byte false (One (Byte b) ∷ es) = Some b
-first_byte false (One (Class members) ∷ es) = None
-
--- the elements behind the first star
-abbrev pub behind_star : List Element → Option (List Element)
-behind_star [] = None
-behind_star (Star ∷ es) = Some es
-behind_star (One single ∷ es) = behind_star es
-behind_star (End ∷ es) = behind_star es
 
 -- the least place from `from` on and below `bound` where the first run matches, with the run's end
 abbrev pub IsLeastRun : Bool → List Element → List ℕ → ℕ → ℕ → Option (ℕ × ℕ) → Type 0

@@ -4,11 +4,15 @@
 #![tactic(auto)]
 
 mod element;
+mod literal;
 mod matching;
 mod pattern;
 mod places;
+mod plan;
 mod reading;
 mod runs;
 
 pub use element::{Element, Elements, Members, Single};
+pub use literal::{Literal, Literals};
 pub use pattern::Glob;
+pub use plan::Plan;

@@ -6,9 +6,11 @@ ghost use Rattle.exp_glob.specs.Search.{first_span};
 ghost use Rattle.exp_glob.specs.Spans.{FindsFirst};
 
 use crate::element::Elements;
+use crate::literal::{lacks_literal, later_literals};
 use crate::places::after;
+use crate::plan::Plan;
 use crate::reading::elements;
-use crate::runs::{least_run, longest, star_end};
+use crate::runs::{least_run, longest, run_end, star_end};
 use std::alloc::{AllocError, Global};
 
 /// A glob pattern, read once.
@@ -17,7 +19,7 @@ pub struct Glob {
     /// It began with `^`: it matches at the start of the text alone.
     pub anchored: bool,
     /// Its elements, without that `^`.
-    pub elements: Elements,
+    pub elements: Plan,
 }
 
 impl Glob {
@@ -26,19 +28,22 @@ impl Glob {
         ensures { IfOk result (λ g. g ≡ glob_of pattern.now) }
     {
         match pattern {
-            [] => Ok(Glob {
-                anchored: false,
-                elements: Elements::new(alloc),
-            }),
+            [] => {
+                let elements = Plan::new(alloc, Elements::new(alloc))?;
+                Ok(Glob {
+                    anchored: false,
+                    elements,
+                })
+            }
             [first, rest @ ..] => {
                 if *first == b'^' {
-                    let elements = elements(alloc, rest)?;
+                    let elements = Plan::new(alloc, elements(alloc, rest)?)?;
                     return Ok(Glob {
                         anchored: true,
                         elements,
                     });
                 }
-                let elements = elements(alloc, pattern)?;
+                let elements = Plan::new(alloc, elements(alloc, pattern)?)?;
                 Ok(Glob {
                     anchored: false,
                     elements,
@@ -55,6 +60,11 @@ impl Glob {
         if self.anchored { 1 } else { text.len() + 1 }
     }
 
+    /// Whether the first run stands where it has to, where that is one place alone.
+    fn can_begin(&self, text: &[u8], nocase: bool) -> bool {
+        !self.anchored || run_end(self.elements.as_slice(), text, 0, nocase).is_some()
+    }
+
     /// The match that starts first and is the longest from there: its start, and the place behind its last byte.
     ///
     /// Under `nocase` letters of ASCII are compared without case. It takes no memory, and time in the product of both lengths.
@@ -64,14 +74,20 @@ impl Glob {
         ensures within { IfSome result (λ r. (r.0 ≤ r.1) × (r.1 ≤ length text.now)) }
     {
         let elements = self.elements.as_slice();
+        let literals = self.elements.literals(nocase);
+        if self.can_begin(text, nocase) && lacks_literal(literals, text) {
+            return None;
+        }
+        let runs = literals.runs.as_slice();
         let bound = self.starts(text);
-        let Some((start, end)) = least_run(elements, text, 0, bound, nocase) else {
+        let Some((start, end)) = least_run(elements, runs, text, 0, bound, nocase) else {
             return None;
         };
         let Some(n) = star_end(elements) else {
             return Some((start, end));
         };
-        let Some(end) = longest(after(elements, n), text, end, nocase) else {
+        let later = later_literals(runs);
+        let Some(end) = longest(after(elements, n), later, text, end, nocase) else {
             return None;
         };
         Some((start, end))

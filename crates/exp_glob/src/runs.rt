@@ -1,14 +1,17 @@
-//! Runs: the elements between stars. All but the last run are sought at their least place, the last one at its greatest.
+//! Runs: the elements between stars. All but the last run are sought at their least place, the last one at its greatest, each by its literal.
 
 ghost use Rattle.std.specs.Prelude.{◌≡◌, ◌≤◌, ◌+◌, ◌<◌, ℕ, ◌==◌, None, Some, drop, length, MatchOption};
-ghost use Rattle.exp_glob.specs.Runs.{is_star as is_star_of, takes_at as takes_at_of, run_end as run_end_of, first_byte as first_byte_of, behind_star, IsLeastRun, IsGreatestRun, FindsLongest};
+ghost use Rattle.exp_glob.specs.Literals.{IsLiteral, AreLiterals};
+ghost use Rattle.exp_glob.specs.Runs.{takes_at as takes_at_of, run_end as run_end_of, IsLeastRun, IsGreatestRun, FindsLongest};
+ghost use Rattle.exp_glob.specs.Stars.{is_star as is_star_of, behind_star};
 
 use crate::element::{Element, Single};
+use crate::literal::{Literal, first_literal, later_literals};
 use crate::matching::takes;
-use crate::places::after;
-use memchr::{memchr, memrchr};
+use crate::places::{after, before};
+use memchr::memmem::{Finder, FinderRev};
 
-fn is_star(element: &Element) -> bool
+pub(crate) fn is_star(element: &Element) -> bool
     ensures { result ≡ is_star_of element.now }
 {
     match element {
@@ -38,7 +41,7 @@ fn takes_at(single: &Single, text: &[u8], at: usize, nocase: bool) -> bool
 }
 
 /// The end of the run with which the elements begin, where it matches from a place on.
-fn run_end(elements: &[Element], text: &[u8], from: usize, nocase: bool) -> Option<usize>
+pub(crate) fn run_end(elements: &[Element], text: &[u8], from: usize, nocase: bool) -> Option<usize>
     ensures { result ≡ run_end_of nocase elements.now text.now from }
 {
     let mut at = from;
@@ -61,115 +64,178 @@ fn run_end(elements: &[Element], text: &[u8], from: usize, nocase: bool) -> Opti
     Some(at)
 }
 
-/// The byte with which each match of the elements begins, where there is only one.
-fn first_byte(elements: &[Element], nocase: bool) -> Option<u8>
-    ensures { result ≡ first_byte_of nocase elements.now }
-{
-    if nocase {
-        return None;
-    }
-    match elements {
-        [Element::One(Single::Byte(b)), ..] => Some(*b),
-        _ => None,
-    }
-}
-
-/// The least place from `from` on where the first run can begin, by the byte with which it begins.
-fn next_start(elements: &[Element], text: &[u8], from: usize, nocase: bool) -> usize
+/// The least place from `from` on where the first run can begin, by the place of its literal.
+fn next_start(
+    elements: &[Element],
+    literal: &Finder<'_>,
+    offset: usize,
+    text: &[u8],
+    from: usize,
+    nocase: bool,
+) -> usize
+    requires { IsLiteral nocase elements.now offset literal.now }
     ensures forward { from ≤ result }
     ensures nowhere { (k : ℕ) → from ≤ k → k < result → run_end_of nocase elements.now text.now k ≡ None }
 {
-    let Some(byte) = first_byte(elements, nocase) else {
-        return from;
-    };
-    if text.len() <= from {
+    if literal.needle().is_empty() {
         return from;
     }
-    match memchr(byte, after(text, from)) {
+    if text.len() < from {
+        return from;
+    }
+    if text.len() - from < offset {
+        return text.len() + 1;
+    }
+    match literal.find(after(text, from + offset)) {
         Some(n) => from + n,
-        None => text.len(),
+        None => text.len() + 1,
     }
 }
 
-/// The least place from `from` on and below `bound` where the first run matches, and the run's end.
-pub(crate) fn least_run(
+/// The least place from `from` on and below `bound` where the first run matches, sought by a literal, and the run's end.
+fn least_run_by(
     elements: &[Element],
+    literal: &Finder<'_>,
+    offset: usize,
     text: &[u8],
     from: usize,
     bound: usize,
     nocase: bool,
 ) -> Option<(usize, usize)>
-    requires { bound ≤ length text.now + 1 }
+    requires bound { bound ≤ length text.now + 1 }
+    requires literal { IsLiteral nocase elements.now offset literal.now }
     ensures { IsLeastRun nocase elements.now text.now from bound result }
 {
-    let mut at = next_start(elements, text, from, nocase);
+    let mut at = next_start(elements, literal, offset, text, from, nocase);
     'places: while at < bound {
         if let Some(end) = run_end(elements, text, at, nocase) {
             return Some((at, end));
         }
-        at = next_start(elements, text, at + 1, nocase);
+        at = next_start(elements, literal, offset, text, at + 1, nocase);
     }
     None
 }
 
-/// A bound of the places below `bound` where the first run can begin, by the byte with which it begins.
-fn last_start(elements: &[Element], text: &[u8], bound: usize, nocase: bool) -> usize
-    requires { bound ≤ length text.now + 1 }
+/// The least place from `from` on and below `bound` where the first run matches, and the run's end.
+pub(crate) fn least_run(
+    elements: &[Element],
+    literals: &[Literal],
+    text: &[u8],
+    from: usize,
+    bound: usize,
+    nocase: bool,
+) -> Option<(usize, usize)>
+    requires bound { bound ≤ length text.now + 1 }
+    requires literals { AreLiterals nocase elements.now literals.now }
+    ensures { IsLeastRun nocase elements.now text.now from bound result }
+{
+    if bound <= from {
+        return None;
+    }
+    if let Some(end) = run_end(elements, text, from, nocase) {
+        return Some((from, end));
+    }
+    if bound == from + 1 {
+        return None;
+    }
+    let (offset, bytes) = first_literal(literals);
+    let finder = Finder::new(bytes);
+    least_run_by(elements, &finder, offset, text, from + 1, bound, nocase)
+}
+
+/// A bound of the places below `bound` where the first run can begin, by the place of its literal.
+fn last_start(
+    elements: &[Element],
+    literal: &FinderRev<'_>,
+    offset: usize,
+    text: &[u8],
+    bound: usize,
+    nocase: bool,
+) -> usize
+    requires bound { bound ≤ length text.now + 1 }
+    requires literal { IsLiteral nocase elements.now offset literal.now }
     ensures back { result ≤ bound }
     ensures nowhere { (k : ℕ) → result ≤ k → k < bound → run_end_of nocase elements.now text.now k ≡ None }
 {
-    let Some(byte) = first_byte(elements, nocase) else {
+    let length = literal.needle().len();
+    if length == 0 {
         return bound;
-    };
-    if text.len() < bound {
-        return last_place(elements, text, text.len(), byte, nocase);
     }
-    last_place(elements, text, bound, byte, nocase)
-}
-
-/// The place behind the last one below `end` where a byte stands, with which the first run begins.
-fn last_place(elements: &[Element], text: &[u8], end: usize, byte: u8, nocase: bool) -> usize
-    requires within { end ≤ length text.now }
-    requires first { first_byte_of nocase elements.now ≡ Some byte }
-    ensures back { result ≤ end }
-    ensures nowhere { (k : ℕ) → result ≤ k → k < end → run_end_of nocase elements.now text.now k ≡ None }
-    ensures behind { (k : ℕ) → length text.now ≤ k → run_end_of nocase elements.now text.now k ≡ None }
-{
-    match memrchr(byte, text.split_at(end).0) {
+    if bound == 0 {
+        return 0;
+    }
+    if text.len() < offset {
+        return 0;
+    }
+    let starts = before(after(text, offset), bound - 1 + length);
+    match literal.rfind(starts) {
         Some(n) => n + 1,
         None => 0,
     }
 }
 
-/// The end of the first run at the greatest place from `from` on where it matches.
-fn greatest_run(elements: &[Element], text: &[u8], from: usize, nocase: bool) -> Option<usize>
+/// The end of the first run at the greatest place from `from` on where it matches, sought by a literal.
+fn greatest_run_by(
+    elements: &[Element],
+    literal: &FinderRev<'_>,
+    offset: usize,
+    text: &[u8],
+    from: usize,
+    nocase: bool,
+) -> Option<usize>
+    requires { IsLiteral nocase elements.now offset literal.now }
     ensures { IsGreatestRun nocase elements.now text.now from result }
 {
-    let mut bound = last_start(elements, text, text.len() + 1, nocase);
+    let mut bound = last_start(elements, literal, offset, text, text.len() + 1, nocase);
     while from < bound {
         bound -= 1;
         if let Some(end) = run_end(elements, text, bound, nocase) {
             return Some(end);
         }
-        bound = last_start(elements, text, bound, nocase);
+        bound = last_start(elements, literal, offset, text, bound, nocase);
     }
     None
+}
+
+/// The end of the first run at the greatest place from `from` on where it matches.
+fn greatest_run(
+    elements: &[Element],
+    literals: &[Literal],
+    text: &[u8],
+    from: usize,
+    nocase: bool,
+) -> Option<usize>
+    requires { AreLiterals nocase elements.now literals.now }
+    ensures { IsGreatestRun nocase elements.now text.now from result }
+{
+    let (offset, bytes) = first_literal(literals);
+    let finder = FinderRev::new(bytes);
+    greatest_run_by(elements, &finder, offset, text, from, nocase)
 }
 
 /// The greatest end of a match of a star and the elements behind it, from a place on.
 ///
 /// Time is the number of elements times the length of the text.
-pub(crate) fn longest(elements: &[Element], text: &[u8], from: usize, nocase: bool) -> Option<usize>
+pub(crate) fn longest(
+    elements: &[Element],
+    literals: &[Literal],
+    text: &[u8],
+    from: usize,
+    nocase: bool,
+) -> Option<usize>
+    requires { AreLiterals nocase elements.now literals.now }
     ensures { FindsLongest nocase elements.now text.now from result }
 {
     let mut left = elements;
+    let mut sought = literals;
     let mut at = from;
     while let Some(n) = star_end(left) {
-        let Some((_, end)) = least_run(left, text, at, text.len() + 1, nocase) else {
+        let Some((_, end)) = least_run(left, sought, text, at, text.len() + 1, nocase) else {
             return None;
         };
         at = end;
         left = after(left, n);
+        sought = later_literals(sought);
     }
-    greatest_run(left, text, at, nocase)
+    greatest_run(left, sought, text, at, nocase)
 }

@@ -1,5 +1,5 @@
 use Rattle.std.proofs.Common.{◌≡◌, drop}
-use Rattle.exp_glob.specs.Runs.{behind_star}
+use Rattle.exp_glob.specs.Stars.{behind_star}
 use Rattle.exp_glob.proofs.runs.star_end.Given as goal
 
 abbrev pub invariant-loop-i : goal.invariant-loop-i

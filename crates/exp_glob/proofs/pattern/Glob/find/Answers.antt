@@ -1,6 +1,7 @@
-use Rattle.std.proofs.Common.{◌≡◌, List, Some, None, ap, sym, subst, ◌∙◌}
+use Rattle.std.proofs.Common.{◌≡◌, refl, List, Some, None, ap, sym, subst, ◌∙◌}
 use Rattle.exp_glob.specs.declared.element.Element.{Element}
-use Rattle.exp_glob.specs.Runs.{behind_star, IsLeastRun}
+use Rattle.exp_glob.specs.Runs.{IsLeastRun}
+use Rattle.exp_glob.specs.Stars.{behind_star}
 use Rattle.exp_glob.proofs.Found.{is_first_span}
 use Rattle.exp_glob.proofs.Greedy.{find_no_start, find_within, find_alone, find_no_end, find_longest, longest_within}
 use Rattle.exp_glob.proofs.pattern.Glob.find.Goals as goal
@@ -50,3 +51,9 @@ returns-in_default-longest-clause-value c = is_first_span c.args.nocase c.args.t
 
 pub returns-clause-value : goal.returns-clause-value
 returns-clause-value c = is_first_span c.args.nocase c.args.text.now c.args.self.now _ (returns-clause-first c)
+
+pub returns-then-lacks_literal-clause-first : goal.returns-then-lacks_literal-clause-first
+returns-then-lacks_literal-clause-first c = λ a b h. c.if-lacks_literal.ensures refl c.args.nocase c.args.self.now.elements a b c.literals-literals.ensures h.2
+
+pub returns-then-lacks_literal-clause-value : goal.returns-then-lacks_literal-clause-value
+returns-then-lacks_literal-clause-value c = is_first_span c.args.nocase c.args.text.now c.args.self.now _ (returns-then-lacks_literal-clause-first c)

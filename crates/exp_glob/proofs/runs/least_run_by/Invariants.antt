@@ -1,6 +1,6 @@
 use Rattle.std.proofs.Common.{◌≡◌, ℕ, ◌-◌, ◌<◌, ◌≤◌, None}
 use Rattle.exp_glob.specs.Runs.{run_end}
-use Rattle.exp_glob.proofs.runs.least_run.Given as goal
+use Rattle.exp_glob.proofs.runs.least_run_by.Given as goal
 
 abbrev pub invariant-places : goal.invariant-places
 invariant-places l = record {

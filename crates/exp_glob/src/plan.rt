@@ -1,0 +1,189 @@
+//! A pattern's elements with the literals by which its runs are sought.
+
+ghost use Rattle.std.specs.Prelude.{◌≡◌, ◌≤◌, ◌+◌, ◌∷◌, ℕ, List, drop, length, IfOk};
+ghost use Rattle.exp_glob.specs.Literals.{only_byte as only_byte_of, byte_at, IsLiteral, AreLiterals};
+ghost use Rattle.exp_glob.specs.declared.element.Element.{Element as ElementOf};
+
+use crate::element::{Element, Elements, Single};
+use crate::literal::{Literal, Literals};
+use crate::places::after;
+use crate::runs::{is_star, star_end};
+use std::alloc::{AllocError, Global};
+use std::marker::Model;
+
+/// Elements, read once, and what they are sought by. A contract sees the elements.
+#[derive(Debug, Drop)]
+pub struct Plan {
+    elements: Elements,
+    /// Literals of a search with case.
+    cased: Literals,
+    /// Literals of a search without case.
+    caseless: Literals,
+}
+
+impl Model for Plan {
+    ghost use Rattle.std.specs.Prelude.{List, true, false};
+    ghost use Rattle.exp_glob.specs.Literals.{AreLiterals};
+    ghost use Rattle.exp_glob.specs.declared.element.Element.{Element};
+
+    ghost Value = { List Element };
+
+    ghost view = { λ p. p.elements };
+
+    ghost invariant = { λ p. AreLiterals false p.elements p.cased.runs.items × AreLiterals true p.elements p.caseless.runs.items };
+}
+
+impl Plan {
+    /// The plan of these elements. It takes memory only where there are some.
+    pub(crate) fn new(alloc: Global, elements: Elements) -> Result<Plan, AllocError>
+        ensures { IfOk result (λ p. p ≡ elements) }
+    {
+        let cased = literals(alloc, elements.as_slice(), false)?;
+        let caseless = literals(alloc, elements.as_slice(), true)?;
+        Ok(Plan {
+            elements,
+            cased,
+            caseless,
+        })
+    }
+
+    /// The elements, in order.
+    pub(crate) fn as_slice(&self) -> &[Element]
+        ensures { result.now ≡ self.now }
+    {
+        self.elements.as_slice()
+    }
+
+    /// The literals of a search.
+    pub(crate) fn literals(&self, nocase: bool) -> &Literals
+        ensures { AreLiterals nocase self.now result.now.runs.items }
+    {
+        if nocase { &self.caseless } else { &self.cased }
+    }
+}
+
+/// The byte that is taken, where there is only one.
+fn only_byte(single: &Single, nocase: bool) -> Option<u8>
+    ensures { result ≡ only_byte_of nocase single.now }
+{
+    match single {
+        Single::Any => None,
+        Single::Byte(b) => {
+            if nocase && b.is_ascii_alphabetic() {
+                None
+            } else {
+                Some(*b)
+            }
+        }
+        Single::Class(_) => None,
+    }
+}
+
+/// The byte with which each match of a run begins that begins with an element.
+fn first_byte(element: &Element, nocase: bool) -> Option<u8>
+    ensures { (es : List ElementOf) → result ≡ byte_at nocase (element.now ∷ es) 0 }
+{
+    match element {
+        Element::Star => None,
+        Element::One(single) => only_byte(single, nocase),
+        Element::End => None,
+    }
+}
+
+/// The place in the first run where the longest literal begins.
+fn longest_literal(elements: &[Element], nocase: bool) -> usize
+    ensures within { result ≤ length elements.now }
+    ensures onwards { (j : ℕ) → byte_at nocase elements.now (result + j) ≡ byte_at nocase (drop result elements.now) j }
+{
+    let mut best = 0;
+    let mut most = 0;
+    let mut start = 0;
+    for (i, element) in elements.iter().enumerate() {
+        let Element::One(single) = element else {
+            return best;
+        };
+        if only_byte(single, nocase).is_none() {
+            start = i + 1;
+        } else if most < i + 1 - start {
+            best = start;
+            most = i + 1 - start;
+        }
+    }
+    best
+}
+
+/// The bytes with which each match of the first run begins.
+fn front_bytes(alloc: Global, elements: &[Element], nocase: bool) -> Result<Vec<u8>, AllocError>
+    ensures { IfOk result (λ bytes. IsLiteral nocase elements.now 0 bytes.items) }
+{
+    let mut bytes = Vec::new(alloc);
+    for element in elements {
+        let Some(byte) = first_byte(element, nocase) else {
+            return Ok(bytes);
+        };
+        bytes.push(byte)?;
+    }
+    Ok(bytes)
+}
+
+/// The longest literal of the first run.
+fn literal(alloc: Global, elements: &[Element], nocase: bool) -> Result<Literal, AllocError>
+    ensures { IfOk result (λ l. IsLiteral nocase elements.now l.offset l.bytes.items) }
+{
+    let offset = longest_literal(elements, nocase);
+    let bytes = front_bytes(alloc, after(elements, offset), nocase)?;
+    Ok(Literal { offset, bytes })
+}
+
+/// A literal of each run. It takes memory only where there are elements.
+fn run_literals(
+    alloc: Global,
+    elements: &[Element],
+    nocase: bool,
+) -> Result<Vec<Literal>, AllocError>
+    ensures { IfOk result (λ ls. AreLiterals nocase elements.now ls.items) }
+{
+    let mut made = Vec::new(alloc);
+    let mut left = elements;
+    while !left.is_empty() {
+        made.push(literal(alloc, left, nocase)?)?;
+        let Some(n) = star_end(left) else {
+            return Ok(made);
+        };
+        left = after(left, n);
+    }
+    Ok(made)
+}
+
+/// The run with the longest literal, or 0 where nothing is sought before that run anyway.
+fn sought_ahead(elements: &[Element], literals: &[Literal]) -> usize {
+    let mut longest = 0;
+    let mut most = 0;
+    for (i, literal) in literals.iter().enumerate() {
+        if most < literal.bytes.len() {
+            longest = i;
+            most = literal.bytes.len();
+        }
+    }
+    if longest <= empty_runs(elements) {
+        return 0;
+    }
+    longest
+}
+
+/// How many runs at the front have no elements: each of them ends with a star.
+fn empty_runs(elements: &[Element]) -> usize {
+    match elements.iter().position(|element| !is_star(element)) {
+        Some(n) => n,
+        None => elements.len(),
+    }
+}
+
+/// The literals of a search.
+fn literals(alloc: Global, elements: &[Element], nocase: bool) -> Result<Literals, AllocError>
+    ensures { IfOk result (λ l. AreLiterals nocase elements.now l.runs.items) }
+{
+    let runs = run_literals(alloc, elements, nocase)?;
+    let ahead = sought_ahead(elements, runs.as_slice());
+    Ok(Literals { runs, ahead })
+}
