@@ -17,27 +17,24 @@ occurs_from_stands bytes text k s = record { fits = s.0; reads = λ j h. eqb-tru
 cases_of : (b c : ℕ) → eqb (to_ascii_lowercase b) (to_ascii_lowercase c) ≡ true → is_byte2 (to_ascii_lowercase c) (to_ascii_uppercase c) b ≡ true
 cases_of b c h = grind (arith, nat_tests)
 
--- where neither case of the first byte stands the text doesn't
-pub not_passed : (bytes text : List ℕ) (first from n k : ℕ) → 0 < length text → get_or text 0 0 ≡ first
-    → Nowhere (Passes (is_byte2 (to_ascii_lowercase first) (to_ascii_uppercase first)) (drop from bytes)) 0 n
-    → from ≤ k → k < from + n → ¬ StandsAt true text bytes k
-not_passed bytes text first from n k some is none ge lt s =
-    let test = is_byte2 (to_ascii_lowercase first) (to_ascii_uppercase first) in
-    let place : from + (k - from) ≡ k + 0 = omega arith in
-    let alike : eqb (to_ascii_lowercase (get_or bytes (k + 0) 0)) (to_ascii_lowercase first) ≡ true
-    = subst (λ (f : ℕ). eqb (to_ascii_lowercase (get_or bytes (k + 0) 0)) (to_ascii_lowercase f) ≡ true) is (s.1 0 some) in
-    none (k - from) (omega arith) (omega arith)
-    (ap test (get_or-drop from bytes (k - from) 0 ∙ ap (λ (i : ℕ). get_or bytes i 0) place) ∙ cases_of (get_or bytes (k + 0) 0) first alike)
+module _ (bytes text : List ℕ) (j c from n : ℕ) (inside : j < length text) (is : get_or text j 0 ≡ c)
+    (none : Nowhere (Passes (is_byte2 (to_ascii_lowercase c) (to_ascii_uppercase c)) (drop (from + j) bytes)) 0 n) where
+  -- where neither case of the text's byte at j stands, the text doesn't
+  pub not_passed : (k : ℕ) → from ≤ k → k < from + n → ¬ StandsAt true text bytes k
+  not_passed k ge lt s =
+      let test = is_byte2 (to_ascii_lowercase c) (to_ascii_uppercase c) in
+      let place : from + j + (k - from) ≡ k + j = omega arith in
+      let alike : eqb (to_ascii_lowercase (get_or bytes (k + j) 0)) (to_ascii_lowercase c) ≡ true
+      = subst (λ (d : ℕ). eqb (to_ascii_lowercase (get_or bytes (k + j) 0)) (to_ascii_lowercase d) ≡ true) is (s.1 j inside) in
+      none (k - from) (omega arith) (omega arith)
+      (ap test (get_or-drop (from + j) bytes (k - from) 0 ∙ ap (λ (i : ℕ). get_or bytes i 0) place) ∙ cases_of (get_or bytes (k + j) 0) c alike)
 
--- the place where the first byte stands next is the least that is left
-pub least_place : (bytes text : List ℕ) (first from n : ℕ) → 0 < length text → get_or text 0 0 ≡ first
-    → ((k : ℕ) → k < from → ¬ StandsAt true text bytes k)
-    → Nowhere (Passes (is_byte2 (to_ascii_lowercase first) (to_ascii_uppercase first)) (drop from bytes)) 0 n
-    → (k : ℕ) → StandsAt true text bytes k → from + n ≤ k
-least_place bytes text first from n some is before none k s =
-    ⊎_elim (λ (lt : k < from). absurd (before k lt s))
-    (λ (ge : from ≤ k). ⊎_elim (λ (lt : k < from + n). absurd (not_passed bytes text first from n k some is none ge lt s)) (λ (le : from + n ≤ k). le) (cases_lt k (from + n)))
-    (cases_lt k from)
+  -- the place that the next one of these bytes belongs to is the least that is left
+  pub least_place : ((k : ℕ) → k < from → ¬ StandsAt true text bytes k) → (k : ℕ) → StandsAt true text bytes k → from + n ≤ k
+  least_place before k s =
+      ⊎_elim (λ (lt : k < from). absurd (before k lt s))
+      (λ (ge : from ≤ k). ⊎_elim (λ (lt : k < from + n). absurd (not_passed k ge lt s)) (λ (le : from + n ≤ k). le) (cases_lt k (from + n)))
+      (cases_lt k from)
 
 -- the least place with case, from the search for a needle
 pub least_occurs : (bytes text : List ℕ) (at : ℕ) → Nowhere (OccursAt bytes text) 0 at → (k : ℕ) → StandsAt false text bytes k → at ≤ k

@@ -4,12 +4,12 @@ ghost use Rattle.std.specs.Prelude.{◌≡◌, Ok};
 ghost use Rattle.std.specs.Str.{bytes_eq};
 ghost use Rattle.exp_match.specs.Arguments.{Gives, is_dash as is_dash_of, plain_role as plain_role_of, way_role as way_role_of, role_of as role_of_word, no_marks as no_marks_of, with_mark as with_mark_of, want_of as want_of_word, with_entry as with_entry_of, with_id as with_id_of, with_timeout as with_timeout_of, awaits_action, by_role as by_role_of, taken as taken_of, ended as ended_of, nothing_read, patterns_of};
 
+use crate::compiled::Compiled;
 use crate::entry::{Entries, Entry, Keyword, Want};
 use crate::faults::{PatternFault, Refusal};
 use crate::grammar::pattern_text;
 use crate::list::PatternList;
 use crate::pending::{Mark, Marks, Pending, Reader, Role, Way};
-use crate::regular::Regular;
 use exp_glob::Glob;
 use std::alloc::Global;
 use tcl_words::{Text, Texts};
@@ -114,13 +114,22 @@ fn with_mark(marks: Marks, mark: Mark) -> Marks
 }
 
 /// A regular pattern, which the word at a place has to be.
-fn regular(alloc: Global, nocase: bool, at: usize, word: &[u8]) -> Result<Want, PatternFault>
+fn regular(
+    alloc: Global,
+    compiled: &mut Compiled,
+    nocase: bool,
+    at: usize,
+    word: &[u8],
+) -> Result<Want, PatternFault>
     ensures { Gives result (want_of_word Way.Regular nocase at word.now) }
 {
+    if let Some(kept) = compiled.find(word, nocase) {
+        return Ok(Want::Regular(kept.shared()?));
+    }
     let Some(source) = pattern_text(alloc, word)? else {
         return Err(PatternFault::BadRegex(at));
     };
-    match Regular::build(alloc, source, nocase) {
+    match compiled.compile(alloc, source, nocase) {
         Ok(regular) => Ok(Want::Regular(regular)),
         Err(Refusal::Refused) => Err(PatternFault::Refused),
         Err(Refusal::Memory) => Err(PatternFault::Memory),
@@ -130,6 +139,7 @@ fn regular(alloc: Global, nocase: bool, at: usize, word: &[u8]) -> Result<Want, 
 /// The pattern that the word at a place is.
 fn want_of(
     alloc: Global,
+    compiled: &mut Compiled,
     way: Way,
     nocase: bool,
     at: usize,
@@ -146,7 +156,7 @@ fn want_of(
             let glob = Glob::new(alloc, word)?;
             Ok(Want::Glob { glob, nocase })
         }
-        Way::Regular => regular(alloc, nocase, at, word),
+        Way::Regular => regular(alloc, compiled, nocase, at, word),
     }
 }
 
@@ -175,6 +185,7 @@ fn with_entry(
 /// The reader behind the pattern at a place.
 fn pattern(
     alloc: Global,
+    compiled: &mut Compiled,
     list: PatternList,
     marks: Marks,
     way: Way,
@@ -183,7 +194,7 @@ fn pattern(
 ) -> Result<Reader, PatternFault>
     ensures { Gives result (awaits_action list marks (want_of_word way marks.nocase at word.now)) }
 {
-    let want = want_of(alloc, way, marks.nocase, at, word)?;
+    let want = want_of(alloc, compiled, way, marks.nocase, at, word)?;
     Ok(Reader {
         list,
         marks,
@@ -194,6 +205,7 @@ fn pattern(
 /// The reader behind a word where a pattern may stand.
 fn by_role(
     alloc: Global,
+    compiled: &mut Compiled,
     list: PatternList,
     marks: Marks,
     at: usize,
@@ -228,7 +240,7 @@ fn by_role(
             marks: no_marks(),
             pending: Pending::Action(Want::Keyword(keyword)),
         }),
-        Role::Glob => pattern(alloc, list, marks, Way::Glob, at, word),
+        Role::Glob => pattern(alloc, compiled, list, marks, Way::Glob, at, word),
         Role::Bad => Err(PatternFault::BadFlag(at)),
     }
 }
@@ -252,7 +264,13 @@ fn with_timeout(alloc: Global, list: PatternList, word: &[u8]) -> Result<Pattern
 }
 
 /// The reader behind the word at a place.
-fn taken(alloc: Global, reader: Reader, at: usize, word: &[u8]) -> Result<Reader, PatternFault>
+fn taken(
+    alloc: Global,
+    compiled: &mut Compiled,
+    reader: Reader,
+    at: usize,
+    word: &[u8],
+) -> Result<Reader, PatternFault>
     ensures { Gives result (taken_of reader.list reader.marks at word.now reader.pending) }
 {
     let Reader {
@@ -261,8 +279,8 @@ fn taken(alloc: Global, reader: Reader, at: usize, word: &[u8]) -> Result<Reader
         pending,
     } = reader;
     match pending {
-        Pending::Front => by_role(alloc, list, marks, at, word, role_of(word)),
-        Pending::More(_) => by_role(alloc, list, marks, at, word, role_of(word)),
+        Pending::Front => by_role(alloc, compiled, list, marks, at, word, role_of(word)),
+        Pending::More(_) => by_role(alloc, compiled, list, marks, at, word, role_of(word)),
         Pending::Id(_) => Ok(Reader {
             list: with_id(alloc, list, word)?,
             marks,
@@ -273,7 +291,7 @@ fn taken(alloc: Global, reader: Reader, at: usize, word: &[u8]) -> Result<Reader
             marks,
             pending: Pending::Front,
         }),
-        Pending::Pattern(way, _) => pattern(alloc, list, marks, way, at, word),
+        Pending::Pattern(way, _) => pattern(alloc, compiled, list, marks, way, at, word),
         Pending::Action(want) => Ok(Reader {
             list: with_entry(alloc, list, marks, want, word)?,
             marks: no_marks(),
@@ -318,12 +336,16 @@ fn nothing(alloc: Global) -> Reader
 
 /// The list that arguments write.
 #[tactic(auto, unfolding(crate::specs::Arguments::patterns_of))]
-pub(crate) fn read(alloc: Global, args: &[Text]) -> Result<PatternList, PatternFault>
+pub(crate) fn read(
+    alloc: Global,
+    compiled: &mut Compiled,
+    args: &[Text],
+) -> Result<PatternList, PatternFault>
     ensures { Gives result (patterns_of args.now) }
 {
     let mut reader = nothing(alloc);
     for (at, word) in args.iter().enumerate() {
-        reader = taken(alloc, reader, at, word.as_slice())?;
+        reader = taken(alloc, compiled, reader, at, word.as_slice())?;
     }
     ended(alloc, reader)
 }

@@ -8,7 +8,8 @@ use crate::chosen::Chosen;
 use crate::entry::{Entry, Want};
 use crate::exact::find_exact;
 use crate::list::PatternList;
-use crate::regular::Spans;
+use crate::matcher::Spans;
+use crate::matchers::Matchers;
 use std::alloc::{AllocError, Global};
 
 /// Whether an entry belongs to one of the groups.
@@ -40,24 +41,30 @@ fn alone(span: Option<(usize, usize)>) -> Option<Spans>
     }
 }
 
-/// What an entry finds first. A regular pattern takes memory for its search, the others none.
-fn first_match(alloc: Global, want: &Want, bytes: &[u8]) -> Result<Option<Spans>, AllocError>
+/// What an entry finds first. A regular pattern takes memory for its matcher, where it has none yet, the others none.
+fn first_match<'l>(
+    alloc: Global,
+    matchers: &mut Matchers<'l>,
+    want: &'l Want,
+    bytes: &[u8],
+) -> Result<Option<Spans>, AllocError>
     ensures finds { IfOk result (Finds want.now bytes.now) }
     ensures value { IfOk result (λ found. found ≡ found_by want.now bytes.now) }
 {
     match want {
         Want::Exact { text, nocase } => Ok(alone(find_exact(text.as_slice(), *nocase, bytes))),
         Want::Glob { glob, nocase } => Ok(alone(glob.find(bytes, *nocase))),
-        Want::Regular(regular) => regular.search(alloc, bytes),
+        Want::Regular(regular) => matchers.find(alloc, regular, bytes),
         Want::Keyword(_) => Ok(None),
     }
 }
 
 /// What an entry finds first, where it belongs to one of the groups.
-fn match_in(
+fn match_in<'l>(
     alloc: Global,
+    matchers: &mut Matchers<'l>,
     groups: &[usize],
-    entry: &Entry,
+    entry: &'l Entry,
     bytes: &[u8],
 ) -> Result<Option<Spans>, AllocError>
     ensures finds { IfOk result (FindsIn groups.now entry.now bytes.now) }
@@ -66,7 +73,7 @@ fn match_in(
     if !in_groups(groups, entry) {
         return Ok(None);
     }
-    first_match(alloc, &entry.want, bytes)
+    first_match(alloc, matchers, &entry.want, bytes)
 }
 
 impl PatternList {
@@ -84,8 +91,24 @@ impl PatternList {
         ensures chosen { IfOk result (λ chosen. chosen ≡ decide self.now.entries groups.now bytes.now max) }
         ensures within { IfOk result (IsListed (length self.now.entries)) }
     {
+        self.choose_with(alloc, &mut Matchers::new(alloc), groups, bytes, max)
+    }
+
+    /// The same, with matchers that are kept from a test to the next: a regular pattern takes memory at its first test alone.
+    pub fn choose_with<'l>(
+        &'l self,
+        alloc: Global,
+        matchers: &mut Matchers<'l>,
+        groups: &[usize],
+        bytes: &[u8],
+        max: usize,
+    ) -> Result<Chosen, AllocError>
+        ensures decides { IfOk result (Decides self.now.entries groups.now bytes.now max) }
+        ensures chosen { IfOk result (λ chosen. chosen ≡ decide self.now.entries groups.now bytes.now max) }
+        ensures within { IfOk result (IsListed (length self.now.entries)) }
+    {
         for (index, entry) in self.entries.as_slice().iter().enumerate() {
-            if let Some(spans) = match_in(alloc, groups, entry, bytes)? {
+            if let Some(spans) = match_in(alloc, matchers, groups, entry, bytes)? {
                 return Ok(Chosen::Pattern(index, spans));
             }
         }

@@ -1,6 +1,6 @@
 //! What a test of the kept bytes gives.
 
-use crate::regular::Spans;
+use crate::matcher::Spans;
 
 /// What a test of the kept bytes against patterns gives.
 #[derive(Clone, Copy, Debug)]

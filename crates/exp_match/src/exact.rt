@@ -4,11 +4,16 @@ ghost use Rattle.std.specs.Prelude.{◌≡◌, ◌↔◌, ◌<◌, ◌≤◌, tr
 ghost use Rattle.exp_match.specs.Exact.{StandsAt, FindsExact, find_text};
 
 use crate::places::after;
+use memchr::arch::all::packedpair::{DefaultFrequencyRank, HeuristicFrequencyRank};
 use memchr::{memchr2, memmem};
+
+/// How many bytes of a text are compared for the rarest one.
+const RANKED: usize = 32;
 
 /// The least place where a text stands, with its end. Under `nocase` letters of ASCII are compared without case.
 ///
-/// It takes no memory. With case it is one linear search, without case it looks at the text at each place that begins like it.
+/// It takes no memory. With case it is one linear search, without case it looks at the text at each place where its rarest byte stands.
+/// Only time depends on which one is taken for that.
 pub(crate) fn find_exact(text: &[u8], nocase: bool, bytes: &[u8]) -> Option<(usize, usize)>
     ensures stands { FindsExact nocase text.now bytes.now result }
     ensures value { result ≡ find_text nocase text.now bytes.now }
@@ -36,20 +41,46 @@ fn find_folded(text: &[u8], bytes: &[u8]) -> Option<(usize, usize)>
 {
     match text {
         [] => Some((0, 0)),
-        [first, ..] => find_from(text, *first, bytes),
+        [_, ..] => find_by(text, rarest(text), bytes),
     }
 }
 
-/// The least place of a text that begins with this byte, without case.
-fn find_from(text: &[u8], first: u8, bytes: &[u8]) -> Option<(usize, usize)>
-    requires some { 0 < length text.now }
-    requires first { slice_index text.now 0 ≡ first }
+/// How common a byte is in text, in either case: a higher number is more common.
+fn commonness(byte: u8) -> u8 {
+    let ranks = DefaultFrequencyRank;
+    let lower = ranks.rank(byte.to_ascii_lowercase());
+    lower.max(ranks.rank(byte.to_ascii_uppercase()))
+}
+
+/// Where the byte stands that is least common in text, among the first ones.
+fn rarest(text: &[u8]) -> usize
+    requires { 0 < length text.now }
+    ensures { result < length text.now }
+{
+    let mut rarest = 0;
+    let mut least = commonness(text[0]);
+    for j in 1..text.len().min(RANKED) {
+        let common = commonness(text[j]);
+        if common < least {
+            least = common;
+            rarest = j;
+        }
+    }
+    rarest
+}
+
+/// The least place of a text, without case: it is looked at where this one of its bytes stands.
+fn find_by(text: &[u8], rare: usize, bytes: &[u8]) -> Option<(usize, usize)>
+    requires { rare < length text.now }
     ensures { FindsExact true text.now bytes.now result }
 {
-    let lower = first.to_ascii_lowercase();
-    let upper = first.to_ascii_uppercase();
+    if bytes.len() < text.len() {
+        return None;
+    }
+    let lower = text[rare].to_ascii_lowercase();
+    let upper = text[rare].to_ascii_uppercase();
     let mut from = 0;
-    while let Some(n) = memchr2(lower, upper, after(bytes, from)) {
+    while let Some(n) = memchr2(lower, upper, after(bytes, from + rare)) {
         let at = from + n;
         if stands_folded(text, bytes, at) {
             return Some((at, at + text.len()));

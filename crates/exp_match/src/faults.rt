@@ -13,6 +13,16 @@ pub enum Refusal {
     Memory,
 }
 
+impl From<AllocError> for Refusal {
+    ghost use Rattle.exp_match.specs.declared.faults.Refusal.TheVariants.{Memory};
+
+    ghost from_gives = { λ _ e. e ≡ Memory };
+
+    fn from(_e: AllocError) -> Refusal {
+        Refusal::Memory
+    }
+}
+
 /// Why a list of patterns isn't built.
 #[derive(Clone, Copy, Debug)]
 pub enum PatternFault {

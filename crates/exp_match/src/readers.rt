@@ -7,6 +7,7 @@ ghost use Rattle.exp_match.specs.Arguments.{Gives, patterns_of};
 
 use crate::arguments::read;
 use crate::choose::in_groups;
+use crate::compiled::Compiled;
 use crate::entry::{Keyword, Want};
 use crate::faults::PatternFault;
 use crate::list::PatternList;
@@ -62,7 +63,18 @@ impl PatternList {
     pub fn build(alloc: Global, args: &[Text]) -> Result<PatternList, PatternFault>
         ensures { Gives result (patterns_of args.now) }
     {
-        read(alloc, args)
+        PatternList::build_with(alloc, &mut Compiled::new(alloc), args)
+    }
+
+    /// The same, where patterns that come again are taken from those that were compiled, and new ones are kept there.
+    pub fn build_with(
+        alloc: Global,
+        compiled: &mut Compiled,
+        args: &[Text],
+    ) -> Result<PatternList, PatternFault>
+        ensures { Gives result (patterns_of args.now) }
+    {
+        read(alloc, compiled, args)
     }
 
     /// The script of an entry, maybe empty.

@@ -1,90 +1,113 @@
 //! Regular patterns, compiled.
 
-ghost use Rattle.std.specs.Prelude.{◌≡◌, ◌≢◌, ℕ, ◌<◌, Some, IfOk, IfErr, length, option_map};
-ghost use Rattle.std.specs.List.{slice_get};
-ghost use Rattle.regex.specs.Bytes.{match_span, captures_span};
-ghost use Rattle.exp_match.specs.Written.{FindsAsWritten, find_written};
+ghost use Rattle.std.specs.Prelude.{◌≡◌, true, IsTrue, IfOk};
+ghost use Rattle.regex.specs.Bytes.{IsReadFromSource, regex_config, regex_source};
+ghost use Rattle.exp_match.specs.Scan.{is_pattern};
+ghost use Rattle.exp_match.specs.Written.{FindsAsWritten, config_of, find_written};
 
 use crate::faults::Refusal;
-use regex::bytes::{Captures, Match, Regex};
+use crate::matcher::{RegularMatcher, Spans};
+use regex::bytes::Regex;
 use regex::{Error, RegexBuilder};
 use std::alloc::{AllocError, Global};
 use std::marker::Model;
+use std::rc::Rc;
 
-/// The spans of a match and of its groups 1 to 9: start and exclusive end, or none.
-pub type Spans = [Option<(usize, usize)>; 10];
-
-/// A regular pattern, compiled once. A contract sees its text and whether case counts.
+/// A regular pattern, compiled once and maybe with several owners. A contract sees its text and whether case counts.
 #[derive(Drop)]
 pub struct Regular {
     /// The compiled pattern.
-    pub(crate) regex: Regex,
+    regex: Rc<Regex>,
     /// Whether letters match in either case.
-    pub(crate) nocase: bool,
+    nocase: bool,
 }
 
 impl Model for Regular {
-    ghost use Rattle.std.specs.Prelude.{◌≡◌};
+    ghost use Rattle.std.specs.Prelude.{◌≡◌, true};
     ghost use Rattle.regex.specs.Bytes.{regex_source, regex_config, IsReadFromSource};
+    ghost use Rattle.exp_match.specs.Scan.{is_pattern};
     ghost use Rattle.exp_match.specs.Written.{Written, config_of};
 
     ghost Value = { Written };
 
-    ghost view = { λ r. record { source = regex_source r.regex; nocase = r.nocase } };
+    ghost view = { λ r. record { source = regex_source r.regex.value; nocase = r.nocase } };
 
-    ghost invariant = { λ r. (regex_config r.regex ≡ config_of r.nocase) × IsReadFromSource r.regex };
+    ghost invariant = { λ r. (regex_config r.regex.value ≡ config_of r.nocase) × IsReadFromSource r.regex.value × (is_pattern (regex_source r.regex.value) ≡ true) };
 }
 
 impl Regular {
-    /// A pattern of this text. `.` takes a newline too.
+    /// The pattern that a text of the grammar is. `.` takes a newline too.
     ///
     /// `Refused` where `regex` builds no program of it, as for one that is too big.
     pub(crate) fn build(alloc: Global, source: &str, nocase: bool) -> Result<Regular, Refusal>
+        requires { is_pattern source.now ≡ true }
         ensures { IfOk result (λ r. r ≡ record { source = source.now; nocase = nocase }) }
     {
         let builder = RegexBuilder::new(source)
             .dot_matches_new_line(true)
             .case_insensitive(nocase);
         match builder.build_bytes(alloc) {
-            Ok(regex) => Ok(Regular { regex, nocase }),
+            Ok(regex) => Ok(Regular::owned(alloc, regex, nocase)?),
             Err(Error::OutOfMemory) => Err(Refusal::Memory),
             Err(_) => Err(Refusal::Refused),
         }
     }
 
+    /// A compiled pattern as its first owner has it.
+    fn owned(alloc: Global, regex: Regex, nocase: bool) -> Result<Regular, AllocError>
+        requires config { regex_config regex ≡ config_of nocase }
+        requires read { IsReadFromSource regex }
+        requires pattern { is_pattern (regex_source regex) ≡ true }
+        ensures { IfOk result (λ r. r ≡ record { source = regex_source regex; nocase = nocase }) }
+    {
+        Ok(Regular {
+            regex: Rc::new(alloc, regex)?,
+            nocase,
+        })
+    }
+
+    /// The same pattern for a further owner. It copies nothing.
+    pub(crate) fn shared(&self) -> Result<Regular, AllocError>
+        ensures { IfOk result (λ r. r ≡ self.now) }
+    {
+        Ok(Regular {
+            regex: self.regex.clone()?,
+            nocase: self.nocase,
+        })
+    }
+
+    /// Whether it has this text and case. Such a text is one of the grammar.
+    pub(crate) fn is(&self, text: &[u8], nocase: bool) -> bool
+        ensures { IsTrue result → (is_pattern text.now ≡ true) × (self.now ≡ record { source = text.now; nocase = nocase }) }
+    {
+        self.nocase == nocase && self.regex.as_str().as_bytes() == text
+    }
+
+    /// The compiled pattern.
+    pub(crate) fn regex(&self) -> &Regex
+        ensures source { regex_source result.now ≡ self.now.source }
+        ensures config { regex_config result.now ≡ config_of self.now.nocase }
+        ensures read { IsReadFromSource result.now }
+    {
+        &self.regex
+    }
+
+    /// Whether letters match in either case.
+    pub(crate) fn nocase(&self) -> bool
+        ensures { result ≡ self.now.nocase }
+    {
+        self.nocase
+    }
+
     /// The first match in these bytes with its groups, leftmost-first.
     ///
-    /// A search writes to a matcher, which is made here: it is what takes memory.
+    /// A search writes to a matcher, which is made here: it is what takes memory. `PatternList::choose_with` keeps matchers.
     pub fn search(&self, alloc: Global, bytes: &[u8]) -> Result<Option<Spans>, AllocError>
         ensures written { IfOk result (FindsAsWritten self.now bytes.now) }
         ensures value { IfOk result (λ found. found ≡ find_written self.now bytes.now) }
     {
-        let mut matcher = self.regex.matcher(alloc)?;
-        match matcher.captures(bytes) {
-            Some(captures) => Ok(Some(spans_of(&captures))),
-            None => Ok(None),
-        }
-    }
-}
-
-/// The spans of the groups 0 to 9.
-fn spans_of(captures: &Captures) -> Spans
-    ensures ten { length result ≡ 10 }
-    ensures are { (n : ℕ) → n < 10 → slice_get result n ≡ Some (captures_span captures.now n) }
-{
-    let mut spans = [None; 10];
-    for n in 0..10 {
-        spans[n] = span_of(captures.get(n));
-    }
-    spans
-}
-
-/// Where a match starts and ends.
-fn span_of(found: Option<Match>) -> Option<(usize, usize)>
-    ensures { result ≡ option_map match_span found.entry }
-{
-    match found {
-        Some(m) => Some((m.start(), m.end())),
-        None => None,
+        let mut matcher = RegularMatcher::new(alloc, self)?;
+        let found = matcher.find(bytes);
+        Ok(found)
     }
 }

@@ -1,5 +1,5 @@
 -- Events make the same of a dialogue that has taken nothing as of a world.
-use Rattle.std.proofs.Common.{◌≡◌, ℕ, zero, suc, ◌≤◌, List, [], ◌∷◌, ◌++◌, map, length, Bool, true, false, Option, refl, sym, ap, ◌∙◌, max, arith}
+use Rattle.std.proofs.Common.{◌≡◌, ℕ, zero, suc, ◌≤◌, List, [], ◌∷◌, ◌++◌, map, length, Bool, true, false, refl, sym, ap, ◌∙◌, max, arith}
 use Rattle.std.specs.Prelude.{◌==◌, ◌-◌, replicate, if◌then◌else◌, slice_set, slice_index_or}
 use Rattle.std.proofs.lemmas.List.{map-append, length-map}
 use Rattle.child_events.specs.declared.event.Item.{Item}
@@ -15,7 +15,7 @@ use Rattle.child_events.specs.World.{blank, blank_lanes, lanes_with, grown as gr
 use Rattle.child_events.specs.World.{with_item as known_item, lane_with as known_with}
 use Rattle.expect_core.specs.declared.lanes.Lane.{Lane}
 use Rattle.expect_core.specs.declared.dialogue.Dialogue.{Dialogue}
-use Rattle.expect_core.specs.Lanes.{no_lane, no_lanes, with_item, lane_with, grown, place, arrived, offered, extended}
+use Rattle.expect_core.specs.Lanes.{no_lane, no_lanes, with_item, lane_with, grown, place, offered, extended}
 use Rattle.expect_core.specs.Calls.{fresh}
 use Rattle.expect_core.specs.Worlds.{untaken, Holds, HoldsWorlds}
 

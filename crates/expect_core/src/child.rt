@@ -11,7 +11,7 @@ ghost use Rattle.expect_core.specs.Owned.{child_as, child_in};
 
 use crate::kept::{BOTH, Kept};
 use crate::place::Place;
-use exp_match::{Chosen, PatternList};
+use exp_match::{Chosen, Matchers, PatternList};
 use std::alloc::{AllocError, Global};
 use std::marker::Model;
 use tcl_words::Text;
@@ -349,11 +349,12 @@ impl Children {
     }
 
     /// Tests a child's bytes against patterns.
-    pub(crate) fn choose(
+    pub(crate) fn choose<'l>(
         &mut self,
         alloc: Global,
+        matchers: &mut Matchers<'l>,
         i: Place,
-        list: &PatternList,
+        list: &'l PatternList,
     ) -> Result<Chosen, AllocError>
         ensures same { self.new ≡ self.old }
         ensures chosen { IfOk result (λ c. c ≡ decide list.now.entries both (child_in i self.old).kept.bytes (child_in i self.old).kept.size) }
@@ -361,9 +362,9 @@ impl Children {
         let i = i.index();
         if i < self.list.len() {
             let child = &mut self.list[i];
-            return child.kept.choose(alloc, list);
+            return child.kept.choose(alloc, matchers, list);
         }
-        list.choose(alloc, &BOTH, &[], 0)
+        list.choose_with(alloc, matchers, &BOTH, &[], 0)
     }
 
     /// A child's bytes from a place to another one, as far as they are there.

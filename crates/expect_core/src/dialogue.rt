@@ -16,12 +16,13 @@ use crate::lanes::Lanes;
 use crate::own::Own;
 use crate::phase::{Phase, Purpose};
 use crate::place::Place;
+use crate::plans::Plans;
 use crate::request::{Request, Requests};
 use crate::settings::Settings;
 use child_events::{Answer, Cause, Event, What};
 use std::alloc::{AllocError, Global};
 use tcl_commands::Code;
-use tcl_eval::{Ending, HostStep, Pile};
+use tcl_eval::{Ending, HostStep};
 use tcl_values::Value;
 use tcl_words::Text;
 
@@ -84,7 +85,7 @@ impl Dialogue {
                 children: Children::new(alloc),
                 log_user: true,
                 size: 2000,
-                plans: Pile::new(alloc),
+                plans: Plans::new(alloc),
             },
             phase: Phase::Idle,
             lives: true,

@@ -412,7 +412,7 @@ impl Dialogue {
     ) -> Result<HostStep, AllocError>
         ensures { IfOk result (λ s. expecting_of args.now vars.old self.old ≡ (s, vars.new, self.new)) }
     {
-        match said(alloc, plan_of(alloc, args, vars, &self.own))? {
+        match said(alloc, plan_of(alloc, args, vars, &mut self.own))? {
             Ok(plan) => self.looking(alloc, vars, plan),
             Err(text) => Ok(HostStep::Fail(text)),
         }

@@ -5,7 +5,7 @@ ghost use Rattle.circular_buffer.specs.Buffer.{keep_last};
 ghost use Rattle.exp_match.specs.Decide.{decide};
 ghost use Rattle.expect_core.specs.Heard.{both};
 
-use exp_match::{Chosen, PatternList};
+use exp_match::{Chosen, Matchers, PatternList};
 use match_buffer::Buffer;
 use std::alloc::{AllocError, Global};
 use std::marker::Model;
@@ -104,12 +104,17 @@ impl Kept {
     }
 
     /// Tests the bytes against patterns.
-    pub(crate) fn choose(&mut self, alloc: Global, list: &PatternList) -> Result<Chosen, AllocError>
+    pub(crate) fn choose<'l>(
+        &mut self,
+        alloc: Global,
+        matchers: &mut Matchers<'l>,
+        list: &'l PatternList,
+    ) -> Result<Chosen, AllocError>
         ensures same { self.new ≡ self.old }
         ensures chosen { IfOk result (λ c. c ≡ decide list.now.entries both self.old.bytes self.old.size) }
     {
         let size = self.buffer.size;
-        list.choose(alloc, &BOTH, self.buffer.bytes(), size)
+        list.choose_with(alloc, matchers, &BOTH, self.buffer.bytes(), size)
     }
 
     /// The bytes from a place to another one, as far as they are there.

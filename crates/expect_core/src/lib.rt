@@ -21,6 +21,7 @@ mod phase;
 mod place;
 mod plan;
 mod planning;
+mod plans;
 mod request;
 mod scoped;
 mod send;

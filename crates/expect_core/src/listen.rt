@@ -11,7 +11,7 @@ use crate::own::Own;
 use crate::phase::Heard;
 use crate::plan::Plan;
 use child_events::{Item, Queue};
-use exp_match::Chosen;
+use exp_match::{Chosen, Matchers};
 use std::alloc::{AllocError, Global};
 
 /// How long a script waits: its last moment, and the greatest moment so far.
@@ -68,10 +68,18 @@ fn take_item(items: &mut Queue, times: Times, deadline: Option<u128>) -> Option<
 }
 
 /// Tests the kept bytes; where nothing is chosen, the last ones alone are kept.
-fn test(alloc: Global, plan: &Plan, own: &mut Own) -> Result<Option<Heard>, AllocError>
+fn test<'l>(
+    alloc: Global,
+    plan: &'l Plan,
+    matchers: &mut Matchers<'l>,
+    own: &mut Own,
+) -> Result<Option<Heard>, AllocError>
     ensures { IfOk result (λ r. (items : List Queued) (k : Own → Listened) → tested plan.now items own.old k ≡ goes r items own.new k) }
 {
-    match own.children.choose(alloc, plan.child, &plan.list)? {
+    match own
+        .children
+        .choose(alloc, matchers, plan.child, &plan.list)?
+    {
         Chosen::Pattern(index, spans) => Ok(Some(Heard::Match(index, spans))),
         Chosen::Full => Ok(Some(Heard::Full)),
         Chosen::None => {
@@ -82,16 +90,46 @@ fn test(alloc: Global, plan: &Plan, own: &mut Own) -> Result<Option<Heard>, Allo
 }
 
 /// An item was taken: the bytes are tested, or the child has ended.
-fn hear(alloc: Global, plan: &Plan, item: Item, own: &mut Own) -> Result<Option<Heard>, AllocError>
+fn hear<'l>(
+    alloc: Global,
+    plan: &'l Plan,
+    matchers: &mut Matchers<'l>,
+    item: Item,
+    own: &mut Own,
+) -> Result<Option<Heard>, AllocError>
     ensures { IfOk result (λ r. (items : List Queued) (k : Own → Listened) → heard plan.now item items own.old k ≡ goes r items own.new k) }
 {
     match item {
         Item::Out(piece) => {
             own.receive(alloc, plan.child, piece.as_slice())?;
-            test(alloc, plan, own)
+            test(alloc, plan, matchers, own)
         }
         Item::Eof => Ok(Some(Heard::Ended)),
         Item::ReadFail(cause) => Ok(Some(Heard::Failed(cause))),
+    }
+}
+
+/// Takes items until the patterns decide, or none is there in time. Each test goes on with the matchers of those before it.
+fn hear_all<'l>(
+    alloc: Global,
+    times: Times,
+    plan: &'l Plan,
+    matchers: &mut Matchers<'l>,
+    items: &mut Queue,
+    own: &mut Own,
+) -> Result<Heard, AllocError>
+    ensures { IfOk result (λ h. listen_of times.limit times.horizon plan.now items.old own.old ≡ (h, items.new, own.new)) }
+{
+    'items: loop {
+        match take_item(items, times, plan.deadline) {
+            None => return Ok(lapsed(times, plan.deadline)),
+            Some((moment, item)) => {
+                own.advance(moment);
+                if let Some(heard) = hear(alloc, plan, matchers, item, own)? {
+                    return Ok(heard);
+                }
+            }
+        }
     }
 }
 
@@ -105,17 +143,7 @@ pub(crate) fn listen(
 ) -> Result<Heard, AllocError>
     ensures { IfOk result (λ h. listen_of times.limit times.horizon plan.now items.old own.old ≡ (h, items.new, own.new)) }
 {
-    'items: loop {
-        match take_item(items, times, plan.deadline) {
-            None => return Ok(lapsed(times, plan.deadline)),
-            Some((moment, item)) => {
-                own.advance(moment);
-                if let Some(heard) = hear(alloc, plan, item, own)? {
-                    return Ok(heard);
-                }
-            }
-        }
-    }
+    hear_all(alloc, times, plan, &mut Matchers::new(alloc), items, own)
 }
 
 /// Tests the kept bytes first.
@@ -128,8 +156,9 @@ pub(crate) fn look(
 ) -> Result<Heard, AllocError>
     ensures { IfOk result (λ h. look_of times.limit times.horizon plan.now items.old own.old ≡ (h, items.new, own.new)) }
 {
-    if let Some(heard) = test(alloc, plan, own)? {
+    let mut matchers = Matchers::new(alloc);
+    if let Some(heard) = test(alloc, plan, &mut matchers, own)? {
         return Ok(heard);
     }
-    listen(alloc, times, plan, items, own)
+    hear_all(alloc, times, plan, &mut matchers, items, own)
 }

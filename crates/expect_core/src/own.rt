@@ -6,10 +6,10 @@ ghost use Rattle.expect_core.specs.Owned.{at_moment, told, logged, asked, receiv
 
 use crate::child::Children;
 use crate::place::Place;
-use crate::plan::{Plan, Span};
+use crate::plan::Span;
+use crate::plans::Plans;
 use crate::request::{Act, Request, Requests};
 use std::alloc::{AllocError, Global};
-use tcl_eval::Pile;
 use tcl_words::Text;
 
 /// What the commands of a script change.
@@ -28,7 +28,7 @@ pub struct Own {
     /// How many bytes are kept of children that are spawned from now on.
     pub size: usize,
     /// The expects whose actions are evaluated, the innermost first.
-    pub plans: Pile<Plan>,
+    pub plans: Plans,
 }
 
 /// The last moment that is in time, of a wait that begins at a moment.

@@ -10,6 +10,7 @@ use crate::ids::open_to;
 use crate::own::{Own, deadline_from};
 use crate::place::Place;
 use crate::plan::{Plan, Span};
+use crate::plans::Plans;
 use crate::scoped::optional;
 use crate::texts::{bad_expect_flag, bad_regular};
 use exp_match::{PatternFault, PatternList};
@@ -56,10 +57,11 @@ fn arg_at(args: &[Value], at: usize) -> &[u8]
 }
 
 /// The patterns and keywords that arguments list.
-fn patterns_of(alloc: Global, args: &[Value]) -> Result<PatternList, Complaint>
-    ensures { Says result (patterns_by args.now (patterns_meant args.now)) }
+fn patterns_of(alloc: Global, plans: &mut Plans, args: &[Value]) -> Result<PatternList, Complaint>
+    ensures same { plans.new ≡ plans.old }
+    ensures said { Says result (patterns_by args.now (patterns_meant args.now)) }
 {
-    match PatternList::build(alloc, texts_of(alloc, args)?.as_slice()) {
+    match plans.patterns(alloc, texts_of(alloc, args)?.as_slice()) {
         Ok(list) => Ok(list),
         Err(PatternFault::BadFlag(at)) => Err(Complaint::Said(bad_expect_flag(
             alloc,
@@ -149,10 +151,11 @@ pub(crate) fn plan_of(
     alloc: Global,
     args: &[Value],
     vars: &Vars,
-    own: &Own,
+    own: &mut Own,
 ) -> Result<Plan, Complaint>
-    ensures { Says result (plan_meant args.now vars.now own.now) }
+    ensures same { own.new ≡ own.old }
+    ensures said { Says result (plan_meant args.now vars.now own.old) }
 {
-    let list = patterns_of(alloc, args)?;
+    let list = patterns_of(alloc, &mut own.plans, args)?;
     plan_by(alloc, list, vars, own)
 }

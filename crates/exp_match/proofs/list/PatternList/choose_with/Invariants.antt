@@ -1,7 +1,7 @@
 use Rattle.std.proofs.Common.{◌≡◌}
 use Rattle.exp_match.specs.Choice.{NoneBefore}
 use Rattle.exp_match.proofs.Deciding.{IsLeft}
-use Rattle.exp_match.proofs.list.PatternList.choose.Given as goal
+use Rattle.exp_match.proofs.list.PatternList.choose_with.Given as goal
 
 abbrev pub invariant-loop-index : goal.invariant-loop-index
 invariant-loop-index l = record {

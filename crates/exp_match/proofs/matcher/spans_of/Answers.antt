@@ -2,7 +2,7 @@ use Rattle.std.proofs.Common.{◌∙◌, arith}
 use Rattle.std.proofs.Math.ListN.{length-set}
 use Rattle.regex.specs.Bytes.{captures_span}
 use Rattle.exp_match.proofs.Grouped.{filled}
-use Rattle.exp_match.proofs.regular.spans_of.Goals as goal
+use Rattle.exp_match.proofs.matcher.spans_of.Goals as goal
 
 pub loop-n-preserved : goal.loop-n-preserved
 loop-n-preserved c = (

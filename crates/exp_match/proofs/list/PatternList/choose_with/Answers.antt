@@ -2,8 +2,8 @@ use Rattle.std.proofs.Common.{◌≡◌, ◌<◌, ◌≤◌, length, get_or, sym
 use Rattle.std.proofs.lemmas.Bool.Decides.{nat_tests}
 use Rattle.exp_match.specs.Choice.{FindsIn}
 use Rattle.exp_match.proofs.Deciding.{none_more, by_entry, at_end, at_start}
-use Rattle.exp_match.proofs.list.PatternList.choose.Goals.{else-max-bytes-via-then-max-bytes+else-is_some, else-max-bytes-via-else-max-bytes}
-use Rattle.exp_match.proofs.list.PatternList.choose.Goals as goal
+use Rattle.exp_match.proofs.list.PatternList.choose_with.Goals.{else-max-bytes-via-then-max-bytes+else-is_some, else-max-bytes-via-else-max-bytes}
+use Rattle.exp_match.proofs.list.PatternList.choose_with.Goals as goal
 
 pub loop-index-init : goal.loop-index-init
 loop-index-init c = record {

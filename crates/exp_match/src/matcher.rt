@@ -1,0 +1,102 @@
+//! What searches for a regular pattern.
+
+ghost use Rattle.std.specs.Prelude.{◌≡◌, ℕ, ◌<◌, Some, IsTrue, IfOk, IfSome, length, option_map};
+ghost use Rattle.std.specs.List.{slice_get};
+ghost use Rattle.regex.specs.Bytes.{captures_span, match_span, matcher_pattern};
+ghost use Rattle.regex.specs.Patterns.{find};
+ghost use Rattle.exp_match.specs.Written.{FindsAsWritten, Shows, find_written, seen_of};
+
+use crate::regular::Regular;
+use regex::bytes::{Captures, Match, Matcher, Regex};
+use std::alloc::{AllocError, Global};
+use std::marker::Model;
+
+/// The spans of a match and of its groups 1 to 9: start and exclusive end, or none.
+pub type Spans = [Option<(usize, usize)>; 10];
+
+/// What a search for a pattern writes to, and what the next one goes on with. A contract sees the pattern.
+#[derive(Drop)]
+pub(crate) struct RegularMatcher<'r> {
+    /// The compiled pattern.
+    regex: &'r Regex,
+    /// Whether letters match in either case.
+    nocase: bool,
+    /// What searches for it.
+    matcher: Matcher<'r>,
+}
+
+impl<'r> Model for RegularMatcher<'r> {
+    ghost use Rattle.std.specs.Prelude.{◌≡◌};
+    ghost use Rattle.regex.specs.Bytes.{IsReadFromSource, matcher_pattern, regex_config, regex_pattern, regex_source};
+    ghost use Rattle.exp_match.specs.Written.{Written, config_of};
+
+    ghost Value = { Written };
+
+    ghost view = { λ m. record { source = regex_source m.regex.now; nocase = m.nocase } };
+
+    ghost invariant = { λ m. (regex_config m.regex.now ≡ config_of m.nocase) × IsReadFromSource m.regex.now × (matcher_pattern m.matcher ≡ regex_pattern m.regex.now) };
+}
+
+impl<'r> RegularMatcher<'r> {
+    /// One that searches for this pattern.
+    pub(crate) fn new(alloc: Global, regular: &'r Regular) -> Result<RegularMatcher<'r>, AllocError>
+        ensures { IfOk result (λ m. m ≡ regular.now) }
+    {
+        let regex = regular.regex();
+        Ok(RegularMatcher {
+            regex,
+            nocase: regular.nocase(),
+            matcher: regex.matcher(alloc)?,
+        })
+    }
+
+    /// Whether it searches for this pattern.
+    pub(crate) fn is_for(&self, regular: &Regular) -> bool
+        ensures { IsTrue result → self.now ≡ regular.now }
+    {
+        self.nocase == regular.nocase() && self.regex.as_str() == regular.regex().as_str()
+    }
+
+    /// The first match in these bytes with its groups, leftmost-first.
+    pub(crate) fn find(&mut self, bytes: &[u8]) -> Option<Spans>
+        ensures written { FindsAsWritten self.old bytes.now result }
+        ensures value { result ≡ find_written self.old bytes.now }
+        ensures same { self.new ≡ self.old }
+    {
+        first_match(&mut self.matcher, bytes)
+    }
+}
+
+/// The first match in these bytes with its groups, leftmost-first.
+fn first_match(matcher: &mut Matcher, bytes: &[u8]) -> Option<Spans>
+    ensures shows { Shows (option_map seen_of (find (matcher_pattern matcher.old) bytes.now 0)) result }
+    ensures ten { IfSome result (λ spans. length spans ≡ 10) }
+    ensures same { matcher_pattern matcher.new ≡ matcher_pattern matcher.old }
+{
+    match matcher.captures(bytes) {
+        Some(captures) => Some(spans_of(&captures)),
+        None => None,
+    }
+}
+
+/// The spans of the groups 0 to 9.
+fn spans_of(captures: &Captures) -> Spans
+    ensures ten { length result ≡ 10 }
+    ensures are { (n : ℕ) → n < 10 → slice_get result n ≡ Some (captures_span captures.now n) }
+{
+    let mut spans = [None; 10];
+    for n in 0..10 {
+        spans[n] = span_of(captures.get(n));
+    }
+    spans
+}
+
+/// Where a match starts and ends.
+fn span_of(found: Option<Match>) -> Option<(usize, usize)>
+    ensures { result ≡ option_map match_span found.entry }
+{
+    match found {
+        Some(m) => Some((m.start(), m.end())),
+        None => None,
+    }
+}

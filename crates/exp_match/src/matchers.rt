@@ -1,0 +1,80 @@
+//! What searches for the regular patterns of a list, from a test to the next.
+
+ghost use Rattle.std.specs.Prelude.{◌≡◌, ◌<◌, Some, IfOk, IfSome, length};
+ghost use Rattle.std.specs.List.{slice_get};
+ghost use Rattle.exp_match.specs.Written.{FindsAsWritten, find_written};
+
+use crate::matcher::{RegularMatcher, Spans};
+use crate::regular::Regular;
+use std::alloc::{AllocError, Global};
+use std::marker::Model;
+
+/// Matchers of regular patterns, each made at the first search for its pattern and kept for the next ones.
+///
+/// A contract sees nothing of them: what is found with them is what is found without.
+#[derive(Drop)]
+pub struct Matchers<'l> {
+    /// One for each pattern that was searched for.
+    list: Vec<RegularMatcher<'l>>,
+}
+
+impl<'l> Model for Matchers<'l> {
+    ghost use Rattle.std.specs.Prelude.{⊤};
+
+    ghost Value = { ⊤ };
+
+    ghost view = { λ _. tt };
+}
+
+/// Where the matcher of a pattern stands.
+fn position(matchers: &[RegularMatcher], regular: &Regular) -> Option<usize>
+    ensures { IfSome result (λ n. (n < length matchers.now) × (slice_get matchers.now n ≡ Some regular.now)) }
+{
+    for (n, matcher) in matchers.iter().enumerate() {
+        if matcher.is_for(regular) {
+            return Some(n);
+        }
+    }
+    None
+}
+
+impl<'l> Matchers<'l> {
+    /// No matchers. It allocates nothing.
+    pub fn new(alloc: Global) -> Matchers<'l> {
+        Matchers {
+            list: Vec::new(alloc),
+        }
+    }
+
+    /// What a pattern matches first in these bytes.
+    pub(crate) fn find(
+        &mut self,
+        alloc: Global,
+        regular: &'l Regular,
+        bytes: &[u8],
+    ) -> Result<Option<Spans>, AllocError>
+        ensures written { IfOk result (FindsAsWritten regular.now bytes.now) }
+        ensures value { IfOk result (λ found. found ≡ find_written regular.now bytes.now) }
+    {
+        match position(self.list.as_slice(), regular) {
+            Some(n) => Ok(self.list[n].find(bytes)),
+            None => self.find_newly(alloc, regular, bytes),
+        }
+    }
+
+    /// The same for a pattern that was not searched for yet.
+    fn find_newly(
+        &mut self,
+        alloc: Global,
+        regular: &'l Regular,
+        bytes: &[u8],
+    ) -> Result<Option<Spans>, AllocError>
+        ensures written { IfOk result (FindsAsWritten regular.now bytes.now) }
+        ensures value { IfOk result (λ found. found ≡ find_written regular.now bytes.now) }
+    {
+        let mut matcher = RegularMatcher::new(alloc, regular)?;
+        let found = matcher.find(bytes);
+        self.list.push(matcher)?;
+        Ok(found)
+    }
+}
