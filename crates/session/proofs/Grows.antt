@@ -36,7 +36,7 @@ behind_since o steps more (Stop e, vars, st) k since = since (Stepped (Stop e) v
 behind_since o steps more (Unknown, vars, st) k since = since (Stepped Unknown vars) st k
 behind_since o steps more (Memory, vars, st) k since = since (Stepped Memory vars) st k
 
-play_since : (o : Own) (bound : ℕ) (t : Tree) (d : Dialogue) → Keeps o d.own → Since o (play bound t d)
+pub play_since : (o : Own) (bound : ℕ) (t : Tree) (d : Dialogue) → Keeps o d.own → Since o (play bound t d)
 play_since o bound (Over e s) d k = k
 play_since o bound (Ask (Knows word) left go) d k = play_since o bound (go (Known (knows word))) d k
 play_since o bound (Ask (Begin words vars) left go) d k = behind_since o (bound - left) (λ r. play bound (go r)) _ (outcome_kept o (Begin words vars) d k) (λ r. play_since o bound (go r))

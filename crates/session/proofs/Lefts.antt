@@ -70,7 +70,7 @@ fed k k' es before handed bound lives came ran = record {
       ∙ ap (λ (n : ℕ). play n (engine_rest k.engine k.steps k.mode) (extended (es ++ later) k.dialogue)) bound;
 }
 
-shown_requests : (bound : ℕ) (engine : Engine) (mode : Mode) (steps : ℕ) (d : Dialogue) → (shown bound engine mode steps d).requests ≡ d.own.requests
+pub shown_requests : (bound : ℕ) (engine : Engine) (mode : Mode) (steps : ℕ) (d : Dialogue) → (shown bound engine mode steps d).requests ≡ d.own.requests
 shown_requests bound engine (Ended e) steps d = refl
 shown_requests bound engine _ steps d = refl
 

@@ -3,3 +3,4 @@ pub mod Lefts
 pub mod Grows
 pub mod Numbering
 pub mod Quieting
+pub mod Readying

@@ -1,5 +1,5 @@
 -- What always holds of a session's fields.
-use Rattle.std.specs.Prelude.{◌≡◌, [], drop, false, IsTrue}
+use Rattle.std.specs.Prelude.{◌≡◌, ◌≤◌, [], drop, length, false, IsTrue}
 use Rattle.tcl_eval.specs.Rest.{engine_rest}
 use Rattle.tcl_eval.specs.Steps.{left_of}
 use Rattle.expect_core.specs.Good.{Good}
@@ -20,11 +20,12 @@ kept_of a = record {
   lives = a.lives;
 }
 
--- The report now is what the machine shows, up to the deadline; nothing is later than the greatest moment; and the requests behind those
--- that were handed out lie ready.
+-- The report now is what the machine shows, up to the deadline; nothing is later than the greatest moment; no more requests were
+-- handed out than there are, and those behind them lie ready.
 pub record Sound (a : Inside) : Type 0 where
   pub shows : IsTrue a.lives → play a.bound (engine_rest a.machine.engine (left_of a.meter) a.machine.mode) a.dialogue ≡ shown a.bound a.machine.engine a.machine.mode (left_of a.meter) a.dialogue
   pub quiet : IsTrue a.lives → Quiet a.machine.engine a.machine.mode (left_of a.meter) a.dialogue
   pub good : IsTrue a.lives → Good a.dialogue
+  pub counted : IsTrue a.lives → a.handed ≤ length a.dialogue.own.requests
   pub ready : IsTrue a.lives → a.ready.items ≡ drop a.handed a.dialogue.own.requests
   pub spent : a.lives ≡ false → a.ready.items ≡ []

@@ -86,35 +86,37 @@ fn rest_of(requests: &[Request], from: usize) -> &[Request]
     }
 }
 
-/// Copies of requests.
-fn copies(alloc: Global, requests: &[Request]) -> Result<VecDeque<Request>, AllocError>
-    ensures { IfOk result (λ r. r.items ≡ requests.now) }
+/// Lays copies of requests behind those that lie ready.
+fn lay_ready(
+    alloc: Global,
+    ready: &mut VecDeque<Request>,
+    requests: &[Request],
+) -> Result<(), AllocError>
+    ensures { OnOk result (ready.new.items ≡ ready.old.items ++ requests.now) }
 {
-    let mut made = VecDeque::new(alloc);
     for request in requests {
-        made.push_back(request.copied(alloc)?)?;
+        ready.push_back(request.copied(alloc)?)?;
     }
-    Ok(made)
+    Ok(())
 }
 
-/// Runs on to the next pause, and lays the requests ready that are to be handed out. The answer says whether no memory was refused;
+/// Runs on to the next pause, and lays the requests ready that are asked for on the way. The answer says whether no memory was refused;
 /// where some was, no request lies ready.
 fn go_on(
     alloc: Global,
     machine: &mut Machine<Dialogue>,
     dialogue: &mut Dialogue,
     meter: &mut Meter,
-    handed: usize,
     ready: &mut VecDeque<Request>,
 ) -> bool
     requires { IsTrue dialogue.old.lives → Good dialogue.old }
     ensures ran { IsTrue result → Ran machine.old.engine machine.old.mode (left_of meter.old) dialogue.old machine.new.engine machine.new.mode (left_of meter.new) dialogue.new }
-    ensures ready { IsTrue result → ready.new.items ≡ drop handed dialogue.new.own.requests }
+    ensures ready { IsTrue result → ready.new.items ≡ ready.old.items ++ drop (length dialogue.old.own.requests) dialogue.new.own.requests }
     ensures spent { result ≡ false → ready.new.items ≡ [] }
 {
+    let asked = dialogue.requests().len();
     if run_on(machine, dialogue, meter) {
-        if let Ok(copied) = copies(alloc, rest_of(dialogue.requests(), handed)) {
-            *ready = copied;
+        if let Ok(()) = lay_ready(alloc, ready, rest_of(dialogue.requests(), asked)) {
             return true;
         }
     }
@@ -177,14 +179,7 @@ impl Session {
         let bound = bounded(settings.steps);
         let mut meter = Meter::new(bound);
         let mut ready = VecDeque::new(alloc);
-        let lives = go_on(
-            alloc,
-            &mut machine,
-            &mut dialogue,
-            &mut meter,
-            0,
-            &mut ready,
-        );
+        let lives = go_on(alloc, &mut machine, &mut dialogue, &mut meter, &mut ready);
         Ok(Session {
             alloc,
             bound,
@@ -228,7 +223,6 @@ impl Session {
             &mut self.machine,
             &mut self.dialogue,
             &mut self.meter,
-            self.handed,
             &mut self.ready,
         );
     }
@@ -250,7 +244,6 @@ impl Session {
             &mut self.machine,
             &mut self.dialogue,
             &mut self.meter,
-            self.handed,
             &mut self.ready,
         );
     }

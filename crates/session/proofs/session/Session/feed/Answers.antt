@@ -1,6 +1,7 @@
 use Rattle.std.proofs.Common.{[], ◌∷◌, refl}
 use Rattle.session.specs.Sound.{kept_of}
 use Rattle.session.proofs.Lefts.{passed_over, fed}
+use Rattle.session.proofs.Readying.{sound_behind}
 use Rattle.session.proofs.Suspending.{good_fed}
 use Rattle.session.proofs.session.Session.feed.Goals as goal
 
@@ -15,3 +16,8 @@ returns c =
     rw (← c.self.view_is)
     (fed (kept_of c.self.inside) _ (c.args.event ∷ []) c.offer.new.self refl refl c.if-not-self.false
     (c.offer.ensures.came (c.self.invariant.good c.if-not-self.false)) c.go_on-self-inside.ensures.ran)
+
+pub invariant_of-self : goal.invariant_of-self
+invariant_of-self c =
+    sound_behind c.self.inside _ (c.args.event ∷ []) c.offer.new.self c.self.invariant c.if-not-self.false refl
+    (c.offer.ensures.came (c.self.invariant.good c.if-not-self.false)) c.go_on-self-inside.ensures.ran c.go_on-self-inside.ensures.ready c.go_on-self-inside.ensures.spent
