@@ -1,6 +1,6 @@
 //! Turning a desk until nothing more can come.
 
-ghost use Rattle.std.specs.Prelude.{◌≡◌, ◌≤◌, length, OnOk};
+ghost use Rattle.std.specs.Prelude.{◌≡◌, ◌≤◌, ◌+◌, length, OnOk, IfSome};
 ghost use Rattle.child_desk.specs.Line.{KeepsAll, HearsNoHand, AllOver};
 ghost use Rattle.child_desk.specs.Heard.{HearsAll};
 
@@ -12,7 +12,7 @@ use std::alloc::AllocError;
 use std::sync::Wait;
 
 /// How many milliseconds a desk rests at most.
-const REST: u64 = 10;
+const REST: u64 = 100;
 
 /// Turns a desk until nothing more can come for any script.
 ///
@@ -39,21 +39,32 @@ pub fn turn_all<K: Keeper, C: Clock, W: Wait + std::time::Clock>(
         if desk.has_come() || desk.is_due(held) {
             desk.turn(held)?;
         } else if !desk.is_due(reading) {
-            rest(rt, bell, desk);
+            rest(rt, bell, desk, reading);
         }
         held = reading;
     }
     unreachable!()
 }
 
-/// Rests until something comes, but for some milliseconds alone.
-fn rest<K: Keeper, W: Wait + std::time::Clock>(rt: &W, bell: &Bell, desk: &mut Desk<K>)
+/// How many milliseconds a desk rests at a moment: until its deadline is past, but not too long.
+fn rest_before(deadline: Option<u64>, moment: u64) -> u64
+    ensures most { result ≤ 100 }
+    ensures before { IfSome deadline (λ last. moment ≤ last → moment + result ≤ last + 1) }
+{
+    match deadline {
+        Some(last) => last.saturating_sub(moment).saturating_add(1).min(REST),
+        None => REST,
+    }
+}
+
+/// Rests until something comes or a script may have run out of time, but not too long.
+fn rest<K: Keeper, W: Wait + std::time::Clock>(rt: &W, bell: &Bell, desk: &mut Desk<K>, moment: u64)
     ensures same { (desk.new.lines.items ≡ desk.old.lines.items) × (desk.new.book ≡ desk.old.book) }
     ensures heard { HearsAll desk.old.ends.items desk.old.book.log.items desk.new.ends.items desk.new.book.log.items }
     ensures hands { HearsNoHand desk.old.ends.items desk.new.ends.items }
 {
     Backoff::new().spin();
     if !desk.has_come() {
-        bell.rest_at_most(rt, REST);
+        bell.rest_at_most(rt, rest_before(desk.book.hall.deadline(), moment));
     }
 }

@@ -2,7 +2,7 @@
 use Rattle.std.specs.Prelude.{◌≡◌, ◌≢◌, ℕ, List, Bool, Option, Result, Ok, Err}
 use Rattle.std.specs.Io.KnownBytes.{Appends}
 use Rattle.child_events.specs.declared.event.Answer.{Answer}
-use Rattle.child_events.specs.Log.{LogText}
+use Rattle.child_events.specs.Log.{LogText2}
 use Rattle.expect_core.specs.declared.request.Request.{Request}
 use Rattle.dialogue_sched.specs.declared.script.Script.{Script}
 use Rattle.child_desk.specs.Line.{Keeping}
@@ -19,7 +19,7 @@ module _ (told : ℕ → ℕ → Request → Answer → Type 0) (gives : ℕ →
   -- The scripts were served, and this is the log text of their record.
   pub record WasServed (served : Served) (text : List ℕ) : Type 0 where
     pub serves : IsServing told gives workers keepers scripts (Ok served)
-    pub log : LogText text served.logged
+    pub log : LogText2 text served.logged
 
   -- What is written is the log text of the record, and the text of the reports that stand with it.
   pub record Driven (vars well : Bool) (log log' out out' : Option (List ℕ)) : Type 0 where

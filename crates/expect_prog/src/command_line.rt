@@ -82,38 +82,47 @@ fn sources<'a>(alloc: Global) -> Arg<'a> {
         .action(ArgAction::Append)
 }
 
-fn replay_command<'a>(alloc: Global) -> Result<Command<'a>, AllocError> {
-    let log = Arg::new(alloc, "log")
+fn log<'a>(alloc: Global) -> Arg<'a> {
+    Arg::new(alloc, "log")
         .value_name("LOG")
         .help("The file of the log")
-        .required(true);
+        .required(true)
+}
+
+fn replay_command<'a>(alloc: Global) -> Result<Command<'a>, AllocError> {
     Command::new(alloc, "replay")
         .about("Runs scripts over a log of events, and prints their reports")
         .after_help(help::REPLAY)
         .arg(limit(alloc))?
         .arg(steps(alloc))?
         .arg(vars(alloc))?
-        .arg(log)?
+        .arg(log(alloc))?
         .arg(sources(alloc))
 }
 
-fn run_command<'a>(alloc: Global) -> Result<Command<'a>, AllocError> {
-    let workers = Arg::new(alloc, "workers")
+fn workers<'a>(alloc: Global) -> Arg<'a> {
+    Arg::new(alloc, "workers")
         .long("workers")
         .value_name("N")
         .help("Share the scripts out among this many threads [default: 1]")
-        .value_parser(value_parser!(u64).range(1..=64));
-    let record = Arg::new(alloc, "record")
+        .value_parser(value_parser!(u64).range(1..=64))
+}
+
+fn record<'a>(alloc: Global) -> Arg<'a> {
+    Arg::new(alloc, "record")
         .long("record")
         .value_name("FILE")
-        .help("Write a log of all that happened, which replay reads");
+        .help("Write a log of all that happened, which replay reads")
+}
+
+fn run_command<'a>(alloc: Global) -> Result<Command<'a>, AllocError> {
     Command::new(alloc, "run")
         .about("Runs scripts with real programs, and prints their reports")
         .after_help(help::RUN)
-        .arg(workers)?
+        .arg(workers(alloc))?
         .arg(limit(alloc))?
         .arg(steps(alloc))?
-        .arg(record)?
+        .arg(record(alloc))?
         .arg(vars(alloc))?
         .arg(sources(alloc))
 }

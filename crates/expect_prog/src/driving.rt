@@ -1,7 +1,7 @@
 //! Scripts over children, whose record and reports go to any two writers.
 
 ghost use Rattle.std.specs.Prelude.{◌≡◌, ◌<◌, ◌≤◌, length, map, IfOk, IfErr, Err};
-ghost use Rattle.child_events.specs.Log.{AllFit, LogText};
+ghost use Rattle.child_events.specs.Log.{AllFit, LogText2};
 ghost use Rattle.child_serve.specs.Whole.{keeping_of};
 ghost use Rattle.expect_prog.specs.Devices.{GaveUp};
 ghost use Rattle.expect_prog.specs.Drive.{Drives, Serves, Puts, IsBefore};
@@ -80,7 +80,7 @@ struct Output {
 /// The log text of the record of what was served and the text of its reports, with their variables or without.
 fn output_of(alloc: Global, vars: bool, served: &Served) -> Result<Output, DriveFault>
     requires { AllFit served.now.logged }
-    ensures record { IfOk result (λ o. LogText o.record served.now.logged) }
+    ensures record { IfOk result (λ o. LogText2 o.record served.now.logged) }
     ensures reports { IfOk result (λ o. o.reports ≡ reports_bytes vars 1 served.now.reports) }
     ensures well { IfOk result (λ o. o.well ≡ all_done_of served.now.reports) }
     ensures fault { IfErr result (λ fault. fault ≡ DriveFault.Memory) }

@@ -68,9 +68,11 @@ fn clocks<R: Clock + Copy + Drop>(
     Ok(clocks)
 }
 
-/// How many workers there are: from 1 to 64.
+/// How many workers there are: as many as are asked for, from 1 to 64.
 fn workers(asked: u8) -> u8
-    ensures { (1 ≤ result) × (result ≤ 64) }
+    ensures some { 1 ≤ result }
+    ensures most { result ≤ 64 }
+    ensures asked { 1 ≤ asked → asked ≤ 64 → result ≡ asked }
 {
     if asked < 1 {
         return 1;
