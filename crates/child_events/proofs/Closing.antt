@@ -1,6 +1,6 @@
 -- The first line of version 2 and its last.
-use Rattle.std.proofs.Common.{◌≡◌, ℕ, ◌+◌, ◌-◌, ◌<◌, List, [], ◌∷◌, ◌++◌, length, Bool, true, false, Some, None, Result, Ok, Err, refl, sym, ap, ◌∙◌, arith}
-use Rattle.std.specs.Prelude.{◌==◌, not, if◌then◌else◌, codes}
+use Rattle.std.proofs.Common.{◌≡◌, ℕ, ◌+◌, ◌-◌, ◌<◌, List, [], ◌∷◌, length, Bool, true, false, Result, Ok, Err, refl, sym, ap, ◌∙◌, arith}
+use Rattle.std.specs.Prelude.{◌==◌, not, if◌then◌else◌}
 use Rattle.std.proofs.lemmas.Bool.Decides.{nat_tests}
 use Rattle.child_events.specs.declared.faults.LogFault.{LogFault}
 use Rattle.child_events.specs.declared.faults.LogFault.TheVariants as fault
@@ -24,24 +24,14 @@ closed_behind n seen total behind same some =
     )
 
 -- fields with others behind them are no total's
-crowded_no : (n : ℕ) (k m : List ℕ) (ws : List (List ℕ)) → 0 < length ws → total_of n (k ∷ m ∷ ws) ≡ None
-crowded_no n k m [] some = absurd (omega arith)
-crowded_no n k m (x ∷ ws) some = refl
-
-module _ (n : ℕ) (line word : List ℕ) (is : line ≡ codes "total " ++ word) where
-  -- what stands behind the first word
-  total_parts : parts 32 line ≡ codes "total" ∷ parts 32 word
-  total_parts = ap (parts 32) is
-
-  -- one with more words is none
-  pub more_no : (first others : List ℕ) → parts 32 word ≡ first ∷ parts 32 others → total_of n (parts 32 line) ≡ None
-  more_no first others split =
-      ap (total_of n) (total_parts ∙ ap (λ (ws : List (List ℕ)). codes "total" ∷ ws) split) ∙ crowded_no n (codes "total") first (parts 32 others) (parts_some 32 others)
+pub crowded_no : (n : ℕ) (f : LogFault) (k m : List ℕ) (ws : List (List ℕ)) → 0 < length ws → total_of n f (k ∷ m ∷ ws) ≡ Err f
+crowded_no n f k m [] some = absurd (omega arith)
+crowded_no n f k m (x ∷ ws) some = refl
 
 -- Version 2 alone has a total; how many events stood before its line, the line's number says.
-pub seen_is : (v : Version) (n seen : ℕ) (line : List ℕ) (total : Result ℕ LogFault) → line_total v n line ≡ Some total → n ≡ seen + first_line v → n - 2 ≡ seen
-seen_is First n seen line total is number = absurd (cc)
-seen_is Second n seen line total is number = omega arith
+pub seen_is : (v : Version) (n seen k : ℕ) (f : LogFault) (line : List ℕ) → line_total v n f line ≡ Ok k → n ≡ seen + first_line v → n - 2 ≡ seen
+seen_is First n seen k f line is number = absurd (cc)
+seen_is Second n seen k f line is number = omega arith
 
 -- A first line with others behind it says which version this is.
 pub versioned : (bytes line behind : List ℕ) (named : Result Version LogFault) → parts 10 bytes ≡ line ∷ parts 10 behind → version_of line ≡ named → log_events bytes ≡ (named >>= version_events line (parts 10 behind))

@@ -1,5 +1,5 @@
 -- No front of a log of version 2 is a log, but the empty one.
-use Rattle.std.proofs.Common.{◌≡◌, ◌⊎◌, inl, inr, ℕ, ◌+◌, ◌-◌, ◌<◌, ◌^◌, List, [], ◌∷◌, ◌++◌, length, Bool, true, false, Option, Some, None, Result, Ok, Err, refl, sym, ap, ◌∙◌, append_assoc, append-nil, length-append, arith}
+use Rattle.std.proofs.Common.{◌≡◌, ◌⊎◌, inl, inr, ℕ, ◌+◌, ◌-◌, ◌<◌, ◌^◌, List, [], ◌∷◌, ◌++◌, length, Bool, true, false, None, Result, Ok, Err, refl, sym, ap, ◌∙◌, append_assoc, append-nil, length-append, arith}
 use Rattle.std.specs.Prelude.{◌≢◌, ◌==◌, not, if◌then◌else◌, nat_lt, codes}
 use Rattle.std.proofs.lemmas.List.{nil_from_length}
 use Rattle.std.proofs.lemmas.Bool.{eqb-true}
@@ -8,7 +8,7 @@ use Rattle.child_events.specs.declared.faults.LogFault.{LogFault}
 use Rattle.child_events.specs.declared.faults.LogFault.TheVariants as fault
 use Rattle.child_events.specs.declared.version.Version.TheVariants.{First, Second}
 use Rattle.child_events.specs.Log.{line_of, lines_text, heading, total_line, fields_of, joined, LogText2, LogText}
-use Rattle.child_events.specs.Reading.{in_front, parts, first_word, version_of, line_event, line_total, closed, last_part, none_where, with_line, lines_events, log_events, first_fault}
+use Rattle.child_events.specs.Reading.{in_front, parts, first_word, version_of, line_event, line_total, closed, last_part, none_where, with_line, lines_events, log_events, first_fault, ◌>>=◌}
 use Rattle.child_events.proofs.Parts.{parts_first}
 use Rattle.child_events.proofs.Plain.{without_joined, joined-parts}
 use Rattle.child_events.proofs.Lines.{lines_more, parts_some}
@@ -80,19 +80,21 @@ front_is_all : (n : ℕ) (ws : List (List ℕ)) (v : List ℕ) (vs : List (List 
 front_is_all n [] v vs es fs some front all = absurd (omega arith)
 front_is_all n (w ∷ []) v vs es fs some front all = absurd (last_never n w fs front)
 front_is_all n (w ∷ x ∷ ws) v vs es fs some front all =
-    by_total (line_total Second n w) (line_event n w) (lines_events Second (n + 1) (x ∷ ws)) (lines_events Second (n + 1) (glued (x ∷ ws) (v ∷ vs))) (λ es fs. front_is_all (n + 1) (x ∷ ws) v vs es fs (omega arith)) front
+    by_line (line_event n w) (lines_events Second (n + 1) (x ∷ ws)) (lines_events Second (n + 1) (glued (x ∷ ws) (v ∷ vs))) (λ es fs. front_is_all (n + 1) (x ∷ ws) v vs es fs (omega arith)) front
     (sym (lines_more Second n w (glued (x ∷ ws) (v ∷ vs)) (glued_some (x ∷ ws) v vs)) ∙ all)
   where
-    by_total : (o : Option (Result ℕ LogFault)) (first : Result HallEvent LogFault) (less more : Result (List HallEvent) LogFault) → ((es fs : List HallEvent) → less ≡ Ok fs → more ≡ Ok es → joined 10 (v ∷ vs) ≡ []) →
-        with_line n o (x ∷ ws) first less ≡ Ok fs → with_line n o (glued (x ∷ ws) (v ∷ vs)) first more ≡ Ok es → joined 10 (v ∷ vs) ≡ []
-    by_total None (Err f) less more others front all = absurd (cc)
-    by_total None (Ok e) (Err f) more others front all = absurd (cc)
-    by_total None (Ok e) (Ok gs) (Err f) others front all = absurd (cc)
-    by_total None (Ok e) (Ok gs) (Ok hs) others front all = others hs gs refl refl
-    by_total (Some (Err f)) first less more others front all = absurd (cc)
-    by_total (Some (Ok k)) first less more others front all =
+    by_total : (total : Result ℕ LogFault) → none_where (total >>= λ k. closed n (n - 2) k (x ∷ ws)) ≡ Ok fs → none_where (total >>= λ k. closed n (n - 2) k (glued (x ∷ ws) (v ∷ vs))) ≡ Ok es → joined 10 (v ∷ vs) ≡ []
+    by_total (Err f) front all = absurd (cc)
+    by_total (Ok k) front all =
         let alone = nothing_is (x ∷ ws) (omega arith) (closed_nothing n (n - 2) k (x ∷ ws) fs front) in
         sym (ap (λ (us : List (List ℕ)). joined 10 (glued us (v ∷ vs))) alone) ∙ closed_nothing n (n - 2) k (glued (x ∷ ws) (v ∷ vs)) es all
+
+    by_line : (first : Result HallEvent LogFault) (less more : Result (List HallEvent) LogFault) → ((es fs : List HallEvent) → less ≡ Ok fs → more ≡ Ok es → joined 10 (v ∷ vs) ≡ []) →
+        with_line Second n w first (x ∷ ws) less ≡ Ok fs → with_line Second n w first (glued (x ∷ ws) (v ∷ vs)) more ≡ Ok es → joined 10 (v ∷ vs) ≡ []
+    by_line (Ok e) (Err f) more others front all = absurd (cc)
+    by_line (Ok e) (Ok gs) (Err f) others front all = absurd (cc)
+    by_line (Ok e) (Ok gs) (Ok hs) others front all = others hs gs refl refl
+    by_line (Err f) less more others front all = by_total (line_total Second n f w) front all
 
 text_is_all : (n : ℕ) (front rest : List ℕ) (es fs : List HallEvent) → lines_events Second n (parts 10 front) ≡ Ok fs → lines_events Second n (parts 10 (front ++ rest)) ≡ Ok es → rest ≡ []
 text_is_all n front rest es fs less all =

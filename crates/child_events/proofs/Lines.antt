@@ -11,7 +11,7 @@ use Rattle.child_events.specs.declared.event.HallEvent.{HallEvent}
 use Rattle.child_events.specs.declared.faults.LogFault.{LogFault}
 use Rattle.child_events.specs.declared.faults.LogFault.TheVariants as fault
 use Rattle.child_events.specs.declared.version.Version.{Version}
-use Rattle.child_events.specs.Reading.{in_front, parts, line_event, line_total, closed, last_part, none_where, with_first, with_line, lines_events, ◌>>=◌, fields_event, any_empty, failed_event, stamp_of, stamped, or_fault, what_failed, cause_of, piece_of, number_within, Reads}
+use Rattle.child_events.specs.Reading.{in_front, parts, line_event, line_total, closed, last_part, none_where, with_line, lines_events, ◌>>=◌, fields_event, any_empty, failed_event, stamp_of, stamped, or_fault, what_failed, cause_of, piece_of, number_within, Reads}
 
 -- events that were read, in front of what the others give
 abbrev pub front_of : List HallEvent → Result (List HallEvent) LogFault → Result (List HallEvent) LogFault
@@ -22,7 +22,7 @@ pub front_none : (rest : Result (List HallEvent) LogFault) → front_of [] rest 
 front_none (Ok es) = refl
 front_none (Err f) = refl
 
-pub front_more : (front : List HallEvent) (e : HallEvent) (rest : Result (List HallEvent) LogFault) → front_of front (with_first (Ok e) rest) ≡ front_of (front ++ e ∷ []) rest
+pub front_more : (front : List HallEvent) (e : HallEvent) (rest : Result (List HallEvent) LogFault) → front_of front (rest >>= λ es. Ok (e ∷ es)) ≡ front_of (front ++ e ∷ []) rest
 front_more front e (Ok es) = ap Ok (sym (append_assoc front (e ∷ []) es))
 front_more front e (Err f) = refl
 
@@ -40,45 +40,40 @@ parts_some sep (b ∷ bs) = by_test (b == sep)
     by_test false = front_some (parts sep bs)
 
 -- a part with others behind it is a line
-pub lines_more : (v : Version) (n : ℕ) (w : List ℕ) (vs : List (List ℕ)) → 0 < length vs → lines_events v n (w ∷ vs) ≡ with_line n (line_total v n w) vs (line_event n w) (lines_events v (n + 1) vs)
+pub lines_more : (v : Version) (n : ℕ) (w : List ℕ) (vs : List (List ℕ)) → 0 < length vs → lines_events v n (w ∷ vs) ≡ with_line v n w (line_event n w) vs (lines_events v (n + 1) vs)
 lines_more v n w [] some = absurd (omega arith)
 lines_more v n w (x ∷ vs) some = refl
 
 module _ (v : Version) (front : List HallEvent) (n : ℕ) (rest line behind : List ℕ) (all : Result (List HallEvent) LogFault)
     (split : parts 10 rest ≡ line ∷ parts 10 behind) (same : front_of front (lines_events v n (parts 10 rest)) ≡ all) where
-  -- the first line of those that are left, by what it says of the total
-  at_line : (o : Option (Result ℕ LogFault)) → line_total v n line ≡ o → all ≡ front_of front (with_line n o (parts 10 behind) (line_event n line) (lines_events v (n + 1) (parts 10 behind)))
-  at_line o is =
+  -- the first line of those that are left, by what it is read as
+  at_line : (r : Result HallEvent LogFault) → line_event n line ≡ r → all ≡ front_of front (with_line v n line r (parts 10 behind) (lines_events v (n + 1) (parts 10 behind)))
+  at_line r is =
       sym same
       ∙ ap (front_of front) (
       ap (lines_events v n) split ∙ lines_more v n line (parts 10 behind) (parts_some 10 behind)
-      ∙ ap (λ (t : Option (Result ℕ LogFault)). with_line n t (parts 10 behind) (line_event n line) (lines_events v (n + 1) (parts 10 behind))) is
+      ∙ ap (λ (x : Result HallEvent LogFault). with_line v n line x (parts 10 behind) (lines_events v (n + 1) (parts 10 behind))) is
       )
 
   -- one line on
-  pub line_read : (e : HallEvent) → line_total v n line ≡ None → line_event n line ≡ Ok e → front_of (front ++ e ∷ []) (lines_events v (n + 1) (parts 10 behind)) ≡ all
-  line_read e none read =
-      sym (front_more front e (lines_events v (n + 1) (parts 10 behind)))
-      ∙ sym (at_line None none ∙ ap (λ (r : Result HallEvent LogFault). front_of front (with_first r (lines_events v (n + 1) (parts 10 behind)))) read)
+  pub line_read : (e : HallEvent) → line_event n line ≡ Ok e → front_of (front ++ e ∷ []) (lines_events v (n + 1) (parts 10 behind)) ≡ all
+  line_read e read = sym (front_more front e (lines_events v (n + 1) (parts 10 behind))) ∙ sym (at_line (Ok e) read)
 
-  -- the first bad line
-  pub line_bad : (f : LogFault) → line_total v n line ≡ None → line_event n line ≡ Err f → all ≡ Err f
-  line_bad f none read = at_line None none ∙ ap (λ (r : Result HallEvent LogFault). front_of front (with_first r (lines_events v (n + 1) (parts 10 behind)))) read
+  -- the first line that is no event, and no total
+  pub line_bad : (f g : LogFault) → line_event n line ≡ Err f → line_total v n f line ≡ Err g → all ≡ Err g
+  line_bad f g read says = at_line (Err f) read ∙ ap (λ (r : Result ℕ LogFault). front_of front (none_where (r >>= λ k. closed n (n - 2) k (parts 10 behind)))) says
 
-  -- a total that can't be read
-  pub total_bad : (f : LogFault) → line_total v n line ≡ Some (Err f) → all ≡ Err f
-  total_bad f is = at_line (Some (Err f)) is
-
-  -- and one that is read, behind as many events as stand in front
-  pub total_read : (k : ℕ) (ended : Result ⊤ LogFault) → line_total v n line ≡ Some (Ok k) → closed n (n - 2) k (parts 10 behind) ≡ ended → all ≡ front_of front (none_where ended)
-  total_read k ended is closes = at_line (Some (Ok k)) is ∙ ap (λ (r : Result ⊤ LogFault). front_of front (none_where r)) closes
+  -- or the total, behind as many events as stand in front
+  pub total_read : (f : LogFault) (k : ℕ) (ended : Result ⊤ LogFault) → line_event n line ≡ Err f → line_total v n f line ≡ Ok k → closed n (n - 2) k (parts 10 behind) ≡ ended → all ≡ front_of front (none_where ended)
+  total_read f k ended read says closes =
+      at_line (Err f) read ∙ ap (λ (r : Result ℕ LogFault). front_of front (none_where (r >>= λ k. closed n (n - 2) k (parts 10 behind)))) says ∙ ap (λ (r : Result ⊤ LogFault). front_of front (none_where r)) closes
 
 -- what stands behind the last newline
 pub end_read : (v : Version) (front : List HallEvent) (n : ℕ) (rest : List ℕ) (all : Result (List HallEvent) LogFault) (ended : Result ⊤ LogFault) → parts 10 rest ≡ rest ∷ [] → front_of front (lines_events v n (parts 10 rest)) ≡ all → last_part v n rest ≡ ended → all ≡ front_of front (none_where ended)
 end_read v front n rest all ended split same ends =
     sym same ∙ ap (λ (vs : List (List ℕ)). front_of front (lines_events v n vs)) split ∙ ap (λ (r : Result ⊤ LogFault). front_of front (none_where r)) ends
 
-either_way : (t : Bool) (r : Result HallEvent LogFault) → (if t then r else r) ≡ r
+pub either_way : (t : Bool) (r : Result HallEvent LogFault) → (if t then r else r) ≡ r
 either_way true r = refl
 either_way false r = refl
 

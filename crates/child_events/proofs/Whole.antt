@@ -16,11 +16,11 @@ use Rattle.child_events.specs.declared.faults.LogFault.TheVariants as fault
 use Rattle.child_events.specs.declared.version.Version.{Version}
 use Rattle.child_events.specs.declared.version.Version.TheVariants.{First, Second}
 use Rattle.child_events.specs.Log.{line_of, lines_text, heading, total_line, fields_of, joined, fits, IsOfBytes, AreLogged, LogText1, LogText2, LogText}
-use Rattle.child_events.specs.Reading.{parts, or_fault, number_of, line_event, first_word, version_of, version_events, parts_events, total_of, line_total, closed, last_part, none_where, with_first, with_line, lines_events, log_events, fault_in, first_fault, Reads, Refused, ◌>>=◌}
+use Rattle.child_events.specs.Reading.{parts, or_fault, number_of, line_event, fields_event, any_empty, first_word, version_of, version_events, parts_events, total_of, line_total, closed, last_part, none_where, with_line, lines_events, log_events, fault_in, first_fault, Reads, Refused, ◌>>=◌}
 use Rattle.child_events.proofs.Parts.{parts_first}
 use Rattle.child_events.proofs.Plain.{ArePlain, without_joined, joined-parts, parts_joined, joined_len}
 use Rattle.child_events.proofs.Decimals.{number_said, number_meant}
-use Rattle.child_events.proofs.Lines.{lines_more, parts_some}
+use Rattle.child_events.proofs.Lines.{lines_more, parts_some, either_way}
 use Rattle.child_events.proofs.Said.{IsLine, line_said, is_word}
 use Rattle.child_events.proofs.Meant.{line_meant, line_short, plain_fields, plain_decimal, fields_parts}
 use Rattle.child_events.proofs.Closing.{same_number, versioned}
@@ -64,15 +64,15 @@ record IsTotal (w : List ℕ) (k : ℕ) : Type 0 where
   text : w ++ 10 ∷ [] ≡ total_line k
   small : k < 10 ^ 16
 
-total_said : (n : ℕ) (ws : List (List ℕ)) (k : ℕ) → total_of n ws ≡ Some (Ok k) → IsTotal (joined 32 ws) k
-total_said n [] k h = absurd (cc)
-total_said n (a ∷ []) k h = absurd (cc)
-total_said n (a ∷ m ∷ []) k h = by_tests (bytes_eq a (codes "total")) (length m == 0) (number_of m) refl refl h
+total_said : (n : ℕ) (f : LogFault) (ws : List (List ℕ)) (k : ℕ) → total_of n f ws ≡ Ok k → IsTotal (joined 32 ws) k
+total_said n f [] k h = absurd (cc)
+total_said n f (a ∷ []) k h = absurd (cc)
+total_said n f (a ∷ m ∷ []) k h = by_tests (bytes_eq a (codes "total")) (length m == 0) (number_of m) refl refl h
   where
     total_text : List ℕ → List ℕ
     total_text x = joined 32 (codes "total" ∷ x ∷ []) ++ 10 ∷ []
 
-    by_tests : (p q : Bool) (o : Option ℕ) → bytes_eq a (codes "total") ≡ p → number_of m ≡ o → (if p && not q then Some (or_fault (fault.Number n) o) else None) ≡ Some (Ok k) → IsTotal (joined 32 (a ∷ m ∷ [])) k
+    by_tests : (p q : Bool) (o : Option ℕ) → bytes_eq a (codes "total") ≡ p → number_of m ≡ o → (if p && not q then or_fault (fault.Number n) o else Err f) ≡ Ok k → IsTotal (joined 32 (a ∷ m ∷ [])) k
     by_tests false q o named is said = absurd (cc)
     by_tests true true o named is said = absurd (cc)
     by_tests true false None named is said = absurd (cc)
@@ -83,20 +83,20 @@ total_said n (a ∷ m ∷ []) k h = by_tests (bytes_eq a (codes "total")) (lengt
           text = ap (λ (x : List ℕ). joined 32 (x ∷ m ∷ []) ++ 10 ∷ []) (is_word a (codes "total") named) ∙ ap total_text number.text;
           small = number.small;
         }
-total_said n (a ∷ m ∷ x ∷ ws) k h = absurd (cc)
+total_said n f (a ∷ m ∷ x ∷ ws) k h = absurd (cc)
 
-line_total_said : (n : ℕ) (w : List ℕ) (k : ℕ) → line_total Second n w ≡ Some (Ok k) → IsTotal w k
-line_total_said n w k h = by_test (nat_lt 8219 (length w)) h
+line_total_said : (n : ℕ) (f : LogFault) (w : List ℕ) (k : ℕ) → line_total Second n f w ≡ Ok k → IsTotal w k
+line_total_said n f w k h = by_test (nat_lt 8219 (length w)) h
   where
-    by_test : (t : Bool) → (if t then None else total_of n (parts 32 w)) ≡ Some (Ok k) → IsTotal w k
+    by_test : (t : Bool) → (if t then Err f else total_of n f (parts 32 w)) ≡ Ok k → IsTotal w k
     by_test true said = absurd (cc)
-    by_test false said = subst (λ (v : List ℕ). IsTotal v k) (joined-parts 32 w) (total_said n (parts 32 w) k said)
+    by_test false said = subst (λ (v : List ℕ). IsTotal v k) (joined-parts 32 w) (total_said n f (parts 32 w) k said)
 
-ended_said : (v : Version) (n : ℕ) (w rest : List ℕ) (behind : List (List ℕ)) (total : Result ℕ LogFault) (es : List HallEvent) →
-    line_total v n w ≡ Some total → joined 10 behind ≡ rest → none_where (total >>= λ k. closed n (n - 2) k behind) ≡ Ok es → AreLines v n (w ++ 10 ∷ rest) es
-ended_said First n w rest behind total es says is h = absurd (cc)
-ended_said Second n w rest behind (Err f) es says is h = absurd (cc)
-ended_said Second n w rest behind (Ok k) es says is h = by_tests (k == n - 2) (length (joined 10 behind) == 0) refl refl h
+ended_said : (v : Version) (n : ℕ) (f : LogFault) (w rest : List ℕ) (behind : List (List ℕ)) (total : Result ℕ LogFault) (es : List HallEvent) →
+    line_total v n f w ≡ total → joined 10 behind ≡ rest → none_where (total >>= λ k. closed n (n - 2) k behind) ≡ Ok es → AreLines v n (w ++ 10 ∷ rest) es
+ended_said v n f w rest behind (Err g) es says is h = absurd (cc)
+ended_said First n f w rest behind (Ok k) es says is h = absurd (cc)
+ended_said Second n f w rest behind (Ok k) es says is h = by_tests (k == n - 2) (length (joined 10 behind) == 0) refl refl h
   where
     by_tests : (p q : Bool) → (k == n - 2) ≡ p → (length (joined 10 behind) == 0) ≡ q →
         none_where (if not p then Err (fault.Total n) else if not q then Err (fault.Total (n + 1)) else Ok tt) ≡ Ok es → AreLines Second n (w ++ 10 ∷ rest) es
@@ -105,7 +105,7 @@ ended_said Second n w rest behind (Ok k) es says is h = by_tests (k == n - 2) (l
     by_tests true true counts none said =
         let same : [] ≡ es = cc in
         let count : k ≡ n + 0 - 2 = eqb-true k (n - 2) counts ∙ omega arith in
-        let total = line_total_said n w k says in
+        let total = line_total_said n f w k says in
         let nothing : rest ≡ [] = sym is ∙ nil_from_length (joined 10 behind) (eqb-true (length (joined 10 behind)) 0 none) in
         subst (AreLines Second n (w ++ 10 ∷ rest)) same (record {
           rest = w ++ 10 ∷ rest;
@@ -117,13 +117,11 @@ ended_said Second n w rest behind (Ok k) es says is h = by_tests (k == n - 2) (l
           );
         })
 
-more_said : (v : Version) (n : ℕ) (w rest : List ℕ) (first : Result HallEvent LogFault) (others : Result (List HallEvent) LogFault) (es : List HallEvent) →
-    ((e : HallEvent) → first ≡ Ok e → IsLine w e) → ((fs : List HallEvent) → others ≡ Ok fs → AreLines v (n + 1) rest fs) → with_first first others ≡ Ok es → AreLines v n (w ++ 10 ∷ rest) es
-more_said v n w rest (Err f) others es line behind h = absurd (cc)
-more_said v n w rest (Ok e) (Err f) es line behind h = absurd (cc)
-more_said v n w rest (Ok e) (Ok fs) es line behind h =
+more_said : (v : Version) (n : ℕ) (w rest : List ℕ) (e : HallEvent) (others : Result (List HallEvent) LogFault) (es : List HallEvent) →
+    IsLine w e → ((fs : List HallEvent) → others ≡ Ok fs → AreLines v (n + 1) rest fs) → (others >>= λ fs. Ok (e ∷ fs)) ≡ Ok es → AreLines v n (w ++ 10 ∷ rest) es
+more_said v n w rest e (Err f) es is behind h = absurd (cc)
+more_said v n w rest e (Ok fs) es is behind h =
     let same : e ∷ fs ≡ es = cc in
-    let is = line e refl in
     let lines = behind fs refl in
     let count : n + 1 + length fs ≡ n + length (e ∷ fs) = omega arith in
     subst (AreLines v n (w ++ 10 ∷ rest)) same (record {
@@ -136,12 +134,12 @@ more_said v n w rest (Ok e) (Ok fs) es line behind h =
 lines_said : (v : Version) (n : ℕ) (ws : List (List ℕ)) (es : List HallEvent) → 0 < length ws → lines_events v n ws ≡ Ok es → AreLines v n (joined 10 ws) es
 lines_said v n [] es some h = absurd (omega arith)
 lines_said v n (w ∷ []) es some h = subst (λ (x : List ℕ). AreLines v n x es) (sym (append-nil w)) (last_said v n w es h)
-lines_said v n (w ∷ x ∷ ws) es some h = by_total (line_total v n w) refl (λ fs. lines_said v (n + 1) (x ∷ ws) fs (omega arith)) h
+lines_said v n (w ∷ x ∷ ws) es some h = by_line (line_event n w) refl (λ fs. lines_said v (n + 1) (x ∷ ws) fs (omega arith)) h
   where
-    by_total : (o : Option (Result ℕ LogFault)) → line_total v n w ≡ o → ((fs : List HallEvent) → lines_events v (n + 1) (x ∷ ws) ≡ Ok fs → AreLines v (n + 1) (joined 10 (x ∷ ws)) fs) →
-        with_line n o (x ∷ ws) (line_event n w) (lines_events v (n + 1) (x ∷ ws)) ≡ Ok es → AreLines v n (joined 10 (w ∷ x ∷ ws)) es
-    by_total None none others said = more_said v n w (joined 10 (x ∷ ws)) (line_event n w) (lines_events v (n + 1) (x ∷ ws)) es (line_said n w) others said
-    by_total (Some total) says others said = ended_said v n w (joined 10 (x ∷ ws)) (x ∷ ws) total es says refl said
+    by_line : (r : Result HallEvent LogFault) → line_event n w ≡ r → ((fs : List HallEvent) → lines_events v (n + 1) (x ∷ ws) ≡ Ok fs → AreLines v (n + 1) (joined 10 (x ∷ ws)) fs) →
+        with_line v n w r (x ∷ ws) (lines_events v (n + 1) (x ∷ ws)) ≡ Ok es → AreLines v n (joined 10 (w ∷ x ∷ ws)) es
+    by_line (Ok e) is others said = more_said v n w (joined 10 (x ∷ ws)) e (lines_events v (n + 1) (x ∷ ws)) es (line_said n w e is) others said
+    by_line (Err f) is others said = ended_said v n f w (joined 10 (x ∷ ws)) (x ∷ ws) (line_total v n f w) es refl refl said
 
 first_text : (bytes : List ℕ) (es : List HallEvent) → AreLines First 1 bytes es → LogText1 bytes es
 first_text bytes es lines = (lines.text ∙ ap (λ (r : List ℕ). lines_text es ++ r) lines.ends ∙ append-nil (lines_text es), lines.logged)
@@ -184,21 +182,10 @@ log_said bytes es h = subst (λ (b : List ℕ). LogText b es) (joined-parts 10 b
     by_parts (w ∷ []) some said = inl (first_text (joined 10 (w ∷ [])) es (lines_said First 1 (w ∷ []) es (omega arith) said))
     by_parts (w ∷ x ∷ ws) some said = by_version w x ws (version_of w) refl said
 
--- Writing: the line of an event names no version and is no total.
+-- Writing: the line of an event names no version, and that of a total is no event.
 
 not_long : (k : ℕ) → k ≤ 8219 → nat_lt 8219 k ≡ false
 not_long k le = grind (arith, nat_tests)
-
-event_no_total : (v : Version) (n : ℕ) (e : HallEvent) → IsTrue (fits e) → IsOfBytes e → line_total v n (line_of e) ≡ None
-event_no_total First n e fit bytes = refl
-event_no_total Second n e fit bytes =
-    ap (λ (t : Bool). if t then None else total_of n (parts 32 (line_of e))) (not_long (length (line_of e)) (line_short e fit bytes))
-    ∙ ap (total_of n) (fields_parts e (plain_fields e fit bytes))
-    ∙ by_event e
-  where
-    by_event : (x : HallEvent) → total_of n (fields_of x) ≡ None
-    by_event (hall.Tick m) = refl
-    by_event (hall.Child s c m w) = refl
 
 pub event_no_version : (e : HallEvent) → IsTrue (fits e) → IsOfBytes e → version_of (line_of e) ≡ Ok First
 event_no_version e fit bytes = ap (λ (ws : List (List ℕ)). if nat_lt 8219 (length (line_of e)) || not (bytes_eq (first_word ws) (codes "exprun-log")) then Ok First else other) (fields_parts e (plain_fields e fit bytes)) ∙ ap (λ (t : Bool). if t || not (bytes_eq (first_word (fields_of e)) (codes "exprun-log")) then Ok First else other) (not_long (length (line_of e)) (line_short e fit bytes)) ∙ by_event e
@@ -226,24 +213,35 @@ total_words k = codes "total" ∷ decimal k ∷ []
 plain_total : (k : ℕ) → k < 10 ^ 16 → ArePlain (total_words k)
 plain_total k small = (refl, (plain_decimal k (fits_word k small), tt))
 
-total_meant : (n k : ℕ) → k < 10 ^ 16 → line_total Second n (joined 32 (total_words k)) ≡ Some (Ok k)
-total_meant n k small =
+total_short : (k : ℕ) → k < 10 ^ 16 → nat_lt 8219 (length (joined 32 (total_words k))) ≡ false
+total_short k small =
     let digits = length-decimal-le 16 k (omega arith) small (fits_word k small) in
     let whole = joined_len (codes "total") (decimal k ∷ []) in
-    ap (λ (t : Bool). if t then None else total_of n (parts 32 (joined 32 (total_words k)))) (not_long (length (joined 32 (total_words k))) (omega arith))
-    ∙ ap (total_of n) (parts_joined (codes "total") (decimal k ∷ []) (plain_total k small))
-    ∙ ap (λ (t : Bool). if not t then Some (or_fault (fault.Number n) (number_of (decimal k))) else None) (full (length (decimal k)) (decimal_nonempty k (fits_word k small)))
-    ∙ ap (λ (o : Option ℕ). Some (or_fault (fault.Number n) o)) (number_meant k small)
+    not_long (length (joined 32 (total_words k))) (omega arith)
+
+total_meant : (n k : ℕ) (f : LogFault) → k < 10 ^ 16 → line_total Second n f (joined 32 (total_words k)) ≡ Ok k
+total_meant n k f small =
+    ap (λ (t : Bool). if t then Err f else total_of n f (parts 32 (joined 32 (total_words k)))) (total_short k small)
+    ∙ ap (total_of n f) (parts_joined (codes "total") (decimal k ∷ []) (plain_total k small))
+    ∙ ap (λ (t : Bool). if not t then or_fault (fault.Number n) (number_of (decimal k)) else Err f) (full (length (decimal k)) (decimal_nonempty k (fits_word k small)))
+    ∙ ap (or_fault (fault.Number n)) (number_meant k small)
   where
     full : (j : ℕ) → 0 < j → (j == 0) ≡ false
     full j some = grind (arith, nat_tests)
+
+total_no_event : (n k : ℕ) → k < 10 ^ 16 → line_event n (joined 32 (total_words k)) ≡ Err (fault.Shape n)
+total_no_event n k small =
+    ap (λ (t : Bool). if t then Err (fault.TooLong n) else fields_event n (parts 32 (joined 32 (total_words k)))) (total_short k small)
+    ∙ ap (fields_event n) (parts_joined (codes "total") (decimal k ∷ []) (plain_total k small))
+    ∙ either_way (any_empty (total_words k)) (Err (fault.Shape n))
 
 end_meant : (v : Version) (n : ℕ) (rest : List ℕ) → Ends v n rest → lines_events v n (parts 10 rest) ≡ Ok []
 end_meant First n rest ends = ap (λ (r : List ℕ). lines_events First n (parts 10 r)) ends
 end_meant Second n rest ends =
     ap (λ (r : List ℕ). lines_events Second n (parts 10 r)) ends.0
     ∙ ap (lines_events Second n) (parts_first 10 (joined 32 (total_words (n - 2))) [] (without_joined (total_words (n - 2)) (plain_total (n - 2) ends.1)))
-    ∙ ap (λ (o : Option (Result ℕ LogFault)). with_line n o ([] ∷ []) (line_event n (joined 32 (total_words (n - 2)))) (lines_events Second (n + 1) ([] ∷ []))) (total_meant n (n - 2) ends.1)
+    ∙ ap (λ (r : Result HallEvent LogFault). with_line Second n (joined 32 (total_words (n - 2))) r ([] ∷ []) (lines_events Second (n + 1) ([] ∷ []))) (total_no_event n (n - 2) ends.1)
+    ∙ ap (λ (r : Result ℕ LogFault). none_where (r >>= λ k. closed n (n - 2) k ([] ∷ []))) (total_meant n (n - 2) (fault.Shape n) ends.1)
     ∙ ap (λ (t : Bool). none_where (if not t then Err (fault.Total n) else Ok tt)) (same_number (n - 2) (n - 2) refl)
 
 lines_meant : (v : Version) (n : ℕ) (es : List HallEvent) (rest : List ℕ) → AreLogged es → Ends v (n + length es) rest → lines_events v n (parts 10 (lines_text es ++ rest)) ≡ Ok es
@@ -255,9 +253,8 @@ lines_meant v n (e ∷ es) rest logged ends =
     ap (λ (b : List ℕ). lines_events v n (parts 10 b)) (lines_first e es rest)
     ∙ ap (lines_events v n) (parts_first 10 (line_of e) (lines_text es ++ rest) (without_joined (fields_of e) (plain_fields e fit bytes)))
     ∙ lines_more v n (line_of e) (parts 10 (lines_text es ++ rest)) (parts_some 10 (lines_text es ++ rest))
-    ∙ ap (λ (o : Option (Result ℕ LogFault)). with_line n o (parts 10 (lines_text es ++ rest)) (line_event n (line_of e)) (lines_events v (n + 1) (parts 10 (lines_text es ++ rest)))) (event_no_total v n e fit bytes)
-    ∙ ap (λ (r : Result HallEvent LogFault). with_first r (lines_events v (n + 1) (parts 10 (lines_text es ++ rest)))) (line_meant n e fit bytes)
-    ∙ ap (with_first (Ok e)) (lines_meant v (n + 1) es rest (logged.0.1, logged.1.1) (subst (λ (m : ℕ). Ends v m rest) count ends))
+    ∙ ap (λ (r : Result HallEvent LogFault). with_line v n (line_of e) r (parts 10 (lines_text es ++ rest)) (lines_events v (n + 1) (parts 10 (lines_text es ++ rest)))) (line_meant n e fit bytes)
+    ∙ ap (λ (r : Result (List HallEvent) LogFault). r >>= λ fs. Ok (e ∷ fs)) (lines_meant v (n + 1) es rest (logged.0.1, logged.1.1) (subst (λ (m : ℕ). Ends v m rest) count ends))
 
 first_meant : (bytes : List ℕ) (es : List HallEvent) → LogText1 bytes es → log_events bytes ≡ Ok es
 first_meant bytes [] h = ap log_events h.0

@@ -173,16 +173,17 @@ abbrev pub first_line : Version → ℕ
 first_line First = 1
 first_line Second = 2
 
--- the number in line n, where its fields are those of a total
-abbrev pub total_of : ℕ → List (List ℕ) → Option (Result ℕ LogFault)
-total_of n [] = None
-total_of n (k ∷ []) = None
-total_of n (k ∷ m ∷ []) = if bytes_eq k (codes "total") && not (length m == 0) then Some (or_fault (fault.Number n) (number_of m)) else None
-total_of n (k ∷ m ∷ x ∷ more) = None
+-- the number in line n, where its fields are those of a total, or else the fault for which it is no event
+abbrev pub total_of : ℕ → LogFault → List (List ℕ) → Result ℕ LogFault
+total_of n f [] = Err f
+total_of n f (k ∷ []) = Err f
+total_of n f (k ∷ m ∷ []) = if bytes_eq k (codes "total") && not (length m == 0) then or_fault (fault.Number n) (number_of m) else Err f
+total_of n f (k ∷ m ∷ x ∷ more) = Err f
 
-abbrev pub line_total : Version → ℕ → List ℕ → Option (Result ℕ LogFault)
-line_total First n line = None
-line_total Second n line = if nat_lt 8219 (length line) then None else total_of n (parts 32 line)
+-- a line that is too long is no total, and version 1 has none
+abbrev pub line_total : Version → ℕ → LogFault → List ℕ → Result ℕ LogFault
+line_total First n f line = Err f
+line_total Second n f line = if nat_lt 8219 (length line) then Err f else total_of n f (parts 32 line)
 
 -- Line n says how many events there were, and nothing stands behind it.
 abbrev pub closed : ℕ → ℕ → ℕ → List (List ℕ) → Result ⊤ LogFault
@@ -207,19 +208,16 @@ last_part v n w =
 abbrev pub none_where : Result ⊤ LogFault → Result (List HallEvent) LogFault
 none_where ended = ended >>= λ done. Ok []
 
-abbrev pub with_first : Result HallEvent LogFault → Result (List HallEvent) LogFault → Result (List HallEvent) LogFault
-with_first first others = first >>= λ e. others >>= λ es. Ok (e ∷ es)
-
--- a total ends the log; any other line is an event, with others behind it
-abbrev pub with_line : ℕ → Option (Result ℕ LogFault) → List (List ℕ) → Result HallEvent LogFault → Result (List HallEvent) LogFault → Result (List HallEvent) LogFault
-with_line n (Some total) behind first others = none_where (total >>= λ k. closed n (n - 2) k behind)
-with_line n None behind first others = with_first first others
+-- A line is an event, with others behind it; or it is the total, which ends the log.
+abbrev pub with_line : Version → ℕ → List ℕ → Result HallEvent LogFault → List (List ℕ) → Result (List HallEvent) LogFault → Result (List HallEvent) LogFault
+with_line v n w (Ok e) behind others = others >>= λ es. Ok (e ∷ es)
+with_line v n w (Err f) behind others = none_where (line_total v n f w >>= λ k. closed n (n - 2) k behind)
 
 -- the events of the parts round the newlines, the first of them line n
 abbrev pub lines_events : Version → ℕ → List (List ℕ) → Result (List HallEvent) LogFault
 lines_events v n [] = Ok []
 lines_events v n (w ∷ []) = none_where (last_part v n w)
-lines_events v n (w ∷ x ∷ ws) = with_line n (line_total v n w) (x ∷ ws) (line_event n w) (lines_events v (n + 1) (x ∷ ws))
+lines_events v n (w ∷ x ∷ ws) = with_line v n w (line_event n w) (x ∷ ws) (lines_events v (n + 1) (x ∷ ws))
 
 -- where the first line names this version
 abbrev pub version_events : List ℕ → List (List ℕ) → Version → Result (List HallEvent) LogFault

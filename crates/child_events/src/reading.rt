@@ -155,11 +155,17 @@ fn read_lines(alloc: Global, version: Version, bytes: &[u8]) -> Result<HallEvent
     let mut rest = bytes;
     let mut number = version.first_line();
     'lines: while let Some((line, behind)) = split_first(rest, b'\n') {
-        if let Some(total) = line_total(version, number, line) {
-            close(number, events.len(), total?, behind)?;
-            return Ok(events);
-        }
-        let event = read_line(alloc, number, line)?;
+        let event = match read_line(alloc, number, line) {
+            Ok(event) => event,
+            Err(fault) => {
+                if let LogFault::Memory = fault {
+                    return Err(fault);
+                }
+                let total = line_total(version, number, line, fault)?;
+                close(number, events.len(), total, behind)?;
+                return Ok(events);
+            }
+        };
         events.push(event)?;
         rest = behind;
         number += 1;

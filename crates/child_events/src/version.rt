@@ -51,28 +51,36 @@ pub fn version_of(line: &[u8]) -> Result<Version, LogFault>
     }
 }
 
-/// The number in a line `total N`, or what is wrong with it; `None` of any other line.
-fn total_of(line: usize, text: &[u8]) -> Option<Result<u64, LogFault>>
-    ensures { result ≡ total_of_fields line (parts 32 text.now) }
+/// The number in a line `total N`. Any other line has the fault for which it is no event.
+fn total_of(line: usize, text: &[u8], fault: LogFault) -> Result<u64, LogFault>
+    ensures { result ≡ total_of_fields line fault (parts 32 text.now) }
 {
-    let word = text.strip_prefix(b"total ")?;
-    if word.is_empty() {
-        return None;
+    let Some((kind, word)) = split_first(text, b' ') else {
+        return Err(fault);
+    };
+    if !is(kind, b"total") || word.is_empty() {
+        return Err(fault);
     }
     match split_first(word, b' ') {
-        Some(_) => None,
-        None => Some(any_number(line, word)),
+        Some(_) => Err(fault),
+        None => any_number(line, word),
     }
 }
 
-/// The total that a line of version 2 says, or what is wrong with its number; `None` of any other line.
-pub fn line_total(version: Version, line: usize, text: &[u8]) -> Option<Result<u64, LogFault>>
-    ensures { result ≡ total_of_line version line text.now }
+/// The total that a line says. Any other line has the fault for which it is no event, and so has each line of
+/// version 1.
+pub fn line_total(
+    version: Version,
+    line: usize,
+    text: &[u8],
+    fault: LogFault,
+) -> Result<u64, LogFault>
+    ensures { result ≡ total_of_line version line fault text.now }
 {
     match version {
-        Version::First => None,
-        Version::Second if text.len() > LONGEST => None,
-        Version::Second => total_of(line, text),
+        Version::First => Err(fault),
+        Version::Second if text.len() > LONGEST => Err(fault),
+        Version::Second => total_of(line, text, fault),
     }
 }
 
