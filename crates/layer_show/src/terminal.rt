@@ -5,7 +5,7 @@ use crate::spell::{push_hex, push_labelled};
 use std::alloc::Global;
 use tcl_words::Text;
 use tty_input::{Action, Actions, Line};
-use tty_output::{Modes, map_output};
+use tty_output::{Modes, convert};
 
 fn push_actions(alloc: Global, text: &mut Text, actions: &Actions) -> Result<(), Complaint> {
     'actions: for action in actions.as_slice() {
@@ -17,14 +17,14 @@ fn push_actions(alloc: Global, text: &mut Text, actions: &Actions) -> Result<(),
     Ok(())
 }
 
-/// What the terminal shows of bytes that are written to it.
+/// What the terminal shows of bytes that are written to it, NUL bytes too.
 fn push_mapped(
     alloc: Global,
     text: &mut Text,
     modes: Modes,
     bytes: &[u8],
 ) -> Result<(), Complaint> {
-    let shown = map_output(alloc, modes, bytes)?;
+    let shown = convert(alloc, false, modes, bytes)?;
     push_hex(alloc, text, shown.as_slice())?;
     Ok(())
 }

@@ -17,6 +17,6 @@ mapped m s = if maps_newlines m then with_returns s else s
 abbrev pub without_nul : List ℕ → List ℕ
 without_nul s = filter (λ b. not (b == 0)) s
 
--- what is seen of a program's output
-abbrev pub shown : Modes → List ℕ → List ℕ
-shown m s = mapped m (without_nul s)
+-- what is seen of a program's output: NUL bytes are removed, or with `false` they stay, and then newlines are mapped
+abbrev pub convert : Bool → Modes → List ℕ → List ℕ
+convert remove m s = mapped m (if remove then without_nul s else s)

@@ -8,4 +8,4 @@ mod number;
 mod output;
 
 pub use modes::{BadMode, Modes};
-pub use output::{map_output, strip_nul};
+pub use output::convert;

@@ -1,7 +1,7 @@
 //! Output on its way through the terminal.
 
-ghost use Rattle.std.specs.Prelude.{◌≡◌, ◌++◌, IfOk, OnOk};
-ghost use Rattle.tty_output.specs.Output.{with_returns, maps_newlines, mapped, without_nul};
+ghost use Rattle.std.specs.Prelude.{◌≡◌, ◌++◌, ◌∷◌, [], length, IfOk, OnOk};
+ghost use Rattle.tty_output.specs.Output.{convert, maps_newlines};
 
 use crate::modes::Modes;
 use std::alloc::{AllocError, Global};
@@ -16,36 +16,37 @@ impl Modes {
     }
 }
 
-/// Puts bytes at the end, with a carriage return before each newline.
-fn push_with_returns(out: &mut Vec<u8>, bytes: &[u8]) -> Result<(), AllocError>
-    ensures { OnOk result (out.new.items ≡ out.old.items ++ with_returns bytes.now) }
+/// Puts what becomes of one byte at the end.
+fn push_converted(out: &mut Vec<u8>, remove: bool, modes: Modes, b: u8) -> Result<(), AllocError>
+    ensures { OnOk result (out.new.items ≡ out.old.items ++ convert remove modes (b ∷ [])) }
 {
-    for b in bytes {
-        if *b == b'\n' {
-            out.push(b'\r')?;
-            out.push(b'\n')?;
-        } else {
-            out.push(*b)?;
-        }
+    if remove && b == 0 {
+        return Ok(());
     }
+    if b == b'\n' && modes.maps_newlines() {
+        out.push(b'\r')?;
+    }
+    out.push(b)?;
     Ok(())
 }
 
-/// Output as the terminal shows it: a newline is a carriage return and a newline where `opost` and `onlcr` are on.
-pub fn map_output(alloc: Global, modes: Modes, bytes: &[u8]) -> Result<Text, AllocError>
-    ensures { IfOk result (λ t. t ≡ mapped modes bytes.now) }
-{
+/// How many bytes are seen of output at most.
+fn most_seen(modes: Modes, bytes: &[u8]) -> usize {
     if !modes.maps_newlines() {
-        return Text::from_slice(alloc, bytes);
+        return bytes.len();
     }
-    let mut out = Vec::with_capacity(alloc, bytes.len())?;
-    push_with_returns(&mut out, bytes)?;
-    Ok(Text { bytes: out })
+    let newlines = bytes.iter().filter(|b| **b == b'\n').count();
+    bytes.len().saturating_add(newlines)
 }
 
-/// Takes the NUL bytes out of a text. It takes no memory.
-pub fn strip_nul(text: &mut Text)
-    ensures { text.new ≡ without_nul text.old }
+/// Output as it is seen: without NUL bytes where they are removed, and with a carriage return before each newline where `opost` and `onlcr` are on.
+#[tactic(auto, using(crate::proofs::Converted::convert_each))]
+pub fn convert(alloc: Global, remove: bool, modes: Modes, bytes: &[u8]) -> Result<Text, AllocError>
+    ensures { IfOk result (λ t. t ≡ convert remove modes bytes.now) }
 {
-    text.bytes.retain(|b| *b != 0);
+    let mut out = Vec::with_capacity(alloc, most_seen(modes, bytes))?;
+    for b in bytes {
+        push_converted(&mut out, remove, modes, *b)?;
+    }
+    Ok(Text { bytes: out })
 }
