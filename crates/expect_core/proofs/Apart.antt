@@ -28,8 +28,6 @@ use Rattle.tcl_commands.specs.Said.{Said, ◌>>=◌}
 use Rattle.tcl_eval.specs.Tree.{Call, Begin, Resume, AfterWords, AfterBody, Knows}
 use Rattle.expect_core.specs.declared.name.Name.{Name}
 use Rattle.expect_core.specs.declared.name.Name.TheVariants as name
-use Rattle.expect_core.specs.declared.flags.Flags.{Flags}
-use Rattle.expect_core.specs.declared.flags.Switch.TheVariants.{Default}
 use Rattle.expect_core.specs.declared.request.Act.{Act}
 use Rattle.expect_core.specs.declared.request.Act.TheVariants as act
 use Rattle.expect_core.specs.declared.request.Request.{Request}
@@ -55,10 +53,11 @@ use Rattle.expect_core.specs.Answered.{Outcome, idle, on_said, owning, failure, 
 use Rattle.expect_core.specs.Spawning.{spawned, announced, current, stored, started, with_new, spawning_as, order_of}
 use Rattle.expect_core.specs.Sending.{takes, act_of, counted, sent_by, handing, handed, echoed, sending_to, send_of}
 use Rattle.expect_core.specs.Expecting.{Pairs, met_pairs, groups_from, entry_of, end_of, ended, broken, listed, patterns_by, only_id, span_in, plan_at, plan_of, met, matched, all_met, acting_at, let_go, by_heard, concluded, listening, looking, expecting, again, behind, shut, closing}
-use Rattle.expect_core.specs.Others.{put_of, to_user, writing, continued, id_alone, closed_by, closed, close_of, if_unwaited, wait_of, waited, size_of, size_default, size_at, size_args, sizing_by, logging_as, logging}
+use Rattle.expect_core.specs.Others.{put_of, to_user, writing, continued, id_alone, closed_by, closed, close_of, if_unwaited, wait_of, waited, logging_as, logging}
+use Rattle.expect_core.specs.Options.{takes as option_takes, whose, option_of, size_of, sizing_at, removal_of, removing_at}
 use Rattle.expect_core.specs.Texts.{id_at, spawn_line}
 use Rattle.expect_core.specs.Calls.{name_of, expecting_by, named, settled, resuming, outcome}
-use Rattle.expect_core.specs.Apart.{asked_of, by_flags, by_size, by_patterns, named_by, under_way, on_top, speaks_to, IsOfOne, NoneIsOf, IsAside, CallsOne, StaysOfOne, EventsOne}
+use Rattle.expect_core.specs.Apart.{asked_of, by_flags, by_option, by_patterns, named_by, under_way, on_top, speaks_to, IsOfOne, NoneIsOf, IsAside, CallsOne, StaysOfOne, EventsOne}
 
 -- what a command reads names the child that it speaks to
 
@@ -104,14 +103,21 @@ wait_speaks word args vars o i e =
     along (flags_of word id_alone args) _ _ i i
     (λ f e. past (bare_words word f.1) _ i (λ none e. first (spoken_to f.0.id vars o) (λ k. if_unwaited k o) i i (λ k e. else_same (child_of k o).waited k i _ e) e) e) e
 
-abbrev if_set : Flags → Variables → Own → Said ℕ
-if_set f vars o = if f.on then Err [] else spoken_to f.id vars o
+abbrev inside_some : ℕ → Option ℕ → ℕ
+inside_some d (Some i) = i
+inside_some d None = d
 
-size_speaks : (word : List ℕ) (args : List (List ℕ)) (vars : Variables) (o : Own) (f : Flags × Option (List ℕ)) (i : ℕ) → size_args word args ≡ Ok f → f.0.on ≡ false → open_to f.0.id vars o ≡ Ok i → by_size word args vars o ≡ Ok i
-size_speaks word args vars o f i e off is =
-    along (flags_of word (record { own = Some Default; id = true; end = false }) args) _ _ f i
-    (λ g e. past (option_in word g.1) _ f
-    (λ size e. ap (λ (r : Said (Flags × Option (List ℕ))). if_set (inside (g.0, size) r).0 vars o) e ∙ ap (λ (b : Bool). if b then Err [] else spoken_to f.0.id vars o) off ∙ opened f.0.id vars o i is) e) e
+whose_speaks : (on : Bool) (id : Option (List ℕ)) (vars : Variables) (o : Own) (i : ℕ)
+    → (let r : Said (Option ℕ) = (if on then Ok None else (open_to id vars o >>= λ k. Ok (Some k))) in r ≡ Ok (Some i))
+    → (let r : Said ℕ = (if on then Err [] else spoken_to id vars o) in r ≡ Ok i)
+whose_speaks true id vars o i e = absurd (cc)
+whose_speaks false id vars o i e = opened id vars o i (first (open_to id vars o) _ (Some i) i (λ k e. ap (λ (r : Said (Option ℕ)). inside_some k (inside None r)) e) e)
+
+option_speaks : (word : List ℕ) (args : List (List ℕ)) (vars : Variables) (o : Own) (s : Option ℕ × Option (List ℕ)) (i : ℕ) → option_of word args vars o ≡ Ok s → s.0 ≡ Some i → by_option word args vars o ≡ Ok i
+option_speaks word args vars o s i e at =
+    along (flags_of word option_takes args) _ _ s i
+    (λ f e. past (option_in word f.1) _ s
+    (λ text e. whose_speaks f.0.on f.0.id vars o i (first (whose f.0 vars o) _ s s.0 (λ k e. ap (λ (r : Said (Option ℕ × Option (List ℕ))). (inside (k, text) r).0) e) e ∙ ap Ok at)) e) e
 
 plan_speaks : (args : List (List ℕ)) (vars : Variables) (o : Own) (p : Plan) → plan_of args vars o ≡ Ok p → by_patterns args vars o ≡ Ok p.child
 plan_speaks args vars o p e =
@@ -147,12 +153,9 @@ module _ (a : Dialogue) (Out : ℕ → Type 0) where
   abbrev KeptAfter : Outcome → Type 0
   KeptAfter (step, vars, st) = Kept st
 
-  picked : (b : Bool) (x y : Outcome) → (b ≡ true → KeptAfter x) → (b ≡ false → KeptAfter y) → KeptAfter (if b then x else y)
-  picked true x y kx ky = kx refl
-  picked false x y kx ky = ky refl
-
   pick : (b : Bool) (x y : Outcome) → KeptAfter x → KeptAfter y → KeptAfter (if b then x else y)
-  pick b x y kx ky = picked b x y (λ on. kx) (λ off. ky)
+  pick true x y kx ky = kx
+  pick false x y kx ky = ky
 
   said_kept : {X : Type 0} (r : Said X) (vars : Variables) (st : Dialogue) (more : X → Outcome) → Kept st → ((x : X) → r ≡ Ok x → KeptAfter (more x)) → KeptAfter (on_said r vars st more)
   said_kept (Ok x) vars st more k kept = kept x refl
@@ -363,18 +366,15 @@ module _ (a : Dialogue) (Out : ℕ → Type 0) where
   writing_kept (Ok text) vars st k = k
   writing_kept (Err text) vars st k = k
 
-  size_default_kept : (text : Option (List ℕ)) (vars : Variables) (st : Dialogue) → Kept st → KeptAfter (size_default text vars st)
-  size_default_kept None vars st k = k
-  size_default_kept (Some text) vars st k = said_kept (size_of text) vars st _ k (λ n e. k)
+  sizing_at_kept : (at : Option ℕ) (text : Option (List ℕ)) (vars : Variables) (st : Dialogue) → ((i : ℕ) → at ≡ Some i → Free i) → Kept st → KeptAfter (sizing_at at text vars st)
+  sizing_at_kept at None vars st free k = k
+  sizing_at_kept None (Some text) vars st free k = said_kept (size_of text) vars st _ k (λ new e. k)
+  sizing_at_kept (Some i) (Some text) vars st free k = said_kept (size_of text) vars st _ k (λ new e. (k.0, child_kept i _ st.own (free i refl) k.1, k.2, k.3))
 
-  size_at_kept : (i : ℕ) (text : Option (List ℕ)) (vars : Variables) (st : Dialogue) → Free i → Kept st → KeptAfter (size_at i text vars st)
-  size_at_kept i None vars st free k = k
-  size_at_kept i (Some text) vars st free k = said_kept (size_of text) vars st _ k (λ n e. (k.0, child_kept i _ st.own free k.1, k.2, k.3))
-
-  sizing_by_kept : (f : Flags × Option (List ℕ)) (vars : Variables) (st : Dialogue) → (f.0.on ≡ false → (i : ℕ) → open_to f.0.id vars st.own ≡ Ok i → Free i) → Kept st → KeptAfter (sizing_by f vars st)
-  sizing_by_kept f vars st free k =
-      picked f.0.on _ _ (λ on. size_default_kept f.1 vars st k)
-      (λ off. said_kept (open_to f.0.id vars st.own) vars st _ k (λ i e. size_at_kept i f.1 vars st (free off i e) k))
+  removing_at_kept : (at : Option ℕ) (text : Option (List ℕ)) (vars : Variables) (st : Dialogue) → ((i : ℕ) → at ≡ Some i → Free i) → Kept st → KeptAfter (removing_at at text vars st)
+  removing_at_kept at None vars st free k = k
+  removing_at_kept None (Some text) vars st free k = said_kept (removal_of text) vars st _ k (λ new e. k)
+  removing_at_kept (Some i) (Some text) vars st free k = said_kept (removal_of text) vars st _ k (λ new e. (k.0, child_kept i _ st.own (free i refl) k.1, k.2, k.3))
 
   logging_as_kept : (w : List ℕ) (vars : Variables) (st : Dialogue) → Kept st → KeptAfter (logging_as w vars st)
   logging_as_kept w vars st k =
@@ -403,7 +403,9 @@ module _ (a : Dialogue) (Out : ℕ → Type 0) where
       awaited_kept i purpose.Wait (waited i vars) vars (owning (asked i act.Wait (awaited_once i st.own)) st) tt out
       (k.0, asked_kept i act.Wait (awaited_once i st.own) out (child_kept i _ st.own out k.1), k.2, k.3) (λ x st k. k))
   named_kept (Some name.MatchMax) word args vars st free k =
-      said_kept (size_args word args) vars st _ k (λ f e. sizing_by_kept f vars st (λ off i is. free i (size_speaks word args vars st.own f i e off is)) k)
+      said_kept (option_of word args vars st.own) vars st _ k (λ s e. sizing_at_kept s.0 s.1 vars st (λ i at. free i (option_speaks word args vars st.own s i e at)) k)
+  named_kept (Some name.RemoveNulls) word args vars st free k =
+      said_kept (option_of word args vars st.own) vars st _ k (λ s e. removing_at_kept s.0 s.1 vars st (λ i at. free i (option_speaks word args vars st.own s i e at)) k)
   named_kept (Some name.LogUser) word args vars st free k = logging_kept word args vars st k
   named_kept (Some name.Puts) word args vars st free k = writing_kept (put_of word args) vars st k
 

@@ -36,17 +36,17 @@ use Rattle.expect_core.specs.declared.child.Standing.TheVariants as standing
 use Rattle.expect_core.specs.declared.own.Own.{Own}
 use Rattle.expect_core.specs.declared.order.Order.{Order}
 use Rattle.expect_core.specs.declared.dialogue.Dialogue.{Dialogue}
-use Rattle.expect_core.specs.declared.flags.Flags.{Flags}
 use Rattle.expect_core.specs.Lanes.{lane_of, with_items, with_answers, offered}
 use Rattle.expect_core.specs.Owned.{child_of, bytes_of, with_line, standing_as, asked, awaited_once, received, at_moment, trimmed}
 use Rattle.expect_core.specs.Scoped.{Unset, set_all}
-use Rattle.expect_core.specs.Ids.{open_to, if_open}
+use Rattle.expect_core.specs.Ids.{if_open}
 use Rattle.expect_core.specs.Heard.{at_most, lapse, in_time, deadline_from, both, Listened, chosen_of, decided, heard, listen, look}
 use Rattle.expect_core.specs.Answered.{Outcome, idle, waits, over_limit, on_said, owning, failure, first_answer, answered_by, awaited}
 use Rattle.expect_core.specs.Spawning.{spawned, announced, current, stored, started, with_new, spawning_as, order_of}
 use Rattle.expect_core.specs.Sending.{act_of, counted, sent_by, handing, handed, echoed, sending_to, send_of}
 use Rattle.expect_core.specs.Expecting.{Pairs, met_pairs, groups_from, entry_of, end_of, ended, broken, listed, plan_of, met, matched, all_met, acting_at, let_go, concluded, listening, looking, expecting, again, behind, shut}
-use Rattle.expect_core.specs.Others.{put_of, to_user, writing, continued, closed_by, closed, close_of, wait_of, waited, size_of, size_default, size_at, size_args, sizing_by, logging_as, logging}
+use Rattle.expect_core.specs.Others.{put_of, to_user, writing, continued, closed_by, closed, close_of, wait_of, waited, logging_as, logging}
+use Rattle.expect_core.specs.Options.{option_of, size_of, sizing_at, removal_of, removing_at}
 use Rattle.expect_core.specs.Texts.{id_at}
 use Rattle.expect_core.specs.Calls.{name_of, expecting_by, named, begun, settled, resuming, outcome}
 use Rattle.expect_core.specs.Deadlines.{IsWithin, sooner, as_moment, deadline_under}
@@ -273,17 +273,13 @@ writing_asleep : (said : Said (List ℕ)) (vars : Variables) (st : Dialogue) →
 writing_asleep (Ok text) vars st = tt
 writing_asleep (Err text) vars st = tt
 
-size_default_asleep : (text : Option (List ℕ)) (vars : Variables) (st : Dialogue) → AsleepAfter (size_default text vars st)
-size_default_asleep None vars st = tt
-size_default_asleep (Some text) vars st = said_asleep (size_of text) vars st _ (λ n. tt)
+sizing_at_asleep : (at : Option ℕ) (text : Option (List ℕ)) (vars : Variables) (st : Dialogue) → AsleepAfter (sizing_at at text vars st)
+sizing_at_asleep at None vars st = tt
+sizing_at_asleep at (Some text) vars st = said_asleep (size_of text) vars st _ (λ new. tt)
 
-size_at_asleep : (i : ℕ) (text : Option (List ℕ)) (vars : Variables) (st : Dialogue) → AsleepAfter (size_at i text vars st)
-size_at_asleep i None vars st = tt
-size_at_asleep i (Some text) vars st = said_asleep (size_of text) vars st _ (λ n. tt)
-
-sizing_by_asleep : (f : Flags × Option (List ℕ)) (vars : Variables) (st : Dialogue) → AsleepAfter (sizing_by f vars st)
-sizing_by_asleep f vars st =
-    pick f.0.on _ _ (size_default_asleep f.1 vars st) (said_asleep (open_to f.0.id vars st.own) vars st _ (λ i. size_at_asleep i f.1 vars st))
+removing_at_asleep : (at : Option ℕ) (text : Option (List ℕ)) (vars : Variables) (st : Dialogue) → AsleepAfter (removing_at at text vars st)
+removing_at_asleep at None vars st = tt
+removing_at_asleep at (Some text) vars st = said_asleep (removal_of text) vars st _ (λ new. tt)
 
 logging_as_asleep : (w : List ℕ) (vars : Variables) (st : Dialogue) → AsleepAfter (logging_as w vars st)
 logging_as_asleep w vars st = pick (bytes_eq w (codes "0")) _ _ tt (pick (bytes_eq w (codes "1")) _ _ tt (pick (bytes_eq w (codes "-info")) _ _ tt tt))
@@ -306,7 +302,8 @@ named_asleep (Some name.Close) word args vars st =
 named_asleep (Some name.Wait) word args vars st =
     said_asleep (wait_of word args vars st.own) vars st _
     (λ i. awaited_asleep i purpose.Wait (waited i vars) vars (owning (asked i act.Wait (awaited_once i st.own)) st) (settled_asleep i purpose.Wait vars))
-named_asleep (Some name.MatchMax) word args vars st = said_asleep (size_args word args) vars st _ (λ f. sizing_by_asleep f vars st)
+named_asleep (Some name.MatchMax) word args vars st = said_asleep (option_of word args vars st.own) vars st _ (λ s. sizing_at_asleep s.0 s.1 vars st)
+named_asleep (Some name.RemoveNulls) word args vars st = said_asleep (option_of word args vars st.own) vars st _ (λ s. removing_at_asleep s.0 s.1 vars st)
 named_asleep (Some name.LogUser) word args vars st = logging_asleep word args vars st
 named_asleep (Some name.Puts) word args vars st = writing_asleep (put_of word args) vars st
 

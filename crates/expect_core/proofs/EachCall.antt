@@ -23,17 +23,17 @@ use Rattle.expect_core.specs.declared.phase.Phase.{Phase}
 use Rattle.expect_core.specs.declared.phase.Phase.TheVariants as phase
 use Rattle.expect_core.specs.declared.order.Order.{Order}
 use Rattle.expect_core.specs.declared.dialogue.Dialogue.{Dialogue}
-use Rattle.expect_core.specs.declared.flags.Flags.{Flags}
 use Rattle.expect_core.specs.Lanes.{offered}
 use Rattle.expect_core.specs.Owned.{child_of, standing_as, with_line, asked, awaited_once}
 use Rattle.expect_core.specs.Scoped.{Unset}
-use Rattle.expect_core.specs.Ids.{open_to, if_open}
+use Rattle.expect_core.specs.Ids.{if_open}
 use Rattle.expect_core.specs.Heard.{deadline_from}
 use Rattle.expect_core.specs.Answered.{Outcome, idle, on_said, owning, failure}
 use Rattle.expect_core.specs.Spawning.{announced, current, stored, started, with_new, spawning_as, order_of}
 use Rattle.expect_core.specs.Sending.{act_of, counted, sent_by, handing, echoed, sending_to, send_of}
 use Rattle.expect_core.specs.Expecting.{listed, plan_of, expecting, again, behind, shut}
-use Rattle.expect_core.specs.Others.{put_of, to_user, writing, continued, closed_by, close_of, wait_of, size_of, size_default, size_at, size_args, sizing_by, logging_as, logging}
+use Rattle.expect_core.specs.Others.{put_of, to_user, writing, continued, closed_by, close_of, wait_of, logging_as, logging}
+use Rattle.expect_core.specs.Options.{option_of, size_of, sizing_at, removal_of, removing_at}
 use Rattle.expect_core.specs.Texts.{id_at}
 use Rattle.expect_core.specs.Calls.{name_of, expecting_by, named, begun, resuming, outcome, onward}
 use Rattle.expect_core.specs.Good.{Good}
@@ -121,18 +121,13 @@ module _ (e : Event) where
   writing_onward (Ok text) vars st = refl
   writing_onward (Err text) vars st = refl
 
-  size_default_onward : (text : Option (List ℕ)) (vars : Variables) (st : Dialogue) → size_default text vars (offered e (idle st)) ≡ onward e (size_default text vars (idle st))
-  size_default_onward None vars st = refl
-  size_default_onward (Some text) vars st = said_onward (size_of text) vars (idle st) _ _ (λ n. refl)
+  sizing_at_onward : (at : Option ℕ) (text : Option (List ℕ)) (vars : Variables) (st : Dialogue) → sizing_at at text vars (offered e (idle st)) ≡ onward e (sizing_at at text vars (idle st))
+  sizing_at_onward at None vars st = refl
+  sizing_at_onward at (Some text) vars st = said_onward (size_of text) vars (idle st) _ _ (λ new. refl)
 
-  size_at_onward : (i : ℕ) (text : Option (List ℕ)) (vars : Variables) (st : Dialogue) → size_at i text vars (offered e (idle st)) ≡ onward e (size_at i text vars (idle st))
-  size_at_onward i None vars st = refl
-  size_at_onward i (Some text) vars st = said_onward (size_of text) vars (idle st) _ _ (λ n. refl)
-
-  sizing_by_onward : (f : Flags × Option (List ℕ)) (vars : Variables) (st : Dialogue) → sizing_by f vars (offered e (idle st)) ≡ onward e (sizing_by f vars (idle st))
-  sizing_by_onward f vars st =
-      either f.0.on _ _ _ _ (size_default_onward f.1 vars st)
-      (said_onward (open_to f.0.id vars st.own) vars (idle st) _ _ (λ i. size_at_onward i f.1 vars st))
+  removing_at_onward : (at : Option ℕ) (text : Option (List ℕ)) (vars : Variables) (st : Dialogue) → removing_at at text vars (offered e (idle st)) ≡ onward e (removing_at at text vars (idle st))
+  removing_at_onward at None vars st = refl
+  removing_at_onward at (Some text) vars st = said_onward (removal_of text) vars (idle st) _ _ (λ new. refl)
 
   logging_as_onward : (w : List ℕ) (vars : Variables) (st : Dialogue) → logging_as w vars (offered e (idle st)) ≡ onward e (logging_as w vars (idle st))
   logging_as_onward w vars st =
@@ -158,7 +153,8 @@ module _ (e : Event) where
   named_onward (Some name.Wait) word args vars st g =
       said_onward (wait_of word args vars st.own) vars (idle st) _ _
       (λ i. awaited_onward e i purpose.Wait vars (owning (asked i act.Wait (awaited_once i st.own)) st) (settles i purpose.Wait vars))
-  named_onward (Some name.MatchMax) word args vars st g = said_onward (size_args word args) vars (idle st) _ _ (λ f. sizing_by_onward f vars st)
+  named_onward (Some name.MatchMax) word args vars st g = said_onward (option_of word args vars st.own) vars (idle st) _ _ (λ s. sizing_at_onward s.0 s.1 vars st)
+  named_onward (Some name.RemoveNulls) word args vars st g = said_onward (option_of word args vars st.own) vars (idle st) _ _ (λ s. removing_at_onward s.0 s.1 vars st)
   named_onward (Some name.LogUser) word args vars st g = logging_onward word args vars st
   named_onward (Some name.Puts) word args vars st g = writing_onward (put_of word args) vars st
 

@@ -34,17 +34,17 @@ use Rattle.expect_core.specs.declared.phase.Heard.TheVariants.{Match, Full, Time
 use Rattle.expect_core.specs.declared.own.Own.{Own}
 use Rattle.expect_core.specs.declared.order.Order.{Order}
 use Rattle.expect_core.specs.declared.dialogue.Dialogue.{Dialogue}
-use Rattle.expect_core.specs.declared.flags.Flags.{Flags}
 use Rattle.expect_core.specs.Lanes.{lane_of, with_answers, with_items}
 use Rattle.expect_core.specs.Owned.{child_of, bytes_of, with_line, asked, awaited_once, told, received, at_moment, trimmed, seen}
 use Rattle.expect_core.specs.Scoped.{Unset, set_all}
-use Rattle.expect_core.specs.Ids.{open_to, if_open}
+use Rattle.expect_core.specs.Ids.{if_open}
 use Rattle.expect_core.specs.Heard.{at_most, in_time, deadline_from, both, Listened, chosen_of, decided, heard, listen, look}
 use Rattle.expect_core.specs.Answered.{Outcome, idle, on_said, owning, failure, first_answer, answered_by, awaited}
 use Rattle.expect_core.specs.Spawning.{spawned, announced, current, stored, started, with_new, spawning_as, order_of}
 use Rattle.expect_core.specs.Sending.{act_of, counted, sent_by, handing, handed, echoed, sending_to, send_of}
 use Rattle.expect_core.specs.Expecting.{Pairs, met_pairs, groups_from, entry_of, end_of, ended, broken, listed, plan_of, met, matched, all_met, acting_at, let_go, by_heard, concluded, listening, looking, expecting, again, behind, shut}
-use Rattle.expect_core.specs.Others.{put_of, to_user, writing, continued, closed_by, closed, close_of, wait_of, waited, size_of, size_default, size_at, size_args, sizing_by, logging_as, logging}
+use Rattle.expect_core.specs.Others.{put_of, to_user, writing, continued, closed_by, closed, close_of, wait_of, waited, logging_as, logging}
+use Rattle.expect_core.specs.Options.{option_of, size_of, sizing_at, removal_of, removing_at}
 use Rattle.expect_core.specs.Texts.{id_at}
 use Rattle.expect_core.specs.Calls.{name_of, expecting_by, named, begun, settled, resuming, outcome}
 use Rattle.expect_core.specs.Laws.{IsFront, Keeps}
@@ -238,18 +238,15 @@ module _ (o : Own) where
   writing_kept (Ok text) vars st k = told_kept text st.own k
   writing_kept (Err text) vars st k = k
 
-  size_default_kept : (text : Option (List ℕ)) (vars : Variables) (st : Dialogue) → Keeps o st.own → KeptAfter o (size_default text vars st)
-  size_default_kept None vars st k = k
-  size_default_kept (Some text) vars st k = said_kept (size_of text) vars st _ k (λ n. k)
+  sizing_at_kept : (at : Option ℕ) (text : Option (List ℕ)) (vars : Variables) (st : Dialogue) → Keeps o st.own → KeptAfter o (sizing_at at text vars st)
+  sizing_at_kept at None vars st k = k
+  sizing_at_kept None (Some text) vars st k = said_kept (size_of text) vars st _ k (λ new. k)
+  sizing_at_kept (Some i) (Some text) vars st k = said_kept (size_of text) vars st _ k (λ new. k)
 
-  size_at_kept : (i : ℕ) (text : Option (List ℕ)) (vars : Variables) (st : Dialogue) → Keeps o st.own → KeptAfter o (size_at i text vars st)
-  size_at_kept i None vars st k = k
-  size_at_kept i (Some text) vars st k = said_kept (size_of text) vars st _ k (λ n. k)
-
-  sizing_by_kept : (f : Flags × Option (List ℕ)) (vars : Variables) (st : Dialogue) → Keeps o st.own → KeptAfter o (sizing_by f vars st)
-  sizing_by_kept f vars st k =
-      pick (KeptAfter o) f.0.on _ _ (size_default_kept f.1 vars st k)
-      (said_kept (open_to f.0.id vars st.own) vars st _ k (λ i. size_at_kept i f.1 vars st k))
+  removing_at_kept : (at : Option ℕ) (text : Option (List ℕ)) (vars : Variables) (st : Dialogue) → Keeps o st.own → KeptAfter o (removing_at at text vars st)
+  removing_at_kept at None vars st k = k
+  removing_at_kept None (Some text) vars st k = said_kept (removal_of text) vars st _ k (λ new. k)
+  removing_at_kept (Some i) (Some text) vars st k = said_kept (removal_of text) vars st _ k (λ new. k)
 
   logging_as_kept : (w : List ℕ) (vars : Variables) (st : Dialogue) → Keeps o st.own → KeptAfter o (logging_as w vars st)
   logging_as_kept w vars st k =
@@ -275,7 +272,8 @@ module _ (o : Own) where
   named_kept (Some name.Wait) word args vars st k =
       said_kept (wait_of word args vars st.own) vars st _ k
       (λ i. awaited_kept i purpose.Wait (waited i vars) vars (owning (asked i act.Wait (awaited_once i st.own)) st) (asked_kept i act.Wait (awaited_once i st.own) k) (settled_kept i purpose.Wait vars))
-  named_kept (Some name.MatchMax) word args vars st k = said_kept (size_args word args) vars st _ k (λ f. sizing_by_kept f vars st k)
+  named_kept (Some name.MatchMax) word args vars st k = said_kept (option_of word args vars st.own) vars st _ k (λ s. sizing_at_kept s.0 s.1 vars st k)
+  named_kept (Some name.RemoveNulls) word args vars st k = said_kept (option_of word args vars st.own) vars st _ k (λ s. removing_at_kept s.0 s.1 vars st k)
   named_kept (Some name.LogUser) word args vars st k = logging_kept word args vars st k
   named_kept (Some name.Puts) word args vars st k = writing_kept (put_of word args) vars st k
 

@@ -33,17 +33,17 @@ use Rattle.expect_core.specs.declared.phase.Heard.TheVariants.{Match, Full, Time
 use Rattle.expect_core.specs.declared.own.Own.{Own}
 use Rattle.expect_core.specs.declared.order.Order.{Order}
 use Rattle.expect_core.specs.declared.dialogue.Dialogue.{Dialogue}
-use Rattle.expect_core.specs.declared.flags.Flags.{Flags}
 use Rattle.expect_core.specs.Lanes.{lane_of, with_items, with_answers, no_lanes}
 use Rattle.expect_core.specs.Owned.{child_of, bytes_of, with_line, asked, awaited_once, told, received, at_moment, trimmed, seen}
 use Rattle.expect_core.specs.Scoped.{Unset, set_all}
-use Rattle.expect_core.specs.Ids.{open_to, if_open}
+use Rattle.expect_core.specs.Ids.{if_open}
 use Rattle.expect_core.specs.Heard.{at_most, lapse, in_time, deadline_from, both, Listened, chosen_of, decided, heard, listen, look}
 use Rattle.expect_core.specs.Answered.{Outcome, idle, on_said, owning, failure, first_answer, answered_by, awaited}
 use Rattle.expect_core.specs.Spawning.{spawned, announced, current, stored, started, with_new, spawning_as, order_of}
 use Rattle.expect_core.specs.Sending.{act_of, counted, sent_by, handing, handed, echoed, sending_to, send_of}
 use Rattle.expect_core.specs.Expecting.{Pairs, met_pairs, groups_from, entry_of, end_of, ended, broken, listed, plan_of, met, matched, all_met, acting_at, let_go, by_heard, concluded, listening, looking, expecting, again, behind, shut}
-use Rattle.expect_core.specs.Others.{put_of, to_user, writing, continued, closed_by, closed, close_of, wait_of, waited, size_of, size_default, size_at, size_args, sizing_by, logging_as, logging}
+use Rattle.expect_core.specs.Others.{put_of, to_user, writing, continued, closed_by, closed, close_of, wait_of, waited, logging_as, logging}
+use Rattle.expect_core.specs.Options.{option_of, size_of, sizing_at, removal_of, removing_at}
 use Rattle.expect_core.specs.Texts.{id_at}
 use Rattle.expect_core.specs.Calls.{name_of, expecting_by, named, begun, settled, resuming, outcome, fresh}
 use Rattle.expect_core.specs.Good.{ItemsBy, AnswersBy, Good}
@@ -265,18 +265,15 @@ writing_good : (said : Said (List ℕ)) (vars : Variables) (st : Dialogue) → G
 writing_good (Ok text) vars st g = record { clock = g.clock; lanes = g.lanes }
 writing_good (Err text) vars st g = g
 
-size_default_good : (text : Option (List ℕ)) (vars : Variables) (st : Dialogue) → Good st → GoodAfter (size_default text vars st)
-size_default_good None vars st g = g
-size_default_good (Some text) vars st g = said_good (size_of text) vars st _ g (λ n. record { clock = g.clock; lanes = g.lanes })
+sizing_at_good : (at : Option ℕ) (text : Option (List ℕ)) (vars : Variables) (st : Dialogue) → Good st → GoodAfter (sizing_at at text vars st)
+sizing_at_good at None vars st g = g
+sizing_at_good None (Some text) vars st g = said_good (size_of text) vars st _ g (λ new. record { clock = g.clock; lanes = g.lanes })
+sizing_at_good (Some i) (Some text) vars st g = said_good (size_of text) vars st _ g (λ new. record { clock = g.clock; lanes = g.lanes })
 
-size_at_good : (i : ℕ) (text : Option (List ℕ)) (vars : Variables) (st : Dialogue) → Good st → GoodAfter (size_at i text vars st)
-size_at_good i None vars st g = g
-size_at_good i (Some text) vars st g = said_good (size_of text) vars st _ g (λ n. record { clock = g.clock; lanes = g.lanes })
-
-sizing_by_good : (f : Flags × Option (List ℕ)) (vars : Variables) (st : Dialogue) → Good st → GoodAfter (sizing_by f vars st)
-sizing_by_good f vars st g =
-    pick_good f.0.on _ _ (size_default_good f.1 vars st g)
-    (said_good (open_to f.0.id vars st.own) vars st _ g (λ i. size_at_good i f.1 vars st g))
+removing_at_good : (at : Option ℕ) (text : Option (List ℕ)) (vars : Variables) (st : Dialogue) → Good st → GoodAfter (removing_at at text vars st)
+removing_at_good at None vars st g = g
+removing_at_good None (Some text) vars st g = said_good (removal_of text) vars st _ g (λ new. record { clock = g.clock; lanes = g.lanes })
+removing_at_good (Some i) (Some text) vars st g = said_good (removal_of text) vars st _ g (λ new. record { clock = g.clock; lanes = g.lanes })
 
 logging_as_good : (w : List ℕ) (vars : Variables) (st : Dialogue) → Good st → GoodAfter (logging_as w vars st)
 logging_as_good w vars st g =
@@ -302,7 +299,8 @@ named_good (Some name.Close) word args vars st g =
 named_good (Some name.Wait) word args vars st g =
     said_good (wait_of word args vars st.own) vars st _ g
     (λ i. awaited_good i purpose.Wait (waited i vars) vars (owning (asked i act.Wait (awaited_once i st.own)) st) (record { clock = g.clock; lanes = g.lanes }) (settled_good i purpose.Wait vars))
-named_good (Some name.MatchMax) word args vars st g = said_good (size_args word args) vars st _ g (λ f. sizing_by_good f vars st g)
+named_good (Some name.MatchMax) word args vars st g = said_good (option_of word args vars st.own) vars st _ g (λ s. sizing_at_good s.0 s.1 vars st g)
+named_good (Some name.RemoveNulls) word args vars st g = said_good (option_of word args vars st.own) vars st _ g (λ s. removing_at_good s.0 s.1 vars st g)
 named_good (Some name.LogUser) word args vars st g = logging_good word args vars st g
 named_good (Some name.Puts) word args vars st g = writing_good (put_of word args) vars st g
 

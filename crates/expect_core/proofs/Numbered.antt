@@ -41,7 +41,6 @@ use Rattle.expect_core.specs.declared.child.Standing.TheVariants as standing
 use Rattle.expect_core.specs.declared.own.Own.{Own}
 use Rattle.expect_core.specs.declared.order.Order.{Order}
 use Rattle.expect_core.specs.declared.dialogue.Dialogue.{Dialogue}
-use Rattle.expect_core.specs.declared.flags.Flags.{Flags}
 use Rattle.expect_core.specs.Lanes.{lane_of, with_answers, with_items}
 use Rattle.expect_core.specs.Owned.{nobody, child_as, child_of, bytes_of, with_bytes, with_child, with_line, standing_as, asked, awaited_once, told, logged, received, at_moment, trimmed, seen}
 use Rattle.expect_core.specs.Flags.{flags_of, bare_words, text_in}
@@ -52,7 +51,8 @@ use Rattle.expect_core.specs.Answered.{Outcome, idle, failed, on_said, owning, f
 use Rattle.expect_core.specs.Spawning.{spawned, announced, current, stored, started, with_new, spawning_at, order_of}
 use Rattle.expect_core.specs.Sending.{takes, act_of, counted, sent_by, handing, handed, echoed, sending_to, send_of}
 use Rattle.expect_core.specs.Expecting.{Pairs, met_pairs, groups_from, entry_of, end_of, ended, broken, listed, patterns_by, only_id, span_in, plan_of, met, matched, all_met, acting_at, let_go, by_heard, concluded, listening, looking, expecting, again, behind, shut, closing}
-use Rattle.expect_core.specs.Others.{put_of, to_user, writing, continued, id_alone, closed_by, closed, close_of, wait_of, waited, size_of, size_default, size_at, size_args, sizing_by, logging_as, logging}
+use Rattle.expect_core.specs.Others.{put_of, to_user, writing, continued, id_alone, closed_by, closed, close_of, wait_of, waited, logging_as, logging}
+use Rattle.expect_core.specs.Options.{option_of, size_of, sizing_at, removal_of, removing_at}
 use Rattle.expect_core.specs.Texts.{id_at, too_many}
 use Rattle.expect_core.specs.Calls.{name_of, expecting_by, named, begun, settled, resuming, outcome, fresh}
 use Rattle.expect_core.specs.Numbered.{IsPlace, NamesAChild, AreOfPlaces, IsOfPlaces, OwnNumbered, Numbered}
@@ -240,7 +240,7 @@ announced_numbered false words o k = logged_numbered _ o o.log_user k
 
 -- there is room for a child more
 new_numbered : (modes : Modes) (o : Own) → IsPlace (length o.children) → OwnNumbered o → OwnNumbered (with_new (length o.children) modes o)
-new_numbered modes o at k = record { few = omega (arith, length-append o.children (child_as (id_at (length o.children)) modes o.size ∷ []), at); placed = k.placed; asked = k.asked }
+new_numbered modes o at k = record { few = omega (arith, length-append o.children (child_as (id_at (length o.children)) modes o.size o.remove_nulls ∷ []), at); placed = k.placed; asked = k.asked }
 
 spawning_at_numbered : (order : Order) (vars : Variables) (st : Dialogue) → IsPlace (length st.own.children) → Numbered st → NumberedAfter (spawning_at (length st.own.children) order vars st)
 spawning_at_numbered order vars st at k =
@@ -304,18 +304,15 @@ writing_numbered : (said : Said (List ℕ)) (vars : Variables) (st : Dialogue) �
 writing_numbered (Ok text) vars st k = k
 writing_numbered (Err text) vars st k = k
 
-size_default_numbered : (text : Option (List ℕ)) (vars : Variables) (st : Dialogue) → Numbered st → NumberedAfter (size_default text vars st)
-size_default_numbered None vars st k = k
-size_default_numbered (Some text) vars st k = read_numbered (size_of text) vars st _ k (λ n. k)
+sizing_at_numbered : (at : Option ℕ) (text : Option (List ℕ)) (vars : Variables) (st : Dialogue) → Numbered st → NumberedAfter (sizing_at at text vars st)
+sizing_at_numbered at None vars st k = k
+sizing_at_numbered None (Some text) vars st k = read_numbered (size_of text) vars st _ k (λ new. k)
+sizing_at_numbered (Some i) (Some text) vars st k = read_numbered (size_of text) vars st _ k (λ new. (child_numbered i _ st.own k.0, k.1))
 
-size_at_numbered : (i : ℕ) (text : Option (List ℕ)) (vars : Variables) (st : Dialogue) → Numbered st → NumberedAfter (size_at i text vars st)
-size_at_numbered i None vars st k = k
-size_at_numbered i (Some text) vars st k = read_numbered (size_of text) vars st _ k (λ n. (child_numbered i _ st.own k.0, k.1))
-
-sizing_by_numbered : (f : Flags × Option (List ℕ)) (vars : Variables) (st : Dialogue) → Numbered st → NumberedAfter (sizing_by f vars st)
-sizing_by_numbered f vars st k =
-    pick NumberedAfter f.0.on _ _ (size_default_numbered f.1 vars st k)
-    (read_numbered (open_to f.0.id vars st.own) vars st _ k (λ i. size_at_numbered i f.1 vars st k))
+removing_at_numbered : (at : Option ℕ) (text : Option (List ℕ)) (vars : Variables) (st : Dialogue) → Numbered st → NumberedAfter (removing_at at text vars st)
+removing_at_numbered at None vars st k = k
+removing_at_numbered None (Some text) vars st k = read_numbered (removal_of text) vars st _ k (λ new. k)
+removing_at_numbered (Some i) (Some text) vars st k = read_numbered (removal_of text) vars st _ k (λ new. (child_numbered i _ st.own k.0, k.1))
 
 logging_as_numbered : (w : List ℕ) (vars : Variables) (st : Dialogue) → Numbered st → NumberedAfter (logging_as w vars st)
 logging_as_numbered w vars st k =
@@ -343,7 +340,8 @@ named_numbered (Some name.Wait) word args vars st k =
     said_numbered IsPlace (wait_of word args vars st.own) vars st _ (wait_place word args vars st.own k.0) k
     (λ i at. awaited_numbered i purpose.Wait (waited i vars) vars (owning (asked i act.Wait (awaited_once i st.own)) st) (at, tt)
     (asked_numbered i act.Wait (awaited_once i st.own) at (child_numbered i _ st.own k.0), k.1) (λ a st k. k))
-named_numbered (Some name.MatchMax) word args vars st k = read_numbered (size_args word args) vars st _ k (λ f. sizing_by_numbered f vars st k)
+named_numbered (Some name.MatchMax) word args vars st k = read_numbered (option_of word args vars st.own) vars st _ k (λ s. sizing_at_numbered s.0 s.1 vars st k)
+named_numbered (Some name.RemoveNulls) word args vars st k = read_numbered (option_of word args vars st.own) vars st _ k (λ s. removing_at_numbered s.0 s.1 vars st k)
 named_numbered (Some name.LogUser) word args vars st k = logging_numbered word args vars st k
 named_numbered (Some name.Puts) word args vars st k = writing_numbered (put_of word args) vars st k
 

@@ -1,5 +1,5 @@
 -- The children of a script are kept apart: a call leaves each child alone but the one that it speaks to, and an event each but its own.
-use Rattle.std.specs.Prelude.{◌≡◌, ◌≢◌, ℕ, ◌+◌, ◌<◌, ◌==◌, List, [], ◌∷◌, length, true, false, if◌then◌else◌, Option, Some, None, Ok, Err}
+use Rattle.std.specs.Prelude.{◌≡◌, ◌≢◌, ℕ, ◌+◌, ◌<◌, ◌==◌, List, [], ◌∷◌, length, if◌then◌else◌, Option, Some, None, Ok, Err}
 use Rattle.std.specs.List.{filter}
 use Rattle.child_events.specs.declared.event.Event.{Event}
 use Rattle.child_events.specs.declared.event.Event.TheVariants as event
@@ -9,7 +9,6 @@ use Rattle.tcl_commands.specs.declared.code.Code.{Code}
 use Rattle.tcl_commands.specs.declared.code.Code.TheVariants as code
 use Rattle.tcl_commands.specs.Said.{Said, ◌>>=◌}
 use Rattle.tcl_eval.specs.Tree.{Call, Begin, Resume, AfterWords, AfterBody, Knows}
-use Rattle.expect_core.specs.declared.flags.Switch.TheVariants.{Default}
 use Rattle.expect_core.specs.declared.flags.Takes.{Takes}
 use Rattle.expect_core.specs.declared.name.Name.{Name}
 use Rattle.expect_core.specs.declared.name.Name.TheVariants as name
@@ -27,6 +26,7 @@ use Rattle.expect_core.specs.Ids.{spoken_to}
 use Rattle.expect_core.specs.Sending.{takes}
 use Rattle.expect_core.specs.Expecting.{patterns_by, only_id}
 use Rattle.expect_core.specs.Others.{id_alone}
+use Rattle.expect_core.specs.Options.{takes as option_takes}
 use Rattle.expect_core.specs.Calls.{name_of, outcome, fresh}
 use Rattle.expect_core.specs.Laws.{behind_call}
 
@@ -45,10 +45,9 @@ Untouched j old new =
 abbrev pub by_flags : Takes → List ℕ → List (List ℕ) → Variables → Own → Said ℕ
 by_flags takes word args vars o = flags_of word takes args >>= λ f. spoken_to f.0.id vars o
 
--- `match_max -d` speaks to none
-abbrev pub by_size : List ℕ → List (List ℕ) → Variables → Own → Said ℕ
-by_size word args vars o =
-    flags_of word (record { own = Some Default; id = true; end = false }) args >>= λ f. if f.0.on then Err [] else spoken_to f.0.id vars o
+-- with `-d` to none
+abbrev pub by_option : List ℕ → List (List ℕ) → Variables → Own → Said ℕ
+by_option word args vars o = flags_of word option_takes args >>= λ f. if f.0.on then Err [] else spoken_to f.0.id vars o
 
 abbrev pub by_patterns : List (List ℕ) → Variables → Own → Said ℕ
 by_patterns args vars o = patterns_by args (patterns_of args) >>= λ list. only_id list.ids >>= λ id. spoken_to id vars o
@@ -58,7 +57,8 @@ named_by (Some name.Send) word args vars o = by_flags takes word args vars o
 named_by (Some name.Expect) word args vars o = by_patterns args vars o
 named_by (Some name.Close) word args vars o = by_flags id_alone word args vars o
 named_by (Some name.Wait) word args vars o = by_flags id_alone word args vars o
-named_by (Some name.MatchMax) word args vars o = by_size word args vars o
+named_by (Some name.MatchMax) word args vars o = by_option word args vars o
+named_by (Some name.RemoveNulls) word args vars o = by_option word args vars o
 named_by other word args vars o = Err []
 
 abbrev pub under_way : Phase → Said ℕ

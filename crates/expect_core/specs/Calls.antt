@@ -19,7 +19,8 @@ use Rattle.expect_core.specs.Answered.{Outcome, idle, replied, failed, awaited}
 use Rattle.expect_core.specs.Spawning.{spawning, spawned}
 use Rattle.expect_core.specs.Sending.{sending, handed}
 use Rattle.expect_core.specs.Expecting.{listed, expecting, listening, behind, ended, broken}
-use Rattle.expect_core.specs.Others.{put_of, to_user, writing, continuing, closing_of, closed, waiting, waited, sizing, logging}
+use Rattle.expect_core.specs.Others.{put_of, to_user, writing, continuing, closing_of, closed, waiting, waited, logging}
+use Rattle.expect_core.specs.Options.{sizing, removing}
 
 -- the command that a word names
 abbrev pub name_of : List ℕ → Option Name
@@ -34,6 +35,7 @@ name_of word =
     else if bytes_eq word (codes "close") then Some name.Close
     else if bytes_eq word (codes "wait") then Some name.Wait
     else if bytes_eq word (codes "match_max") then Some name.MatchMax
+    else if bytes_eq word (codes "remove_nulls") then Some name.RemoveNulls
     else if bytes_eq word (codes "log_user") then Some name.LogUser
     else None
 
@@ -55,6 +57,7 @@ named (Some name.ExpContinue) word args vars st = continuing word args vars st
 named (Some name.Close) word args vars st = closing_of word args vars st
 named (Some name.Wait) word args vars st = waiting word args vars st
 named (Some name.MatchMax) word args vars st = sizing word args vars st
+named (Some name.RemoveNulls) word args vars st = removing word args vars st
 named (Some name.LogUser) word args vars st = logging word args vars st
 named (Some name.Puts) word args vars st = writing (put_of word args) vars st
 
@@ -122,7 +125,7 @@ fresh limit = record {
   limit = limit;
   horizon = 0;
   lanes = no_lanes;
-  own = record { clock = 0; transcript = []; requests = []; children = []; log_user = true; size = 2000; plans = [] };
+  own = record { clock = 0; transcript = []; requests = []; children = []; log_user = true; size = 2000; remove_nulls = true; plans = [] };
   phase = phase.Idle;
   lives = true;
 }

@@ -13,6 +13,7 @@ pub mod Spawning
 pub mod Sending
 pub mod Expecting
 pub mod Others
+pub mod Options
 pub mod Calls
 pub mod Good
 pub mod Numbered

@@ -1,29 +1,28 @@
 -- The other commands of Expect, and puts.
-use Rattle.std.specs.Prelude.{ℕ, ◌+◌, nat_le, ◌&&◌, List, [], ◌∷◌, ◌++◌, codes, Bool, true, false, if◌then◌else◌, Option, Some, None, Ok, Err, ℤ, pos, negsuc}
+use Rattle.std.specs.Prelude.{ℕ, ◌+◌, List, [], ◌∷◌, ◌++◌, codes, Bool, true, false, if◌then◌else◌, Option, Some, None, Ok, Err}
 use Rattle.std.specs.Str.{bytes_eq}
 use Rattle.std.specs.Fmt.{decimal}
 use Rattle.child_events.specs.declared.event.Answer.{Answer}
 use Rattle.child_events.specs.declared.event.Answer.TheVariants as answer
 use Rattle.child_events.specs.declared.event.Cause.{Cause}
 use Rattle.child_events.specs.declared.event.Cause.TheVariants as cause
-use Rattle.tcl_expr.specs.Number.{number_of}
 use Rattle.tcl_subst.specs.Variables.{Variables}
 use Rattle.tcl_commands.specs.declared.code.Code.{Code}
 use Rattle.tcl_commands.specs.declared.code.Code.TheVariants as code
 use Rattle.tcl_commands.specs.Said.{Said, ◌>>=◌}
 use Rattle.tcl_commands.specs.Texts.{wrong_args, bad_option}
 use Rattle.tcl_eval.specs.declared.host.HostStep.TheVariants.{Done}
-use Rattle.expect_core.specs.declared.flags.Switch.TheVariants.{Default, Timer}
+use Rattle.expect_core.specs.declared.flags.Switch.TheVariants.{Timer}
 use Rattle.expect_core.specs.declared.flags.Flags.{Flags}
 use Rattle.expect_core.specs.declared.flags.Takes.{Takes}
 use Rattle.expect_core.specs.declared.request.Act.TheVariants as act
 use Rattle.expect_core.specs.declared.phase.Purpose.TheVariants as purpose
 use Rattle.expect_core.specs.declared.own.Own.{Own}
 use Rattle.expect_core.specs.declared.dialogue.Dialogue.{Dialogue}
-use Rattle.expect_core.specs.Flags.{flags_of, begins_with_minus, bad_flag, bare_words, text_in, option_in}
-use Rattle.expect_core.specs.Owned.{child_of, asked, told, awaited_once, resized}
+use Rattle.expect_core.specs.Flags.{flags_of, begins_with_minus, bad_flag, bare_words, text_in}
+use Rattle.expect_core.specs.Owned.{child_of, asked, told, awaited_once}
 use Rattle.expect_core.specs.Ids.{open_to, spoken_to}
-use Rattle.expect_core.specs.Texts.{with_cause, waited_for, bad_size, number_of_cause}
+use Rattle.expect_core.specs.Texts.{with_cause, waited_for, number_of_cause, bit}
 use Rattle.expect_core.specs.Answered.{Outcome, done, failed, replied, on_said, owning, failure, awaited}
 use Rattle.expect_core.specs.Expecting.{closing, shut}
 
@@ -106,44 +105,13 @@ waiting_at i vars st = awaited i purpose.Wait (waited i vars) vars (owning (aske
 abbrev pub waiting : List ℕ → List (List ℕ) → Variables → Dialogue → Outcome
 waiting name args vars st = on_said (wait_of name args vars st.own) vars st (λ i. waiting_at i vars st)
 
--- match_max ?-d? ?-i id? ?size?
-
-abbrev pub size_by : List ℕ → Option ℤ → Said ℕ
-size_by text (Some (pos n)) = if nat_le 1 n && nat_le n 1000000 then Ok n else Err (bad_size text)
-size_by text (Some (negsuc n)) = Err (bad_size text)
-size_by text None = Err (bad_size text)
-
-abbrev pub size_of : List ℕ → Said ℕ
-size_of text = size_by text (number_of text)
-
--- a size is told, or set
-abbrev pub size_default : Option (List ℕ) → Variables → Dialogue → Outcome
-size_default None vars st = done (decimal st.own.size) vars st
-size_default (Some text) vars st = on_said (size_of text) vars st (λ n. done [] vars (owning (record st.own { size = n }) st))
-
-abbrev pub size_at : ℕ → Option (List ℕ) → Variables → Dialogue → Outcome
-size_at i None vars st = done (decimal (child_of i st.own).kept.size) vars st
-size_at i (Some text) vars st = on_said (size_of text) vars st (λ n. done [] vars (owning (resized i n st.own) st))
-
-abbrev pub sizing_by : Flags × Option (List ℕ) → Variables → Dialogue → Outcome
-sizing_by f vars st =
-    if f.0.on then size_default f.1 vars st
-    else on_said (open_to f.0.id vars st.own) vars st (λ i. size_at i f.1 vars st)
-
-abbrev pub size_args : List ℕ → List (List ℕ) → Said (Flags × Option (List ℕ))
-size_args name args =
-    flags_of name (record { own = Some Default; id = true; end = false }) args >>= λ f. option_in name f.1 >>= λ size. Ok (f.0, size)
-
-abbrev pub sizing : List ℕ → List (List ℕ) → Variables → Dialogue → Outcome
-sizing name args vars st = on_said (size_args name args) vars st (λ f. sizing_by f vars st)
-
 -- log_user 0, 1 or -info
 
 abbrev pub logging_as : List ℕ → Variables → Dialogue → Outcome
 logging_as w vars st =
     if bytes_eq w (codes "0") then done [] vars (owning (record st.own { log_user = false }) st)
     else if bytes_eq w (codes "1") then done [] vars (owning (record st.own { log_user = true }) st)
-    else if bytes_eq w (codes "-info") then done (if st.own.log_user then codes "1" else codes "0") vars st
+    else if bytes_eq w (codes "-info") then done (bit st.own.log_user) vars st
     else failed (bad_option w) vars st
 
 abbrev pub logging : List ℕ → List (List ℕ) → Variables → Dialogue → Outcome

@@ -1,9 +1,9 @@
 -- What commands change.
-use Rattle.std.specs.Prelude.{ℕ, ◌+◌, max, min, List, [], ◌∷◌, ◌++◌, true, false, slice_set, slice_index_or, if◌then◌else◌}
+use Rattle.std.specs.Prelude.{ℕ, ◌+◌, max, min, List, [], ◌∷◌, ◌++◌, Bool, true, false, Option, Some, None, slice_set, slice_index_or, if◌then◌else◌}
 use Rattle.circular_buffer.specs.Buffer.{keep_last}
 use Rattle.tty_output.specs.declared.modes.Modes.{Modes}
 use Rattle.tty_output.specs.Modes.{sane}
-use Rattle.tty_output.specs.Output.{shown}
+use Rattle.tty_output.specs.Output.{convert}
 use Rattle.tty_input.specs.Sends.{Waits}
 use Rattle.expect_core.specs.declared.request.Act.{Act}
 use Rattle.expect_core.specs.declared.child.Standing.{Standing}
@@ -12,20 +12,21 @@ use Rattle.expect_core.specs.declared.child.Child.{Child}
 use Rattle.expect_core.specs.declared.own.Own.{Own}
 use Rattle.expect_core.specs.Held.{Held}
 
--- a child that is asked for, by its id, its terminal's modes, and how many bytes are kept of its output
-abbrev pub child_as : List ℕ → Modes → ℕ → Child
-child_as id modes size = record {
+-- a child that is asked for, by its id, its terminal's modes, how many bytes are kept of its output, and whether NUL bytes are removed
+abbrev pub child_as : List ℕ → Modes → ℕ → Bool → Child
+child_as id modes size remove = record {
   id = id;
   standing = standing.Unborn;
   waited = false;
   line = record { modes = modes; waiting = []; ended = false };
   kept = record { bytes = []; size = size };
+  remove_nulls = remove;
   sent = 0;
 }
 
 -- what stands where there is no child
 abbrev pub nobody : Child
-nobody = child_as [] sane 0
+nobody = child_as [] sane 0 true
 
 abbrev pub child_in : ℕ → List Child → Child
 child_in i children = slice_index_or children i nobody
@@ -63,6 +64,24 @@ trimmed i o = with_bytes i (keep_last (child_of i o).kept.size (bytes_of i o)) o
 abbrev pub resized : ℕ → ℕ → Own → Own
 resized i size o = with_held i (record { bytes = keep_last size (bytes_of i o); size = size }) o
 
+-- How many bytes are kept, and whether NUL bytes are removed: of the child at a place, or of children to come.
+
+abbrev pub size_at : Option ℕ → Own → ℕ
+size_at None o = o.size
+size_at (Some i) o = (child_of i o).kept.size
+
+abbrev pub with_size : Option ℕ → ℕ → Own → Own
+with_size None n o = record o { size = n }
+with_size (Some i) n o = resized i n o
+
+abbrev pub removes_at : Option ℕ → Own → Bool
+removes_at None o = o.remove_nulls
+removes_at (Some i) o = (child_of i o).remove_nulls
+
+abbrev pub with_removal : Option ℕ → Bool → Own → Own
+with_removal None on o = record o { remove_nulls = on }
+with_removal (Some i) on o = with_child i (record (child_of i o) { remove_nulls = on }) o
+
 -- so many bytes more were accepted
 abbrev pub accepted : ℕ → ℕ → Own → Own
 accepted i n o = with_child i (record (child_of i o) { sent = min ((child_of i o).sent + n) 18446744073709551615 }) o
@@ -82,9 +101,9 @@ logged text o = if o.log_user then told text o else o
 abbrev pub asked : ℕ → Act → Own → Own
 asked i act o = record o { requests = o.requests ++ record { child = i + 1; act = act } ∷ [] }
 
--- a piece of a child's output as its terminal shows it
+-- what is seen of an item of a child
 abbrev pub seen : ℕ → List ℕ → Own → List ℕ
-seen i piece o = shown (child_of i o).line.modes piece
+seen i piece o = convert (child_of i o).remove_nulls (child_of i o).line.modes piece
 
 -- a piece was taken
 abbrev pub received : ℕ → List ℕ → Own → Own

@@ -69,7 +69,7 @@ spawned i words vars a st = started i words vars (failure a) st
 
 -- with one child more
 abbrev pub with_new : ℕ → Modes → Own → Own
-with_new i modes o = record o { children = o.children ++ child_as (id_at i) modes o.size ∷ [] }
+with_new i modes o = record o { children = o.children ++ child_as (id_at i) modes o.size o.remove_nulls ∷ [] }
 
 abbrev pub spawning_at : ℕ → Order → Variables → Dialogue → Outcome
 spawning_at i order vars st =

@@ -1,5 +1,5 @@
 -- Texts of errors, ids and what a spawn writes.
-use Rattle.std.specs.Prelude.{ℕ, ◌+◌, List, [], ◌∷◌, ◌++◌, codes}
+use Rattle.std.specs.Prelude.{ℕ, ◌+◌, List, [], ◌∷◌, ◌++◌, codes, Bool, if◌then◌else◌}
 use Rattle.std.specs.List.{flat_map}
 use Rattle.std.specs.Fmt.{decimal}
 use Rattle.child_events.specs.declared.event.Cause.{Cause}
@@ -43,6 +43,13 @@ waited_for id = codes "spawn id " ++ id ++ codes " already waited for"
 
 abbrev pub bad_size : List ℕ → List ℕ
 bad_size text = quoted (codes "bad match_max size ") text
+
+abbrev pub bad_removal : List ℕ → List ℕ
+bad_removal text = quoted (codes "bad remove_nulls value ") text
+
+-- how it is told whether something holds
+abbrev pub bit : Bool → List ℕ
+bit on = if on then codes "1" else codes "0"
 
 abbrev pub bad_expect_flag : List ℕ → List ℕ
 bad_expect_flag word = quoted (codes "bad expect flag ") word

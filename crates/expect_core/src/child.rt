@@ -4,7 +4,7 @@ ghost use Rattle.std.specs.Prelude.{◌≡◌, ◌<◌, ◌≤◌, ◌+◌, ◌-
 ghost use Rattle.circular_buffer.specs.Buffer.{keep_last};
 ghost use Rattle.exp_match.specs.Decide.{decide};
 ghost use Rattle.tty_input.specs.Sends.{handed_by, line_after, echo_of};
-ghost use Rattle.tty_output.specs.Output.{shown};
+ghost use Rattle.tty_output.specs.Output.{convert};
 ghost use Rattle.expect_core.specs.Heard.{both};
 ghost use Rattle.expect_core.specs.Ids.{is_born, is_open as is_open_of, has_id};
 ghost use Rattle.expect_core.specs.Owned.{child_as, child_in};
@@ -16,7 +16,7 @@ use std::alloc::{AllocError, Global};
 use std::marker::Model;
 use tcl_words::Text;
 use tty_input::{Actions, Line};
-use tty_output::{Modes, map_output, strip_nul};
+use tty_output::{Modes, convert};
 
 /// Whether a child has an id, and whether commands can still speak to it.
 #[derive(Clone, Copy, Debug, PartialEq, Eq)]
@@ -66,6 +66,8 @@ pub struct Child {
     pub line: Line,
     /// Its output that no expect has taken.
     pub kept: Kept,
+    /// Whether NUL bytes of its items are removed when they are taken.
+    pub remove_nulls: bool,
     /// How many bytes of its writes were accepted. It counts to 18,446,744,073,709,551,615 and no further.
     pub sent: u64,
 }
@@ -98,15 +100,6 @@ impl Model for Children {
     ghost invariant = { λ t. length t.list.items ≤ 16 };
 }
 
-/// What a terminal with these modes shows of a child's output.
-fn shown(alloc: Global, modes: Modes, piece: &[u8]) -> Result<Text, AllocError>
-    ensures { IfOk result (λ t. t ≡ shown modes piece.now) }
-{
-    let mut text = Text::from_slice(alloc, piece)?;
-    strip_nul(&mut text);
-    map_output(alloc, modes, text.as_slice())
-}
-
 impl Children {
     /// No children. It allocates nothing.
     pub(crate) fn new(alloc: Global) -> Children
@@ -124,16 +117,17 @@ impl Children {
         self.list.len()
     }
 
-    /// A child more, where there are fewer than 16, with this id, these modes of its terminal, and so many bytes kept of its output.
+    /// A child more, where there are fewer than 16, with this id, these modes of its terminal, so many bytes kept of its output, and NUL bytes removed, or not.
     pub(crate) fn push(
         &mut self,
         alloc: Global,
         id: Text,
         modes: Modes,
         size: usize,
+        remove: bool,
     ) -> Result<(), AllocError>
         requires { length self.old < 16 }
-        ensures { OnOk result (self.new ≡ self.old ++ child_as id modes size ∷ []) }
+        ensures { OnOk result (self.new ≡ self.old ++ child_as id modes size remove ∷ []) }
     {
         self.list.push(Child {
             id,
@@ -141,6 +135,7 @@ impl Children {
             waited: false,
             line: Line::new(alloc, modes),
             kept: Kept::new(alloc, size)?,
+            remove_nulls: remove,
             sent: 0,
         })?;
         Ok(())
@@ -269,11 +264,33 @@ impl Children {
         }
     }
 
-    /// A piece of a child's output as its terminal shows it.
-    pub(crate) fn seen(&self, alloc: Global, i: Place, piece: &[u8]) -> Result<Text, AllocError>
-        ensures { IfOk result (λ t. t ≡ shown (child_in i self.now).line.modes piece.now) }
+    /// Whether NUL bytes of a child's items are removed.
+    pub(crate) fn removes_nulls(&self, i: Place) -> bool
+        ensures { result ≡ (child_in i self.now).remove_nulls }
     {
-        shown(alloc, self.modes(i), piece)
+        let i = i.index();
+        if i < self.list.len() {
+            self.list[i].remove_nulls
+        } else {
+            true
+        }
+    }
+
+    /// NUL bytes of a child's items are removed, or kept, from now on.
+    pub(crate) fn set_removal(&mut self, i: Place, on: bool)
+        ensures { self.new ≡ slice_set self.old i (record (child_in i self.old) { remove_nulls = on }) }
+    {
+        let i = i.index();
+        if i < self.list.len() {
+            self.list[i].remove_nulls = on;
+        }
+    }
+
+    /// What is seen of an item of a child.
+    pub(crate) fn seen(&self, alloc: Global, i: Place, piece: &[u8]) -> Result<Text, AllocError>
+        ensures { IfOk result (λ t. t ≡ convert (child_in i self.now).remove_nulls (child_in i self.now).line.modes piece.now) }
+    {
+        convert(alloc, self.removes_nulls(i), self.modes(i), piece)
     }
 }
 

@@ -85,6 +85,7 @@ impl Dialogue {
                 children: Children::new(alloc),
                 log_user: true,
                 size: 2000,
+                remove_nulls: true,
                 plans: Plans::new(alloc),
             },
             phase: Phase::Idle,

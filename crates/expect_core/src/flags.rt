@@ -16,7 +16,7 @@ use tcl_words::Text;
 pub enum Switch {
     /// `-noecho` of `spawn`.
     NoEcho,
-    /// `-d` of `match_max`.
+    /// `-d` of `match_max` and `remove_nulls`.
     Default,
     /// `-continue_timer` of `exp_continue`.
     Timer,

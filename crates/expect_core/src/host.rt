@@ -43,6 +43,8 @@ fn name_of(word: &[u8]) -> Option<Name>
         Some(Name::Wait)
     } else if is(word, b"match_max") {
         Some(Name::MatchMax)
+    } else if is(word, b"remove_nulls") {
+        Some(Name::RemoveNulls)
     } else if is(word, b"log_user") {
         Some(Name::LogUser)
     } else {
@@ -86,6 +88,7 @@ impl Dialogue {
             Some(Name::Close) => self.close_child(alloc, vars, word, args),
             Some(Name::Wait) => self.wait(alloc, vars, word, args),
             Some(Name::MatchMax) => self.match_max(alloc, vars, word, args),
+            Some(Name::RemoveNulls) => self.remove_nulls(alloc, vars, word, args),
             Some(Name::LogUser) => self.log_user(alloc, vars, word, args),
             Some(Name::Puts) => self.puts(alloc, vars, word, args),
         }

@@ -14,6 +14,7 @@ mod lanes;
 mod laws;
 mod listen;
 mod name;
+mod options;
 mod order;
 mod others;
 mod own;

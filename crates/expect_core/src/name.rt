@@ -11,6 +11,7 @@ pub enum Name {
     Close,
     Wait,
     MatchMax,
+    RemoveNulls,
     LogUser,
     Puts,
 }

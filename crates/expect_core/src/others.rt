@@ -1,26 +1,22 @@
 //! The other commands of Expect, and `puts`.
 
 ghost use Rattle.std.specs.Prelude.{◌≡◌, IfOk, ◌++◌, ◌∷◌, [], if◌then◌else◌, ℕ, List};
-ghost use Rattle.std.specs.Fmt.{decimal as decimal_of};
 ghost use Rattle.tcl_commands.specs.Says.{Says};
 ghost use Rattle.tcl_commands.specs.Texts.{wrong_args};
 ghost use Rattle.tcl_commands.specs.Said.{Said};
-ghost use Rattle.expect_core.specs.Others.{again_code, close_of as close_meant, closing_of, continued as continued_of, continuing, if_unwaited, logging as logging_of, logging_as, no_channel as no_channel_text, put_of as put_meant, puts_to as puts_to_of, size_args as size_meant, size_at as size_there, size_by as size_told, size_default, size_of as size_named, sizing as sizing_of, sizing_by, to_user as user_text, wait_of as wait_meant, waiting, writing, waiting_at};
+ghost use Rattle.expect_core.specs.Others.{again_code, close_of as close_meant, closing_of, continued as continued_of, continuing, if_unwaited, logging as logging_of, logging_as, no_channel as no_channel_text, put_of as put_meant, puts_to as puts_to_of, to_user as user_text, wait_of as wait_meant, waiting, writing, waiting_at};
 
 use crate::dialogue::{Dialogue, done, failed};
-use crate::flags::{
-    Flags, Switch, Takes, bad_flag, bare, flags_of, is, is_flag, with_option, with_text,
-};
+use crate::flags::{Flags, Switch, Takes, bad_flag, bare, flags_of, is, is_flag, with_text};
 use crate::ids::{open_to, spoken_to};
 use crate::own::Own;
 use crate::phase::Purpose;
 use crate::place::Place;
 use crate::request::Act;
-use crate::texts::{bad_size, decimal, waited_for};
+use crate::texts::{bit, waited_for};
 use std::alloc::{AllocError, Global};
 use tcl_commands::{Code, Complaint, bad_option, said, wrong_args};
 use tcl_eval::HostStep;
-use tcl_expr::read_number;
 use tcl_subst::Vars;
 use tcl_values::Value;
 use tcl_words::Text;
@@ -199,53 +195,11 @@ fn wait_of(
     unwaited(alloc, i, own)
 }
 
-/// How many bytes a text says that are kept.
-fn size_of(alloc: Global, text: &[u8]) -> Result<usize, Complaint>
-    ensures { Says result (size_named text.now) }
-{
-    size_by(alloc, text, read_number(text))
-}
-
-/// A number of bytes from 1 to 1,000,000.
-fn size_by(alloc: Global, text: &[u8], number: Option<i64>) -> Result<usize, Complaint>
-    ensures { Says result (size_told text.now number) }
-{
-    match number {
-        Some(size) if 1 <= size && size <= 1_000_000 => Ok(size as usize),
-        _ => Err(Complaint::Said(bad_size(alloc, text)?)),
-    }
-}
-
-/// The flags of a `match_max`, and the size that it sets, if it sets one.
-fn size_args(
-    alloc: Global,
-    name: &[u8],
-    args: &[Value],
-) -> Result<(Flags, Option<Value>), Complaint>
-    ensures { Says result (size_meant name.now args.now) }
-{
-    let takes = Takes {
-        own: Some(Switch::Default),
-        id: true,
-        end: false,
-    };
-    let (flags, at) = flags_of(alloc, name, takes, args)?;
-    let size = with_option(alloc, name, &args[at..])?;
-    Ok((flags, size))
-}
-
 /// A command has too few or too many arguments.
 fn wrong_call(alloc: Global, name: &[u8]) -> Result<HostStep, AllocError>
     ensures { IfOk result (λ s. s ≡ HostStep.Fail (wrong_args name.now)) }
 {
     failed(alloc, wrong_args(alloc, name)?)
-}
-
-/// A count as a command's value.
-fn told(alloc: Global, count: usize) -> Result<HostStep, AllocError>
-    ensures { IfOk result (λ s. s ≡ HostStep.Done Code.Ok (decimal_of count)) }
-{
-    Ok(done(Value::from_text(alloc, decimal(alloc, count)?)?))
 }
 
 impl Dialogue {
@@ -352,84 +306,6 @@ impl Dialogue {
 }
 
 impl Dialogue {
-    /// The number of bytes kept of children to come is told, or set.
-    fn size_for_all(
-        &mut self,
-        alloc: Global,
-        vars: &Vars,
-        size: &Option<Value>,
-    ) -> Result<HostStep, AllocError>
-        ensures { IfOk result (λ s. size_default size.now vars.now self.old ≡ (s, vars.now, self.new)) }
-    {
-        let Some(text) = size else {
-            return told(alloc, self.own.size);
-        };
-        match said(alloc, size_of(alloc, text.as_slice()))? {
-            Ok(size) => {
-                self.own.size = size;
-                Ok(done(Value::new(alloc)))
-            }
-            Err(text) => Ok(HostStep::Fail(text)),
-        }
-    }
-
-    /// The number of bytes kept of a child is told, or set.
-    fn size_of_child(
-        &mut self,
-        alloc: Global,
-        vars: &Vars,
-        i: Place,
-        size: &Option<Value>,
-    ) -> Result<HostStep, AllocError>
-        ensures { IfOk result (λ s. size_there i size.now vars.now self.old ≡ (s, vars.now, self.new)) }
-    {
-        let Some(text) = size else {
-            return told(alloc, self.own.children.size(i));
-        };
-        match said(alloc, size_of(alloc, text.as_slice()))? {
-            Ok(size) => {
-                self.own.children.resize(i, size)?;
-                Ok(done(Value::new(alloc)))
-            }
-            Err(text) => Ok(HostStep::Fail(text)),
-        }
-    }
-
-    /// The number of bytes kept of children to come, or of one child, is told, or set.
-    fn size_by_flags(
-        &mut self,
-        alloc: Global,
-        vars: &Vars,
-        flags: &Flags,
-        size: &Option<Value>,
-    ) -> Result<HostStep, AllocError>
-        ensures { IfOk result (λ s. sizing_by (flags.now, size.now) vars.now self.old ≡ (s, vars.now, self.new)) }
-    {
-        if flags.on {
-            return self.size_for_all(alloc, vars, size);
-        }
-        match said(alloc, open_to(alloc, &flags.id, vars, &self.own))? {
-            Ok(i) => self.size_of_child(alloc, vars, i, size),
-            Err(text) => Ok(HostStep::Fail(text)),
-        }
-    }
-
-    /// `match_max ?-d? ?-i id? ?size?`.
-    pub(crate) fn match_max(
-        &mut self,
-        alloc: Global,
-        vars: &Vars,
-        name: &[u8],
-        args: &[Value],
-    ) -> Result<HostStep, AllocError>
-        ensures { IfOk result (λ s. sizing_of name.now args.now vars.now self.old ≡ (s, vars.now, self.new)) }
-    {
-        match said(alloc, size_args(alloc, name, args))? {
-            Ok((flags, size)) => self.size_by_flags(alloc, vars, &flags, &size),
-            Err(text) => Ok(HostStep::Fail(text)),
-        }
-    }
-
     /// What the word of a `log_user` says.
     fn log_as(&mut self, alloc: Global, vars: &Vars, word: &[u8]) -> Result<HostStep, AllocError>
         ensures { IfOk result (λ s. logging_as word.now vars.now self.old ≡ (s, vars.now, self.new)) }
@@ -443,8 +319,7 @@ impl Dialogue {
             return Ok(done(Value::new(alloc)));
         }
         if is(word, b"-info") {
-            let told: &[u8] = if self.own.log_user { b"1" } else { b"0" };
-            return Ok(done(Value::from_slice(alloc, told)?));
+            return Ok(done(Value::from_slice(alloc, bit(self.own.log_user))?));
         }
         failed(alloc, bad_option(alloc, word)?)
     }

@@ -2,7 +2,7 @@
 
 ghost use Rattle.std.specs.Prelude.{◌≡◌, OnOk};
 ghost use Rattle.expect_core.specs.Heard.{deadline_from as deadline_of};
-ghost use Rattle.expect_core.specs.Owned.{at_moment, told, logged, asked, received};
+ghost use Rattle.expect_core.specs.Owned.{at_moment, told, logged, asked, received, size_at, with_size, removes_at, with_removal};
 
 use crate::child::Children;
 use crate::place::Place;
@@ -27,6 +27,8 @@ pub struct Own {
     pub log_user: bool,
     /// How many bytes are kept of children that are spawned from now on.
     pub size: usize,
+    /// Whether NUL bytes are removed of children that are spawned from now on.
+    pub remove_nulls: bool,
     /// The expects whose actions are evaluated, the innermost first.
     pub plans: Plans,
 }
@@ -89,5 +91,48 @@ impl Own {
         let text = self.children.seen(alloc, i, piece)?;
         self.log(text.as_slice())?;
         self.children.keep(i, text.as_slice())
+    }
+
+    /// How many bytes are kept of a child, or of children to come.
+    pub(crate) fn size_at(&self, at: Option<Place>) -> usize
+        ensures { result ≡ size_at at self.now }
+    {
+        match at {
+            Some(i) => self.children.size(i),
+            None => self.size,
+        }
+    }
+
+    /// Another number of bytes is kept of a child, or of children to come.
+    pub(crate) fn set_size(&mut self, at: Option<Place>, size: usize) -> Result<(), AllocError>
+        ensures { OnOk result (self.new ≡ with_size at size self.old) }
+    {
+        match at {
+            Some(i) => self.children.resize(i, size),
+            None => {
+                self.size = size;
+                Ok(())
+            }
+        }
+    }
+
+    /// Whether NUL bytes are removed of a child, or of children to come.
+    pub(crate) fn removes_at(&self, at: Option<Place>) -> bool
+        ensures { result ≡ removes_at at self.now }
+    {
+        match at {
+            Some(i) => self.children.removes_nulls(i),
+            None => self.remove_nulls,
+        }
+    }
+
+    /// NUL bytes are removed of a child, or of children to come, or kept, from now on.
+    pub(crate) fn set_removal(&mut self, at: Option<Place>, on: bool)
+        ensures { self.new ≡ with_removal at on self.old }
+    {
+        match at {
+            Some(i) => self.children.set_removal(i, on),
+            None => self.remove_nulls = on,
+        }
     }
 }

@@ -71,7 +71,10 @@ impl Dialogue {
         ensures { OnOk result (self.new ≡ owning (with_new i modes self.old.own) self.old) }
     {
         let size = self.own.size;
-        self.own.children.push(alloc, id_at(alloc, i)?, modes, size)
+        let remove = self.own.remove_nulls;
+        self.own
+            .children
+            .push(alloc, id_at(alloc, i)?, modes, size, remove)
     }
 
     /// A child more: it is asked for, and the answer awaited.

@@ -2,7 +2,7 @@
 
 ghost use Rattle.std.specs.Prelude.{◌≡◌, IfOk};
 ghost use Rattle.std.specs.Fmt.{decimal};
-ghost use Rattle.expect_core.specs.Texts.{id_at as id_of, spawn_line as line_of, with_cause as cause_behind, not_executed as not_executed_text, program_of as program_text, bad_stty as bad_stty_text, no_such_id as no_such_id_text, not_open as not_open_text, waited_for as waited_for_text, bad_size as bad_size_text, bad_expect_flag as bad_flag_text, bad_regular as bad_regular_text, number_of_cause as number_of};
+ghost use Rattle.expect_core.specs.Texts.{id_at as id_of, spawn_line as line_of, with_cause as cause_behind, not_executed as not_executed_text, program_of as program_text, bad_stty as bad_stty_text, no_such_id as no_such_id_text, not_open as not_open_text, waited_for as waited_for_text, bad_size as bad_size_text, bad_removal as bad_removal_text, bit, bad_expect_flag as bad_flag_text, bad_regular as bad_regular_text, number_of_cause as number_of};
 
 use crate::place::Place;
 use child_events::{Cause, cause_name};
@@ -116,6 +116,20 @@ pub(crate) fn bad_size(alloc: Global, size: &[u8]) -> Result<Text, AllocError>
     ensures { IfOk result (λ t. t ≡ bad_size_text size.now) }
 {
     quoted(alloc, b"bad match_max size ", size)
+}
+
+/// A text doesn't say whether NUL bytes are removed.
+pub(crate) fn bad_removal(alloc: Global, value: &[u8]) -> Result<Text, AllocError>
+    ensures { IfOk result (λ t. t ≡ bad_removal_text value.now) }
+{
+    quoted(alloc, b"bad remove_nulls value ", value)
+}
+
+/// How it is told whether something holds.
+pub(crate) fn bit(on: bool) -> &'static [u8]
+    ensures { result.now ≡ bit on }
+{
+    if on { b"1" } else { b"0" }
 }
 
 /// An argument of `expect` is no flag that may stand there.

@@ -1,0 +1,60 @@
+-- match_max and remove_nulls: what is told or set of one child, or of children to come.
+use Rattle.std.specs.Prelude.{ℕ, nat_le, ◌&&◌, List, [], codes, Bool, true, false, if◌then◌else◌, Option, Some, None, Ok, Err, ℤ, pos, negsuc}
+use Rattle.std.specs.Str.{bytes_eq}
+use Rattle.std.specs.Fmt.{decimal}
+use Rattle.tcl_expr.specs.Number.{number_of}
+use Rattle.tcl_subst.specs.Variables.{Variables}
+use Rattle.tcl_commands.specs.Said.{Said, ◌>>=◌}
+use Rattle.expect_core.specs.declared.flags.Switch.TheVariants.{Default}
+use Rattle.expect_core.specs.declared.flags.Flags.{Flags}
+use Rattle.expect_core.specs.declared.flags.Takes.{Takes}
+use Rattle.expect_core.specs.declared.own.Own.{Own}
+use Rattle.expect_core.specs.declared.dialogue.Dialogue.{Dialogue}
+use Rattle.expect_core.specs.Flags.{flags_of, option_in}
+use Rattle.expect_core.specs.Owned.{size_at, with_size, removes_at, with_removal}
+use Rattle.expect_core.specs.Ids.{open_to}
+use Rattle.expect_core.specs.Texts.{bad_size, bad_removal, bit}
+use Rattle.expect_core.specs.Answered.{Outcome, done, on_said, owning}
+
+abbrev pub takes : Takes
+takes = record { own = Some Default; id = true; end = false }
+
+-- whose option is meant: that of the child at a place, or with `-d` that of children to come
+abbrev pub whose : Flags → Variables → Own → Said (Option ℕ)
+whose f vars o = if f.on then Ok None else (open_to f.id vars o >>= λ i. Ok (Some i))
+
+-- and the text of what is set, if it is set
+abbrev pub option_of : List ℕ → List (List ℕ) → Variables → Own → Said (Option ℕ × Option (List ℕ))
+option_of name args vars o = flags_of name takes args >>= λ f. option_in name f.1 >>= λ text. whose f.0 vars o >>= λ at. Ok (at, text)
+
+-- match_max ?-d? ?-i id? ?size?
+
+abbrev pub size_by : List ℕ → Option ℤ → Said ℕ
+size_by text (Some (pos n)) = if nat_le 1 n && nat_le n 1000000 then Ok n else Err (bad_size text)
+size_by text (Some (negsuc n)) = Err (bad_size text)
+size_by text None = Err (bad_size text)
+
+abbrev pub size_of : List ℕ → Said ℕ
+size_of text = size_by text (number_of text)
+
+abbrev pub sizing_at : Option ℕ → Option (List ℕ) → Variables → Dialogue → Outcome
+sizing_at at None vars st = done (decimal (size_at at st.own)) vars st
+sizing_at at (Some text) vars st = on_said (size_of text) vars st (λ n. done [] vars (owning (with_size at n st.own) st))
+
+abbrev pub sizing : List ℕ → List (List ℕ) → Variables → Dialogue → Outcome
+sizing name args vars st = on_said (option_of name args vars st.own) vars st (λ s. sizing_at s.0 s.1 vars st)
+
+-- remove_nulls ?-d? ?-i id? ?value?
+
+abbrev pub removal_of : List ℕ → Said Bool
+removal_of text =
+    if bytes_eq text (codes "0") then Ok false
+    else if bytes_eq text (codes "1") then Ok true
+    else Err (bad_removal text)
+
+abbrev pub removing_at : Option ℕ → Option (List ℕ) → Variables → Dialogue → Outcome
+removing_at at None vars st = done (bit (removes_at at st.own)) vars st
+removing_at at (Some text) vars st = on_said (removal_of text) vars st (λ on. done [] vars (owning (with_removal at on st.own) st))
+
+abbrev pub removing : List ℕ → List (List ℕ) → Variables → Dialogue → Outcome
+removing name args vars st = on_said (option_of name args vars st.own) vars st (λ s. removing_at s.0 s.1 vars st)
