@@ -33,8 +33,8 @@ class Item(NamedTuple):
 
 
 class Child:
-    def __init__(self, number, terminal, size):
-        self.number, self.terminal, self.size = number, terminal, size
+    def __init__(self, number, terminal, size, removes):
+        self.number, self.terminal, self.size, self.removes = number, terminal, size, removes
         self.kept, self.is_closed, self.is_waited_for = b"", False, False
 
     @property
@@ -53,7 +53,8 @@ class Dialogue(Interpreter):
         self.answers = {number: [] for number in range(1, CHILDREN + 1)}
         for event in events:
             self.happens(event)
-        self.children, self.sent, self.current_size, self.shows = {}, {}, KEPT, True
+        self.children, self.sent, self.shows = {}, {}, True
+        self.later = Child(0, None, KEPT, True)
         self.awaited = None
 
     def happens(self, event):
@@ -133,7 +134,7 @@ class Dialogue(Interpreter):
         given, words = self.flags(b"spawn", words, {b"-noecho": False, b"--": False})
         self.counted(b"spawn", words, 1, FOREVER)
         terminal = self.terminal()
-        child = Child(len(self.sent) + 1, terminal, self.current_size)
+        child = Child(len(self.sent) + 1, terminal, self.later.size, self.later.removes)
         if child.number > CHILDREN:
             raise failed(b"too many spawned children")
         self.sent[child.number] = 0
@@ -209,19 +210,30 @@ class Dialogue(Interpreter):
             return front + b"0 -1 CHILDKILLED unknown unknown"
         return front + b"-1 %d" % WAIT_CODES[answer.what if answer.kind == "bad" else b"other"]
 
+    def option(self, name, words):
+        """The child that a command is about, or what stands for later ones, and the word that is set, or None."""
+        given, words = self.flags(name, words, {b"-d": False, b"-i": True})
+        self.counted(name, words, 0, 1)
+        child = self.later if b"-d" in given else self.opened(given.get(b"-i"))
+        return child, words[0] if words else None
+
     def do_match_max(self, words):
-        given, words = self.flags(b"match_max", words, {b"-d": False, b"-i": True})
-        self.counted(b"match_max", words, 0, 1)
-        child = None if b"-d" in given else self.opened(given.get(b"-i"))
-        if not words:
-            return b"%d" % (child.size if child else self.current_size)
-        if not is_number(words[0]) or not 1 <= int(words[0]) <= LARGEST:
-            raise failed(b"bad match_max size", words[0])
-        if child:
-            child.size = int(words[0])
-            child.kept = child.kept[-child.size :]
-        else:
-            self.current_size = int(words[0])
+        child, size = self.option(b"match_max", words)
+        if size is None:
+            return b"%d" % child.size
+        if not is_number(size) or not 1 <= int(size) <= LARGEST:
+            raise failed(b"bad match_max size", size)
+        child.size = int(size)
+        child.kept = child.kept[-child.size :]
+        return b""
+
+    def do_remove_nulls(self, words):
+        child, value = self.option(b"remove_nulls", words)
+        if value is None:
+            return b"%d" % child.removes
+        if value not in (b"0", b"1"):
+            raise failed(b"bad remove_nulls value", value)
+        child.removes = value == b"1"
         return b""
 
     def do_log_user(self, words):
@@ -288,7 +300,7 @@ class Dialogue(Interpreter):
                 return self.first(cases, "timeout")[1]
             if came.kind != "out":
                 return self.ended(child, came, cases)
-            output = child.terminal.show(came.what)
+            output = child.terminal.show(came.what.replace(b"\0", b"") if child.removes else came.what)
             child.kept += output
             self.transcript += output if self.shows else b""
 

@@ -22,7 +22,7 @@ MALFORMED = [b"a**", b"(a", b"a{2", b"[a"]
 MARKS = [(b"-nocase", 0.3), (b"-indices", 0.2), (b"-notransfer", 0.1)]
 
 SHOWN = [b"buffer", b"buffer", b"0,string", b"0,string", b"1,string", b"0,start", b"1,end", b"spawn_id"]
-ASKED = [b"match_max", b"match_max -d", b"log_user -info", b"wait", b"set spawn_id", b"set timeout"]
+ASKED = [b"match_max", b"match_max -d", b"remove_nulls", b"log_user -info", b"wait", b"set spawn_id", b"set timeout"]
 ENDS = [b"break", b"continue", b"{return r}", b"{set n got}", b"{error no}", b"{exit 3}", b"{}"]
 
 # Commands that are refused as they stand.
@@ -36,6 +36,8 @@ REFUSED = [
     b"match_max 0",
     b"match_max -5",
     b"match_max many",
+    b"remove_nulls 2",
+    b"remove_nulls -d 0 1",
     b"log_user 2",
     b"log_user",
     b"send_user -x",
@@ -102,6 +104,8 @@ class Script:
             lines.append(b"log_user 0")
         if self.chance(0.2):
             lines.append(b"match_max -d %d" % self.rng.choice(SIZES))
+        if self.chance(0.2):
+            lines.append(b"remove_nulls -d 0")
         if self.has_again:
             lines.append(b"proc again {} {exp_continue}")
         if self.chance(0.97):
@@ -215,6 +219,7 @@ class Script:
                 b"set timeout %d" % self.rng.choice(TIMES),
                 b"match_max" + self.id() + b" %d" % self.rng.choice(SIZES),
                 b"match_max -d %d" % self.rng.choice(SIZES),
+                b"remove_nulls" + self.rng.choice([b" -d", self.id()]) + b" %d" % self.rng.randrange(2),
                 b"log_user %d" % self.rng.randrange(2),
                 b"send_user " + self.written(b"".join(self.some(EXACT, 0, 2))),
                 b"set a $spawn_id",

@@ -71,7 +71,6 @@ class Terminal:
 
     def show(self, output):
         """What becomes of output, echo too."""
-        output = output.replace(b"\0", b"")
         if self.modes["opost"] and self.modes["onlcr"]:
             output = output.replace(b"\n", b"\r\n")
         return output
