@@ -17,6 +17,7 @@ use Rattle.dialogue_sched.specs.Refusal.{first_refusal}
 use Rattle.dialogue_sched.specs.Hall.{opening_fault}
 use Rattle.dialogue_sched.specs.Run.{AllMean, Runs, Isolated}
 use Rattle.dialogue_sched.proofs.Pairing.{Paired-length, no_some, some_of}
+use Rattle.dialogue_sched.proofs.Raises.{means_raised}
 
 -- a session that lives has lived, and says for what is left what it said for all
 pub Took_lives : (es : List Event) (a b : Kept) → Took a es b → IsTrue b.lives → IsTrue a.lives
@@ -74,10 +75,12 @@ mean_at n zero k es (x ∷ ss) (y ∷ rs) s r e h got made =
 mean_at n (suc i) k es (x ∷ ss) (y ∷ rs) s r e h got made = mean_at (n + 1) i k es ss rs s r (omega (arith, e)) h.1 got made
 
 pub isolated : Isolated
-isolated i ss ss' es es' rs rs' s r r' ran ran' here here' same made made' =
-    both (mean_at 1 i (i + 1) es ss rs s r (omega arith) ran.2 here made) (mean_at 1 i (i + 1) es' ss' rs' s r' (omega arith) ran'.2 here' made')
+isolated i j ss ss' es es' rs rs' s r r' ran ran' here here' same made made' =
+    both (mean_at 1 i (i + 1) es ss rs s r (omega arith) ran.2 here made) (mean_at 1 j (j + 1) es' ss' rs' s r' (omega arith) ran'.2 here' made')
   where
-    both : (r ≡ meaning s.source s.settings (own (i + 1) es)) ⊎ (r.ending ≡ Memory) → (r' ≡ meaning s.source s.settings (own (i + 1) es')) ⊎ (r'.ending ≡ Memory) → (r ≡ r') ⊎ ((r.ending ≡ Memory) ⊎ (r'.ending ≡ Memory))
-    both (inl e) (inl e') = inl (e ∙ ap (meaning s.source s.settings) same ∙ sym e')
+    one : meaning s.source s.settings (own (i + 1) es) ≡ meaning s.source s.settings (own (j + 1) es')
+    one = sym (means_raised s.source s.settings (own (i + 1) es)) ∙ ap (meaning s.source s.settings) same ∙ means_raised s.source s.settings (own (j + 1) es')
+    both : (r ≡ meaning s.source s.settings (own (i + 1) es)) ⊎ (r.ending ≡ Memory) → (r' ≡ meaning s.source s.settings (own (j + 1) es')) ⊎ (r'.ending ≡ Memory) → (r ≡ r') ⊎ ((r.ending ≡ Memory) ⊎ (r'.ending ≡ Memory))
+    both (inl e) (inl e') = inl (e ∙ one ∙ sym e')
     both (inl e) (inr spent) = inr (inr spent)
     both (inr spent) h = inr (inl spent)

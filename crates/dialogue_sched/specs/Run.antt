@@ -1,7 +1,7 @@
 -- The reports of whole runs.
 use Rattle.std.specs.Prelude.{◌≡◌, ℕ, ◌+◌, List, [], ◌∷◌, ◌⊎◌, length, slice_get, Some, None, Result, Ok, Err}
 use Rattle.child_events.specs.declared.event.HallEvent.{HallEvent}
-use Rattle.child_events.specs.World.{own}
+use Rattle.child_events.specs.World.{own, raised}
 use Rattle.tcl_eval.specs.declared.ending.Ending.TheVariants.{Memory}
 use Rattle.session.specs.declared.report.Report.{Report}
 use Rattle.session.specs.Meaning.{meaning}
@@ -35,11 +35,11 @@ OpensFor scripts (Err (New fault)) = opening_fault scripts ≡ Some fault
 OpensFor scripts (Err (Refused at r)) = ⊥
 OpensFor scripts (Err run.Memory) = Unit {0}
 
--- Two runs that have a script at one place, with the same own events, give it one report, beside any other scripts
--- and events; unless one of them was refused memory for it.
+-- Two runs that have one script, at any two places, whose own events are the same once their moments are raised, give it one report,
+-- beside any other scripts and events; unless one of them was refused memory for it.
 abbrev pub Isolated : Type 0
-Isolated = (i : ℕ) (scripts scripts' : List Script) (es es' : List HallEvent) (reports reports' : List Report) (s : Script) (r r' : Report) →
+Isolated = (i j : ℕ) (scripts scripts' : List Script) (es es' : List HallEvent) (reports reports' : List Report) (s : Script) (r r' : Report) →
     Runs scripts es (Ok reports) → Runs scripts' es' (Ok reports') →
-    slice_get scripts i ≡ Some s → slice_get scripts' i ≡ Some s → own (i + 1) es ≡ own (i + 1) es' →
-    slice_get reports i ≡ Some r → slice_get reports' i ≡ Some r' →
+    slice_get scripts i ≡ Some s → slice_get scripts' j ≡ Some s → raised (own (i + 1) es) ≡ raised (own (j + 1) es') →
+    slice_get reports i ≡ Some r → slice_get reports' j ≡ Some r' →
     (r ≡ r') ⊎ ((r.ending ≡ Memory) ⊎ (r'.ending ≡ Memory))

@@ -10,7 +10,7 @@ mod script;
 
 pub use fault::{MOST_SCRIPTS, opening_fault};
 pub use hall::{Hall, HallFault, ReportFault};
-pub use laws::ticks;
+pub use laws::{hall_law, raised_moments, ticks};
 pub use refusal::HallRefusal;
 pub use run::{Reports, RunFault, isolation, run_all};
 pub use script::Script;

@@ -131,8 +131,8 @@ pub fn run_all(
     }
 }
 
-/// No script changes another: over two lists of events in which a script's own events and the ticks are the same,
-/// beside any other scripts and events, its reports are the same.
+/// No script changes another: over two lists of events in which a script's own events and the ticks are the same once their moments are
+/// raised, beside any other scripts and events, and whatever its number in each, its reports are the same.
 pub fn isolation()
     ensures { Isolated }
 {}
