@@ -75,11 +75,11 @@ told n zero j (x ∷ ss) es s (y ∷ ks) k r e h here got reports = by_life k.li
     by_life true lives =
         let number : n ≡ j = omega (arith, e) in
         inl (reports.lives lives
-            ∙ sym (ap (λ (z : Kept). left z []) (some_of y k got))
-            ∙ h.0 (subst (λ (z : Kept). IsTrue z.lives) (sym (some_of y k got)) lives) []
-            ∙ ap (meaning x.source x.settings) (append-nil (own n es))
-            ∙ ap (λ (z : Script). meaning z.source z.settings (own n es)) (some_of x s here)
-            ∙ ap (λ (m : ℕ). meaning s.source s.settings (own m es)) number)
+        ∙ sym (ap (λ (z : Kept). left z []) (some_of y k got))
+        ∙ h.0 (subst (λ (z : Kept). IsTrue z.lives) (sym (some_of y k got)) lives) []
+        ∙ ap (meaning x.source x.settings) (append-nil (own n es))
+        ∙ ap (λ (z : Script). meaning z.source z.settings (own n es)) (some_of x s here)
+        ∙ ap (λ (m : ℕ). meaning s.source s.settings (own m es)) number)
     by_life false spent = inr (reports.spent spent)
 told n (suc i) j (x ∷ ss) es s (y ∷ ks) k r e h here got reports = told (n + 1) i j ss es s ks k r (omega (arith, e)) h.1 here got reports
 

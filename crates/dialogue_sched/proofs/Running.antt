@@ -80,6 +80,7 @@ isolated i j ss ss' es es' rs rs' s r r' ran ran' here here' same made made' =
   where
     one : meaning s.source s.settings (own (i + 1) es) ≡ meaning s.source s.settings (own (j + 1) es')
     one = sym (means_raised s.source s.settings (own (i + 1) es)) ∙ ap (meaning s.source s.settings) same ∙ means_raised s.source s.settings (own (j + 1) es')
+
     both : (r ≡ meaning s.source s.settings (own (i + 1) es)) ⊎ (r.ending ≡ Memory) → (r' ≡ meaning s.source s.settings (own (j + 1) es')) ⊎ (r'.ending ≡ Memory) → (r ≡ r') ⊎ ((r.ending ≡ Memory) ⊎ (r'.ending ≡ Memory))
     both (inl e) (inl e') = inl (e ∙ one ∙ sym e')
     both (inl e) (inr spent) = inr (inr spent)
