@@ -7,10 +7,11 @@ from typing import NamedTuple
 from checks import FRONT
 from copies import folder_of
 from edits import BadEdit, change_of, read_edit
+from keeping import Keeping
 from noting import goals_to_note
 from rounds import Trial, next_round, run_alone, run_round, source_of
 from searches import answered_goals
-from verdicts import Verdict, open_goals, refusals_of, verdict_of, with_sought
+from verdicts import Verdict, open_goals, refusals_of, verdict_of, with_sought, without_refusal
 
 WHY = {
     "files": "only a written proof no longer fits, and nothing shows that the goal doesn't hold",
@@ -30,12 +31,13 @@ class Tried(NamedTuple):
 class Trying:
     """The edits of one crate while they are tried, each check over what those before it proved.
 
-    Of each that a round refused it has the goals to note in it.
+    Of each that a round refused it has the goals to note in it. What an earlier run saw refused is not tried again, unless all is anew.
     """
 
-    def __init__(self, crate):
+    def __init__(self, crate, anew):
         self.source = source_of(crate)
-        self.tried, self.controls, self.seconds, self.rounds = [], [], 0, 0
+        self.keeping = Keeping(crate, anew)
+        self.tried, self.controls, self.seconds, self.rounds, self.earlier = [], [], 0, 0, 0
         self.goals = {}
         self.kept = None
 
@@ -43,10 +45,21 @@ class Trying:
         """Notes what became of an edit."""
         self.tried.append(Tried(edit, is_refused, said))
 
+    def refused(self, edit, said, goal, is_sound=True):
+        """Notes that an edit was refused at a goal, and keeps it where nothing speaks against the check."""
+        self.tell(edit, True, f"{said} {goal}")
+        if is_sound:
+            self.keeping.put(edit, goal)
+
     def trials(self):
-        """The edits that can be applied; the others are told."""
+        """The edits that can be applied and are to be tried; the others are told."""
         found = []
         for path in sorted(pathlib.Path(self.source.crate.folder).glob("edits/*.edit")):
+            goal = self.keeping.goal_of(path.stem)
+            if goal is not None:
+                self.earlier += 1
+                self.tell(path.stem, True, f"refused at {goal}, as an earlier run saw")
+                continue
             try:
                 edit = read_edit(path)
                 lost = [it for it in edit.judges if it not in self.source.functions]
@@ -71,13 +84,14 @@ class Trying:
             if not found.lines:
                 trials = self.readable(turn.trials, found) + trials
                 continue
-            if found.is_refused(f"{self.source.crate.name}::{turn.control.name}"):
+            is_sound = not found.is_refused(f"{self.source.crate.name}::{turn.control.name}")
+            if not is_sound:
                 self.controls.append(turn.control.name)
             again = []
             for trial in turn.trials:
                 verdict, goals = self.verdict(trial, found)
                 if verdict.word == "refused":
-                    self.tell(trial.edit.name, True, f"refused at {verdict.goal}")
+                    self.refused(trial.edit.name, "refused at", verdict.goal, is_sound)
                     self.goals[trial.edit.name] = () if trial.is_bare else goals_to_note(self.source, trial, found)
                 elif verdict.word == "open":
                     again.append(trial._replace(searched=goals))
@@ -131,12 +145,11 @@ class Trying:
         self.seconds += found.seconds
         verdict, _ = self.verdict(trial, found)
         if verdict.word == "refused":
-            return self.tell(trial.edit.name, True, f"refused alone at {verdict.goal}")
+            return self.refused(trial.edit.name, "refused alone at", verdict.goal)
         if verdict.word != "proved":
             return self.tell(trial.edit.name, False, f"{WHY.get(verdict.word, verdict.word)}: {verdict.goal}")
-        others = ", ".join(sorted({*found.goals, *found.files}))
-        bearing = f"only {others} refuses it, which it doesn't name as its judge" if others else "it is still proved"
-        return self.tell(trial.edit.name, False, f"NOT REFUSED: {bearing}")
+        names = [f"{self.source.crate.name}::{it.name}" for it in trial.concerned(self.source)]
+        return self.tell(trial.edit.name, False, f"NOT REFUSED: {without_refusal(names, found)}")
 
     def all(self):
         """Tries all edits of the crate."""

@@ -89,3 +89,12 @@ def verdict_of(edit, refusals, searched):
             return Verdict(word, found[0].goal)
     lost = [goal for goal, how in searched.items() if how != "limit"]
     return Verdict("files", lost[0]) if lost else Verdict("proved", "")
+
+
+def without_refusal(names, checked):
+    """Why a check refuses no goal of some functions: others' goals are refused, they have no proof at all, or they are proved."""
+    others = ", ".join(sorted({*checked.goals, *checked.files}))
+    if others:
+        return f"only {others} refuses it, which it doesn't name as its judge"
+    unproved = [f"{it}: {checked.lines.get(it, 'no proof')}" for it in names if checked.is_refused(it)]
+    return f"no goal decides: {unproved[0]}" if unproved else "it is still proved"

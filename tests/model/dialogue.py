@@ -254,16 +254,16 @@ class Dialogue(Interpreter):
 
     def do_expect(self, words):
         try:
-            cases, name, seconds = read_arguments(self.arguments(words))
+            cases, ids, seconds = read_arguments(self.arguments(words))
         except BadFlag as fault:
             raise failed(b"bad expect flag", fault.args[0]) from None
         except BadRegular as fault:
             raise failed(b"bad regular expression", fault.args[0]) from None
-        child = self.opened(name)
+        children = self.taking_part(cases, ids)
         time = self.time(seconds)
         deadline = self.clock + time
         while True:
-            action = self.action(child, cases, deadline)
+            action = self.action(children, cases, deadline)
             try:
                 return self.evaluate(action)
             except Thrown as thrown:
@@ -271,7 +271,15 @@ class Dialogue(Interpreter):
                     raise
                 if thrown.code == AGAIN:
                     deadline = self.clock + time
-            self.still_open(child)
+            for child, _ in children:
+                self.still_open(child)
+
+    def taking_part(self, cases, ids):
+        """In the order of the arguments, each child that takes part, and the group of cases that is given to it there."""
+        is_current = not ids or any(case.group == 0 and case.kind != "timeout" for case in cases)
+        named = [(None, 0)] if is_current else []
+        named += [(id, group) for group, id in enumerate(ids, 1)]
+        return [(self.opened(name), group) for name, group in named]
 
     def arguments(self, words):
         """The words of the list where there is one, else the words themselves."""
@@ -289,20 +297,36 @@ class Dialogue(Interpreter):
         seconds = 10 if seconds is None else number(seconds)
         return 1000 * seconds if 0 <= seconds <= LONGEST else FOREVER
 
-    def action(self, child, cases, deadline):
+    def action(self, children, cases, deadline):
         """Waits for what a case is about; its action."""
+        own = {}
+        for child, group in sorted(children, key=lambda side: side[0].number):
+            own.setdefault(child, set()).add(group)
+        own = {child: [case for case in cases if case.group in groups] for child, groups in own.items()}
         while True:
-            case = self.met(child, cases)
-            if case:
-                return case.action
-            came = self.wait(self.items[child.number], deadline, ("item", child.number, deadline))
+            for child in own:
+                case = self.met(child, own[child])
+                if case:
+                    return case.action
+            child, queue = self.next_of(own)
+            came = self.wait(queue, deadline, ("item", tuple(child.number for child in own), deadline))
             if came is None:
                 return self.first(cases, "timeout")[1]
             if came.kind != "out":
-                return self.ended(child, came, cases)
+                return self.ended(child, came, own[child])
             output = child.terminal.show(came.what.replace(b"\0", b"") if child.removes else came.what)
             child.kept += output
             self.transcript += output if self.shows else b""
+
+    def next_of(self, children):
+        """Which child's item is next, and that child's items; none as long as an item that is before it may still come."""
+        there = [child for child in children if self.items[child.number]]
+        if not there:
+            return None, []
+        next_one = min(there, key=lambda child: (self.items[child.number][0].moment, child.number))
+        queue = self.items[next_one.number]
+        is_settled = len(there) == len(children) or queue[0].moment < self.horizon
+        return next_one, queue if is_settled else []
 
     def met(self, child, cases):
         """The case that the kept bytes meet, which is then recorded; without one the last bytes are kept."""

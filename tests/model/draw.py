@@ -147,6 +147,10 @@ class Script:
             return b""
         return b" -i " + self.rng.choice([b"$a", b"$a", b"exp1", b"exp2"] if self.has_two else [b"exp1"])
 
+    def other_id(self):
+        """Before a pattern, a flag that names a child for it and those behind it, or none."""
+        return b"-i " + self.rng.choice([b"$a", b"$spawn_id", b"exp1", b"exp2"]) + b" " if self.chance(0.4) else b""
+
     def send(self, _depth):
         text = b"".join(self.some(TYPED, 0, 5))
         if self.chance(0.03):
@@ -161,6 +165,8 @@ class Script:
         if self.chance(0.3):
             front += b" -timeout %d" % self.rng.choice(TIMES)
         cases = [self.case(depth) for _ in range(self.rng.choice([0, 1, 2, 2, 3, 3, 4]))]
+        if self.has_two and self.chance(0.4):
+            cases = [self.other_id() + case for case in cases]
         if cases and self.chance(0.1):
             cases[-1] = self.front()
         if self.chance(0.3):
@@ -291,6 +297,8 @@ class Children:
     def next(self, dialogue):
         """An event that a waiting script has use for, and now and then others before it."""
         act, child, deadline = dialogue.awaited
+        if act == "item":
+            child = self.rng.choice(child)
         moment = dialogue.horizon + self.rng.choice([-200, -1, 0, 0, 0, 0, 1, 1, 10, 200, 700])
         if deadline != FOREVER and self.rng.random() < 0.25:
             moment = deadline + self.rng.randrange(2)

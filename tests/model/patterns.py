@@ -21,12 +21,13 @@ class BadRegular(Exception):
 
 
 class Case(NamedTuple):
-    """A pattern or keyword of `expect`, and its action."""
+    """A pattern or keyword of `expect`, its action, and how many `-i` stand before it."""
 
     kind: str
     pattern: bytes
     marks: frozenset
     action: bytes
+    group: int
 
     def spans(self, data):
         """Where the match and its groups start and end, None for a group that takes no part; empty without a match."""
@@ -35,16 +36,18 @@ class Case(NamedTuple):
 
 
 def read_arguments(words):
-    """The cases, and the words of `-i` and `-timeout`, None where they aren't there."""
-    words, cases, named = list(words), [], {}
+    """The cases, the words of each `-i`, and that of the last `-timeout`, None where it isn't there."""
+    words, cases, ids, seconds = list(words), [], [], None
     while words:
         marks, kind, front = set(), None, words[0]
         while words and kind is None:
             front = words.pop(0)
             if front in MARKS:
                 marks.add(front)
-            elif front in (b"-i", b"-timeout") and words and not (front == b"-i" and front in named):
-                named[front] = words.pop(0)
+            elif front == b"-i" and words:
+                ids.append(words.pop(0))
+            elif front == b"-timeout" and words:
+                seconds = words.pop(0)
             elif front in KINDS and words:
                 kind, front = KINDS[front], words.pop(0)
                 if kind == "regular" and not is_regular(front):
@@ -54,10 +57,10 @@ def read_arguments(words):
             else:
                 kind = front.decode() if front in KEYWORDS else "glob"
         if kind:
-            cases.append(Case(kind, front, frozenset(marks), words.pop(0) if words else b""))
+            cases.append(Case(kind, front, frozenset(marks), words.pop(0) if words else b"", len(ids)))
         elif front in MARKS:
             raise BadFlag(front)
-    return cases, named.get(b"-i"), named.get(b"-timeout")
+    return cases, ids, seconds
 
 
 def is_regular(pattern):

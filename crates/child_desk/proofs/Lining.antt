@@ -1,6 +1,6 @@
 -- A script at its desk.
-use Rattle.std.proofs.Common.{◌≡◌, ◌≢◌, inl, inr, ℕ, zero, suc, ◌+◌, ◌-◌, ◌<◌, ◌≤◌, List, [], ◌∷◌, ◌++◌, length, Bool, true, false, Option, Some, None, Result, Ok, Err, refl, sym, ap, subst, ◌∙◌, append_assoc, append-nil, arith}
-use Rattle.std.specs.Prelude.{slice_get, slice_set, map, take, nat_lt, nat_le, All, IsTrue, Contains, is_some, MatchOption, IfOk, IfErr, ◌==◌, if◌then◌else◌}
+use Rattle.std.proofs.Common.{◌≡◌, ◌≢◌, ◌⊎◌, inl, inr, ℕ, zero, suc, ◌+◌, ◌-◌, ◌<◌, ◌≤◌, List, [], ◌∷◌, ◌++◌, length, Bool, true, false, Option, Some, None, refl, sym, ap, subst, ◌∙◌, append_assoc, append-nil, arith}
+use Rattle.std.specs.Prelude.{slice_get, slice_set, map, take, nat_lt, nat_le, All, IsTrue, Contains, is_some, MatchOption, ◌==◌, if◌then◌else◌}
 use Rattle.std.proofs.lemmas.List.{take-append-le}
 use Rattle.std.proofs.lemmas.Option.{slice_get_within, get_or_from_slice_get}
 use Rattle.std.proofs.lemmas.Grind.{flat_map-append}
@@ -19,20 +19,20 @@ use Rattle.session.proofs.Numbering.{all_name_a_child}
 use Rattle.dialogue_sched.specs.Refusal.{refusal_of}
 use Rattle.session.specs.Meaning.{meaning}
 use Rattle.session.specs.Left.{Kept, left, HandsOut}
+use Rattle.session.specs.Spent.{memory_report, Reports}
 use Rattle.session.specs.Growth.{Continues}
 use Rattle.session.proofs.Grows.{only_grows, ending_stays}
 use Rattle.tcl_eval.specs.declared.ending.Ending.TheVariants.{Waiting}
 use Rattle.dialogue_sched.specs.declared.script.Script.{Script}
 use Rattle.dialogue_sched.specs.Took.{Took, AllTook}
-use Rattle.dialogue_sched.specs.Hall.{Begins, Reports, session_at, Requested, Reported}
-use Rattle.dialogue_sched.specs.declared.hall.ReportFault.{ReportFault}
-use Rattle.dialogue_sched.specs.declared.hall.ReportFault.TheVariants as reports
+use Rattle.dialogue_sched.specs.Hall.{Begins, AllReport, session_at, Requested}
+use Rattle.dialogue_sched.proofs.Pairing.{Paired-length}
 use Rattle.dialogue_sched.proofs.Running.{Took_lives, Took_says}
 use Rattle.child_desk.specs.declared.line.Line.{Line}
 use Rattle.child_desk.specs.Told.{Telling, Reply, Put, Asks, Stops, Rings, no_rings, asking, answer_in, answers_in, reply_in, replies_in, AreAmong, AreOf}
 use Rattle.child_desk.specs.declared.book.Book.{Book}
 use Rattle.child_desk.specs.Book.{Enters}
-use Rattle.child_desk.specs.Line.{Keeping, answer_at, PassesAll, IsInLine, InLine, Means}
+use Rattle.child_desk.specs.Line.{Keeping, answer_at, PassesAll, IsInLine, InLine, Means, AllShown}
 use Rattle.child_desk.proofs.Telling.{IsWithin, among_more, among_few, told_more, told_last, of_more, of_last}
 use Rattle.child_desk.proofs.Answering.{no_replies, replies_counted}
 use Rattle.child_desk.proofs.Places.{nothing_there, one_there, set_here}
@@ -377,21 +377,24 @@ module _ (rings : Rings) (keeper : Keeping) (script : Script) where
       refused (ap (refusal_of (length book.hall)) is ∙ answer_taken (length book.hall) at r.child book.stamp a (slice_get_within book.hall at k here) names.0 names.1 early)
 
   -- and at the end
-  pub means : (at : ℕ) (line : Line) (book : Book) (r : Report) → MatchOption (session_at (at + 1) book.hall) ⊥ (λ (k : Kept). Reports k r) → InLine rings keeper script at line book → Means script line (own (at + 1) book.log.items) r
-  means at line book r reported (k, here, l) = by_life k.lives refl
+  pub means : (at : ℕ) (line : Line) (book : Book) (k : Kept) (r : Report) → slice_get book.hall at ≡ Some k → Reports k r → InLine rings keeper script at line book → Means script line (own (at + 1) book.log.items) r
+  means at line book x r there reports (k, here, l) = by_life k.lives refl
     where
       es : List Event
       es = own (at + 1) book.log.items
 
-      reports : Reports k r
-      reports = subst (λ (o : Option Kept). MatchOption o ⊥ (λ (x : Kept). Reports x r)) (numbered at book.hall ∙ here) reported
+      mine : Reports k r
+      mine = subst (λ (z : Kept). Reports z r) (one_there x k (sym there ∙ here)) reports
 
-      is : IsTrue k.lives → r ≡ meaning script.source script.settings es
-      is lives = reports.lives lives ∙ l.says lives [] ∙ ap (meaning script.source script.settings) (append-nil es)
+      or_memory : IsTrue k.lives → (r ≡ left k []) ⊎ (r ≡ memory_report) → Means script line es r
+      or_memory lives (inl said) =
+          let is = said ∙ l.says lives [] ∙ ap (meaning script.source script.settings) (append-nil es) in
+          inl (is, λ o. subst (λ (z : Report). z.ending ≢ Waiting) (sym is) (l.over o lives))
+      or_memory lives (inr none) = inr none
 
       by_life : (b : Bool) → k.lives ≡ b → Means script line es r
-      by_life true lives = inl (is lives, λ o. subst (λ (x : Report). x.ending ≢ Waiting) (sym (is lives)) (l.over o lives))
-      by_life false spent = inr (reports.spent spent)
+      by_life true lives = or_memory lives (mine.lives lives)
+      by_life false spent = inr (mine.spent spent)
 
 pub passes_all : (e : HallEvent) (took : Bool) (old new : Book) → Enters e took old new → PassesAll e old new
 passes_all e true old new t rings keeper script at line none l = passed_line rings keeper script at line e old new t.1 t.2 none l
@@ -416,17 +419,16 @@ first_line name calls at script k book here empty b = (
   }),
 )
 
-pub reported_means : (at : ℕ) (book : Book) (o : Result Report ReportFault) → Reported (at + 1) book.hall o →
-    IfOk o (λ r. (rings : Rings) (keeper : Keeping) (script : Script) (line : Line) → InLine rings keeper script at line book → Means script line (own (at + 1) book.log.items) r)
-reported_means at book (Ok r) h = λ rings keeper script line l. means rings keeper script at line book r h l
-reported_means at book (Err f) h = tt
+-- the session whose report stands at a place
+reported_at : (i : ℕ) (ks : List Kept) (rs : List Report) (r : Report) → AllReport ks rs → slice_get rs i ≡ Some r → (k : Kept) × (slice_get ks i ≡ Some k) × Reports k r
+reported_at i [] [] r all got = absurd (nothing_there r got)
+reported_at i [] (x ∷ rs) r all got = absurd all
+reported_at i (k ∷ ks) [] r all got = absurd all
+reported_at zero (k ∷ ks) (x ∷ rs) r all got = (k, refl, subst (λ (z : Report). Reports k z) (one_there x r got) all.0)
+reported_at (suc i) (k ∷ ks) (x ∷ rs) r all got = reported_at i ks rs r all.1 got
 
-nothing_at : {X : Type 0} (i : ℕ) (xs : List X) → slice_get xs i ≡ None → length xs ≤ i
-nothing_at i [] none = omega arith
-nothing_at zero (x ∷ xs) none = absurd (nothing_there x (sym none))
-nothing_at (suc i) (x ∷ xs) none = let le = nothing_at i xs none in omega (arith, le)
-
-pub reported_missing : (at : ℕ) (book : Book) (o : Result Report ReportFault) → Reported (at + 1) book.hall o → IfErr o (λ fault. fault ≡ reports.NoSuchScript → length book.hall ≤ at)
-reported_missing at book (Ok r) h = tt
-reported_missing at book (Err reports.NoSuchScript) h = λ is. nothing_at at book.hall (sym (numbered at book.hall) ∙ h)
-reported_missing at book (Err reports.Memory) h = λ is. absurd (let e : ◌≡◌ {A = ReportFault} reports.Memory reports.NoSuchScript = is in cc)
+pub all_shown : (book : Book) (reports : List Report) → AllReport book.hall reports → AllShown book reports
+all_shown book rs all = record {
+  count = sym (Paired-length Reports book.hall rs all);
+  each = λ at r got rings keeper script line l. let k = reported_at at book.hall rs r all got in means rings keeper script at line book k.0 r k.1 k.2 l;
+}

@@ -8,11 +8,12 @@ use Rattle.child_events.specs.declared.event.HallEvent.TheVariants as hall
 use Rattle.child_events.specs.declared.event.What.TheVariants as what
 use Rattle.child_events.specs.World.{own}
 use Rattle.tcl_eval.specs.declared.ending.Ending.{Ending}
-use Rattle.tcl_eval.specs.declared.ending.Ending.TheVariants.{Waiting, Memory}
+use Rattle.tcl_eval.specs.declared.ending.Ending.TheVariants.{Waiting}
 use Rattle.expect_core.specs.declared.request.Request.{Request}
 use Rattle.session.specs.declared.report.Report.{Report}
 use Rattle.session.specs.Meaning.{meaning}
 use Rattle.session.specs.Left.{Kept, left}
+use Rattle.session.specs.Spent.{memory_report}
 use Rattle.dialogue_sched.specs.declared.script.Script.{Script}
 use Rattle.child_keeper.specs.declared.keeper.Keeper.{Ghosts}
 use Rattle.child_keeper.specs.declared.items.Item.{Item}
@@ -57,9 +58,15 @@ abbrev pub PassesAll : HallEvent → Book → Book → Type 0
 PassesAll e old new = (rings : Rings) (keeper : Keeping) (script : Script) (at : ℕ) (line : Line) → answers_in (own (at + 1) (e ∷ [])) ≡ [] →
     InLine rings keeper script at line old → InLine rings keeper script at line new
 
--- a report of a script over its own part of the record, which has an ending where the script is over; or the script was refused memory
+-- a report of a script over its own part of the record, which has an ending where the script is over; or that of a script that was refused memory
 abbrev pub Means : Script → Line → List Event → Report → Type 0
-Means script line es r = ((r ≡ meaning script.source script.settings es) × (IsTrue line.over → r.ending ≢ Waiting)) ⊎ (r.ending ≡ Memory)
+Means script line es r = ((r ≡ meaning script.source script.settings es) × (IsTrue line.over → r.ending ≢ Waiting)) ⊎ (r ≡ memory_report)
+
+-- a report of each script, which is what its line says
+pub record AllShown (book : Book) (reports : List Report) : Type 0 where
+  pub count : length reports ≡ length book.hall
+  pub each : (at : ℕ) (report : Report) → slice_get reports at ≡ Some report →
+      (rings : Rings) (keeper : Keeping) (script : Script) (line : Line) → InLine rings keeper script at line book → Means script line (own (at + 1) book.log.items) report
 
 -- What a call at a desk keeps, of a book and of each script in its line.
 

@@ -1,15 +1,11 @@
 //! A worker's desk.
 
-ghost use Rattle.std.specs.Prelude.{◌≡◌, ◌≢◌, ◌<◌, ◌≤◌, ◌+◌, ◌⊎◌, ℕ, List, length, slice_get, IfOk, IfErr, OnOk, IsTrue};
-ghost use Rattle.child_events.specs.World.{own};
+ghost use Rattle.std.specs.Prelude.{◌≡◌, ◌≢◌, ◌<◌, ◌≤◌, ◌⊎◌, ℕ, List, length, slice_get, OnOk, IsTrue};
 ghost use Rattle.child_events.specs.declared.event.HallEvent.{HallEvent};
-ghost use Rattle.dialogue_sched.specs.declared.script.Script.{Script};
-ghost use Rattle.dialogue_sched.specs.declared.hall.ReportFault.TheVariants.{NoSuchScript};
 ghost use Rattle.dialogue_sched.specs.Deadlines.{soonest};
 ghost use Rattle.feed_rings.specs.Ends.{all_put};
 ghost use Rattle.child_desk.specs.Book.{is_behind};
-ghost use Rattle.child_desk.specs.Told.{Rings};
-ghost use Rattle.child_desk.specs.Line.{Keeping, InLine, Leaves, KeepsAll, HearsNoHand, IsEndOf, IsFrontIn, Means, AllOver};
+ghost use Rattle.child_desk.specs.Line.{Leaves, KeepsAll, HearsNoHand, IsEndOf, IsFrontIn, AllOver, AllShown};
 ghost use Rattle.child_desk.specs.Heard.{HearsAll, Settles, FinishedIn, TakenIn};
 ghost use Rattle.child_desk.specs.Turn.{Turns, Stays, HearsHandIn, HasAskedIn};
 
@@ -17,12 +13,11 @@ use crate::attending::{attend_all, tick};
 use crate::book::Book;
 use crate::ends::Ends;
 use crate::hearing::{has_come_to, settle_child};
-use crate::line::{Line, report_at};
+use crate::line::Line;
 use child_events::HallEvents;
 use child_keeper::{Item, Keeper};
-use dialogue_sched::ReportFault;
+use dialogue_sched::Reports;
 use feed_rings::Finished;
-use session::Report;
 use std::alloc::{AllocError, Global};
 
 /// A worker's desk: a hall with its record, and for each script what is open and its ends of the rings.
@@ -32,6 +27,13 @@ pub struct Desk<K: Keeper> {
     pub book: Book,
     pub lines: Vec<Line>,
     pub ends: Vec<Ends<K>>,
+}
+
+/// What came of scripts: a report of each, in order, and the record of the events that they took.
+#[derive(Drop)]
+pub struct Outcome {
+    pub reports: Reports,
+    pub record: HallEvents,
 }
 
 impl<K: Keeper> Desk<K> {
@@ -135,21 +137,14 @@ impl<K: Keeper> Desk<K> {
         }
     }
 
-    /// What came of the script at a place. Where its session lives, that is what the script means over its part of the record.
-    pub fn report(&self, at: usize) -> Result<Report, ReportFault>
-        requires { at < 64 }
-        ensures means { IfOk result (λ r. (rings : Rings) (keeper : Keeping) (script : Script) (line : Line) → InLine rings keeper script at line self.now.book → Means script line (own (at + 1) self.now.book.log.items) r) }
-        ensures missing { IfErr result (λ fault. fault ≡ NoSuchScript → length self.now.book.hall ≤ at) }
-    {
-        report_at(&self.book, at)
-    }
-
-    /// The record.
-    pub fn into_record(self) -> HallEvents
-        ensures { result ≡ self.book.log.items }
+    /// What came of the scripts, for which the desk is given up. Where a script's session lives, its report is what the script means over its
+    /// part of the record, unless memory for the report was refused: that costs no other its own, nor the record.
+    pub fn into_outcome(self) -> Outcome
+        ensures shown { AllShown self.book result.reports }
+        ensures record { result.record ≡ self.book.log.items }
     {
         let Desk { book, .. } = self;
-        HallEvents { list: book.log }
+        outcome_of(book)
     }
 
     /// Tells each hand to stop, where the scripts can't go on.
@@ -161,6 +156,18 @@ impl<K: Keeper> Desk<K> {
             ends.stop();
             ends.flush();
         }
+    }
+}
+
+/// What came of the scripts of a book.
+fn outcome_of(book: Book) -> Outcome
+    ensures shown { AllShown book result.reports }
+    ensures record { result.record ≡ book.log.items }
+{
+    let Book { hall, log, .. } = book;
+    Outcome {
+        reports: hall.into_reports(),
+        record: HallEvents { list: log },
     }
 }
 

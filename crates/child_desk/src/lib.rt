@@ -11,7 +11,7 @@ mod line;
 mod readers;
 
 pub use book::Book;
-pub use desk::Desk;
+pub use desk::{Desk, Outcome};
 pub use ends::Ends;
 pub use line::Line;
 pub use readers::Readers;

@@ -1,11 +1,9 @@
 //! A script in its line: the request that waits for its answer, and the answers.
 
-ghost use Rattle.std.specs.Prelude.{◌≡◌, ◌≤◌, ◌+◌, ◌<◌, ◌↔◌, [], ◌∷◌, false, length, IsTrue, IfOk, IfErr, Some, None, vec_len, vec_capacity};
-ghost use Rattle.child_events.specs.World.{own};
+ghost use Rattle.std.specs.Prelude.{◌≡◌, ◌+◌, ◌<◌, ◌↔◌, [], ◌∷◌, false, length, IsTrue, Some, None, vec_len, vec_capacity};
 ghost use Rattle.dialogue_sched.specs.declared.script.Script.{Script};
-ghost use Rattle.dialogue_sched.specs.declared.hall.ReportFault.TheVariants.{NoSuchScript};
 ghost use Rattle.child_desk.specs.Told.{Rings, Stops, telling_of, telling, asking};
-ghost use Rattle.child_desk.specs.Line.{Keeping, answer_at, InLine, Keeps, Means, Goes};
+ghost use Rattle.child_desk.specs.Line.{Keeping, answer_at, InLine, Keeps, Goes};
 ghost use Rattle.child_desk.specs.Heard.{Unheard};
 ghost use Rattle.child_desk.specs.Turn.{Comes, IsAwaited, IsTold, HasNoRequest, Waits};
 
@@ -13,9 +11,8 @@ use crate::book::Book;
 use crate::entering::enter;
 use child_events::{Answer, HallEvent, What};
 use child_keeper::{Answered, Keeper};
-use dialogue_sched::ReportFault;
 use expect_core::Request;
-use session::{Ending, Report};
+use session::Ending;
 
 /// What a desk keeps of a script.
 #[derive(Drop)]
@@ -45,15 +42,6 @@ impl Line {
             over: false,
         }
     }
-}
-
-/// What came of a script. Where its session lives, that is what the script means over its part of the record.
-pub fn report_at(book: &Book, at: usize) -> Result<Report, ReportFault>
-    requires { at < 64 }
-    ensures means { IfOk result (λ r. (rings : Rings) (keeper : Keeping) (script : Script) (line : Line) → InLine rings keeper script at line book.now → Means script line (own (at + 1) book.now.log.items) r) }
-    ensures missing { IfErr result (λ fault. fault ≡ NoSuchScript → length book.now.hall ≤ at) }
-{
-    book.hall.report(at + 1)
 }
 
 /// Has the hall's next request wait for its answer, where none waits. No other script is touched.

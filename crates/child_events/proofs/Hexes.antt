@@ -36,7 +36,7 @@ digit_is : (k : ℕ) → k < 16 → slice_index lower_digits k ≡ glyph k
 digit_is k lt = glyphs_below-at 16 k refl lt
 
 -- a lower-case digit has a value, and is that value's digit
-abbrev value_of : ℕ → ℕ
+abbrev pub value_of : ℕ → ℕ
 value_of d = if nat_le d 57 then d - 48 else d - 87
 
 value_is : (d : ℕ) → is_lower_hex_digit d ≡ true → hex_digit_value d ≡ Some (value_of d)
@@ -79,7 +79,7 @@ encodes_pair h l rest bytes lh ll others =
       bytes_fit = more_bytes (value_of h * 16 + value_of l) bytes (omega arith) others.bytes_fit;
     }
 
-pair_is : (h l i : ℕ) → is_lower_hex_digit h ≡ true → is_lower_hex_digit l ≡ true → pair_value h l i ≡ Ok (value_of h * 16 + value_of l)
+pub pair_is : (h l i : ℕ) → is_lower_hex_digit h ≡ true → is_lower_hex_digit l ≡ true → pair_value h l i ≡ Ok (value_of h * 16 + value_of l)
 pair_is h l i lh ll =
     let first : value_at h i ≡ Ok (value_of h) = ap (digit_or_error h i) (value_is h lh) in
     let second : value_at l (i + 1) ≡ Ok (value_of l) = ap (digit_or_error l (i + 1)) (value_is l ll) in

@@ -11,3 +11,5 @@ pub mod Whole
 pub mod Fronts
 pub mod Worlds
 pub mod Queued
+pub mod Nexts
+pub mod Judged

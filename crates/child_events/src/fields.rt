@@ -2,10 +2,13 @@
 
 ghost use Rattle.std.specs.Prelude.{◌≡◌, ◌≤◌, ◌+◌, ◌<◌, ◌∷◌, [], length, IfOk};
 ghost use Rattle.std.specs.Str.{bytes_eq};
+ghost use Rattle.child_events.specs.Judging.{judged};
 ghost use Rattle.child_events.specs.Reading.{SplitsAt, starts_number as starts, digits_number as digits_number_of, number_of, or_fault, number_within as within, is_lower_hex_digit as is_digit, all_lower_hex, piece_of, cause_of, what_alone as alone_of, failed as failed_of, what_failed as failed_with, moment_of, stamp_of, any_empty as any_empty_of, Reads};
 
+use crate::digits::Digits;
 use crate::event::{Answer, Cause, HallEvent, What};
 use crate::faults::LogFault;
+use memchr::memchr;
 use std::alloc::Global;
 use tcl_words::Text;
 
@@ -38,12 +41,22 @@ impl StampWords<'_> {
 pub fn split_first(bytes: &[u8], separator: u8) -> Option<(&[u8], &[u8])>
     ensures { SplitsAt separator bytes.now result }
 {
-    for (i, b) in bytes.iter().enumerate() {
-        if *b == separator {
+    for i in 0..bytes.len() {
+        if bytes[i] == separator {
             return Some((&bytes[..i], &bytes[i + 1..]));
         }
     }
     None
+}
+
+/// What stands in front of the first newline, and what stands behind it.
+pub fn split_line(bytes: &[u8]) -> Option<(&[u8], &[u8])>
+    ensures { SplitsAt 10 bytes.now result }
+{
+    match memchr(b'\n', bytes) {
+        Some(i) => Some((&bytes[..i], &bytes[i + 1..])),
+        None => None,
+    }
 }
 
 pub fn is(word: &[u8], name: &[u8]) -> bool
@@ -170,35 +183,32 @@ pub fn status(line: usize, word: &[u8]) -> Result<u8, LogFault>
     Ok(n as u8)
 }
 
-fn is_lower_hex_digit(digit: u8) -> bool
-    ensures { result ≡ is_digit digit }
+/// Whether a word is a piece: lower-case pairs of hexadecimal digits, or a dash.
+#[tactic(auto, using(crate::proofs::Judged::piece_checked))]
+pub fn check_piece(line: usize, digits: &Digits) -> Result<(), LogFault>
+    ensures { result ≡ judged (piece_of line digits.now) }
 {
-    (b'0' <= digit && digit <= b'9') || (b'a' <= digit && digit <= b'f')
-}
-
-fn is_lower_hex(word: &[u8]) -> bool
-    ensures { result ≡ all_lower_hex word.now }
-{
-    for digit in word {
-        if !is_lower_hex_digit(*digit) {
-            return false;
-        }
-    }
-    true
-}
-
-/// The bytes of lower-case pairs of hexadecimal digits, or none for a dash.
-pub fn piece(alloc: Global, line: usize, word: &[u8]) -> Result<Text, LogFault>
-    ensures { Reads result (piece_of line word.now) }
-{
+    let word = digits.word();
     if is(word, b"-") {
-        return Ok(Text::new(alloc));
+        return Ok(());
     }
-    if word.len() % 2 != 0 || !is_lower_hex(word) {
+    if word.len() % 2 != 0 || !digits.is_lower() {
         return Err(LogFault::Hex(line));
     }
     if word.len() > MOST_DIGITS {
         return Err(LogFault::TooLong(line));
+    }
+    Ok(())
+}
+
+/// The bytes of lower-case pairs of hexadecimal digits, or none for a dash.
+pub fn piece(alloc: Global, line: usize, digits: &Digits) -> Result<Text, LogFault>
+    ensures { Reads result (piece_of line digits.now) }
+{
+    check_piece(line, digits)?;
+    let word = digits.word();
+    if is(word, b"-") {
+        return Ok(Text::new(alloc));
     }
     match hex::decode(alloc, word) {
         Ok(bytes) => Ok(Text { bytes }),

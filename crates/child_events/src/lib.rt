@@ -2,11 +2,15 @@
 #![tactic(auto)]
 
 mod counted;
+mod digits;
 mod event;
 mod faults;
 mod fields;
 mod hall_events;
 mod lane;
+mod line;
+mod log_reader;
+mod next;
 mod queue;
 mod reading;
 mod slot;
@@ -19,6 +23,8 @@ pub use event::{Answer, Cause, Event, HallEvent, Item, What, own_event};
 pub use faults::LogFault;
 pub use hall_events::HallEvents;
 pub use lane::{Answers, Items, Lane, Lanes};
+pub use log_reader::LogReader;
+pub use next::{pick, pick_law};
 pub use queue::Queue;
 pub use reading::{log_laws, read_log};
 pub use world::{World, later, world_law};

@@ -10,10 +10,11 @@ use Rattle.child_events.specs.declared.event.Answer.{Answer}
 use Rattle.child_events.specs.declared.event.Event.{Event}
 use Rattle.child_events.specs.declared.event.What.{What}
 use Rattle.child_events.specs.World.{own}
-use Rattle.tcl_eval.specs.declared.ending.Ending.TheVariants.{Waiting, Memory}
+use Rattle.tcl_eval.specs.declared.ending.Ending.TheVariants.{Waiting}
 use Rattle.expect_core.specs.declared.request.Request.{Request}
 use Rattle.session.specs.declared.report.Report.{Report}
 use Rattle.session.specs.Meaning.{meaning}
+use Rattle.session.specs.Spent.{memory_report}
 use Rattle.session.specs.Growth.{Continues}
 use Rattle.dialogue_sched.specs.declared.script.Script.{Script}
 use Rattle.dialogue_sched.specs.Ticks.{Rises, WithTicks, none, kept, tick}
@@ -72,8 +73,8 @@ module _ (told : ℕ → ℕ → Request → Answer → Type 0) (gives : ℕ →
   -- a script's part of its worker's record, and of the joined one
 
   ended_on : (script : Script) (report : Report) (es more : List Event) → Rises more → WithTicks es more →
-      ((report ≡ meaning script.source script.settings es) × (report.ending ≢ Waiting)) ⊎ (report.ending ≡ Memory) →
-      ((report ≡ meaning script.source script.settings more) × (report.ending ≢ Waiting)) ⊎ (report.ending ≡ Memory)
+      ((report ≡ meaning script.source script.settings es) × (report.ending ≢ Waiting)) ⊎ (report ≡ memory_report) →
+      ((report ≡ meaning script.source script.settings more) × (report.ending ≢ Waiting)) ⊎ (report ≡ memory_report)
   ended_on script report es more up p (inr memory) = inr memory
   ended_on script report es more up p (inl (is, ends)) =
       inl (is ∙ sym (ticks_change_nothing script.source script.settings es more up p (λ w. ends (ap (λ (r : Report). r.ending) is ∙ w))), ends)

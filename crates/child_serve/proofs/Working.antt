@@ -1,5 +1,5 @@
 -- What a worker has served, from what its desk keeps.
-use Rattle.std.proofs.Common.{◌≡◌, ◌≢◌, ◌⊎◌, inl, inr, ℕ, zero, suc, ◌+◌, ◌-◌, ◌*◌, ◌≤◌, ◌<◌, List, [], ◌∷◌, ◌++◌, length, map, Bool, true, false, ◌&&◌, Option, None, Some, refl, sym, ap, subst, ◌∙◌, arith}
+use Rattle.std.proofs.Common.{◌≡◌, ◌≢◌, ◌⊎◌, inl, inr, ℕ, zero, suc, ◌+◌, ◌-◌, ◌*◌, ◌≤◌, ◌<◌, List, [], ◌∷◌, length, map, Bool, true, false, ◌&&◌, Option, None, Some, refl, sym, ap, subst, ◌∙◌, arith}
 use Rattle.std.specs.Prelude.{slice_get, Contains, nat_lt, nat_le, IsTrue, if◌then◌else◌}
 use Rattle.std.proofs.lemmas.Bool.Decides.{nat_tests}
 use Rattle.child_events.specs.declared.event.Answer.{Answer}
@@ -10,11 +10,12 @@ use Rattle.child_events.specs.declared.event.HallEvent.{HallEvent}
 use Rattle.child_events.specs.declared.event.HallEvent.TheVariants as hall
 use Rattle.child_events.specs.World.{own}
 use Rattle.child_events.specs.Log.{AllFit, fits, piece_len}
-use Rattle.tcl_eval.specs.declared.ending.Ending.TheVariants.{Waiting, Memory}
+use Rattle.tcl_eval.specs.declared.ending.Ending.TheVariants.{Waiting}
 use Rattle.expect_core.specs.declared.request.Request.{Request}
 use Rattle.session.specs.declared.report.Report.{Report}
 use Rattle.session.specs.Left.{Kept}
 use Rattle.session.specs.Meaning.{meaning}
+use Rattle.session.specs.Spent.{memory_report}
 use Rattle.dialogue_sched.specs.declared.script.Script.{Script}
 use Rattle.dialogue_sched.specs.declared.refusal.HallRefusal.{HallRefusal}
 use Rattle.dialogue_sched.specs.declared.refusal.HallRefusal.TheVariants.{NoSuchScript, NoSuchChild, MomentTooLarge, PieceTooLong}
@@ -29,8 +30,8 @@ use Rattle.child_keeper.specs.declared.keeper.Keeper.{Ghosts}
 use Rattle.child_keeper.specs.declared.items.Item.{Item}
 use Rattle.feed_rings.specs.Ends.{taken_items}
 use Rattle.child_desk.specs.declared.ends.Ends.{Ends}
-use Rattle.child_desk.specs.Told.{Put, Rings, no_rings, AreAmong, answers_in, all_told, heard_of_hand, asked_of_hand, rings_of}
-use Rattle.child_desk.specs.Line.{Keeping, InLine, Means, KeepsAll, AllOver}
+use Rattle.child_desk.specs.Told.{Put, no_rings, AreAmong, answers_in, all_told, heard_of_hand, asked_of_hand, rings_of}
+use Rattle.child_desk.specs.Line.{Keeping, InLine, Means, KeepsAll, AllOver, AllShown}
 use Rattle.child_desk.proofs.Places.{one_there}
 use Rattle.child_desk.proofs.Lining.{first_line}
 use Rattle.child_serve.specs.declared.served.Served.{Served}
@@ -39,7 +40,7 @@ use Rattle.child_serve.specs.Joined.{script_of, numbered}
 use Rattle.child_serve.specs.Given.{IsGiven}
 use Rattle.child_serve.specs.Served.{IsServed}
 use Rattle.child_serve.specs.Whole.{keeping_of}
-use Rattle.child_serve.specs.Teams.{AreFirst, AllShown, IsTeam, IsWork}
+use Rattle.child_serve.specs.Teams.{AreFirst, IsTeam, IsWork}
 use Rattle.child_serve.proofs.Giving.{among_told}
 use Rattle.child_serve.proofs.Wholes.{mapped, unmapped, map_length}
 
@@ -146,47 +147,6 @@ line_of named made k = record { name = named k; last = made k; awaited = None; s
 pub first_length : {K : Type 0} (named made : K → ℕ) (keepers : List K) (lines : List Line) → AreFirst named made keepers lines → length lines ≡ length keepers
 first_length named made keepers lines are = ap length are ∙ map_length (line_of named made) keepers
 
--- what was shown so far, of the first scripts
-pub record ShownTo (lines : List Line) (book : Book) (n : ℕ) (reports : List Report) : Type 0 where
-  pub count : length reports ≡ n
-  pub each : (at : ℕ) (line : Line) (report : Report) → slice_get lines at ≡ Some line → slice_get reports at ≡ Some report →
-      (rings : Rings) (keeper : Keeping) (script : Script) → InLine rings keeper script at line book → Means script line (own (at + 1) book.log.items) report
-
-last_of : (rs : List Report) (r : Report) (i : ℕ) (s : Report) → slice_get (rs ++ r ∷ []) i ≡ Some s → (slice_get rs i ≡ Some s) ⊎ ((i ≡ length rs) × (r ≡ s))
-last_of [] r zero s got = inr (refl, (cc))
-last_of [] r (suc i) s got = absurd (let none : ◌≡◌ {A = Option Report} None (Some s) = got in cc)
-last_of (x ∷ rs) r zero s got = inl got
-last_of (x ∷ rs) r (suc i) s got = elim (last_of rs r i s got) [
-  | inl old ↦ inl old
-  | inr new ↦ inr (ap suc new.0, new.1)
-]
-
-one_longer : (rs : List Report) (r : Report) → length (rs ++ r ∷ []) ≡ length rs + 1
-one_longer [] r = refl
-one_longer (x ∷ rs) r = let e = one_longer rs r in omega (arith, e)
-
-module _ (lines : List Line) (book : Book) where
-  pub none_shown : ShownTo lines book 0 []
-  none_shown = record { count = refl; each = λ at line report here got. absurd (let none : ◌≡◌ {A = Option Report} None (Some report) = got in cc) }
-
-  pub one_shown : (n : ℕ) (reports more : List Report) (report : Report) → more ≡ reports ++ report ∷ [] →
-      ((rings : Rings) (keeper : Keeping) (script : Script) (line : Line) → InLine rings keeper script n line book → Means script line (own (n + 1) book.log.items) report) → ShownTo lines book n reports → ShownTo lines book (n + 1) more
-  one_shown n reports more report is means s = record {
-    count = ap length is ∙ one_longer reports report ∙ ap (λ (k : ℕ). k + 1) s.count;
-    each = λ at line got here there. by_place at line got here (last_of reports report at got (ap (λ (l : List Report). slice_get l at) (sym is) ∙ there));
-  }
-    where
-      by_place : (at : ℕ) (line : Line) (got : Report) → slice_get lines at ≡ Some line → (slice_get reports at ≡ Some got) ⊎ ((at ≡ length reports) × (report ≡ got)) →
-          (rings : Rings) (keeper : Keeping) (script : Script) → InLine rings keeper script at line book → Means script line (own (at + 1) book.log.items) got
-      by_place at line got here (inl old) rings keeper script l = s.each at line got here old rings keeper script l
-      by_place at line got here (inr (last, same)) rings keeper script l =
-          subst (Means script line (own (at + 1) book.log.items)) same
-          (subst (λ (k : ℕ). Means script line (own (k + 1) book.log.items) report) (sym (last ∙ s.count))
-          (means rings keeper script line (subst (λ (k : ℕ). InLine rings keeper script k line book) (last ∙ s.count) l)))
-
-  pub all_shown : (n : ℕ) (reports : List Report) → n ≡ length lines → ShownTo lines book n reports → AllShown lines book reports
-  all_shown n reports all s = record { count = s.count ∙ all; each = s.each }
-
 -- The lines and the hall at the start, what turning left of them, what was taken behind that, the reports, and what the record has of each child.
 module _ {K C O : Type 0} {g : Ghosts K O} {r : ReadGhosts O} (n w : ℕ) (team : Team K C) (first lines : List Line) (opened between ends : List (Ends K O g r)) (begun turned settled : Book) (s : Served)
     (is : IsTeam n w team)
@@ -194,12 +154,12 @@ module _ {K C O : Type 0} {g : Ghosts K O} {r : ReadGhosts O} (n w : ℕ) (team 
     (unheard : (i : ℕ) (keeper : K) → slice_get team.keepers.items i ≡ Some keeper → (e : Ends K O g r) × (slice_get opened i ≡ Some e) × (taken_items e.answers ≡ []) × (asked_of_hand e ≡ []))
     (kept : KeepsAll first opened begun lines between turned) (over : AllOver lines)
     (left : KeepsAll lines between turned lines ends settled)
-    (shown : AllShown lines settled s.reports) (logged : s.logged ≡ settled.log.items)
+    (shown : AllShown settled s.reports) (logged : s.logged ≡ settled.log.items)
     (given : (i index : ℕ) (keeper : K) (e : Ends K O g r) (xs : List Answer) (qs : List Request) → slice_get team.keepers.items i ≡ Some keeper → slice_get ends i ≡ Some e → AreAmong (heard_of_hand e.answers) (g.named keeper) (g.made keeper) xs qs →
     index < 16 → (Contains s.unsettled.items (record { script = script_of n w (i + 1); child = index + 1 }) → ⊥) →
     IsGiven g.told g.gives (g.named keeper) (g.made keeper) (index + 1) xs qs (recorded (i + 1) (index + 1) settled.log.items)) where
   ended_by : (script : Script) (line : Line) (es : List Event) (report : Report) → IsTrue line.over → Means script line es report →
-      ((report ≡ meaning script.source script.settings es) × (report.ending ≢ Waiting)) ⊎ (report.ending ≡ Memory)
+      ((report ≡ meaning script.source script.settings es) × (report.ending ≢ Waiting)) ⊎ (report ≡ memory_report)
   ended_by script line es report o (inl (same, ends)) = inl (same, ends o)
   ended_by script line es report o (inr memory) = inr memory
 
@@ -207,7 +167,7 @@ module _ {K C O : Type 0} {g : Ghosts K O} {r : ReadGhosts O} (n w : ℕ) (team 
       IsServed g.told g.gives (script_of n w (i + 1)) keeper script report s.unsettled.items (own (i + 1) s.logged)
   of_one i keeper script report got_keeper got_script got_report =
       subst (λ (es : List HallEvent). IsServed g.told g.gives (script_of n w (i + 1)) keeper script report s.unsettled.items (own (i + 1) es)) (sym logged) (record {
-        ended = ended_by script line.0 (own (i + 1) settled.log.items) report (over i line.0 line.2) (shown.each i line.0 report line.2 got_report (rings_of last.0) keeper script last.2);
+        ended = ended_by script line.0 (own (i + 1) settled.log.items) report (over i line.0 line.2) (shown.each i report got_report (rings_of last.0) keeper script line.0 last.2);
         answers = among_told (taken_items last.0.answers) keeper.name keeper.made (answers_in (own (i + 1) settled.log.items)) asked last.2.2.answers;
         children = last.2.2.children;
         given = given_one;
@@ -261,7 +221,7 @@ module _ {K C O : Type 0} {g : Ghosts K O} {r : ReadGhosts O} (n w : ℕ) (team 
   pub is_work : IsWork g.told g.gives g.named g.made n w team s
   is_work = record {
     served = record {
-      count = shown.count ∙ kept.count ∙ first_length g.named g.made team.keepers.items first are ∙ is.keepers;
+      count = shown.count ∙ as_many;
       each = of_one;
     };
     fits = record {

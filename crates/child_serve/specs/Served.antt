@@ -6,10 +6,11 @@ use Rattle.child_events.specs.declared.event.Event.{Event}
 use Rattle.child_events.specs.declared.event.HallEvent.{HallEvent}
 use Rattle.child_events.specs.World.{own}
 use Rattle.child_events.specs.Log.{AllFit}
-use Rattle.tcl_eval.specs.declared.ending.Ending.TheVariants.{Waiting, Memory}
+use Rattle.tcl_eval.specs.declared.ending.Ending.TheVariants.{Waiting}
 use Rattle.expect_core.specs.declared.request.Request.{Request}
 use Rattle.session.specs.declared.report.Report.{Report}
 use Rattle.session.specs.Meaning.{meaning}
+use Rattle.session.specs.Spent.{memory_report}
 use Rattle.dialogue_sched.specs.declared.script.Script.{Script}
 use Rattle.child_serve.specs.declared.served.Served.{Served}
 use Rattle.child_serve.specs.declared.served.Unsettled.{Unsettled}
@@ -24,7 +25,7 @@ use Rattle.child_desk.specs.Told.{answers_in, replies_in, AreTold, AreOf}
 module _ (told : ℕ → ℕ → Request → Answer → Type 0) (gives : ℕ → ℕ → Option (List ℕ) → Type 0) where
   -- of one script: its number, its keeper, its report, the children that aren't settled, and its own part of the record
   pub record IsServed (number : ℕ) (keeper : Keeping) (script : Script) (report : Report) (unsettled : List Unsettled) (es : List Event) : Type 0 where
-    pub ended : ((report ≡ meaning script.source script.settings es) × (report.ending ≢ Waiting)) ⊎ (report.ending ≡ Memory)
+    pub ended : ((report ≡ meaning script.source script.settings es) × (report.ending ≢ Waiting)) ⊎ (report ≡ memory_report)
     pub answers : AreTold told keeper.name keeper.made (answers_in es) (meaning script.source script.settings es).requests
     pub children : AreOf (replies_in es) (meaning script.source script.settings es).requests
     pub given : (child : ℕ) → 1 ≤ child → child ≤ 16 → (Contains unsettled (record { script = number; child = child }) → ⊥) → IsGiven told gives keeper.name keeper.made child (answers_in es) (meaning script.source script.settings es).requests (said_by child es)

@@ -9,12 +9,8 @@ use Rattle.child_serve.specs.declared.worker.Team.{Team}
 use Rattle.child_serve.specs.declared.serving.Works.{Works}
 use Rattle.std.specs.declared.thread.PromisedHandle.{PromisedHandle}
 use Rattle.child_serve.specs.Joined.{script_of, Fits}
-use Rattle.child_events.specs.World.{own}
-use Rattle.session.specs.declared.report.Report.{Report}
-use Rattle.child_desk.specs.declared.book.Book.{Book}
 use Rattle.child_desk.specs.declared.line.Line.{Line}
-use Rattle.child_desk.specs.Told.{Rings}
-use Rattle.child_desk.specs.Line.{Keeping, InLine, Means}
+use Rattle.child_desk.specs.Line.{Keeping}
 use Rattle.child_serve.specs.Dealt.{IsDealt}
 use Rattle.child_serve.specs.Opened.{AreNumbers}
 use Rattle.child_serve.specs.Served.{AreServed}
@@ -23,12 +19,6 @@ use Rattle.child_serve.specs.Whole.{keeping_of}
 -- a line for each keeper, to whose script nothing has happened
 abbrev pub AreFirst : {K : Type 0} → (K → ℕ) → (K → ℕ) → List K → List Line → Type 0
 AreFirst named made keepers lines = lines ≡ map (λ k. record { name = named k; last = made k; awaited = None; sent = false; over = false }) keepers
-
--- the report of each script that is in its line is what that line says
-pub record AllShown (lines : List Line) (book : Book) (reports : List Report) : Type 0 where
-  pub count : length reports ≡ length lines
-  pub each : (at : ℕ) (line : Line) (report : Report) → slice_get lines at ≡ Some line → slice_get reports at ≡ Some report →
-      (rings : Rings) (keeper : Keeping) (script : Script) → InLine rings keeper script at line book → Means script line (own (at + 1) book.log.items) report
 
 module _ {K C : Type 0} where
   -- each team has the scripts and the keepers of its place

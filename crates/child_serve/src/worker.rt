@@ -6,15 +6,15 @@ ghost use Rattle.child_desk.specs.Line.{Leaves, HearsNoHand, IsEndOf};
 ghost use Rattle.child_desk.specs.Heard.{HearsAll, Settles};
 ghost use Rattle.child_serve.specs.Joined.{script_of};
 ghost use Rattle.child_serve.specs.Opened.{AreNumbers, AreOpened, AreLinked, IsLeftIn, AreLeftIn, IsFinishOf, IsTakenIn, AreTakenIn, IsClosedIn, AreClosedIn, SameElsewhere, AreSettled, KeepsListed};
-ghost use Rattle.child_serve.specs.Teams.{IsTeam, IsWork, AreFirst, AllShown};
+ghost use Rattle.child_serve.specs.Teams.{IsTeam, IsWork, AreFirst};
 
 use crate::hands::{Hand, start};
 use crate::rounds::turn_all;
 use crate::served::{Served, Unsettled};
-use child_desk::{Book, Desk, Ends, Line};
+use child_desk::{Book, Desk, Ends, Line, Outcome};
 use child_hands::{Fresh, HandEnd, Work};
 use child_keeper::{Clock, Gate, Item, Keeper};
-use dialogue_sched::{Hall, HallFault, ReportFault, Reports, Script};
+use dialogue_sched::{Hall, HallFault, Script};
 use feed_rings::{Bell, Finished};
 use std::alloc::{AllocError, AllocFailed, Global};
 use std::sync::{Arc, Wait};
@@ -285,23 +285,6 @@ fn settle_all<K: Keeper, W: Threads>(
     Ok(settled)
 }
 
-/// What came of each script.
-fn reports_of<K: Keeper>(alloc: Global, desk: &Desk<K>) -> Result<Reports, WorkFault>
-    requires few { length desk.now.lines.items ≤ 64 }
-    requires there { length desk.now.lines.items ≤ length desk.now.book.hall }
-    ensures { IfOk result (λ rs. AllShown desk.now.lines.items desk.now.book rs) }
-{
-    let mut list = Vec::new(alloc);
-    for at in 0..desk.lines.len() {
-        match desk.report(at) {
-            Ok(report) => list.push(report)?,
-            Err(ReportFault::Memory) => return Err(WorkFault::Memory),
-            Err(ReportFault::NoSuchScript) => unreachable!(),
-        }
-    }
-    Ok(Reports { list })
-}
-
 /// Serves the scripts of a worker, to their end.
 pub fn work<
     K: Keeper + Send + Drop + 'static,
@@ -337,10 +320,10 @@ pub fn work<
         return Err(WorkFault::Memory);
     };
     let settled = settle_all(&rt, alloc, place, &mut desk, hands)?;
-    let reports = reports_of(alloc, &desk)?;
+    let Outcome { reports, record } = desk.into_outcome();
     Ok(Served {
         reports,
-        logged: desk.into_record(),
+        logged: record,
         unsettled: settled.unsettled,
         forced: settled.forced,
     })

@@ -1,11 +1,9 @@
 -- Raised moments mean the same.
-use Rattle.std.proofs.Common.{◌≡◌, ℕ, List, [], ◌∷◌, refl, sym, ap, ◌∙◌, arith}
+use Rattle.std.proofs.Common.{◌≡◌, ℕ, List, [], ◌∷◌, refl, ap, ◌∙◌, arith}
 use Rattle.std.specs.Prelude.{max}
-use Rattle.child_events.specs.declared.event.What.{What}
 use Rattle.child_events.specs.declared.event.Event.{Event}
 use Rattle.child_events.specs.declared.event.Event.TheVariants as event
 use Rattle.child_events.specs.World.{raised_event, raised_from, moment_of}
-use Rattle.expect_core.specs.declared.settings.Settings.{Settings}
 use Rattle.expect_core.specs.declared.dialogue.Dialogue.{Dialogue}
 use Rattle.expect_core.specs.Lanes.{offered, extended, arrived}
 use Rattle.expect_core.specs.Calls.{fresh}

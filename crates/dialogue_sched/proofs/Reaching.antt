@@ -1,18 +1,19 @@
 -- Halls by what came to them.
-use Rattle.std.proofs.Common.{◌≡◌, ℕ, zero, suc, ◌+◌, List, [], ◌∷◌, ◌++◌, Bool, true, false, refl, sym, ap, ◌∙◌, subst, inl, inr, arith, Option, Some, None}
+use Rattle.std.proofs.Common.{◌≡◌, ℕ, zero, suc, ◌+◌, List, [], ◌∷◌, ◌++◌, Bool, refl, sym, ap, ◌∙◌, subst, arith, Option, Some, None}
 use Rattle.std.specs.Prelude.{slice_get, slice_set, IsTrue, ◌⊎◌}
 use Rattle.std.proofs.lemmas.List.{append-nil, append_assoc}
 use Rattle.child_events.specs.declared.event.Event.{Event}
 use Rattle.child_events.specs.declared.event.HallEvent.{HallEvent}
 use Rattle.child_events.specs.World.{own, own_of, after_own}
 use Rattle.expect_core.specs.declared.request.Request.{Request}
-use Rattle.tcl_eval.specs.declared.ending.Ending.TheVariants.{Memory}
 use Rattle.session.specs.declared.report.Report.{Report}
 use Rattle.session.specs.Meaning.{meaning}
 use Rattle.session.specs.Left.{Kept, left, HandsOut}
+use Rattle.session.specs.Spent.{memory_report, Reports}
+use Rattle.session.proofs.Spending.{reported}
 use Rattle.dialogue_sched.specs.declared.script.Script.{Script}
-use Rattle.dialogue_sched.specs.Took.{Took, AllTook}
-use Rattle.dialogue_sched.specs.Hall.{Begins, AllBegin, Reports}
+use Rattle.dialogue_sched.specs.Took.{AllTook}
+use Rattle.dialogue_sched.specs.Hall.{AllBegin}
 use Rattle.dialogue_sched.specs.Reached.{Reached, FromStart, StepsOn, HandsOn, Tells}
 use Rattle.dialogue_sched.proofs.Pairing.{no_some, some_of}
 use Rattle.dialogue_sched.proofs.Running.{Took_lives, Took_says}
@@ -65,22 +66,19 @@ hands n (suc i) (s ∷ ss) es request (x ∷ ks) k k' h got out = (h.0, hands (n
 pub hands_on : HandsOn
 hands_on ss es i request ks k k' h got out = hands 1 i ss es request ks k k' h got out
 
-told : (n i j : ℕ) (ss : List Script) (es : List HallEvent) (s : Script) (ks : List Kept) (k : Kept) (r : Report) → j ≡ n + i → Reached n ss es ks → slice_get ss i ≡ Some s → slice_get ks i ≡ Some k → Reports k r → (r ≡ meaning s.source s.settings (own j es)) ⊎ (r.ending ≡ Memory)
+told : (n i j : ℕ) (ss : List Script) (es : List HallEvent) (s : Script) (ks : List Kept) (k : Kept) (r : Report) → j ≡ n + i → Reached n ss es ks → slice_get ss i ≡ Some s → slice_get ks i ≡ Some k → Reports k r → (r ≡ meaning s.source s.settings (own j es)) ⊎ (r ≡ memory_report)
 told n zero j [] es s ks k r e h here got reports = no_some s here
 told n (suc i) j [] es s ks k r e h here got reports = no_some s here
 told n i j (x ∷ ss) es s [] k r e h here got reports = absurd h
-told n zero j (x ∷ ss) es s (y ∷ ks) k r e h here got reports = by_life k.lives refl
-  where
-    by_life : (b : Bool) → k.lives ≡ b → (r ≡ meaning s.source s.settings (own j es)) ⊎ (r.ending ≡ Memory)
-    by_life true lives =
-        let number : n ≡ j = omega (arith, e) in
-        inl (reports.lives lives
-        ∙ sym (ap (λ (z : Kept). left z []) (some_of y k got))
-        ∙ h.0 (subst (λ (z : Kept). IsTrue z.lives) (sym (some_of y k got)) lives) []
-        ∙ ap (meaning x.source x.settings) (append-nil (own n es))
-        ∙ ap (λ (z : Script). meaning z.source z.settings (own n es)) (some_of x s here)
-        ∙ ap (λ (m : ℕ). meaning s.source s.settings (own m es)) number)
-    by_life false spent = inr (reports.spent spent)
+told n zero j (x ∷ ss) es s (y ∷ ks) k r e h here got reports =
+    let number : n ≡ j = omega (arith, e) in
+    reported k r (meaning s.source s.settings (own j es)) reports
+    (λ lives.
+    sym (ap (λ (z : Kept). left z []) (some_of y k got))
+    ∙ h.0 (subst (λ (z : Kept). IsTrue z.lives) (sym (some_of y k got)) lives) []
+    ∙ ap (meaning x.source x.settings) (append-nil (own n es))
+    ∙ ap (λ (z : Script). meaning z.source z.settings (own n es)) (some_of x s here)
+    ∙ ap (λ (m : ℕ). meaning s.source s.settings (own m es)) number)
 told n (suc i) j (x ∷ ss) es s (y ∷ ks) k r e h here got reports = told (n + 1) i j ss es s ks k r (omega (arith, e)) h.1 here got reports
 
 pub tells : Tells

@@ -1,18 +1,19 @@
 -- From sessions to reports.
-use Rattle.std.proofs.Common.{◌≡◌, ℕ, zero, suc, ◌+◌, List, [], ◌∷◌, ◌++◌, length, take, Bool, true, false, refl, sym, ap, ◌∙◌, subst, inl, inr, arith, Some, None, Ok}
+use Rattle.std.proofs.Common.{◌≡◌, ℕ, zero, suc, ◌+◌, List, [], ◌∷◌, ◌++◌, length, take, refl, sym, ap, ◌∙◌, subst, inl, inr, arith, Some, None, Ok}
 use Rattle.std.specs.Prelude.{slice_get, IsTrue, ◌⊎◌, MatchOption}
 use Rattle.std.proofs.lemmas.List.{append-nil}
 use Rattle.child_events.specs.declared.event.Event.{Event}
 use Rattle.child_events.specs.declared.event.HallEvent.{HallEvent}
 use Rattle.child_events.specs.World.{own}
-use Rattle.tcl_eval.specs.declared.ending.Ending.TheVariants.{Memory}
 use Rattle.session.specs.declared.report.Report.{Report}
 use Rattle.session.specs.Meaning.{meaning}
 use Rattle.session.specs.Left.{Kept, left}
+use Rattle.session.specs.Spent.{memory_report, Reports}
+use Rattle.session.proofs.Spending.{reported}
 use Rattle.dialogue_sched.specs.declared.script.Script.{Script}
 use Rattle.dialogue_sched.specs.Pairs.{Paired}
 use Rattle.dialogue_sched.specs.Took.{Took, AllTook}
-use Rattle.dialogue_sched.specs.Hall.{Begins, Reports}
+use Rattle.dialogue_sched.specs.Hall.{Begins}
 use Rattle.dialogue_sched.specs.Refusal.{first_refusal}
 use Rattle.dialogue_sched.specs.Hall.{opening_fault}
 use Rattle.dialogue_sched.specs.Run.{AllMean, Runs, Isolated}
@@ -28,12 +29,10 @@ pub Took_says : (es : List Event) (a b : Kept) → Took a es b → IsTrue b.live
 Took_says [] a b h lives later = ap (λ (k : Kept). left k later) h
 Took_says (e ∷ es) a b h lives later = h.says lives later
 
-one_mean : (s : Script) (es : List Event) (k k' : Kept) (r : Report) → Begins s k → Took k es k' → Reports k' r → (r ≡ meaning s.source s.settings es) ⊎ (r.ending ≡ Memory)
-one_mean s es k k' r begins took reports = by_life k'.lives refl
-  where
-    by_life : (b : Bool) → k'.lives ≡ b → (r ≡ meaning s.source s.settings es) ⊎ (r.ending ≡ Memory)
-    by_life true lives = inl (reports.lives lives ∙ Took_says es k k' took lives [] ∙ begins.says (Took_lives es k k' took lives) (es ++ []) ∙ ap (meaning s.source s.settings) (append-nil es))
-    by_life false spent = inr (reports.spent spent)
+one_mean : (s : Script) (es : List Event) (k k' : Kept) (r : Report) → Begins s k → Took k es k' → Reports k' r → (r ≡ meaning s.source s.settings es) ⊎ (r ≡ memory_report)
+one_mean s es k k' r begins took reports =
+    reported k' r (meaning s.source s.settings es) reports
+    (λ lives. Took_says es k k' took lives [] ∙ begins.says (Took_lives es k k' took lives) (es ++ []) ∙ ap (meaning s.source s.settings) (append-nil es))
 
 pub all_mean : (n : ℕ) (es : List HallEvent) (ss : List Script) (ks ks' : List Kept) (rs : List Report) → Paired Begins ss ks → AllTook n es ks ks' → Paired Reports ks' rs → AllMean n es ss rs
 all_mean n es [] [] [] [] b t r = tt
@@ -59,19 +58,19 @@ pub whole_run : (scripts : List Script) (es : List HallEvent) (ks ks' : List Kep
 whole_run scripts es ks ks' rs opened none took reports = (opened.0, as_many scripts es ks opened ∙ none, all_mean 1 es scripts ks ks' rs opened.1 took reports)
 
 -- the report at a place is the meaning of the script there
-mean_at : (n i k : ℕ) (es : List HallEvent) (ss : List Script) (rs : List Report) (s : Script) (r : Report) → k ≡ n + i → AllMean n es ss rs → slice_get ss i ≡ Some s → slice_get rs i ≡ Some r → (r ≡ meaning s.source s.settings (own k es)) ⊎ (r.ending ≡ Memory)
+mean_at : (n i k : ℕ) (es : List HallEvent) (ss : List Script) (rs : List Report) (s : Script) (r : Report) → k ≡ n + i → AllMean n es ss rs → slice_get ss i ≡ Some s → slice_get rs i ≡ Some r → (r ≡ meaning s.source s.settings (own k es)) ⊎ (r ≡ memory_report)
 mean_at n i k es [] [] s r e h got made = no_some_at i s got
   where
-    no_some_at : (j : ℕ) (x : Script) → slice_get [] j ≡ Some x → (r ≡ meaning s.source s.settings (own k es)) ⊎ (r.ending ≡ Memory)
+    no_some_at : (j : ℕ) (x : Script) → slice_get [] j ≡ Some x → (r ≡ meaning s.source s.settings (own k es)) ⊎ (r ≡ memory_report)
     no_some_at zero x h = no_some x h
     no_some_at (suc j) x h = no_some x h
 mean_at n i k es [] (x ∷ rs) s r e h got made = absurd h
 mean_at n i k es (x ∷ ss) [] s r e h got made = absurd h
 mean_at n zero k es (x ∷ ss) (y ∷ rs) s r e h got made =
     let number : n ≡ k = omega (arith, e) in
-    subst (λ (j : ℕ). (r ≡ meaning s.source s.settings (own j es)) ⊎ (r.ending ≡ Memory)) number
-    (subst (λ (z : Report). (z ≡ meaning s.source s.settings (own n es)) ⊎ (z.ending ≡ Memory)) (some_of y r made)
-    (subst (λ (z : Script). (y ≡ meaning z.source z.settings (own n es)) ⊎ (y.ending ≡ Memory)) (some_of x s got) h.0))
+    subst (λ (j : ℕ). (r ≡ meaning s.source s.settings (own j es)) ⊎ (r ≡ memory_report)) number
+    (subst (λ (z : Report). (z ≡ meaning s.source s.settings (own n es)) ⊎ (z ≡ memory_report)) (some_of y r made)
+    (subst (λ (z : Script). (y ≡ meaning z.source z.settings (own n es)) ⊎ (y ≡ memory_report)) (some_of x s got) h.0))
 mean_at n (suc i) k es (x ∷ ss) (y ∷ rs) s r e h got made = mean_at (n + 1) i k es ss rs s r (omega (arith, e)) h.1 got made
 
 pub isolated : Isolated
@@ -81,7 +80,7 @@ isolated i j ss ss' es es' rs rs' s r r' ran ran' here here' same made made' =
     one : meaning s.source s.settings (own (i + 1) es) ≡ meaning s.source s.settings (own (j + 1) es')
     one = sym (means_raised s.source s.settings (own (i + 1) es)) ∙ ap (meaning s.source s.settings) same ∙ means_raised s.source s.settings (own (j + 1) es')
 
-    both : (r ≡ meaning s.source s.settings (own (i + 1) es)) ⊎ (r.ending ≡ Memory) → (r' ≡ meaning s.source s.settings (own (j + 1) es')) ⊎ (r'.ending ≡ Memory) → (r ≡ r') ⊎ ((r.ending ≡ Memory) ⊎ (r'.ending ≡ Memory))
+    both : (r ≡ meaning s.source s.settings (own (i + 1) es)) ⊎ (r ≡ memory_report) → (r' ≡ meaning s.source s.settings (own (j + 1) es')) ⊎ (r' ≡ memory_report) → (r ≡ r') ⊎ ((r ≡ memory_report) ⊎ (r' ≡ memory_report))
     both (inl e) (inl e') = inl (e ∙ one ∙ sym e')
     both (inl e) (inr spent) = inr (inr spent)
     both (inr spent) h = inr (inl spent)

@@ -1,5 +1,5 @@
 -- Sessions over one event, and over a list of events.
-use Rattle.std.proofs.Common.{◌≡◌, ℕ, zero, suc, ◌+◌, ◌≤◌, ◌<◌, List, [], ◌∷◌, length, Bool, true, false, refl, sym, ap, subst, ◌∙◌, arith, Some, None}
+use Rattle.std.proofs.Common.{◌≡◌, ℕ, zero, suc, ◌+◌, ◌≤◌, ◌<◌, List, [], ◌∷◌, length, drop, Bool, true, false, refl, sym, ap, subst, ◌∙◌, arith, Some, None}
 use Rattle.std.specs.Prelude.{slice_get, slice_set, ◌==◌, if◌then◌else◌}
 use Rattle.std.proofs.lemmas.Bool.Decides.{nat_tests}
 use Rattle.child_events.specs.declared.event.What.{What}
@@ -11,6 +11,7 @@ use Rattle.child_events.specs.World.{own, after_own}
 use Rattle.session.specs.Left.{Kept, Fed}
 use Rattle.dialogue_sched.specs.Took.{Took, AllTook}
 use Rattle.dialogue_sched.specs.Feeding.{AllFed}
+use Rattle.dialogue_sched.specs.Shares.{AllTookShare}
 use Rattle.dialogue_sched.proofs.Pairing.{no_some, some_of, no_cons, head_of, tail_of}
 
 own_mine : (n s c m : ℕ) (w : What) → s ≡ n → own n (hall.Child s c m w ∷ []) ≡ event.Child c m w ∷ []
@@ -41,43 +42,64 @@ AllTook_child n (suc i) s c m w (a ∷ olds) old new e got fed = (
   AllTook_child (n + 1) i s c m w olds old new (omega arith) got fed,
 )
 
--- The sessions up to a place took their own events, and those from there on are as they were.
-abbrev pub AllTookTo : ℕ → ℕ → List HallEvent → List Kept → List Kept → Type 0
-AllTookTo zero n es olds news = news ≡ olds
-AllTookTo (suc i) n es [] news = news ≡ []
-AllTookTo (suc i) n es (old ∷ olds) [] = ⊥
-AllTookTo (suc i) n es (old ∷ olds) (new ∷ news) = Took old (own n es) new × AllTookTo i (n + 1) es olds news
+-- The sessions up to a place took their shares, and those from there on are as they were.
+abbrev pub TookTo : ℕ → List (List Event) → List Kept → List Kept → Type 0
+TookTo zero shares olds news = news ≡ olds
+TookTo (suc i) shares [] news = news ≡ []
+TookTo (suc i) [] (old ∷ olds) news = ⊥
+TookTo (suc i) (es ∷ shares) (old ∷ olds) [] = ⊥
+TookTo (suc i) (es ∷ shares) (old ∷ olds) (new ∷ news) = Took old es new × TookTo i shares olds news
 
-pub took_set : (i n k : ℕ) (es : List HallEvent) (olds news : List Kept) (old new : Kept) → k ≡ n + i → AllTookTo i n es olds news → slice_get news i ≡ Some old → Took old (own k es) new → AllTookTo (suc i) n es olds (slice_set news i new)
-took_set zero n k es [] [] old new e h got took = no_some old got
-took_set zero n k es [] (y ∷ ys) old new e h got took = no_cons y ys h
-took_set zero n k es (x ∷ xs) [] old new e h got took = no_some old got
-took_set zero n k es (x ∷ xs) (y ∷ ys) old new e h got took =
-    let number : k ≡ n = omega (arith, e) in
-    (subst (λ z. Took z (own n es) new) (sym (some_of y old got) ∙ head_of y x ys xs h) (subst (λ z. Took old (own z es) new) number took), tail_of y x ys xs h)
-took_set (suc i) n k es [] [] old new e h got took = no_some old got
-took_set (suc i) n k es [] (y ∷ ys) old new e h got took = no_cons y ys h
-took_set (suc i) n k es (x ∷ xs) [] old new e h got took = absurd h
-took_set (suc i) n k es (x ∷ xs) (y ∷ ys) old new e h got took = (h.0, took_set i (n + 1) k es xs ys old new (omega (arith, e)) h.1 got took)
+pub took_set : (i : ℕ) (shares rest : List (List Event)) (es : List Event) (olds news : List Kept) (old new : Kept) → drop i shares ≡ es ∷ rest → TookTo i shares olds news → slice_get news i ≡ Some old → Took old es new → TookTo (suc i) shares olds (slice_set news i new)
+took_set zero [] rest es olds news old new e h got took = no_cons es rest (sym e)
+took_set zero (s ∷ shares) rest es [] [] old new e h got took = no_some old got
+took_set zero (s ∷ shares) rest es [] (y ∷ ys) old new e h got took = no_cons y ys h
+took_set zero (s ∷ shares) rest es (x ∷ xs) [] old new e h got took = no_some old got
+took_set zero (s ∷ shares) rest es (x ∷ xs) (y ∷ ys) old new e h got took =
+    (subst (λ z. Took z s new) (sym (some_of y old got) ∙ head_of y x ys xs h) (subst (λ z. Took old z new) (sym (head_of s es shares rest e)) took), tail_of y x ys xs h)
+took_set (suc i) [] rest es olds news old new e h got took = no_cons es rest (sym e)
+took_set (suc i) (s ∷ shares) rest es [] [] old new e h got took = no_some old got
+took_set (suc i) (s ∷ shares) rest es [] (y ∷ ys) old new e h got took = no_cons y ys h
+took_set (suc i) (s ∷ shares) rest es (x ∷ xs) [] old new e h got took = absurd h
+took_set (suc i) (s ∷ shares) rest es (x ∷ xs) (y ∷ ys) old new e h got took = (h.0, took_set i shares rest es xs ys old new e h.1 got took)
 
--- where a script sees nothing, its session took that
-pub took_nothing : (i n k : ℕ) (es : List HallEvent) (olds news : List Kept) → k ≡ n + i → i < length olds → AllTookTo i n es olds news → own k es ≡ [] → AllTookTo (suc i) n es olds news
-took_nothing i n k es [] news e lt h none = absurd (omega (arith, lt))
-took_nothing zero n k es (x ∷ xs) [] e lt h none = no_cons x xs (sym h)
-took_nothing zero n k es (x ∷ xs) (y ∷ ys) e lt h none =
-    let number : k ≡ n = omega (arith, e) in
-    (subst (λ z. Took x z y) (sym (ap (λ j. own j es) (sym number) ∙ none)) (head_of y x ys xs h), tail_of y x ys xs h)
-took_nothing (suc i) n k es (x ∷ xs) [] e lt h none = absurd h
-took_nothing (suc i) n k es (x ∷ xs) (y ∷ ys) e lt h none = (h.0, took_nothing i (n + 1) k es xs ys (omega (arith, e)) (omega (arith, lt)) h.1 none)
+pub took_shares : (i : ℕ) (shares : List (List Event)) (olds news : List Kept) → drop i shares ≡ [] → length shares ≡ length olds → TookTo i shares olds news → AllTookShare shares olds news
+took_shares zero [] [] [] e same h = tt
+took_shares zero [] [] (y ∷ ys) e same h = no_cons y ys h
+took_shares zero [] (x ∷ xs) ys e same h = absurd (omega (arith, same))
+took_shares zero (s ∷ shares) olds news e same h = no_cons s shares e
+took_shares (suc i) [] [] [] e same h = tt
+took_shares (suc i) [] [] (y ∷ ys) e same h = no_cons y ys h
+took_shares (suc i) [] (x ∷ xs) ys e same h = absurd h
+took_shares (suc i) (s ∷ shares) [] ys e same h = absurd (omega (arith, same))
+took_shares (suc i) (s ∷ shares) (x ∷ xs) [] e same h = absurd h
+took_shares (suc i) (s ∷ shares) (x ∷ xs) (y ∷ ys) e same h = (h.0, took_shares i shares xs ys e (omega (arith, same)) h.1)
 
-pub took_all : (i n : ℕ) (es : List HallEvent) (olds news : List Kept) → AllTookTo i n es olds news → length olds ≤ i → AllTook n es olds news
-took_all zero n es [] [] h le = tt
-took_all zero n es [] (y ∷ ys) h le = no_cons y ys h
-took_all zero n es (x ∷ xs) ys h le = absurd (omega arith)
-took_all (suc i) n es [] [] h le = tt
-took_all (suc i) n es [] (y ∷ ys) h le = no_cons y ys h
-took_all (suc i) n es (x ∷ xs) [] h le = absurd h
-took_all (suc i) n es (x ∷ xs) (y ∷ ys) h le = (h.0, took_all i (n + 1) es xs ys h.1 (omega arith))
+-- a share more was taken from the rest
+pub drop_one : (i : ℕ) (shares rest : List (List Event)) (es : List Event) → drop i shares ≡ es ∷ rest → drop (suc i) shares ≡ rest
+drop_one zero [] rest es h = no_cons es rest (sym h)
+drop_one zero (x ∷ xs) rest es h = tail_of x es xs rest h
+drop_one (suc i) [] rest es h = no_cons es rest (sym h)
+drop_one (suc i) (x ∷ xs) rest es h = drop_one i xs rest es h
+
+pub drop_some : (i : ℕ) (shares rest : List (List Event)) (es : List Event) → drop i shares ≡ es ∷ rest → i < length shares
+drop_some zero [] rest es h = no_cons es rest (sym h)
+drop_some zero (x ∷ xs) rest es h = omega arith
+drop_some (suc i) [] rest es h = no_cons es rest (sym h)
+drop_some (suc i) (x ∷ xs) rest es h = let less = drop_some i xs rest es h in omega (arith, less)
+
+-- where there is a place, a session is there
+pub got_at : (i : ℕ) (ks : List Kept) → i < length ks → (k : Kept) × (slice_get ks i ≡ Some k)
+got_at i [] lt = absurd (omega (arith, lt))
+got_at zero (k ∷ ks) lt = (k, refl)
+got_at (suc i) (k ∷ ks) lt = got_at i ks (omega (arith, lt))
+
+-- the session at the place is untouched by an empty share
+pub set_same : (i : ℕ) (ks : List Kept) (k : Kept) → slice_get ks i ≡ Some k → ks ≡ slice_set ks i k
+set_same zero [] k got = no_some k got
+set_same zero (x ∷ ks) k got = ap (λ (z : Kept). z ∷ ks) (some_of x k got)
+set_same (suc i) [] k got = no_some k got
+set_same (suc i) (x ∷ ks) k got = ap (λ (zs : List Kept). x ∷ zs) (set_same i ks k got)
 
 -- some events were taken
 pub took_some : (es : List Event) (old new : Kept) → (es ≡ [] → ⊥) → Fed old es new → Took old es new

@@ -8,11 +8,10 @@ use Rattle.expect_core.specs.declared.request.Request.{Request}
 use Rattle.expect_core.specs.Lanes.{untaken_of}
 use Rattle.session.specs.Meaning.{meaning}
 use Rattle.session.specs.Left.{Kept, left, HandsOut}
+use Rattle.session.specs.Spent.{Reports}
 use Rattle.dialogue_sched.specs.declared.script.Script.{Script}
 use Rattle.dialogue_sched.specs.declared.hall.HallFault.{HallFault}
 use Rattle.dialogue_sched.specs.declared.hall.HallFault.TheVariants as halls
-use Rattle.dialogue_sched.specs.declared.hall.ReportFault.{ReportFault}
-use Rattle.dialogue_sched.specs.declared.hall.ReportFault.TheVariants as reports
 use Rattle.dialogue_sched.specs.declared.refusal.HallRefusal.{HallRefusal}
 use Rattle.child_events.specs.declared.event.HallEvent.{HallEvent}
 use Rattle.dialogue_sched.specs.Refusal.{refusal_of}
@@ -26,11 +25,6 @@ pub record Begins (script : Script) (k : Kept) : Type 0 where
 
 abbrev pub AllBegin : List Script → List Kept → Type 0
 AllBegin scripts ks = Paired Begins scripts ks
-
--- a session's report
-pub record Reports (k : Kept) (r : Report) : Type 0 where
-  pub lives : IsTrue k.lives → r ≡ left k []
-  pub spent : k.lives ≡ false → r.ending ≡ Memory
 
 -- how a script ended, or that it waits
 pub record Ends (k : Kept) (e : Ending) : Type 0 where
@@ -61,18 +55,21 @@ abbrev pub Opens : List Script → Result (List Kept) HallFault → Type 0
 Opens scripts (Ok ks) = (opening_fault scripts ≡ None) × AllBegin scripts ks
 Opens scripts (Err halls.TooManyScripts) = opening_fault scripts ≡ Some halls.TooManyScripts
 Opens scripts (Err (halls.SourceTooLong n)) = opening_fault scripts ≡ Some (halls.SourceTooLong n)
-Opens scripts (Err halls.Memory) = Unit {0}
+Opens scripts (Err halls.Memory) = opening_fault scripts ≡ None
 
 -- what a step answers and leaves
 abbrev pub Stepped : HallEvent → List Kept → List Kept → Result (Unit {0}) HallRefusal → Type 0
 Stepped e old new (Ok done) = (refusal_of (length old) e ≡ None) × AllTook 1 (e ∷ []) old new
 Stepped e old new (Err r) = (refusal_of (length old) e ≡ Some r) × (new ≡ old)
 
--- a report of the script of a number
-abbrev pub Reported : ℕ → List Kept → Result Report ReportFault → Type 0
-Reported n ks (Ok r) = MatchOption (session_at n ks) ⊥ (λ k. Reports k r)
-Reported n ks (Err reports.NoSuchScript) = session_at n ks ≡ None
-Reported n ks (Err reports.Memory) = Unit {0}
+-- the report of the script of a number, where there is one
+abbrev pub Reported : ℕ → List Kept → Option Report → Type 0
+Reported n ks None = session_at n ks ≡ None
+Reported n ks (Some r) = MatchOption (session_at n ks) ⊥ (λ k. Reports k r)
+
+-- the report of each, in order
+abbrev pub AllReport : List Kept → List Report → Type 0
+AllReport ks rs = Paired Reports ks rs
 
 -- the ending of the script of a number
 abbrev pub EndsAt : ℕ → List Kept → Option Ending → Type 0

@@ -1,5 +1,5 @@
 -- Which events a hall refuses.
-use Rattle.std.specs.Prelude.{ℕ, nat_lt, nat_le, List, [], ◌∷◌, length, Bool, ◌&&◌, if◌then◌else◌, Option, Some, None, ◌+◌}
+use Rattle.std.specs.Prelude.{ℕ, nat_lt, nat_le, List, [], ◌∷◌, ◌++◌, ◌≡◌, length, Bool, ◌&&◌, if◌then◌else◌, Option, Some, None, ◌+◌}
 use Rattle.child_events.specs.declared.event.What.{What}
 use Rattle.child_events.specs.declared.event.What.TheVariants as what
 use Rattle.child_events.specs.declared.event.HallEvent.{HallEvent}
@@ -38,3 +38,9 @@ refused_or at (Some r) others = Some (at, r)
 abbrev pub first_refusal : ℕ → ℕ → List HallEvent → Option (ℕ × HallRefusal)
 first_refusal scripts at [] = None
 first_refusal scripts at (e ∷ es) = refused_or at (refusal_of scripts e) (first_refusal scripts (at + 1) es)
+
+-- none of the events before these was to be refused by so many scripts
+pub record IsAcceptedTo (scripts : ℕ) (all rest : List HallEvent) : Type 0 where
+  pub front : List HallEvent
+  pub same : front ++ rest ≡ all
+  pub accepted : first_refusal scripts 0 front ≡ None

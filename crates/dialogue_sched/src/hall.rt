@@ -1,13 +1,15 @@
 //! A hall of sessions, each of which sees its own events alone.
 
-ghost use Rattle.std.specs.Prelude.{◌≡◌, ◌<◌, ◌≤◌, length, vec_len};
+ghost use Rattle.std.specs.Prelude.{◌≡◌, ◌<◌, ◌≤◌, [], length, replicate, vec_len};
 ghost use Rattle.child_events.specs.declared.event.Event.TheVariants as events;
 ghost use Rattle.dialogue_sched.specs.Feeding.{AllFed, FedAt};
 
 use crate::fault::opening_fault;
 use crate::refusal::{HallRefusal, refusal};
+use crate::reports::Reports;
 use crate::script::Script;
-use child_events::{Event, HallEvent, own_event};
+use crate::shares::{Share, Shares};
+use child_events::{Event, HallEvent, HallEvents};
 use expect_core::sooner;
 use session::{Ending, Report, Request, Session};
 use std::alloc::{AllocError, AllocFailed, Global};
@@ -20,6 +22,7 @@ pub enum HallFault {
     TooManyScripts,
     /// The first script, counted from 1, whose source is too long.
     SourceTooLong(usize),
+    /// Memory was refused. Nothing else is wrong with the scripts.
     Memory,
 }
 
@@ -34,21 +37,16 @@ impl<T: Drop> From<AllocFailed<T>> for HallFault {
     }
 }
 
-/// Why there is no report.
-#[derive(Clone, Copy, Debug, PartialEq, Eq)]
-pub enum ReportFault {
-    NoSuchScript,
-    Memory,
-}
-
 /// Sessions, numbered from 1, seen as a list.
 #[derive(Drop)]
 pub struct Hall {
     sessions: Vec<Session>,
+    /// Room for a report of each of them.
+    room: Vec<Report>,
 }
 
 impl Model for Hall {
-    ghost use Rattle.std.specs.Prelude.{List, ◌≤◌, length};
+    ghost use Rattle.std.specs.Prelude.{List, [], ◌≡◌, ◌≤◌, length, vec_capacity};
     ghost use Rattle.std.specs.Coded.{codes};
     ghost use Rattle.session.specs.Left.{Kept};
     ghost use Rattle.session.specs.contracts.session.Session as session;
@@ -59,7 +57,7 @@ impl Model for Hall {
 
     ghost view = { λ h. h.sessions.items };
 
-    ghost invariant = { λ h. length h.sessions.items ≤ 64 };
+    ghost invariant = { λ h. (length h.sessions.items ≤ 64) × (h.room.items ≡ []) × (length h.sessions.items ≤ vec_capacity h.room) };
 }
 
 /// The session at a place goes on with an event.
@@ -92,43 +90,60 @@ fn feed_all_at(sessions: &mut Vec<Session>, i: usize, events: Vec<Event>)
     session.feed_all(events);
 }
 
-/// The events that a script sees.
-fn own_events(alloc: Global, script: u8, events: &[HallEvent]) -> Result<Vec<Event>, AllocError>
-    ensures { IfOk result (λ own_list. own_list.items ≡ own script events.now) }
-{
-    let mut list = Vec::new(alloc);
-    for event in events {
-        match own_event(alloc, script, event)? {
-            None => continue,
-            Some(own) => list.push(own)?,
-        }
-    }
-    Ok(list)
-}
-
-/// Each session goes on with the events that its script sees.
-fn feed_own(
-    alloc: Global,
-    sessions: &mut Vec<Session>,
-    events: &[HallEvent],
-) -> Result<(), AllocError>
-    requires { vec_len sessions.old ≤ 64 }
-    ensures took { OnOk result (AllTook 1 events.now sessions.old.items sessions.new.items) }
+/// The session at a place goes on with its share; where that is empty, nothing changes.
+fn feed_share(sessions: &mut Vec<Session>, i: usize, events: Vec<Event>)
+    requires { i < vec_len sessions.old }
+    ensures took { TookAt i events.items sessions.old.items sessions.new.items }
     ensures same { vec_len sessions.new ≡ vec_len sessions.old }
 {
-    for i in 0..sessions.len() {
-        let own = own_events(alloc, (i + 1) as u8, events)?;
-        if own.is_empty() {
-            continue;
-        }
-        feed_all_at(sessions, i, own);
+    if events.is_empty() {
+        return;
     }
-    Ok(())
+    feed_all_at(sessions, i, events);
 }
 
-ghost use Rattle.std.specs.Prelude.{IfOk, OnOk};
-ghost use Rattle.child_events.specs.World.{own};
+/// Each session goes on with the share at its place.
+fn feed_shares(sessions: &mut Vec<Session>, shares: Vec<Share>)
+    requires { vec_len shares ≡ vec_len sessions.old }
+    ensures took { AllTookShare shares.items sessions.old.items sessions.new.items }
+    ensures same { vec_len sessions.new ≡ vec_len sessions.old }
+{
+    let mut i: usize = 0;
+    for share in shares {
+        let Share { events } = share;
+        feed_share(sessions, i, events);
+        i += 1;
+    }
+}
+
+/// Events, dealt to so many scripts.
+fn dealt(alloc: Global, scripts: usize, events: Vec<HallEvent>) -> Result<Shares, AllocError>
+    ensures { IfOk result (λ shares. shares ≡ dealt_all 1 events.items (replicate scripts [])) }
+{
+    let mut shares = Shares::new(alloc, scripts)?;
+    for event in events {
+        shares.deal(event)?;
+    }
+    Ok(shares)
+}
+
+/// The reports of sessions, for which there is room. Each session goes with its report.
+fn reports_in(room: Vec<Report>, sessions: Vec<Session>) -> Reports
+    requires none { room.items ≡ [] }
+    requires room { vec_len sessions ≤ vec_capacity room }
+    ensures { AllReport sessions.items result }
+{
+    let mut list = room;
+    for session in sessions {
+        list.push_reserved(session.into_report());
+    }
+    Reports { list }
+}
+
+ghost use Rattle.std.specs.Prelude.{IfOk, OnOk, OnErr, vec_capacity};
+ghost use Rattle.dialogue_sched.specs.Hall.{AllReport};
 ghost use Rattle.dialogue_sched.specs.Feeding.{FedAllAt};
+ghost use Rattle.dialogue_sched.specs.Shares.{dealt_all, TookAt, AllTookShare};
 ghost use Rattle.dialogue_sched.specs.Took.{AllTook};
 
 impl Hall {
@@ -143,6 +158,9 @@ impl Hall {
         if let Some(fault) = opening_fault(scripts.as_slice()) {
             return Err(fault);
         }
+        let Ok(room) = Vec::with_capacity(alloc, scripts.len()) else {
+            return Err(HallFault::Memory);
+        };
         let mut sessions = Vec::new(alloc);
         for script in scripts {
             let Script { source, settings } = script;
@@ -153,7 +171,7 @@ impl Hall {
                 Err(_) => return Err(HallFault::Memory),
             }
         }
-        Ok(Hall { sessions })
+        Ok(Hall { sessions, room })
     }
 
     /// How many scripts there are.
@@ -198,11 +216,16 @@ impl Hall {
     }
 
     /// Takes a list of events that no script refuses: each script takes its own, in order. Where memory for them
-    /// is refused, scripts may have taken theirs or not.
-    pub(crate) fn take_all(&mut self, alloc: Global, events: &[HallEvent]) -> Result<(), AllocError>
-        ensures { OnOk result (AllTook 1 events.now self.old self.new) }
+    /// is refused, nothing was taken.
+    pub(crate) fn take_all(&mut self, alloc: Global, events: HallEvents) -> Result<(), AllocError>
+        ensures took { OnOk result (AllTook 1 events self.old self.new) }
+        ensures kept { OnErr result (self.new ≡ self.old) }
     {
-        feed_own(alloc, &mut self.sessions, events)
+        let HallEvents { list } = events;
+        let shares = dealt(alloc, self.sessions.len(), list)?;
+        let Shares { list } = shares;
+        feed_shares(&mut self.sessions, list);
+        Ok(())
     }
 
     /// The next request of a script, once.
@@ -226,17 +249,24 @@ impl Hall {
         Some(&self.sessions[script - 1])
     }
 
-    /// What came of a script so far.
-    pub fn report(&self, script: usize) -> Result<Report, ReportFault>
+    /// What came of a script so far; None where there is no such script. Where memory for that is refused, it is the report of a script
+    /// that was refused memory. The hall stays as it is: where the script's `ending` isn't `Memory`, memory was refused for this report
+    /// alone, and it can be asked for again.
+    pub fn report(&self, script: usize) -> Option<Report>
         ensures { Reported script self.now result }
     {
-        let Some(session) = self.session(script) else {
-            return Err(ReportFault::NoSuchScript);
-        };
-        match session.report() {
-            Ok(report) => Ok(report),
-            Err(_) => Err(ReportFault::Memory),
+        match self.session(script) {
+            Some(session) => Some(session.report_or_memory()),
+            None => None,
         }
+    }
+
+    /// What came of each script, in order, as `report` says it. Each session goes with its report, and only a report can be refused memory.
+    pub fn into_reports(self) -> Reports
+        ensures { AllReport self result }
+    {
+        let Hall { sessions, room } = self;
+        reports_in(room, sessions)
     }
 
     /// How a script ended; `Waiting` where it goes on, None where there is no such script. It costs the same whatever the script did.

@@ -5,12 +5,15 @@ mod fault;
 mod hall;
 mod laws;
 mod refusal;
+mod reports;
 mod run;
 mod script;
+mod shares;
 
 pub use fault::{MOST_SCRIPTS, opening_fault};
-pub use hall::{Hall, HallFault, ReportFault};
+pub use hall::{Hall, HallFault};
 pub use laws::{hall_law, raised_moments, ticks};
 pub use refusal::HallRefusal;
-pub use run::{Reports, RunFault, isolation, run_all};
+pub use reports::Reports;
+pub use run::{RunFault, isolation, run_all, run_log};
 pub use script::Script;

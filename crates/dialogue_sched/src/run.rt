@@ -1,50 +1,28 @@
 //! A whole run.
 
-ghost use Rattle.std.specs.Prelude.{◌≡◌, IfOk, IfErr, OnOk};
-ghost use Rattle.child_events.specs.World.{own};
-ghost use Rattle.dialogue_sched.specs.Hall.{Reports as ReportsOf};
-ghost use Rattle.dialogue_sched.specs.Pairs.{Paired};
-ghost use Rattle.dialogue_sched.specs.Refusal.{first_refusal};
-ghost use Rattle.dialogue_sched.specs.Run.{Runs, OpensFor, Isolated};
+ghost use Rattle.std.specs.Prelude.{◌≡◌, ◌+◌, ◌<◌, ◌^◌, length, None, Err, IfOk};
+ghost use Rattle.dialogue_sched.specs.Refusal.{first_refusal, IsAcceptedTo};
+ghost use Rattle.dialogue_sched.specs.Run.{Runs, OpensFor, TakesLog, Isolated};
 
+use crate::fault::opening_fault;
 use crate::hall::{Hall, HallFault};
 use crate::refusal::{HallRefusal, refusal};
+use crate::reports::Reports;
 use crate::script::Script;
-use child_events::HallEvent;
-use session::Report;
+use child_events::{HallEvent, HallEvents, LogReader};
 use std::alloc::{AllocError, AllocFailed, Global};
-use std::marker::Model;
 
-/// Reports in order of their scripts, seen as a list.
-#[derive(Debug, Drop)]
-pub struct Reports {
-    pub list: Vec<Report>,
-}
+/// How many events of a log are held at once.
+const PART: usize = 4096;
 
-impl Model for Reports {
-    ghost use Rattle.std.specs.Prelude.{List};
-    ghost use Rattle.session.specs.declared.report.Report.{Report};
-
-    ghost Value = { List Report };
-
-    ghost view = { λ t. t.list.items };
-}
-
-impl Reports {
-    pub fn as_slice(&self) -> &[Report]
-        ensures value { result.now ≡ self.now }
-    {
-        self.list.as_slice()
-    }
-}
-
-/// Why there are no reports.
+/// Why there are no reports of any script.
 #[derive(Clone, Copy, Debug, PartialEq, Eq)]
 pub enum RunFault {
     /// The first event, counted from 0, that the hall refuses, and why.
     Refused { at: usize, refusal: HallRefusal },
     /// There is no hall, for another reason than memory.
     New(HallFault),
+    /// Memory was refused for what all scripts share: the hall or its parts, the events. Nothing else is wrong with the scripts.
     Memory,
 }
 
@@ -81,11 +59,12 @@ fn open(alloc: Global, scripts: Vec<Script>) -> Result<Hall, RunFault>
     }
 }
 
-/// The first event that a hall of so many scripts refuses, counted from 0.
-fn first_refused(scripts: usize, events: &[HallEvent]) -> Option<(usize, HallRefusal)>
-    ensures { result ≡ first_refusal scripts 0 events.now }
+/// The first event that a hall of so many scripts refuses, counted from `from`.
+fn first_refused(scripts: usize, from: usize, events: &[HallEvent]) -> Option<(usize, HallRefusal)>
+    requires { from + length events.now < 2 ^ 64 }
+    ensures { result ≡ first_refusal scripts from events.now }
 {
-    let mut at = 0;
+    let mut at = from;
     for event in events {
         if let Some(refusal) = refusal(scripts, event) {
             return Some((at, refusal));
@@ -95,40 +74,77 @@ fn first_refused(scripts: usize, events: &[HallEvent]) -> Option<(usize, HallRef
     None
 }
 
-fn reports_of(alloc: Global, hall: &Hall) -> Result<Reports, RunFault>
-    ensures ok { IfOk result (λ rs. Paired ReportsOf hall.now rs) }
-    ensures err { IfErr result (λ e. e ≡ RunFault.Memory) }
+/// Equal events.
+fn copies(alloc: Global, events: &[HallEvent]) -> Result<HallEvents, AllocError>
+    ensures { IfOk result (λ es. es ≡ events.now) }
 {
-    let mut list = Vec::new(alloc);
-    for i in 0..hall.len() {
-        match hall.report(i + 1) {
-            Ok(report) => list.push(report)?,
-            Err(_) => return Err(RunFault::Memory),
-        }
+    let mut list = HallEvents::with_capacity(alloc, events.len())?;
+    for event in events {
+        list.push(event.copied(alloc)?)?;
     }
-    Ok(Reports { list })
+    Ok(list)
 }
 
-/// Runs scripts over a list of events. Each report is the meaning of its script's source, settings
-/// and own events, and of nothing else, or it says that this script was refused memory.
+/// Runs scripts over a list of events. Each report is the meaning of its script's source, settings and own events, and of nothing else, or
+/// it says that this script was refused memory.
+///
+/// `Memory` is what was refused for the hall or the events' copies, and comes only where nothing else is wrong. Room for the list of reports
+/// is a part of the hall, so one script's report that is refused memory is that script's alone.
 pub fn run_all(
     alloc: Global,
     scripts: Vec<Script>,
     events: &[HallEvent],
 ) -> Result<Reports, RunFault>
-    ensures { Runs scripts.items events.now result }
+    ensures runs { Runs scripts.items events.now result }
+    ensures memory { result ≡ Err RunFault.Memory → first_refusal (length scripts.items) 0 events.now ≡ None }
 {
-    let mut hall = open(alloc, scripts)?;
-    if let Some((at, refusal)) = first_refused(hall.len(), events) {
+    if let Some(fault) = opening_fault(scripts.as_slice()) {
+        return Err(RunFault::New(fault));
+    }
+    if let Some((at, refusal)) = first_refused(scripts.len(), 0, events) {
         return Err(RunFault::Refused { at, refusal });
     }
-    let Ok(()) = hall.take_all(alloc, events) else {
+    let mut hall = open(alloc, scripts)?;
+    let Ok(()) = hall.take_all(alloc, copies(alloc, events)?) else {
         return Err(RunFault::Memory);
     };
-    match reports_of(alloc, &hall) {
-        Ok(reports) => Ok(reports),
-        Err(_) => Err(RunFault::Memory),
+    Ok(hall.into_reports())
+}
+
+/// The hall takes what is left of a log, part by part, up to the first part that has a refused event.
+fn take_log(alloc: Global, hall: &mut Hall, log: &mut LogReader) -> Result<(), RunFault>
+    ensures takes { TakesLog log.old hall.old hall.new result }
+    ensures memory { result ≡ Err RunFault.Memory → IsAcceptedTo (length hall.old) log.old log.new }
+{
+    let all = log.len();
+    'parts: while log.len() > 0 {
+        let before = all - log.len();
+        let Ok(part) = log.take(alloc, PART) else {
+            return Err(RunFault::Memory);
+        };
+        if let Some((at, refusal)) = first_refused(hall.len(), before, part.as_slice()) {
+            return Err(RunFault::Refused { at, refusal });
+        }
+        let Ok(()) = hall.take_all(alloc, part) else {
+            return Err(RunFault::Memory);
+        };
     }
+    Ok(())
+}
+
+/// Runs scripts over the events that are left of a log, as `run_all` does over a list, and holds no more than `PART` of them at once. Where
+/// memory is refused, none of the events before those that are still left was to be refused.
+pub fn run_log(
+    alloc: Global,
+    scripts: Vec<Script>,
+    log: &mut LogReader,
+) -> Result<Reports, RunFault>
+    ensures runs { Runs scripts.items log.old result }
+    ensures memory { result ≡ Err RunFault.Memory → IsAcceptedTo (length scripts.items) log.old log.new }
+{
+    let mut hall = open(alloc, scripts)?;
+    take_log(alloc, &mut hall, log)?;
+    Ok(hall.into_reports())
 }
 
 /// No script changes another: over two lists of events in which a script's own events and the ticks are the same once their moments are

@@ -3,3 +3,4 @@ pub mod Greedy
 pub mod Starts
 pub mod Found
 pub mod Made
+pub mod Endings

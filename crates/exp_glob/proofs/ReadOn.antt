@@ -5,7 +5,7 @@ use Rattle.std.proofs.lemmas.List.{drop_more}
 use Rattle.std.proofs.lemmas.List.Quantifiers.{position-Some}
 use Rattle.exp_glob.specs.declared.element.Element.{Element}
 use Rattle.exp_glob.specs.Elements.{element_at, elements_from, elements_of}
-use Rattle.exp_glob.specs.Spans.{in_range, range_after, has_from, class_has}
+use Rattle.exp_glob.specs.Matching.{in_range, range_after, has_from, class_has}
 
 pub elements_on : (s : List ℕ) (k : ℕ) → elements_from s k ≡ elements_of (drop k s)
 elements_on [] zero = refl

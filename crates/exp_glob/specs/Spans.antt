@@ -1,46 +1,7 @@
 -- What a glob pattern matches, and which match is found.
-use Rattle.std.specs.Prelude.{◌≡◌, ℕ, zero, suc, ◌+◌, ◌<◌, ◌≤◌, nat_le, Bool, true, false, ◌&&◌, ◌||◌, ◌==◌, if◌then◌else◌, List, [], ◌∷◌, length, slice_index, Option, MatchOption}
-use Rattle.std.specs.Char.{to_ascii_lowercase, to_ascii_uppercase}
-use Rattle.exp_glob.specs.declared.element.Element.{Element}
-use Rattle.exp_glob.specs.declared.element.Element.TheVariants.{Star, One, End}
-use Rattle.exp_glob.specs.declared.element.Single.{Single}
-use Rattle.exp_glob.specs.declared.element.Single.TheVariants.{Any, Byte, Class}
+use Rattle.std.specs.Prelude.{◌≡◌, ℕ, ◌≤◌, Bool, true, List, length, Option, MatchOption}
+pub use Rattle.exp_glob.specs.Matching.{in_range, range_after, class_has, takes, Spans}
 use Rattle.exp_glob.specs.declared.pattern.Glob.{Glob}
-
--- between two bytes, in either order
-abbrev pub in_range : ℕ → ℕ → ℕ → Bool
-in_range one other c = (nat_le one c && nat_le c other) || (nat_le other c && nat_le c one)
-
--- The other end of the range that begins with a member, and how many bytes behind it belong to it.
--- Without a `-` and a byte behind that the range is the member alone.
-abbrev pub range_after : ℕ → List ℕ → ℕ × ℕ
-range_after member [] = (member, 0)
-range_after member (dash ∷ []) = (member, 0)
-range_after member (dash ∷ end ∷ rest) = if dash == 45 then (end, 2) else (member, 0)
-
--- a byte is in one of the ranges that begin k bytes in or later
-abbrev pub has_from : List ℕ → ℕ → ℕ → Bool
-has_from [] k c = false
-has_from (member ∷ rest) zero c = in_range member (range_after member rest).0 c || has_from rest (range_after member rest).1 c
-has_from (member ∷ rest) (suc k) c = has_from rest k c
-
-abbrev pub class_has : List ℕ → ℕ → Bool
-class_has members c = has_from members 0 c
-
--- a byte is taken; without case a class has a byte where it has either case of it
-abbrev pub takes : Bool → Single → ℕ → Bool
-takes nocase Any c = true
-takes nocase (Byte b) c = if nocase then to_ascii_lowercase c == to_ascii_lowercase b else c == b
-takes nocase (Class members) c =
-    if nocase then class_has members (to_ascii_lowercase c) || class_has members (to_ascii_uppercase c)
-    else class_has members c
-
--- elements match s from a to b
-abbrev pub Spans : Bool → List Element → List ℕ → ℕ → ℕ → Type 0
-Spans nocase [] s a b = a ≡ b
-Spans nocase (Star ∷ es) s a b = (k : ℕ) × (a ≤ k) × (k ≤ length s) × Spans nocase es s k b
-Spans nocase (One single ∷ es) s a b = (a < length s) × (takes nocase single (slice_index s a) ≡ true) × Spans nocase es s (a + 1) b
-Spans nocase (End ∷ es) s a b = (a ≡ length s) × Spans nocase es s a b
 
 -- a pattern matches s from a to b
 abbrev pub GlobSpan : Glob → Bool → List ℕ → ℕ → ℕ → Type 0

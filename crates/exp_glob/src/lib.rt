@@ -4,6 +4,7 @@
 #![tactic(auto)]
 
 mod element;
+mod ending;
 mod literal;
 mod matching;
 mod pattern;
@@ -13,6 +14,7 @@ mod reading;
 mod runs;
 
 pub use element::{Element, Elements, Members, Single};
+pub use ending::Ending;
 pub use literal::{Literal, Literals};
 pub use pattern::Glob;
 pub use plan::Plan;

@@ -6,6 +6,7 @@ ghost use Rattle.exp_glob.specs.Literals.{IsLiteral, AreLiterals};
 ghost use Rattle.exp_glob.specs.Spans.{Spans};
 ghost use Rattle.exp_glob.specs.declared.element.Element.{Element as ElementOf};
 
+use crate::ending::Ending;
 use crate::places::after;
 use memchr::memmem;
 
@@ -25,6 +26,8 @@ pub struct Literals {
     pub runs: Vec<Literal>,
     /// The run whose literal is sought before all else, or 0: the first run is sought by its own.
     pub ahead: usize,
+    /// What stands at the end of a match.
+    pub ending: Ending,
 }
 
 /// The first run's literal: how far behind the start of a match it stands, and its bytes.

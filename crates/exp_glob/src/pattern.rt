@@ -1,7 +1,8 @@
 //! A pattern and its search.
 
-ghost use Rattle.std.specs.Prelude.{◌≡◌, ◌≤◌, ◌+◌, true, false, length, IfOk, IfSome};
+ghost use Rattle.std.specs.Prelude.{◌≡◌, ◌≤◌, ◌+◌, ◌<◌, true, false, take, length, None, IfOk, IfSome};
 ghost use Rattle.exp_glob.specs.Elements.{glob_of};
+ghost use Rattle.exp_glob.specs.Endings.{CouldEndBefore};
 ghost use Rattle.exp_glob.specs.Search.{first_span};
 ghost use Rattle.exp_glob.specs.Spans.{FindsFirst};
 
@@ -91,5 +92,30 @@ impl Glob {
             return None;
         };
         Some((start, end))
+    }
+
+    /// The same, where nothing was found in so many bytes of the text's front, or none were sought. A pattern that may begin anywhere is sought
+    /// there no more, unless the bytes behind them have what a match ends with.
+    pub fn find_on(&self, text: &[u8], sought: usize, nocase: bool) -> Option<(usize, usize)>
+        requires { self.now.anchored ≡ false → 0 < sought → FindsFirst self.now nocase (take sought text.now) None }
+        ensures first { FindsFirst self.now nocase text.now result }
+        ensures value { result ≡ first_span self.now nocase text.now }
+        ensures within { IfSome result (λ r. (r.0 ≤ r.1) × (r.1 ≤ length text.now)) }
+    {
+        if self.has_none_behind(text, sought, nocase) {
+            return None;
+        }
+        self.find(text, nocase)
+    }
+
+    /// Whether a match that begins anywhere can't end behind a place.
+    fn has_none_behind(&self, text: &[u8], place: usize, nocase: bool) -> bool
+        ensures { result ≡ true → (self.now.anchored ≡ false) × (0 < place) × (place < length text.now) × CouldEndBefore self.now.elements nocase text.now place }
+    {
+        if self.anchored || place == 0 {
+            return false;
+        }
+        let literals = self.elements.literals(nocase);
+        literals.ending.is_missing(text, place)
     }
 }

@@ -1,10 +1,12 @@
 //! A pattern's elements with the literals by which its runs are sought.
 
 ghost use Rattle.std.specs.Prelude.{◌≡◌, ◌≤◌, ◌+◌, ◌∷◌, ℕ, List, drop, length, IfOk};
+ghost use Rattle.exp_glob.specs.Endings.{IsEnding, IsSoughtBy};
 ghost use Rattle.exp_glob.specs.Literals.{only_byte as only_byte_of, byte_at, IsLiteral, AreLiterals};
 ghost use Rattle.exp_glob.specs.declared.element.Element.{Element as ElementOf};
 
 use crate::element::{Element, Elements, Single};
+use crate::ending::ending_of;
 use crate::literal::{Literal, Literals};
 use crate::places::after;
 use crate::runs::{is_star, star_end};
@@ -23,14 +25,14 @@ pub struct Plan {
 
 impl Model for Plan {
     ghost use Rattle.std.specs.Prelude.{List, true, false};
-    ghost use Rattle.exp_glob.specs.Literals.{AreLiterals};
+    ghost use Rattle.exp_glob.specs.Endings.{IsSoughtBy};
     ghost use Rattle.exp_glob.specs.declared.element.Element.{Element};
 
     ghost Value = { List Element };
 
     ghost view = { λ p. p.elements };
 
-    ghost invariant = { λ p. AreLiterals false p.elements p.cased.runs.items × AreLiterals true p.elements p.caseless.runs.items };
+    ghost invariant = { λ p. IsSoughtBy false p.elements p.cased × IsSoughtBy true p.elements p.caseless };
 }
 
 impl Plan {
@@ -56,7 +58,8 @@ impl Plan {
 
     /// The literals of a search.
     pub(crate) fn literals(&self, nocase: bool) -> &Literals
-        ensures { AreLiterals nocase self.now result.now.runs.items }
+        ensures runs { AreLiterals nocase self.now result.now.runs.items }
+        ensures ending { IsEnding nocase self.now result.now.ending.back result.now.ending.bytes.items }
     {
         if nocase { &self.caseless } else { &self.cased }
     }
@@ -127,7 +130,11 @@ fn front_bytes(alloc: Global, elements: &[Element], nocase: bool) -> Result<Vec<
 }
 
 /// The longest literal of the first run.
-fn literal(alloc: Global, elements: &[Element], nocase: bool) -> Result<Literal, AllocError>
+pub(crate) fn literal(
+    alloc: Global,
+    elements: &[Element],
+    nocase: bool,
+) -> Result<Literal, AllocError>
     ensures { IfOk result (λ l. IsLiteral nocase elements.now l.offset l.bytes.items) }
 {
     let offset = longest_literal(elements, nocase);
@@ -181,9 +188,14 @@ fn empty_runs(elements: &[Element]) -> usize {
 
 /// The literals of a search.
 fn literals(alloc: Global, elements: &[Element], nocase: bool) -> Result<Literals, AllocError>
-    ensures { IfOk result (λ l. AreLiterals nocase elements.now l.runs.items) }
+    ensures { IfOk result (λ l. IsSoughtBy nocase elements.now l) }
 {
     let runs = run_literals(alloc, elements, nocase)?;
     let ahead = sought_ahead(elements, runs.as_slice());
-    Ok(Literals { runs, ahead })
+    let ending = ending_of(alloc, elements, nocase)?;
+    Ok(Literals {
+        runs,
+        ahead,
+        ending,
+    })
 }

@@ -13,3 +13,4 @@ pub mod Numbers
 pub mod Followed
 pub mod Answering
 pub mod Deciding
+pub mod Lasting

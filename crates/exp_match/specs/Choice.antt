@@ -89,3 +89,20 @@ abbrev pub IsListed : ℕ → Chosen → Type 0
 IsListed n (chosen.Pattern k spans) = k < n
 IsListed n chosen.Full = Unit {0}
 IsListed n chosen.None = Unit {0}
+
+-- what an entry doesn't find in some bytes it finds in no part of them: all but a regular pattern, and a glob that begins with `^`
+abbrev pub lasts : Want → Bool
+lasts (want.Exact text nocase) = true
+lasts (want.Glob glob nocase) = not glob.anchored
+lasts (want.Regular written) = false
+lasts (want.Keyword k) = true
+
+-- of the entries of the groups these find nothing
+abbrev pub HasNone : List Entry → List ℕ → List ℕ → Type 0
+HasNone entries groups bytes =
+    (k : ℕ) (e : Entry) → slice_get entries k ≡ Some e → in_groups groups e ≡ true → lasts e.want ≡ true → Finds e.want bytes None
+
+-- where nothing is chosen, they found nothing
+abbrev pub LeavesNone : List Entry → List ℕ → List ℕ → Chosen → Type 0
+LeavesNone entries groups bytes chosen.None = HasNone entries groups bytes
+LeavesNone entries groups bytes c = Unit {0}

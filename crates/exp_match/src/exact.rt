@@ -1,6 +1,6 @@
 //! The search for an exact pattern.
 
-ghost use Rattle.std.specs.Prelude.{◌≡◌, ◌↔◌, ◌<◌, ◌≤◌, true, false, IsTrue, length, slice_index};
+ghost use Rattle.std.specs.Prelude.{◌≡◌, ◌↔◌, ◌<◌, ◌≤◌, true, false, IsTrue, take, length, slice_index, None};
 ghost use Rattle.exp_match.specs.Exact.{StandsAt, FindsExact, find_text};
 
 use crate::places::after;
@@ -22,6 +22,27 @@ pub(crate) fn find_exact(text: &[u8], nocase: bool, bytes: &[u8]) -> Option<(usi
         find_folded(text, bytes)
     } else {
         find_same(text, bytes)
+    }
+}
+
+/// The same, where the text stands nowhere in so many bytes of the front, or none were sought. It looks at no more of them than its length.
+pub(crate) fn find_exact_on(
+    text: &[u8],
+    nocase: bool,
+    bytes: &[u8],
+    sought: usize,
+) -> Option<(usize, usize)>
+    requires { 0 < sought → FindsExact nocase text.now (take sought bytes.now) None }
+    ensures stands { FindsExact nocase text.now bytes.now result }
+    ensures value { result ≡ find_text nocase text.now bytes.now }
+{
+    let from = sought.saturating_sub(text.len());
+    if bytes.len() < from {
+        return None;
+    }
+    match find_exact(text, nocase, after(bytes, from)) {
+        Some((start, end)) => Some((from + start, from + end)),
+        None => None,
     }
 }
 

@@ -1,7 +1,7 @@
 -- A call that waits has nothing to take, and goes on waiting where time passes no further than to its deadline.
-use Rattle.std.proofs.Common.{◌≡◌, ℕ, zero, suc, ◌+◌, ◌≤◌, List, [], ◌∷◌, ◌++◌, length, max, min, Bool, true, false, Option, Some, None, Ok, Err, inl, inr, refl, sym, ap, subst, ◌∙◌, arith}
+use Rattle.std.proofs.Common.{◌≡◌, ℕ, zero, suc, ◌+◌, ◌≤◌, ◌<◌, List, [], ◌∷◌, ◌++◌, length, max, min, Bool, true, false, Option, Some, None, Ok, Err, inl, inr, refl, sym, ap, subst, ◌∙◌, arith}
 use Rattle.std.proofs.lemmas.Bool.Decides.{nat_tests}
-use Rattle.std.specs.Prelude.{nat_le, nat_lt, codes, position, take, drop, if◌then◌else◌}
+use Rattle.std.specs.Prelude.{nat_le, nat_lt, slice_get, codes, position, take, drop, if◌then◌else◌}
 use Rattle.std.specs.Str.{bytes_eq}
 use Rattle.std.specs.Fmt.{decimal}
 use Rattle.child_events.specs.declared.event.Answer.{Answer}
@@ -10,6 +10,8 @@ use Rattle.child_events.specs.declared.event.Event.TheVariants.{Tick}
 use Rattle.child_events.specs.declared.event.Item.{Item}
 use Rattle.child_events.specs.declared.event.Item.TheVariants as item
 use Rattle.child_events.specs.Queue.{Queued}
+use Rattle.child_events.specs.Next.{IsEarliest, IsNext, IsSettled, next_of, Arrives, AllArrive}
+use Rattle.child_events.proofs.Nexts.{next_is, stays_next}
 use Rattle.exp_match.specs.declared.chosen.Chosen.{Chosen}
 use Rattle.exp_match.specs.declared.chosen.Chosen.TheVariants as chosen
 use Rattle.exp_match.specs.Choice.{Found, waits_for_end, waits_for_full, waits_for_time, first_in}
@@ -39,8 +41,8 @@ use Rattle.expect_core.specs.declared.dialogue.Dialogue.{Dialogue}
 use Rattle.expect_core.specs.Lanes.{lane_of, with_items, with_answers, offered}
 use Rattle.expect_core.specs.Owned.{child_of, bytes_of, with_line, standing_as, asked, awaited_once, received, at_moment, trimmed}
 use Rattle.expect_core.specs.Scoped.{Unset, set_all}
-use Rattle.expect_core.specs.Ids.{if_open}
-use Rattle.expect_core.specs.Heard.{at_most, lapse, in_time, deadline_from, both, Listened, chosen_of, decided, heard, listen, look}
+use Rattle.expect_core.specs.Heard.{Watch, watched, place_in, groups_at, at_most, lapse, in_time, deadline_from, Listened, chosen_of, decided, tested, heard, heads, taken, on_next, listen_for, item_count, listen, look}
+use Rattle.expect_core.specs.Sides.{still_open}
 use Rattle.expect_core.specs.Answered.{Outcome, idle, waits, over_limit, on_said, owning, failure, first_answer, answered_by, awaited}
 use Rattle.expect_core.specs.Spawning.{spawned, announced, current, stored, started, with_new, spawning_as, order_of}
 use Rattle.expect_core.specs.Sending.{act_of, counted, sent_by, handing, handed, echoed, sending_to, send_of}
@@ -49,9 +51,10 @@ use Rattle.expect_core.specs.Others.{put_of, to_user, writing, continued, closed
 use Rattle.expect_core.specs.Options.{option_of, size_of, sizing_at, removal_of, removing_at}
 use Rattle.expect_core.specs.Texts.{id_at}
 use Rattle.expect_core.specs.Calls.{name_of, expecting_by, named, begun, settled, resuming, outcome}
-use Rattle.expect_core.specs.Deadlines.{IsWithin, sooner, as_moment, deadline_under}
+use Rattle.expect_core.specs.Deadlines.{IsWithin, sooner, as_moment, soonest, deadline_under}
 use Rattle.expect_core.specs.Laws.{WaitsOn}
-use Rattle.expect_core.proofs.LaneFacts.{within, items_put, answers_put}
+use Rattle.expect_core.proofs.LaneFacts.{within, answers_put}
+use Rattle.expect_core.proofs.Listening.{fewer}
 use Rattle.expect_core.proofs.Times.{lapse_by}
 
 -- there is no answer in time
@@ -63,11 +66,19 @@ abbrev NoItem : Option ℕ → Option ℕ → List Queued → Type 0
 NoItem limit deadline [] = Unit {0}
 NoItem limit deadline (q ∷ qs) = in_time limit deadline q.moment ≡ false
 
+-- no item is taken: none is next, or that one is not in time
+abbrev NoNext : Option ℕ → Plan → Option ℕ → List Lane → Type 0
+NoNext limit p None lanes = Unit {0}
+NoNext limit p (Some n) lanes = NoItem limit p.deadline (lane_of (place_in (watched p) n) lanes).items
+
+abbrev Rests : Option ℕ → ℕ → Plan → List Lane → Type 0
+Rests limit h p lanes = NoNext limit p (next_of (heads (watched p) lanes) h) lanes
+
 -- what is under way has nothing to take, and time has not run out
 abbrev AsleepIn : Phase → Dialogue → Type 0
 AsleepIn phase.Idle st = ⊥
 AsleepIn (phase.Answer i why) st = NoAnswer st.limit (lane_of i st.lanes).answers × (at_most st.horizon st.limit ≡ true)
-AsleepIn (phase.Expect p) st = NoItem st.limit p.deadline (lane_of p.child st.lanes).items × (lapse st.limit st.horizon p.deadline ≡ NotYet)
+AsleepIn (phase.Expect p) st = Rests st.limit st.horizon p st.lanes × (lapse st.limit st.horizon p.deadline ≡ NotYet)
 
 abbrev Asleep : Dialogue → Type 0
 Asleep st = AsleepIn st.phase st
@@ -121,96 +132,106 @@ awaited_asleep i why more vars st asleep = answers_asleep i why more vars (lane_
 
 -- what a wait for a pattern leaves where nothing came yet
 abbrev AsleepOver : Option ℕ → ℕ → Plan → Listened → Type 0
-AsleepOver limit h p (NotYet, left, o) = NoItem limit p.deadline left × (lapse limit h p.deadline ≡ NotYet)
-AsleepOver limit h p (Match n spans, left, o) = Unit {0}
-AsleepOver limit h p (Full, left, o) = Unit {0}
-AsleepOver limit h p (TimedOut d, left, o) = Unit {0}
-AsleepOver limit h p (OverLimit, left, o) = Unit {0}
-AsleepOver limit h p (Ended, left, o) = Unit {0}
-AsleepOver limit h p (Failed c, left, o) = Unit {0}
+AsleepOver limit h p (NotYet, lanes, o) = Rests limit h p lanes × (lapse limit h p.deadline ≡ NotYet)
+AsleepOver limit h p (Match i n spans, lanes, o) = Unit {0}
+AsleepOver limit h p (Full i, lanes, o) = Unit {0}
+AsleepOver limit h p (TimedOut d, lanes, o) = Unit {0}
+AsleepOver limit h p (OverLimit, lanes, o) = Unit {0}
+AsleepOver limit h p (Ended i, lanes, o) = Unit {0}
+AsleepOver limit h p (Failed i c, lanes, o) = Unit {0}
 
 module _ (limit : Option ℕ) (h : ℕ) (p : Plan) where
-  lapsed_asleep : (v : Heard) (left : List Queued) (o : Own) → lapse limit h p.deadline ≡ v → NoItem limit p.deadline left → AsleepOver limit h p (v, left, o)
-  lapsed_asleep NotYet left o e none = (none, e)
-  lapsed_asleep (Match n spans) left o e none = tt
-  lapsed_asleep Full left o e none = tt
-  lapsed_asleep (TimedOut d) left o e none = tt
-  lapsed_asleep OverLimit left o e none = tt
-  lapsed_asleep Ended left o e none = tt
-  lapsed_asleep (Failed c) left o e none = tt
+  lapsed_asleep : (v : Heard) (lanes : List Lane) (o : Own) → lapse limit h p.deadline ≡ v → Rests limit h p lanes → AsleepOver limit h p (v, lanes, o)
+  lapsed_asleep NotYet lanes o e rests = (rests, e)
+  lapsed_asleep (Match i n spans) lanes o e rests = tt
+  lapsed_asleep (Full i) lanes o e rests = tt
+  lapsed_asleep (TimedOut d) lanes o e rests = tt
+  lapsed_asleep OverLimit lanes o e rests = tt
+  lapsed_asleep (Ended i) lanes o e rests = tt
+  lapsed_asleep (Failed i c) lanes o e rests = tt
 
-  decided_asleep : (c : Chosen) (qs : List Queued) (o : Own) (k : Own → Listened) → ((o : Own) → AsleepOver limit h p (k o)) → AsleepOver limit h p (decided p c qs o k)
-  decided_asleep (chosen.Pattern n spans) qs o k asleep = tt
-  decided_asleep chosen.Full qs o k asleep = tt
-  decided_asleep chosen.None qs o k asleep = asleep (trimmed p.child o)
+  decided_asleep : (i : ℕ) (c : Chosen) (lanes : List Lane) (o : Own) (k : Own → Listened) → ((o : Own) → AsleepOver limit h p (k o)) → AsleepOver limit h p (decided i c lanes o k)
+  decided_asleep i (chosen.Pattern n spans) lanes o k asleep = tt
+  decided_asleep i chosen.Full lanes o k asleep = tt
+  decided_asleep i chosen.None lanes o k asleep = asleep (trimmed i o)
 
-  item_asleep : (i : Item) (qs : List Queued) (o : Own) (k : Own → Listened) → ((o : Own) → AsleepOver limit h p (k o)) → AsleepOver limit h p (heard p i qs o k)
-  item_asleep (item.Out piece) qs o k asleep = decided_asleep (chosen_of p (received p.child piece o)) qs (received p.child piece o) k asleep
-  item_asleep item.Eof qs o k asleep = tt
-  item_asleep (item.ReadFail c) qs o k asleep = tt
+  tested_asleep : (ws : List Watch) (lanes : List Lane) (o : Own) (k : Own → Listened) → ((o : Own) → AsleepOver limit h p (k o)) → AsleepOver limit h p (tested p ws lanes o k)
+  tested_asleep [] lanes o k asleep = asleep o
+  tested_asleep (w ∷ ws) lanes o k asleep = decided_asleep w.0 (chosen_of p w o) lanes o (λ o. tested p ws lanes o k) (λ o. tested_asleep ws lanes o k asleep)
 
-  next_asleep : (q : Queued) (qs : List Queued) (o : Own) → ((o : Own) → AsleepOver limit h p (listen limit h p qs o)) → (b : Bool) → in_time limit p.deadline q.moment ≡ b →
-      AsleepOver limit h p (if b then heard p q.item qs (at_moment q.moment o) (listen limit h p qs) else (lapse limit h p.deadline, q ∷ qs, o))
-  next_asleep q qs o asleep true e = item_asleep q.item qs (at_moment q.moment o) (listen limit h p qs) asleep
-  next_asleep q qs o asleep false e = lapsed_asleep (lapse limit h p.deadline) (q ∷ qs) o refl e
+  item_asleep : (i : ℕ) (it : Item) (lanes : List Lane) (o : Own) (k : Own → Listened) → ((o : Own) → AsleepOver limit h p (k o)) → AsleepOver limit h p (heard p i it lanes o k)
+  item_asleep i (item.Out piece) lanes o k asleep = tested_asleep (watched p) lanes (received i piece o) k asleep
+  item_asleep i item.Eof lanes o k asleep = tt
+  item_asleep i (item.ReadFail c) lanes o k asleep = tt
 
-  listen_asleep : (qs : List Queued) (o : Own) → AsleepOver limit h p (listen limit h p qs o)
-  listen_asleep [] o = lapsed_asleep (lapse limit h p.deadline) [] o refl tt
-  listen_asleep (q ∷ qs) o = next_asleep q qs o (λ o. listen_asleep qs o) (in_time limit p.deadline q.moment) refl
+  module _ (lanes : List Lane) (o : Own) (k : List Lane → Own → Listened) where
+    first_taken : (i : ℕ) (q : Queued) (qs : List Queued) → (in_time limit p.deadline q.moment ≡ false → Rests limit h p lanes) → ((o : Own) → AsleepOver limit h p (k (with_items i qs lanes) o)) → (b : Bool) → in_time limit p.deadline q.moment ≡ b →
+        AsleepOver limit h p (if b then heard p i q.item (with_items i qs lanes) (at_moment q.moment o) (k (with_items i qs lanes)) else (lapse limit h p.deadline, lanes, o))
+    first_taken i q qs rests asleep true e = item_asleep i q.item (with_items i qs lanes) (at_moment q.moment o) (k (with_items i qs lanes)) asleep
+    first_taken i q qs rests asleep false e = lapsed_asleep (lapse limit h p.deadline) lanes o refl (rests e)
 
-  look_asleep : (qs : List Queued) (o : Own) → AsleepOver limit h p (look limit h p qs o)
-  look_asleep qs o = decided_asleep (chosen_of p o) qs o (listen limit h p qs) (λ o. listen_asleep qs o)
+    taken_asleep : (i : ℕ) (qs : List Queued) → (NoItem limit p.deadline qs → Rests limit h p lanes) → ((q : Queued) (rest : List Queued) → qs ≡ q ∷ rest → (o : Own) → AsleepOver limit h p (k (with_items i rest lanes) o)) → AsleepOver limit h p (taken limit h p i qs lanes o k)
+    taken_asleep i [] rests asleep = lapsed_asleep (lapse limit h p.deadline) lanes o refl (rests tt)
+    taken_asleep i (q ∷ qs) rests asleep = first_taken i q qs rests (asleep q qs refl) (in_time limit p.deadline q.moment) refl
 
-no_item : (limit deadline : Option ℕ) (i : ℕ) (l : List Queued) (lanes : List Lane) → NoItem limit deadline l → NoItem limit deadline (lane_of i (with_items i l lanes)).items
-no_item limit deadline i l lanes none = elim (within i lanes) [
-  | inl lt ↦ subst (NoItem limit deadline) (sym (items_put i l lanes lt)) none
-  | inr b ↦ subst (λ (ls : List Lane). NoItem limit deadline (lane_of i ls).items) (sym (b.put (record (lane_of i lanes) { items = l }))) (subst (λ (x : Lane). NoItem limit deadline x.items) (sym b.none) tt)
-]
+    next_asleep : (x : Option ℕ) → next_of (heads (watched p) lanes) h ≡ x → ((i : ℕ) (q : Queued) (rest : List Queued) → (lane_of i lanes).items ≡ q ∷ rest → (o : Own) → AsleepOver limit h p (k (with_items i rest lanes) o)) → AsleepOver limit h p (on_next limit h p x lanes o k)
+    next_asleep None is asleep = lapsed_asleep (lapse limit h p.deadline) lanes o refl (subst (λ (x : Option ℕ). NoNext limit p x lanes) (sym is) tt)
+    next_asleep (Some n) is asleep =
+        let i = place_in (watched p) n in
+        taken_asleep i (lane_of i lanes).items (λ none. subst (λ (x : Option ℕ). NoNext limit p x lanes) (sym is) none) (asleep i)
 
-met_asleep : (p : Plan) (n : ℕ) (rest : List ℕ) (r : Variables × Unset) (st : Dialogue) → AsleepAfter (met p n rest r st)
-met_asleep p n rest (vars, None) st = tt
-met_asleep p n rest (vars, Some text) st = tt
+  listen_for_asleep : (n : ℕ) (lanes : List Lane) (o : Own) → item_count lanes < n → AsleepOver limit h p (listen_for n limit h p lanes o)
+  listen_for_asleep zero lanes o lt = absurd (let no : item_count lanes < 0 = lt in omega arith)
+  listen_for_asleep (suc n) lanes o lt =
+      next_asleep lanes o (listen_for n limit h p) (next_of (heads (watched p) lanes) h) refl
+      (λ i q rest is o. let less = fewer i q rest lanes is in listen_for_asleep n (with_items i rest lanes) o (omega (arith, less, lt)))
 
-all_met_asleep : (p : Plan) (found : Option ℕ) (vars : Variables) (st : Dialogue) → AsleepAfter (all_met p found vars st)
-all_met_asleep p None vars st = tt
-all_met_asleep p (Some n) vars st = met_asleep p n [] (set_all (met_pairs (child_of p.child st.own).id (bytes_of p.child st.own)) vars) st
+  listen_asleep : (lanes : List Lane) (o : Own) → AsleepOver limit h p (listen limit h p lanes o)
+  listen_asleep lanes o = listen_for_asleep (suc (item_count lanes)) lanes o (omega arith)
 
-matched_asleep : (p : Plan) (n : ℕ) (spans : Found) (vars : Variables) (st : Dialogue) → AsleepAfter (matched p n spans vars st)
-matched_asleep p n spans vars st =
-    let bytes : List ℕ = bytes_of p.child st.own in
-    let pairs : Pairs = groups_from (entry_of n p).indices bytes 0 spans ++ met_pairs (child_of p.child st.own).id (take (end_of spans) bytes) in
-    met_asleep p n (if (entry_of n p).notransfer then bytes else drop (end_of spans) bytes) (set_all pairs vars) st
+  look_asleep : (lanes : List Lane) (o : Own) → AsleepOver limit h p (look limit h p lanes o)
+  look_asleep lanes o = tested_asleep (watched p) lanes o (listen limit h p lanes) (λ o. listen_asleep lanes o)
 
-let_go_asleep : (p : Plan) (vars : Variables) (c : Option Cause) (st : Dialogue) → AsleepAfter (let_go p vars c st)
-let_go_asleep p vars None st = all_met_asleep p (first_in waits_for_end both p.list.entries) vars st
-let_go_asleep p vars (Some c) st = tt
+met_asleep : (p : Plan) (i n : ℕ) (rest : List ℕ) (r : Variables × Unset) (st : Dialogue) → AsleepAfter (met p i n rest r st)
+met_asleep p i n rest (vars, None) st = tt
+met_asleep p i n rest (vars, Some text) st = tt
+
+all_met_asleep : (p : Plan) (i : ℕ) (found : Option ℕ) (vars : Variables) (st : Dialogue) → AsleepAfter (all_met p i found vars st)
+all_met_asleep p i None vars st = tt
+all_met_asleep p i (Some n) vars st = met_asleep p i n [] (set_all (met_pairs (child_of i st.own).id (bytes_of i st.own)) vars) st
+
+matched_asleep : (p : Plan) (i n : ℕ) (spans : Found) (vars : Variables) (st : Dialogue) → AsleepAfter (matched p i n spans vars st)
+matched_asleep p i n spans vars st =
+    let bytes : List ℕ = bytes_of i st.own in
+    let pairs : Pairs = groups_from (entry_of n p).indices bytes 0 spans ++ met_pairs (child_of i st.own).id (take (end_of spans) bytes) in
+    met_asleep p i n (if (entry_of n p).notransfer then bytes else drop (end_of spans) bytes) (set_all pairs vars) st
+
+let_go_asleep : (p : Plan) (i : ℕ) (vars : Variables) (c : Option Cause) (st : Dialogue) → AsleepAfter (let_go p i vars c st)
+let_go_asleep p i vars None st = all_met_asleep p i (first_in waits_for_end (groups_at i p.sides) p.list.entries) vars st
+let_go_asleep p i vars (Some c) st = tt
 
 acting_asleep : (p : Plan) (found : Option ℕ) (vars : Variables) (st : Dialogue) → AsleepAfter (acting_at p found vars st)
 acting_asleep p None vars st = tt
 acting_asleep p (Some n) vars st = tt
 
 concluded_asleep : (p : Plan) (vars : Variables) (r : Listened) (st : Dialogue) → AsleepOver st.limit st.horizon p r → AsleepAfter (concluded p vars r st)
-concluded_asleep p vars (NotYet, left, o) st none = (no_item st.limit p.deadline p.child left st.lanes none.0, none.1)
-concluded_asleep p vars (Match n spans, left, o) st none = matched_asleep p n spans vars (record st { lanes = with_items p.child left st.lanes; own = o })
-concluded_asleep p vars (Full, left, o) st none = all_met_asleep p (first_in waits_for_full both p.list.entries) vars (record st { lanes = with_items p.child left st.lanes; own = o })
-concluded_asleep p vars (TimedOut d, left, o) st none =
-    acting_asleep p (position (λ e. waits_for_time e.want) p.list.entries) vars (record st { lanes = with_items p.child left st.lanes; own = record o { clock = d } })
-concluded_asleep p vars (OverLimit, left, o) st none = tt
-concluded_asleep p vars (Ended, left, o) st none =
-    awaited_asleep p.child (purpose.End p) (ended p p.child vars) vars (record st { lanes = with_items p.child left st.lanes; own = asked p.child act.Close o })
-    (λ a st. let_go_asleep p vars (failure a) (shut p.child st))
-concluded_asleep p vars (Failed c, left, o) st none =
-    awaited_asleep p.child (purpose.Fail c) (broken p.child c vars) vars (record st { lanes = with_items p.child left st.lanes; own = asked p.child act.Close o }) (λ a st. tt)
+concluded_asleep p vars (NotYet, lanes, o) st none = none
+concluded_asleep p vars (Match i n spans, lanes, o) st none = matched_asleep p i n spans vars (record st { lanes = lanes; own = o })
+concluded_asleep p vars (Full i, lanes, o) st none = all_met_asleep p i (first_in waits_for_full (groups_at i p.sides) p.list.entries) vars (record st { lanes = lanes; own = o })
+concluded_asleep p vars (TimedOut d, lanes, o) st none =
+    acting_asleep p (position (λ e. waits_for_time e.want) p.list.entries) vars (record st { lanes = lanes; own = record o { clock = d } })
+concluded_asleep p vars (OverLimit, lanes, o) st none = tt
+concluded_asleep p vars (Ended i, lanes, o) st none =
+    awaited_asleep i (purpose.End p) (ended p i vars) vars (record st { lanes = lanes; own = asked i act.Close o })
+    (λ a st. let_go_asleep p i vars (failure a) (shut i st))
+concluded_asleep p vars (Failed i c, lanes, o) st none =
+    awaited_asleep i (purpose.Fail c) (broken i c vars) vars (record st { lanes = lanes; own = asked i act.Close o }) (λ a st. tt)
 
 listening_asleep : (p : Plan) (vars : Variables) (st : Dialogue) → AsleepAfter (listening p vars st)
-listening_asleep p vars st =
-    let items : List Queued = (lane_of p.child st.lanes).items in
-    concluded_asleep p vars (listen st.limit st.horizon p items st.own) st (listen_asleep st.limit st.horizon p items st.own)
+listening_asleep p vars st = concluded_asleep p vars (listen st.limit st.horizon p st.lanes st.own) st (listen_asleep st.limit st.horizon p st.lanes st.own)
 
 looking_asleep : (p : Plan) (vars : Variables) (st : Dialogue) → AsleepAfter (looking p vars st)
-looking_asleep p vars st =
-    let items : List Queued = (lane_of p.child st.lanes).items in
-    concluded_asleep p vars (look st.limit st.horizon p items st.own) st (look_asleep st.limit st.horizon p items st.own)
+looking_asleep p vars st = concluded_asleep p vars (look st.limit st.horizon p st.lanes st.own) st (look_asleep st.limit st.horizon p st.lanes st.own)
 
 -- commands
 
@@ -254,7 +275,7 @@ settled_asleep i (purpose.Spawn words) vars a st = started_asleep i words vars (
 settled_asleep i (purpose.Send x rest) vars a st = sent_asleep i x vars (handing i rest vars) (failure a) st (λ st. handing_asleep i rest vars st)
 settled_asleep i purpose.Close vars a st = closed_asleep vars (failure a) (shut i st)
 settled_asleep i purpose.Wait vars a st = tt
-settled_asleep i (purpose.End p) vars a st = let_go_asleep p vars (failure a) (shut i st)
+settled_asleep i (purpose.End p) vars a st = let_go_asleep p i vars (failure a) (shut i st)
 settled_asleep i (purpose.Fail c) vars a st = tt
 
 resuming_asleep : (f : Phase) (vars : Variables) (st : Dialogue) → AsleepAfter (resuming f vars st)
@@ -314,7 +335,7 @@ begun_asleep (word ∷ args) vars st = named_asleep (name_of word) word args var
 again_asleep : (p : Plan) (deadline : Option ℕ) (ps : List Plan) (vars : Variables) (st : Dialogue) → AsleepAfter (again p deadline ps vars st)
 again_asleep p deadline ps vars st =
     let o : Own = record st.own { plans = ps } in
-    said_asleep (if_open p.child o) vars (owning o st) _ (λ i. looking_asleep (record p { deadline = deadline }) vars (owning o st))
+    said_asleep (still_open p.order o) vars (owning o st) _ (λ all. looking_asleep (record p { deadline = deadline }) vars (owning o st))
 
 behind_asleep : (c : Code) (value : List ℕ) (ps : List Plan) (vars : Variables) (st : Dialogue) → AsleepAfter (behind c value ps vars st)
 behind_asleep c value [] vars st = tt
@@ -370,22 +391,72 @@ not_yet limit h m (Some d) e le last =
     ap (λ (b : Bool). lapse_by b (at_most (max h m) limit) (at_most d limit) d) (at_most_later h m (Some d) were.0 le)
     ∙ ap (λ (b : Bool). lapse_by true b (at_most d limit) d) (at_most_later h m limit were.1 last)
 
-still : (limit : Option ℕ) (h : ℕ) (p : Plan) (qs : List Queued) (o : Own) → NoItem limit p.deadline qs → listen limit h p qs o ≡ (lapse limit h p.deadline, qs, o)
-still limit h p [] o none = refl
-still limit h p (q ∷ qs) o none =
-    ap (λ (b : Bool). let r : Listened = (if b then heard p q.item qs (at_moment q.moment o) (listen limit h p qs) else (lapse limit h p.deadline, q ∷ qs, o)) in r) none
+-- the sooner moments of several
+within_first : (m : ℕ) (first : Option ℕ) (ms : List (Option ℕ)) → IsWithin m (soonest first ms) → IsWithin m first
+within_first m first [] le = le
+within_first m first (x ∷ ms) le = (both_within m first x (within_first m (sooner first x) ms le)).0
+
+some_same : (x : Option ℕ) (n : ℕ) → Some x ≡ Some (Some n) → x ≡ Some n
+some_same x n e = cc
+
+within_each : (m : ℕ) (first : Option ℕ) (ms : List (Option ℕ)) → IsWithin m (soonest first ms) → (j n : ℕ) → slice_get ms j ≡ Some (Some n) → m ≤ n
+within_each m first [] le zero n e = absurd (let no : None ≡ Some (Some n) = e in cc)
+within_each m first [] le (suc j) n e = absurd (let no : None ≡ Some (Some n) = e in cc)
+within_each m first (x ∷ ms) le zero n e = subst (IsWithin m) (some_same x n e) (both_within m first x (within_first m (sooner first x) ms le)).1
+within_each m first (x ∷ ms) le (suc j) n e = within_each m (sooner first x) ms le j n e
+
+-- by a moment that none of several next items is before, nothing is settled that wasn't
+module _ (hs : List (Option ℕ)) (h m : ℕ) (least : (j n : ℕ) → slice_get hs j ≡ Some (Some n) → m ≤ n) where
+  settled_before : (j n : ℕ) → IsEarliest hs j n → IsSettled hs (max h m) n → IsSettled hs h n
+  settled_before j n earliest settled =
+      let le = least j n earliest.here in
+      elim settled [ inl lt ↦ inl (omega (arith, le, lt)) | inr all ↦ inr all ]
+
+  unsettled_by : next_of hs h ≡ None → (x : Option ℕ) → IsNext hs (max h m) x → x ≡ None
+  unsettled_by none None is = refl
+  unsettled_by none (Some j) is = absurd (subst (IsNext hs h) none (next_is hs h) j is.0 is.1 (settled_before j is.0 is.1 is.2))
+
+  unsettled : next_of hs h ≡ None → next_of hs (max h m) ≡ None
+  unsettled none = unsettled_by none (next_of hs (max h m)) (next_is hs (max h m))
+
+same_arrives : (h : ℕ) (x : Option ℕ) → Arrives h x x
+same_arrives h None = tt
+same_arrives h (Some m) = refl
+
+all_same : (h : ℕ) (hs : List (Option ℕ)) → AllArrive h hs hs
+all_same h [] = tt
+all_same h (x ∷ hs) = (same_arrives h x, all_same h hs)
+
+module _ (limit : Option ℕ) (h m : ℕ) (p : Plan) (lanes : List Lane) where
+  abbrev hs : List (Option ℕ)
+  hs = heads (watched p) lanes
+
+  rests_by : ((j n : ℕ) → slice_get hs j ≡ Some (Some n) → m ≤ n) → (x : Option ℕ) → next_of hs h ≡ x → NoNext limit p x lanes → Rests limit (max h m) p lanes
+  rests_by least None is none = subst (λ (x : Option ℕ). NoNext limit p x lanes) (sym (unsettled hs h m least is)) tt
+  rests_by least (Some n) is none = subst (λ (x : Option ℕ). NoNext limit p x lanes) (sym (stays_next h (max h m) hs hs (omega arith) (all_same h hs) n is)) none
+
+  rests_on : ((j n : ℕ) → slice_get hs j ≡ Some (Some n) → m ≤ n) → Rests limit h p lanes → Rests limit (max h m) p lanes
+  rests_on least rests = rests_by least (next_of hs h) refl rests
+
+module _ (limit : Option ℕ) (h : ℕ) (p : Plan) (lanes : List Lane) (o : Own) (k : List Lane → Own → Listened) where
+  still_taken : (i : ℕ) (qs : List Queued) → NoItem limit p.deadline qs → taken limit h p i qs lanes o k ≡ (lapse limit h p.deadline, lanes, o)
+  still_taken i [] none = refl
+  still_taken i (q ∷ qs) none =
+      ap (λ (b : Bool). let r : Listened = (if b then heard p i q.item (with_items i qs lanes) (at_moment q.moment o) (k (with_items i qs lanes)) else (lapse limit h p.deadline, lanes, o)) in r) none
+
+  still_next : (x : Option ℕ) → NoNext limit p x lanes → on_next limit h p x lanes o k ≡ (lapse limit h p.deadline, lanes, o)
+  still_next None none = refl
+  still_next (Some n) none = still_taken (place_in (watched p) n) (lane_of (place_in (watched p) n) lanes).items none
+
+still : (limit : Option ℕ) (h : ℕ) (p : Plan) (lanes : List Lane) (o : Own) → Rests limit h p lanes → listen limit h p lanes o ≡ (lapse limit h p.deadline, lanes, o)
+still limit h p lanes o rests = still_next limit h p lanes o (listen_for (item_count lanes) limit h p) (next_of (heads (watched p) lanes) h) rests
 
 same_answers : (i : ℕ) (lanes : List Lane) → with_answers i (lane_of i lanes).answers lanes ≡ lanes
 same_answers i [] = refl
 same_answers zero (l ∷ ls) = refl
 same_answers (suc i) (l ∷ ls) = ap (λ (ls : List Lane). l ∷ ls) (same_answers i ls)
 
-same_items : (i : ℕ) (lanes : List Lane) → with_items i (lane_of i lanes).items lanes ≡ lanes
-same_items i [] = refl
-same_items zero (l ∷ ls) = refl
-same_items (suc i) (l ∷ ls) = ap (λ (ls : List Lane). l ∷ ls) (same_items i ls)
-
-goes_on : (f : Phase) (st : Dialogue) (vars : Variables) (m : ℕ) → AsleepIn f st → IsWithin m (sooner (deadline_under f) st.limit) → resuming f vars (idle (offered (Tick m) st)) ≡ (Wait, vars, record (offered (Tick m) st) { phase = f })
+goes_on : (f : Phase) (st : Dialogue) (vars : Variables) (m : ℕ) → AsleepIn f st → IsWithin m (sooner (deadline_under f st.lanes) st.limit) → resuming f vars (idle (offered (Tick m) st)) ≡ (Wait, vars, record (offered (Tick m) st) { phase = f })
 goes_on phase.Idle st vars m asleep le = absurd asleep
 goes_on (phase.Answer i why) st vars m asleep le =
     let later : Dialogue = idle (offered (Tick m) st) in
@@ -395,12 +466,12 @@ goes_on (phase.Answer i why) st vars m asleep le =
     ∙ ap (λ (ls : List Lane). waits (phase.Answer i why) vars (record later { lanes = ls })) (same_answers i st.lanes)
 goes_on (phase.Expect p) st vars m asleep le =
     let later : Dialogue = idle (offered (Tick m) st) in
-    let h : ℕ = max st.horizon m in
-    let items : List Queued = (lane_of p.child st.lanes).items in
-    let times = both_within m (as_moment p.deadline) st.limit le in
-    ap (λ (r : Listened). concluded p vars r later) (still st.limit h p items st.own asleep.0)
-    ∙ ap (λ (v : Heard). concluded p vars (v, items, st.own) later) (not_yet st.limit st.horizon m p.deadline asleep.1 (within_deadline m p.deadline times.0) times.1)
-    ∙ ap (λ (ls : List Lane). waits (phase.Expect p) vars (record later { lanes = ls })) (same_items p.child st.lanes)
+    let hs : List (Option ℕ) = heads (watched p) st.lanes in
+    let times = both_within m (soonest (as_moment p.deadline) hs) st.limit le in
+    let within = within_deadline m p.deadline (within_first m (as_moment p.deadline) hs times.0) in
+    let rests = rests_on st.limit st.horizon m p st.lanes (within_each m (as_moment p.deadline) hs times.0) asleep.0 in
+    ap (λ (r : Listened). concluded p vars r later) (still st.limit (max st.horizon m) p st.lanes st.own rests)
+    ∙ ap (λ (v : Heard). concluded p vars (v, st.lanes, st.own) later) (not_yet st.limit st.horizon m p.deadline asleep.1 within times.1)
 
 pub waits_on : WaitsOn
 waits_on call st vars new e m le = goes_on new.phase new vars m (subst (λ (x : Outcome). AsleepAfter x) e (outcome_asleep call st)) le

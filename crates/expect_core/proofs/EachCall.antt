@@ -26,7 +26,7 @@ use Rattle.expect_core.specs.declared.dialogue.Dialogue.{Dialogue}
 use Rattle.expect_core.specs.Lanes.{offered}
 use Rattle.expect_core.specs.Owned.{child_of, standing_as, with_line, asked, awaited_once}
 use Rattle.expect_core.specs.Scoped.{Unset}
-use Rattle.expect_core.specs.Ids.{if_open}
+use Rattle.expect_core.specs.Sides.{still_open}
 use Rattle.expect_core.specs.Heard.{deadline_from}
 use Rattle.expect_core.specs.Answered.{Outcome, idle, on_said, owning, failure}
 use Rattle.expect_core.specs.Spawning.{announced, current, stored, started, with_new, spawning_as, order_of}
@@ -165,7 +165,7 @@ module _ (e : Event) where
   again_onward : (p : Plan) (deadline : Option ℕ) (ps : List Plan) (vars : Variables) (st : Dialogue) → again p deadline ps vars (offered e (idle st)) ≡ onward e (again p deadline ps vars (idle st))
   again_onward p deadline ps vars st =
       let o = record st.own { plans = ps } in
-      said_onward (if_open p.child o) vars (idle (owning o st)) _ _ (λ i. looking_onward e (record p { deadline = deadline }) vars (owning o st))
+      said_onward (still_open p.order o) vars (idle (owning o st)) _ _ (λ all. looking_onward e (record p { deadline = deadline }) vars (owning o st))
 
   behind_onward : (c : Code) (value : List ℕ) (ps : List Plan) (vars : Variables) (st : Dialogue) → behind c value ps vars (offered e (idle st)) ≡ onward e (behind c value ps vars (idle st))
   behind_onward c value [] vars st = refl

@@ -6,11 +6,6 @@ use Rattle.std.specs.Str.{bytes_eq}
 use Rattle.std.specs.Fmt.{decimal}
 use Rattle.child_events.specs.declared.event.Answer.{Answer}
 use Rattle.child_events.specs.declared.event.Cause.{Cause}
-use Rattle.child_events.specs.declared.event.Item.{Item}
-use Rattle.child_events.specs.declared.event.Item.TheVariants as item
-use Rattle.child_events.specs.Queue.{Queued}
-use Rattle.exp_match.specs.declared.chosen.Chosen.{Chosen}
-use Rattle.exp_match.specs.declared.chosen.Chosen.TheVariants as chosen
 use Rattle.exp_match.specs.Choice.{Found, waits_for_end, waits_for_full, waits_for_time, first_in}
 use Rattle.tty_input.specs.declared.action.Action.{Action}
 use Rattle.tty_input.specs.declared.action.Action.TheVariants.{Write, End}
@@ -30,15 +25,17 @@ use Rattle.expect_core.specs.declared.phase.Purpose.TheVariants as purpose
 use Rattle.expect_core.specs.declared.phase.Phase.{Phase}
 use Rattle.expect_core.specs.declared.phase.Phase.TheVariants as phase
 use Rattle.expect_core.specs.declared.phase.Heard.{Heard}
+use Rattle.expect_core.specs.declared.lanes.Lane.{Lane}
 use Rattle.expect_core.specs.declared.phase.Heard.TheVariants.{Match, Full, TimedOut, OverLimit, NotYet, Ended, Failed}
 use Rattle.expect_core.specs.declared.own.Own.{Own}
 use Rattle.expect_core.specs.declared.order.Order.{Order}
 use Rattle.expect_core.specs.declared.dialogue.Dialogue.{Dialogue}
-use Rattle.expect_core.specs.Lanes.{lane_of, with_answers, with_items}
-use Rattle.expect_core.specs.Owned.{child_of, bytes_of, with_line, asked, awaited_once, told, received, at_moment, trimmed, seen}
+use Rattle.expect_core.specs.Lanes.{lane_of, with_answers}
+use Rattle.expect_core.specs.Owned.{child_of, bytes_of, with_line, asked, awaited_once, told, at_moment, seen}
 use Rattle.expect_core.specs.Scoped.{Unset, set_all}
-use Rattle.expect_core.specs.Ids.{if_open}
-use Rattle.expect_core.specs.Heard.{at_most, in_time, deadline_from, both, Listened, chosen_of, decided, heard, listen, look}
+use Rattle.expect_core.specs.Heard.{at_most, deadline_from, groups_at, Listened, listen, look}
+use Rattle.expect_core.specs.Sides.{still_open}
+use Rattle.expect_core.proofs.Keeping.{Kept as WaitKept, listen_keeps, look_keeps}
 use Rattle.expect_core.specs.Answered.{Outcome, idle, on_said, owning, failure, first_answer, answered_by, awaited}
 use Rattle.expect_core.specs.Spawning.{spawned, announced, current, stored, started, with_new, spawning_as, order_of}
 use Rattle.expect_core.specs.Sending.{act_of, counted, sent_by, handing, handed, echoed, sending_to, send_of}
@@ -51,9 +48,6 @@ use Rattle.expect_core.specs.Laws.{IsFront, Keeps}
 
 abbrev pub KeptAfter : Own → Outcome → Type 0
 KeptAfter o (step, vars, st) = Keeps o st.own
-
-abbrev KeptIn : Own → Listened → Type 0
-KeptIn o (h, left, new) = Keeps o new
 
 pub front_same : {X : Type 0} (xs : List X) → IsFront xs xs
 front_same xs = record { more = []; joined = sym (append-nil xs) }
@@ -96,76 +90,62 @@ module _ (o : Own) where
 
   -- waits for a pattern
 
-  decided_kept : (p : Plan) (c : Chosen) (qs : List Queued) (new : Own) (more : Own → Listened) → Keeps o new → ((new : Own) → Keeps o new → KeptIn o (more new)) → KeptIn o (decided p c qs new more)
-  decided_kept p (chosen.Pattern n spans) qs new more k kept = k
-  decided_kept p chosen.Full qs new more k kept = k
-  decided_kept p chosen.None qs new more k kept = kept (trimmed p.child new) k
+  abbrev KeptIn : List Lane → Own → Type 0
+  KeptIn lanes new = Keeps o new
 
-  heard_kept : (p : Plan) (i : Item) (qs : List Queued) (new : Own) (more : Own → Listened) → Keeps o new → ((new : Own) → Keeps o new → KeptIn o (more new)) → KeptIn o (heard p i qs new more)
-  heard_kept p (item.Out piece) qs new more k kept =
-      decided_kept p (chosen_of p (received p.child piece new)) qs (received p.child piece new) more (logged_kept (seen p.child piece new) new new.log_user k) kept
-  heard_kept p item.Eof qs new more k kept = k
-  heard_kept p (item.ReadFail c) qs new more k kept = k
+  listen_kept : (limit : Option ℕ) (h : ℕ) (p : Plan) (lanes : List Lane) (new : Own) → Keeps o new → WaitKept limit h p KeptIn (listen limit h p lanes new)
+  listen_kept limit h p lanes new k =
+      listen_keeps limit h p KeptIn (λ i w lanes new k. k) (λ i w piece lanes new k. logged_kept (seen i piece new) new new.log_user k) (λ i w q qs lanes new is k. k) lanes new k
 
-  listen_kept : (limit : Option ℕ) (h : ℕ) (p : Plan) (qs : List Queued) (new : Own) → Keeps o new → KeptIn o (listen limit h p qs new)
-  listen_kept limit h p [] new k = k
-  listen_kept limit h p (q ∷ qs) new k =
-      pick (KeptIn o) (in_time limit p.deadline q.moment) _ _
-      (heard_kept p q.item qs (at_moment q.moment new) (listen limit h p qs) k (λ new k. listen_kept limit h p qs new k))
-      k
+  look_kept : (limit : Option ℕ) (h : ℕ) (p : Plan) (lanes : List Lane) (new : Own) → Keeps o new → WaitKept limit h p KeptIn (look limit h p lanes new)
+  look_kept limit h p lanes new k =
+      look_keeps limit h p KeptIn (λ i w lanes new k. k) (λ i w piece lanes new k. logged_kept (seen i piece new) new new.log_user k) (λ i w q qs lanes new is k. k) lanes new k
 
-  look_kept : (limit : Option ℕ) (h : ℕ) (p : Plan) (qs : List Queued) (new : Own) → Keeps o new → KeptIn o (look limit h p qs new)
-  look_kept limit h p qs new k = decided_kept p (chosen_of p new) qs new (listen limit h p qs) k (listen_kept limit h p qs)
+  met_kept : (p : Plan) (i n : ℕ) (rest : List ℕ) (r : Variables × Unset) (st : Dialogue) → Keeps o st.own → KeptAfter o (met p i n rest r st)
+  met_kept p i n rest (vars, None) st k = k
+  met_kept p i n rest (vars, Some text) st k = k
 
-  met_kept : (p : Plan) (n : ℕ) (rest : List ℕ) (r : Variables × Unset) (st : Dialogue) → Keeps o st.own → KeptAfter o (met p n rest r st)
-  met_kept p n rest (vars, None) st k = k
-  met_kept p n rest (vars, Some text) st k = k
+  all_met_kept : (p : Plan) (i : ℕ) (found : Option ℕ) (vars : Variables) (st : Dialogue) → Keeps o st.own → KeptAfter o (all_met p i found vars st)
+  all_met_kept p i None vars st k = k
+  all_met_kept p i (Some n) vars st k =
+      let pairs : Pairs = met_pairs (child_of i st.own).id (bytes_of i st.own) in
+      met_kept p i n [] (set_all pairs vars) st k
 
-  all_met_kept : (p : Plan) (found : Option ℕ) (vars : Variables) (st : Dialogue) → Keeps o st.own → KeptAfter o (all_met p found vars st)
-  all_met_kept p None vars st k = k
-  all_met_kept p (Some n) vars st k =
-      let pairs : Pairs = met_pairs (child_of p.child st.own).id (bytes_of p.child st.own) in
-      met_kept p n [] (set_all pairs vars) st k
+  matched_kept : (p : Plan) (i n : ℕ) (spans : Found) (vars : Variables) (st : Dialogue) → Keeps o st.own → KeptAfter o (matched p i n spans vars st)
+  matched_kept p i n spans vars st k =
+      let bytes : List ℕ = bytes_of i st.own in
+      let pairs : Pairs = groups_from (entry_of n p).indices bytes 0 spans ++ met_pairs (child_of i st.own).id (take (end_of spans) bytes) in
+      met_kept p i n (if (entry_of n p).notransfer then bytes else drop (end_of spans) bytes) (set_all pairs vars) st k
 
-  matched_kept : (p : Plan) (n : ℕ) (spans : Found) (vars : Variables) (st : Dialogue) → Keeps o st.own → KeptAfter o (matched p n spans vars st)
-  matched_kept p n spans vars st k =
-      let bytes : List ℕ = bytes_of p.child st.own in
-      let pairs : Pairs = groups_from (entry_of n p).indices bytes 0 spans ++ met_pairs (child_of p.child st.own).id (take (end_of spans) bytes) in
-      met_kept p n (if (entry_of n p).notransfer then bytes else drop (end_of spans) bytes) (set_all pairs vars) st k
-
-  let_go_kept : (p : Plan) (vars : Variables) (c : Option Cause) (st : Dialogue) → Keeps o st.own → KeptAfter o (let_go p vars c st)
-  let_go_kept p vars None st k = all_met_kept p (first_in waits_for_end both p.list.entries) vars st k
-  let_go_kept p vars (Some c) st k = k
+  let_go_kept : (p : Plan) (i : ℕ) (vars : Variables) (c : Option Cause) (st : Dialogue) → Keeps o st.own → KeptAfter o (let_go p i vars c st)
+  let_go_kept p i vars None st k = all_met_kept p i (first_in waits_for_end (groups_at i p.sides) p.list.entries) vars st k
+  let_go_kept p i vars (Some c) st k = k
 
   acting_kept : (p : Plan) (found : Option ℕ) (vars : Variables) (st : Dialogue) → Keeps o st.own → KeptAfter o (acting_at p found vars st)
   acting_kept p None vars st k = k
   acting_kept p (Some n) vars st k = k
 
   by_heard_kept : (p : Plan) (vars : Variables) (h : Heard) (st : Dialogue) → Keeps o st.own → KeptAfter o (by_heard p vars h st)
-  by_heard_kept p vars (Match n spans) st k = matched_kept p n spans vars st k
-  by_heard_kept p vars Full st k = all_met_kept p (first_in waits_for_full both p.list.entries) vars st k
+  by_heard_kept p vars (Match i n spans) st k = matched_kept p i n spans vars st k
+  by_heard_kept p vars (Full i) st k = all_met_kept p i (first_in waits_for_full (groups_at i p.sides) p.list.entries) vars st k
   by_heard_kept p vars (TimedOut d) st k = acting_kept p (position (λ e. waits_for_time e.want) p.list.entries) vars (owning (record st.own { clock = d }) st) k
   by_heard_kept p vars OverLimit st k = k
   by_heard_kept p vars NotYet st k = k
-  by_heard_kept p vars Ended st k =
-      awaited_kept p.child (purpose.End p) (ended p p.child vars) vars (owning (asked p.child act.Close st.own) st) (asked_kept p.child act.Close st.own k)
-      (λ a st k. let_go_kept p vars (failure a) (shut p.child st) k)
-  by_heard_kept p vars (Failed c) st k =
-      awaited_kept p.child (purpose.Fail c) (broken p.child c vars) vars (owning (asked p.child act.Close st.own) st) (asked_kept p.child act.Close st.own k)
+  by_heard_kept p vars (Ended i) st k =
+      awaited_kept i (purpose.End p) (ended p i vars) vars (owning (asked i act.Close st.own) st) (asked_kept i act.Close st.own k)
+      (λ a st k. let_go_kept p i vars (failure a) (shut i st) k)
+  by_heard_kept p vars (Failed i c) st k =
+      awaited_kept i (purpose.Fail c) (broken i c vars) vars (owning (asked i act.Close st.own) st) (asked_kept i act.Close st.own k)
       (λ a st k. k)
 
-  concluded_kept : (p : Plan) (vars : Variables) (r : Listened) (st : Dialogue) → KeptIn o r → KeptAfter o (concluded p vars r st)
-  concluded_kept p vars (h, left, new) st k = by_heard_kept p vars h (record st { lanes = with_items p.child left st.lanes; own = new }) k
+  concluded_kept : (p : Plan) (vars : Variables) (r : Listened) (st : Dialogue) → WaitKept st.limit st.horizon p KeptIn r → KeptAfter o (concluded p vars r st)
+  concluded_kept p vars (h, lanes, new) st k = by_heard_kept p vars h (record st { lanes = lanes; own = new }) k.0
 
   listening_kept : (p : Plan) (vars : Variables) (st : Dialogue) → Keeps o st.own → KeptAfter o (listening p vars st)
-  listening_kept p vars st k =
-      let items : List Queued = (lane_of p.child st.lanes).items in
-      concluded_kept p vars (listen st.limit st.horizon p items st.own) st (listen_kept st.limit st.horizon p items st.own k)
+  listening_kept p vars st k = concluded_kept p vars (listen st.limit st.horizon p st.lanes st.own) st (listen_kept st.limit st.horizon p st.lanes st.own k)
 
   looking_kept : (p : Plan) (vars : Variables) (st : Dialogue) → Keeps o st.own → KeptAfter o (looking p vars st)
-  looking_kept p vars st k =
-      let items : List Queued = (lane_of p.child st.lanes).items in
-      concluded_kept p vars (look st.limit st.horizon p items st.own) st (look_kept st.limit st.horizon p items st.own k)
+  looking_kept p vars st k = concluded_kept p vars (look st.limit st.horizon p st.lanes st.own) st (look_kept st.limit st.horizon p st.lanes st.own k)
 
   -- commands
 
@@ -219,7 +199,7 @@ module _ (o : Own) where
   settled_kept i (purpose.Send x rest) vars a st k = sent_kept i x vars (handing i rest vars) (failure a) st k (λ st k. handing_kept i rest vars st k)
   settled_kept i purpose.Close vars a st k = closed_kept vars (failure a) (shut i st) k
   settled_kept i purpose.Wait vars a st k = k
-  settled_kept i (purpose.End p) vars a st k = let_go_kept p vars (failure a) (shut i st) k
+  settled_kept i (purpose.End p) vars a st k = let_go_kept p i vars (failure a) (shut i st) k
   settled_kept i (purpose.Fail c) vars a st k = k
 
   resuming_kept : (f : Phase) (vars : Variables) (st : Dialogue) → Keeps o st.own → KeptAfter o (resuming f vars st)
@@ -284,7 +264,7 @@ module _ (o : Own) where
   again_kept : (p : Plan) (deadline : Option ℕ) (ps : List Plan) (vars : Variables) (st : Dialogue) → Keeps o st.own → KeptAfter o (again p deadline ps vars st)
   again_kept p deadline ps vars st k =
       let new : Own = record st.own { plans = ps } in
-      said_kept (if_open p.child new) vars (owning new st) _ k (λ i. looking_kept (record p { deadline = deadline }) vars (owning new st) k)
+      said_kept (still_open p.order new) vars (owning new st) _ k (λ all. looking_kept (record p { deadline = deadline }) vars (owning new st) k)
 
   behind_kept : (c : Code) (value : List ℕ) (ps : List Plan) (vars : Variables) (st : Dialogue) → Keeps o st.own → KeptAfter o (behind c value ps vars st)
   behind_kept c value [] vars st k = k

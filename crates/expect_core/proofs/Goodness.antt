@@ -1,16 +1,11 @@
 -- After each call nothing is later than the greatest moment.
-use Rattle.std.proofs.Common.{◌≡◌, ℕ, ◌+◌, ◌≤◌, ◌<◌, List, [], ◌∷◌, ◌++◌, length, Bool, true, false, Option, Some, None, Ok, Err, refl, arith}
-use Rattle.std.specs.Prelude.{nat_le, nat_lt, codes, position, take, drop, if◌then◌else◌}
+use Rattle.std.proofs.Common.{◌≡◌, ℕ, ◌+◌, ◌≤◌, List, [], ◌∷◌, ◌++◌, length, Bool, true, false, Option, Some, None, Ok, Err, subst, arith}
+use Rattle.std.specs.Prelude.{nat_lt, codes, position, take, drop, if◌then◌else◌}
 use Rattle.std.specs.Str.{bytes_eq}
 use Rattle.std.specs.Fmt.{decimal}
-use Rattle.std.proofs.lemmas.Bool.{leb-false}
 use Rattle.child_events.specs.declared.event.Answer.{Answer}
 use Rattle.child_events.specs.declared.event.Cause.{Cause}
-use Rattle.child_events.specs.declared.event.Item.{Item}
-use Rattle.child_events.specs.declared.event.Item.TheVariants as item
 use Rattle.child_events.specs.Queue.{Queued}
-use Rattle.exp_match.specs.declared.chosen.Chosen.{Chosen}
-use Rattle.exp_match.specs.declared.chosen.Chosen.TheVariants as chosen
 use Rattle.exp_match.specs.Choice.{Found, waits_for_end, waits_for_full, waits_for_time, first_in}
 use Rattle.tty_input.specs.declared.action.Action.{Action}
 use Rattle.tty_input.specs.declared.action.Action.TheVariants.{Write, End}
@@ -29,15 +24,16 @@ use Rattle.expect_core.specs.declared.phase.Purpose.TheVariants as purpose
 use Rattle.expect_core.specs.declared.phase.Phase.{Phase}
 use Rattle.expect_core.specs.declared.phase.Phase.TheVariants as phase
 use Rattle.expect_core.specs.declared.phase.Heard.{Heard}
+use Rattle.expect_core.specs.declared.lanes.Lane.{Lane}
 use Rattle.expect_core.specs.declared.phase.Heard.TheVariants.{Match, Full, TimedOut, OverLimit, NotYet, Ended, Failed}
 use Rattle.expect_core.specs.declared.own.Own.{Own}
 use Rattle.expect_core.specs.declared.order.Order.{Order}
 use Rattle.expect_core.specs.declared.dialogue.Dialogue.{Dialogue}
 use Rattle.expect_core.specs.Lanes.{lane_of, with_items, with_answers, no_lanes}
-use Rattle.expect_core.specs.Owned.{child_of, bytes_of, with_line, asked, awaited_once, told, received, at_moment, trimmed, seen}
+use Rattle.expect_core.specs.Owned.{child_of, bytes_of, with_line, asked, awaited_once, told, received, at_moment, seen}
 use Rattle.expect_core.specs.Scoped.{Unset, set_all}
-use Rattle.expect_core.specs.Ids.{if_open}
-use Rattle.expect_core.specs.Heard.{at_most, lapse, in_time, deadline_from, both, Listened, chosen_of, decided, heard, listen, look}
+use Rattle.expect_core.specs.Heard.{at_most, deadline_from, groups_at, Listened, listen, look}
+use Rattle.expect_core.specs.Sides.{still_open}
 use Rattle.expect_core.specs.Answered.{Outcome, idle, on_said, owning, failure, first_answer, answered_by, awaited}
 use Rattle.expect_core.specs.Spawning.{spawned, announced, current, stored, started, with_new, spawning_as, order_of}
 use Rattle.expect_core.specs.Sending.{act_of, counted, sent_by, handing, handed, echoed, sending_to, send_of}
@@ -46,8 +42,8 @@ use Rattle.expect_core.specs.Others.{put_of, to_user, writing, continued, closed
 use Rattle.expect_core.specs.Options.{option_of, size_of, sizing_at, removal_of, removing_at}
 use Rattle.expect_core.specs.Texts.{id_at}
 use Rattle.expect_core.specs.Calls.{name_of, expecting_by, named, begun, settled, resuming, outcome, fresh}
-use Rattle.expect_core.specs.Good.{ItemsBy, AnswersBy, Good}
-use Rattle.expect_core.proofs.Times.{lapse_by}
+use Rattle.expect_core.specs.Good.{ItemsBy, AnswersBy, LanesBy, Good}
+use Rattle.expect_core.proofs.Keeping.{OnTime, Kept as WaitKept, listen_keeps, look_keeps}
 use Rattle.expect_core.proofs.Moments.{items_by, answers_by, with_items_by, with_answers_by, echo_by, no_lanes_by}
 
 abbrev pub GoodAfter : Outcome → Type 0
@@ -89,74 +85,48 @@ awaited_good i why more vars st g good = answers_good i why more vars (lane_of i
 
 -- waits for a pattern
 
-abbrev OnTime : ℕ → Heard → Type 0
-OnTime h (TimedOut d) = d ≤ h
-OnTime h (Match n spans) = Unit {0}
-OnTime h Full = Unit {0}
-OnTime h OverLimit = Unit {0}
-OnTime h NotYet = Unit {0}
-OnTime h Ended = Unit {0}
-OnTime h (Failed c) = Unit {0}
+-- nothing in lanes and clock is later than this
+abbrev GoodIn : ℕ → List Lane → Own → Type 0
+GoodIn h lanes o = LanesBy h lanes × (o.clock ≤ h)
 
--- what a wait for a pattern leaves
-abbrev Fine : ℕ → Listened → Type 0
-Fine h (v, left, o) = ItemsBy h left × (o.clock ≤ h) × OnTime h v
+received_good : (h i : ℕ) (piece : List ℕ) (lanes : List Lane) (o : Own) → GoodIn h lanes o → GoodIn h lanes (received i piece o)
+received_good h i piece lanes o k = (k.0, logged_by (seen i piece o) o o.log_user h k.1)
 
-timed : (h d : ℕ) (a b c : Bool) → nat_le h d ≡ a → OnTime h (lapse_by a b c d)
-timed h d true true c e = tt
-timed h d true false c e = tt
-timed h d false b true e = let above : d < h = leb-false h d e in omega arith
-timed h d false b false e = tt
+first_by : (h : ℕ) (q : Queued) (qs items : List Queued) → items ≡ q ∷ qs → ItemsBy h items → (q.moment ≤ h) × ItemsBy h qs
+first_by h q qs items is by = subst (ItemsBy h) is by
 
-endless : (h : ℕ) (b : Bool) → OnTime h (if b then NotYet else OverLimit)
-endless h true = tt
-endless h false = tt
+taken_good : (h i : ℕ) (q : Queued) (qs : List Queued) (lanes : List Lane) (o : Own) → (lane_of i lanes).items ≡ q ∷ qs → GoodIn h lanes o → GoodIn h (with_items i qs lanes) (at_moment q.moment o)
+taken_good h i q qs lanes o is k =
+    let by = first_by h q qs (lane_of i lanes).items is (items_by h i lanes k.0) in
+    (with_items_by h i qs lanes k.0 by.1, omega (arith, by.0, k.1))
 
-lapsed : (limit : Option ℕ) (h : ℕ) (d : Option ℕ) → OnTime h (lapse limit h d)
-lapsed limit h None = endless h (at_most h limit)
-lapsed limit h (Some d) = timed h d (nat_le h d) (at_most h limit) (at_most d limit) refl
+listen_good : (limit : Option ℕ) (h : ℕ) (p : Plan) (lanes : List Lane) (o : Own) → GoodIn h lanes o → WaitKept limit h p (GoodIn h) (listen limit h p lanes o)
+listen_good limit h p lanes o k =
+    listen_keeps limit h p (GoodIn h) (λ i w lanes o k. k) (λ i w piece lanes o k. received_good h i piece lanes o k) (λ i w q qs lanes o is k. taken_good h i q qs lanes o is k) lanes o k
 
-pick_fine : (h : ℕ) (b : Bool) (x y : Listened) → Fine h x → Fine h y → Fine h (if b then x else y)
-pick_fine h true x y fx fy = fx
-pick_fine h false x y fx fy = fy
+look_good : (limit : Option ℕ) (h : ℕ) (p : Plan) (lanes : List Lane) (o : Own) → GoodIn h lanes o → WaitKept limit h p (GoodIn h) (look limit h p lanes o)
+look_good limit h p lanes o k =
+    look_keeps limit h p (GoodIn h) (λ i w lanes o k. k) (λ i w piece lanes o k. received_good h i piece lanes o k) (λ i w q qs lanes o is k. taken_good h i q qs lanes o is k) lanes o k
 
-decided_fine : (h : ℕ) (p : Plan) (c : Chosen) (qs : List Queued) (o : Own) (k : Own → Listened) → ItemsBy h qs → o.clock ≤ h → ((o : Own) → o.clock ≤ h → Fine h (k o)) → Fine h (decided p c qs o k)
-decided_fine h p (chosen.Pattern n spans) qs o k b le fine = (b, le, tt)
-decided_fine h p chosen.Full qs o k b le fine = (b, le, tt)
-decided_fine h p chosen.None qs o k b le fine = fine (trimmed p.child o) le
+met_good : (p : Plan) (i n : ℕ) (rest : List ℕ) (r : Variables × Unset) (st : Dialogue) → Good st → GoodAfter (met p i n rest r st)
+met_good p i n rest (vars, None) st g = record { clock = g.clock; lanes = g.lanes }
+met_good p i n rest (vars, Some f) st g = record { clock = g.clock; lanes = g.lanes }
 
-heard_fine : (h : ℕ) (p : Plan) (i : Item) (qs : List Queued) (o : Own) (k : Own → Listened) → ItemsBy h qs → o.clock ≤ h → ((o : Own) → o.clock ≤ h → Fine h (k o)) → Fine h (heard p i qs o k)
-heard_fine h p (item.Out piece) qs o k b le fine =
-    decided_fine h p (chosen_of p (received p.child piece o)) qs (received p.child piece o) k b (logged_by (seen p.child piece o) o o.log_user h le) fine
-heard_fine h p item.Eof qs o k b le fine = (b, le, tt)
-heard_fine h p (item.ReadFail c) qs o k b le fine = (b, le, tt)
+all_met_good : (p : Plan) (i : ℕ) (found : Option ℕ) (vars : Variables) (st : Dialogue) → Good st → GoodAfter (all_met p i found vars st)
+all_met_good p i None vars st g = g
+all_met_good p i (Some n) vars st g =
+    let pairs : Pairs = met_pairs (child_of i st.own).id (bytes_of i st.own) in
+    met_good p i n [] (set_all pairs vars) st g
 
-listen_fine : (limit : Option ℕ) (h : ℕ) (p : Plan) (qs : List Queued) (o : Own) → ItemsBy h qs → o.clock ≤ h → Fine h (listen limit h p qs o)
-listen_fine limit h p [] o b le = (tt, le, lapsed limit h p.deadline)
-listen_fine limit h p (q ∷ qs) o b le =
-    pick_fine h (in_time limit p.deadline q.moment) _ _
-    (heard_fine h p q.item qs (at_moment q.moment o) (listen limit h p qs) b.1 (omega (arith, b.0, le)) (λ o le. listen_fine limit h p qs o b.1 le))
-    (b, le, lapsed limit h p.deadline)
+matched_good : (p : Plan) (i n : ℕ) (spans : Found) (vars : Variables) (st : Dialogue) → Good st → GoodAfter (matched p i n spans vars st)
+matched_good p i n spans vars st g =
+    let bytes : List ℕ = bytes_of i st.own in
+    let pairs : Pairs = groups_from (entry_of n p).indices bytes 0 spans ++ met_pairs (child_of i st.own).id (take (end_of spans) bytes) in
+    met_good p i n (if (entry_of n p).notransfer then bytes else drop (end_of spans) bytes) (set_all pairs vars) st g
 
-met_good : (p : Plan) (n : ℕ) (rest : List ℕ) (r : Variables × Unset) (st : Dialogue) → Good st → GoodAfter (met p n rest r st)
-met_good p n rest (vars, None) st g = record { clock = g.clock; lanes = g.lanes }
-met_good p n rest (vars, Some f) st g = record { clock = g.clock; lanes = g.lanes }
-
-all_met_good : (p : Plan) (found : Option ℕ) (vars : Variables) (st : Dialogue) → Good st → GoodAfter (all_met p found vars st)
-all_met_good p None vars st g = g
-all_met_good p (Some n) vars st g =
-    let pairs : Pairs = met_pairs (child_of p.child st.own).id (bytes_of p.child st.own) in
-    met_good p n [] (set_all pairs vars) st g
-
-matched_good : (p : Plan) (n : ℕ) (spans : Found) (vars : Variables) (st : Dialogue) → Good st → GoodAfter (matched p n spans vars st)
-matched_good p n spans vars st g =
-    let bytes : List ℕ = bytes_of p.child st.own in
-    let pairs : Pairs = groups_from (entry_of n p).indices bytes 0 spans ++ met_pairs (child_of p.child st.own).id (take (end_of spans) bytes) in
-    met_good p n (if (entry_of n p).notransfer then bytes else drop (end_of spans) bytes) (set_all pairs vars) st g
-
-let_go_good : (p : Plan) (vars : Variables) (c : Option Cause) (st : Dialogue) → Good st → GoodAfter (let_go p vars c st)
-let_go_good p vars None st g = all_met_good p (first_in waits_for_end both p.list.entries) vars st g
-let_go_good p vars (Some c) st g = g
+let_go_good : (p : Plan) (i : ℕ) (vars : Variables) (c : Option Cause) (st : Dialogue) → Good st → GoodAfter (let_go p i vars c st)
+let_go_good p i vars None st g = all_met_good p i (first_in waits_for_end (groups_at i p.sides) p.list.entries) vars st g
+let_go_good p i vars (Some c) st g = g
 
 acting_good : (p : Plan) (found : Option ℕ) (vars : Variables) (st : Dialogue) → Good st → GoodAfter (acting_at p found vars st)
 acting_good p None vars st g = g
@@ -166,33 +136,28 @@ shut_good : (i : ℕ) (st : Dialogue) → Good st → Good (shut i st)
 shut_good i st g = record { clock = g.clock; lanes = g.lanes }
 
 heard_good : (p : Plan) (vars : Variables) (v : Heard) (st : Dialogue) → Good st → OnTime st.horizon v → GoodAfter (by_heard p vars v st)
-heard_good p vars (Match n spans) st g on = matched_good p n spans vars st g
-heard_good p vars Full st g on = all_met_good p (first_in waits_for_full both p.list.entries) vars st g
+heard_good p vars (Match i n spans) st g on = matched_good p i n spans vars st g
+heard_good p vars (Full i) st g on = all_met_good p i (first_in waits_for_full (groups_at i p.sides) p.list.entries) vars st g
 heard_good p vars (TimedOut d) st g on = acting_good p (position (λ e. waits_for_time e.want) p.list.entries) vars _ (record { clock = on; lanes = g.lanes })
 heard_good p vars OverLimit st g on = g
 heard_good p vars NotYet st g on = record { clock = g.clock; lanes = g.lanes }
-heard_good p vars Ended st g on =
-    awaited_good p.child (purpose.End p) (ended p p.child vars) vars (owning (asked p.child act.Close st.own) st) (record { clock = g.clock; lanes = g.lanes })
-    (λ a st g. let_go_good p vars (failure a) (shut p.child st) (shut_good p.child st g))
-heard_good p vars (Failed c) st g on =
-    awaited_good p.child (purpose.Fail c) (broken p.child c vars) vars (owning (asked p.child act.Close st.own) st) (record { clock = g.clock; lanes = g.lanes })
-    (λ a st g. shut_good p.child st g)
+heard_good p vars (Ended i) st g on =
+    awaited_good i (purpose.End p) (ended p i vars) vars (owning (asked i act.Close st.own) st) (record { clock = g.clock; lanes = g.lanes })
+    (λ a st g. let_go_good p i vars (failure a) (shut i st) (shut_good i st g))
+heard_good p vars (Failed i c) st g on =
+    awaited_good i (purpose.Fail c) (broken i c vars) vars (owning (asked i act.Close st.own) st) (record { clock = g.clock; lanes = g.lanes })
+    (λ a st g. shut_good i st g)
 
-concluded_good : (p : Plan) (vars : Variables) (r : Listened) (st : Dialogue) → Good st → Fine st.horizon r → GoodAfter (concluded p vars r st)
-concluded_good p vars (v, left, o) st g f =
-    heard_good p vars v (record st { lanes = with_items p.child left st.lanes; own = o }) (record { clock = f.1; lanes = with_items_by st.horizon p.child left st.lanes g.lanes f.0 }) f.2
+concluded_good : (p : Plan) (vars : Variables) (r : Listened) (st : Dialogue) → WaitKept st.limit st.horizon p (GoodIn st.horizon) r → GoodAfter (concluded p vars r st)
+concluded_good p vars (v, lanes, o) st k = heard_good p vars v (record st { lanes = lanes; own = o }) (record { clock = k.0.1; lanes = k.0.0 }) k.2
 
 listening_good : (p : Plan) (vars : Variables) (st : Dialogue) → Good st → GoodAfter (listening p vars st)
 listening_good p vars st g =
-    concluded_good p vars (listen st.limit st.horizon p (lane_of p.child st.lanes).items st.own) st g
-    (listen_fine st.limit st.horizon p (lane_of p.child st.lanes).items st.own (items_by st.horizon p.child st.lanes g.lanes) g.clock)
+    concluded_good p vars (listen st.limit st.horizon p st.lanes st.own) st (listen_good st.limit st.horizon p st.lanes st.own (g.lanes, g.clock))
 
 looking_good : (p : Plan) (vars : Variables) (st : Dialogue) → Good st → GoodAfter (looking p vars st)
 looking_good p vars st g =
-    let items = items_by st.horizon p.child st.lanes g.lanes in
-    concluded_good p vars (look st.limit st.horizon p (lane_of p.child st.lanes).items st.own) st g
-    (decided_fine st.horizon p (chosen_of p st.own) (lane_of p.child st.lanes).items st.own (listen st.limit st.horizon p (lane_of p.child st.lanes).items) items g.clock
-    (λ o le. listen_fine st.limit st.horizon p (lane_of p.child st.lanes).items o items le))
+    concluded_good p vars (look st.limit st.horizon p st.lanes st.own) st (look_good st.limit st.horizon p st.lanes st.own (g.lanes, g.clock))
 
 -- commands
 
@@ -246,7 +211,7 @@ settled_good i (purpose.Spawn words) vars a st g = started_good i words vars (fa
 settled_good i (purpose.Send x rest) vars a st g = sent_good i x vars (handing i rest vars) (failure a) st g (λ st g. handing_good i rest vars st g)
 settled_good i purpose.Close vars a st g = closed_good vars (failure a) (shut i st) (shut_good i st g)
 settled_good i purpose.Wait vars a st g = g
-settled_good i (purpose.End p) vars a st g = let_go_good p vars (failure a) (shut i st) (shut_good i st g)
+settled_good i (purpose.End p) vars a st g = let_go_good p i vars (failure a) (shut i st) (shut_good i st g)
 settled_good i (purpose.Fail c) vars a st g = shut_good i st g
 
 resuming_good : (f : Phase) (vars : Variables) (st : Dialogue) → Good st → GoodAfter (resuming f vars st)
@@ -312,7 +277,7 @@ again_good : (p : Plan) (deadline : Option ℕ) (ps : List Plan) (vars : Variabl
 again_good p deadline ps vars st g =
     let o = record st.own { plans = ps } in
     let g' : Good (owning o st) = record { clock = g.clock; lanes = g.lanes } in
-    said_good (if_open p.child o) vars (owning o st) _ g' (λ i. looking_good (record p { deadline = deadline }) vars (owning o st) g')
+    said_good (still_open p.order o) vars (owning o st) _ g' (λ all. looking_good (record p { deadline = deadline }) vars (owning o st) g')
 
 behind_good : (c : Code) (value : List ℕ) (ps : List Plan) (vars : Variables) (st : Dialogue) → Good st → GoodAfter (behind c value ps vars st)
 behind_good c value [] vars st g = g

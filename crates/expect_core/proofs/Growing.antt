@@ -12,7 +12,7 @@ use Rattle.child_events.specs.declared.event.Event.TheVariants as event
 use Rattle.child_events.specs.Queue.{Queued, came}
 use Rattle.expect_core.specs.declared.lanes.Lane.{Lane}
 use Rattle.expect_core.specs.Lanes.{lane_of, with_lane, with_items, with_answers, with_item, lane_with, grown, place, arrived}
-use Rattle.expect_core.proofs.LaneFacts.{Same, Apart, parted, IsBeyond, items_put, answers_put, grown-length}
+use Rattle.expect_core.proofs.LaneFacts.{Same, Apart, parted, IsBeyond, answers_put, grown-length}
 
 -- the first of them comes no earlier
 abbrev pub IsLater : ℕ → List Queued → Type 0
@@ -165,18 +165,6 @@ abbrev pub Fits : {X : Type 0} → ℕ → List X → List Lane → Type 0
 Fits i left lanes = (i < length lanes) ⊎ (IsBeyond i lanes × (left ≡ []))
 
 module _ (i : ℕ) (e : Event) (m : ℕ) (lanes : List Lane) where
-  pub items_there : (left : List Queued) → Fits i left lanes → (lane_of i (arrived e m (with_items i left lanes))).items ≡ left ++ (more_items i m lanes e).more
-  items_there left (inl lt) =
-      let more = more_items i m lanes e in
-      sym (ap (λ (ls : List Lane). (lane_of i ls).items) (more.put left))
-      ∙ items_put i (left ++ more.more) (arrived e m lanes) (omega (arith, lt, arrived-length e m lanes))
-  items_there left (inr b) =
-      let more = more_items i m lanes e in
-      ap (λ (ls : List Lane). (lane_of i (arrived e m ls)).items) (b.0.put (record (lane_of i lanes) { items = left }))
-      ∙ more.read
-      ∙ ap (λ (l : Lane). l.items ++ more.more) b.0.none
-      ∙ ap (λ (k : List Queued). k ++ more.more) (sym b.1)
-
   pub answers_there : (left : List (ℕ × Answer)) → Fits i left lanes → (lane_of i (arrived e m (with_answers i left lanes))).answers ≡ left ++ (more_answers i m lanes e).more
   answers_there left (inl lt) =
       let more = more_answers i m lanes e in

@@ -1,9 +1,8 @@
 -- A lane that grows, and another one, or the same.
 use Rattle.std.proofs.Common.{◌≡◌, ℕ, zero, suc, ◌<◌, List, [], ◌∷◌, length, ◌⊎◌, inl, inr, refl, ap, arith}
 use Rattle.child_events.specs.declared.event.Answer.{Answer}
-use Rattle.child_events.specs.Queue.{Queued}
 use Rattle.expect_core.specs.declared.lanes.Lane.{Lane}
-use Rattle.expect_core.specs.Lanes.{no_lane, lane_of, with_lane, with_items, with_answers, grown}
+use Rattle.expect_core.specs.Lanes.{no_lane, lane_of, with_lane, with_answers, grown}
 
 pub record Same (i j : ℕ) (g : Lane → Lane) (lanes : List Lane) : Type 0 where
   pub here : lane_of i (grown g j lanes) ≡ g (lane_of i lanes)
@@ -38,22 +37,12 @@ within i [] = inr (record { put = λ x. refl; none = refl })
 within zero (l ∷ ls) = inl (omega arith)
 within (suc i) (l ∷ ls) = beyond_more i l ls (within i ls)
 
-pub items_twice : (i : ℕ) (l k : List Queued) (lanes : List Lane) → with_items i k (with_items i l lanes) ≡ with_items i k lanes
-items_twice i l k [] = refl
-items_twice zero l k (x ∷ xs) = refl
-items_twice (suc i) l k (x ∷ xs) = ap (λ (ls : List Lane). x ∷ ls) (items_twice i l k xs)
-
 pub answers_twice : (i : ℕ) (l k : List (ℕ × Answer)) (lanes : List Lane) → with_answers i k (with_answers i l lanes) ≡ with_answers i k lanes
 answers_twice i l k [] = refl
 answers_twice zero l k (x ∷ xs) = refl
 answers_twice (suc i) l k (x ∷ xs) = ap (λ (ls : List Lane). x ∷ ls) (answers_twice i l k xs)
 
 -- what is put is there
-pub items_put : (i : ℕ) (l : List Queued) (lanes : List Lane) → i < length lanes → (lane_of i (with_items i l lanes)).items ≡ l
-items_put i l [] lt = absurd (let no : i < 0 = lt in omega arith)
-items_put zero l (x ∷ xs) lt = refl
-items_put (suc i) l (x ∷ xs) lt = items_put i l xs (omega (arith, lt))
-
 pub answers_put : (i : ℕ) (l : List (ℕ × Answer)) (lanes : List Lane) → i < length lanes → (lane_of i (with_answers i l lanes)).answers ≡ l
 answers_put i l [] lt = absurd (let no : i < 0 = lt in omega arith)
 answers_put zero l (x ∷ xs) lt = refl

@@ -2,6 +2,12 @@ pub mod Times
 pub mod LaneFacts
 pub mod Growing
 pub mod Listening
+pub mod Turns
+pub mod Hushes
+pub mod Vain
+pub mod Keeping
+pub mod Siding
+pub mod Waits
 pub mod Answering
 pub mod Waiting
 pub mod Echoes

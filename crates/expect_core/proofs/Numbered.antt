@@ -1,19 +1,15 @@
 -- After each call a script has at most 16 children, and each request names a child from 1 to 16.
-use Rattle.std.proofs.Common.{◌≡◌, ℕ, ◌+◌, List, [], ◌∷◌, ◌++◌, length, Bool, true, false, Option, Some, None, Ok, Err, refl, arith}
+use Rattle.std.proofs.Common.{◌≡◌, ℕ, ◌+◌, List, [], ◌∷◌, ◌++◌, length, Bool, true, false, Option, Some, None, Ok, Err, inl, inr, refl, subst, arith}
 use Rattle.std.proofs.lemmas.Bool.Decides.{nat_tests}
 use Rattle.std.proofs.lemmas.List.{length-append, length-set}
 use Rattle.std.proofs.lemmas.List.Elements.{All-nil, All-push}
 use Rattle.std.proofs.lemmas.List.Quantifiers.{position-Some}
-use Rattle.std.specs.Prelude.{nat_lt, codes, position, take, drop, if◌then◌else◌}
+use Rattle.std.specs.Prelude.{◌==◌, nat_lt, codes, position, take, drop, if◌then◌else◌}
 use Rattle.std.specs.Str.{bytes_eq}
 use Rattle.std.specs.Fmt.{decimal}
 use Rattle.child_events.specs.declared.event.Answer.{Answer}
 use Rattle.child_events.specs.declared.event.Cause.{Cause}
-use Rattle.child_events.specs.declared.event.Item.{Item}
-use Rattle.child_events.specs.declared.event.Item.TheVariants as item
-use Rattle.child_events.specs.Queue.{Queued}
-use Rattle.exp_match.specs.declared.chosen.Chosen.{Chosen}
-use Rattle.exp_match.specs.declared.chosen.Chosen.TheVariants as chosen
+use Rattle.exp_match.specs.declared.list.PatternList.{PatternList}
 use Rattle.exp_match.specs.Arguments.{patterns_of}
 use Rattle.exp_match.specs.Choice.{Found, waits_for_end, waits_for_full, waits_for_time, first_in}
 use Rattle.tty_input.specs.declared.action.Action.{Action}
@@ -35,33 +31,36 @@ use Rattle.expect_core.specs.declared.phase.Purpose.TheVariants as purpose
 use Rattle.expect_core.specs.declared.phase.Phase.{Phase}
 use Rattle.expect_core.specs.declared.phase.Phase.TheVariants as phase
 use Rattle.expect_core.specs.declared.phase.Heard.{Heard}
+use Rattle.expect_core.specs.declared.lanes.Lane.{Lane}
 use Rattle.expect_core.specs.declared.phase.Heard.TheVariants.{Match, Full, TimedOut, OverLimit, NotYet, Ended, Failed}
 use Rattle.expect_core.specs.declared.child.Child.{Child}
 use Rattle.expect_core.specs.declared.child.Standing.TheVariants as standing
 use Rattle.expect_core.specs.declared.own.Own.{Own}
 use Rattle.expect_core.specs.declared.order.Order.{Order}
 use Rattle.expect_core.specs.declared.dialogue.Dialogue.{Dialogue}
-use Rattle.expect_core.specs.Lanes.{lane_of, with_answers, with_items}
-use Rattle.expect_core.specs.Owned.{nobody, child_as, child_of, bytes_of, with_bytes, with_child, with_line, standing_as, asked, awaited_once, told, logged, received, at_moment, trimmed, seen}
+use Rattle.expect_core.specs.Lanes.{lane_of, with_answers}
+use Rattle.expect_core.specs.Owned.{nobody, child_as, child_of, bytes_of, with_bytes, with_child, with_line, standing_as, asked, awaited_once, told, logged, received, at_moment, seen}
 use Rattle.expect_core.specs.Flags.{flags_of, bare_words, text_in}
 use Rattle.expect_core.specs.Scoped.{Unset, set_all}
-use Rattle.expect_core.specs.Ids.{is_open, has_id, id_of, or_no_such, spoken_to, open_to, if_open}
-use Rattle.expect_core.specs.Heard.{at_most, in_time, deadline_from, both, Listened, chosen_of, decided, heard, listen, look}
+use Rattle.expect_core.specs.Ids.{is_open, has_id, id_of, or_no_such, spoken_to, open_to}
+use Rattle.expect_core.specs.Heard.{Watch, watched, at_most, deadline_from, groups_at, IsWatched, IsAbout, Listened, listen, look}
+use Rattle.expect_core.specs.Sides.{takes_current, opened, asked_by, with_group, with_groups, still_open}
+use Rattle.expect_core.proofs.Keeping.{Kept as WaitKept, listen_keeps, look_keeps}
 use Rattle.expect_core.specs.Answered.{Outcome, idle, failed, on_said, owning, failure, first_answer, answered_by, awaited}
 use Rattle.expect_core.specs.Spawning.{spawned, announced, current, stored, started, with_new, spawning_at, order_of}
 use Rattle.expect_core.specs.Sending.{takes, act_of, counted, sent_by, handing, handed, echoed, sending_to, send_of}
-use Rattle.expect_core.specs.Expecting.{Pairs, met_pairs, groups_from, entry_of, end_of, ended, broken, listed, patterns_by, only_id, span_in, plan_of, met, matched, all_met, acting_at, let_go, by_heard, concluded, listening, looking, expecting, again, behind, shut, closing}
+use Rattle.expect_core.specs.Expecting.{Pairs, met_pairs, groups_from, entry_of, end_of, ended, broken, listed, patterns_by, span_in, plan_of, met, matched, all_met, acting_at, let_go, by_heard, concluded, listening, looking, expecting, again, behind, shut, closing}
 use Rattle.expect_core.specs.Others.{put_of, to_user, writing, continued, id_alone, closed_by, closed, close_of, wait_of, waited, logging_as, logging}
 use Rattle.expect_core.specs.Options.{option_of, size_of, sizing_at, removal_of, removing_at}
 use Rattle.expect_core.specs.Texts.{id_at, too_many}
 use Rattle.expect_core.specs.Calls.{name_of, expecting_by, named, begun, settled, resuming, outcome, fresh}
-use Rattle.expect_core.specs.Numbered.{IsPlace, NamesAChild, AreOfPlaces, IsOfPlaces, OwnNumbered, Numbered}
+use Rattle.expect_core.specs.Numbered.{IsPlace, WatchPlaces, NamesAChild, AreOfPlaces, IsOfPlaces, OwnNumbered, Numbered}
 
 abbrev pub NumberedAfter : Outcome → Type 0
 NumberedAfter (step, vars, st) = Numbered st
 
-abbrev NumberedIn : Listened → Type 0
-NumberedIn (h, left, o) = OwnNumbered o
+abbrev NumberedIn : List Lane → Own → Type 0
+NumberedIn lanes o = OwnNumbered o
 
 -- the place that a command reads
 
@@ -108,10 +107,44 @@ wait_place word args vars o k =
     past IsPlace (flags_of word id_alone args) _ (λ f. past IsPlace (bare_words word f.1) _
     (λ none. along IsPlace IsPlace (spoken_to f.0.id vars o) _ (spoken_place f.0.id vars o k) (λ i at. pick (Gives IsPlace) (child_of i o).waited _ _ tt at)))
 
-plan_place : (args : List (List ℕ)) (vars : Variables) (o : Own) → OwnNumbered o → Gives (λ (p : Plan). IsPlace p.child) (plan_of args vars o)
+abbrev ArePlaces : List ℕ → Type 0
+ArePlaces [] = Unit {0}
+ArePlaces (i ∷ is) = IsPlace i × ArePlaces is
+
+one_more : (is : List ℕ) (i : ℕ) → ArePlaces is → IsPlace i → ArePlaces (is ++ i ∷ [])
+one_more [] i are at = (at, tt)
+one_more (x ∷ is) i are at = (are.0, one_more is i are.1 at)
+
+opened_places : (is : List ℕ) (ids : List (List ℕ)) (vars : Variables) (o : Own) → OwnNumbered o → ArePlaces is → Gives ArePlaces (opened is ids vars o)
+opened_places is [] vars o k are = are
+opened_places is (id ∷ ids) vars o k are =
+    along IsPlace ArePlaces (open_to (Some id) vars o) _ (open_place (Some id) vars o k) (λ i at. opened_places (is ++ i ∷ []) ids vars o k (one_more is i are at))
+
+asked_places : (list : PatternList) (vars : Variables) (o : Own) → OwnNumbered o → Gives ArePlaces (asked_by list vars o)
+asked_places list vars o k =
+    pick (Gives ArePlaces) (takes_current list) _ _
+    (along IsPlace ArePlaces (open_to None vars o) _ (open_place None vars o k) (λ i at. opened_places (i ∷ []) list.ids vars o k (at, tt)))
+    (opened_places [] list.ids vars o k tt)
+
+group_places : (i g : ℕ) (ws : List Watch) → IsPlace i → WatchPlaces ws → WatchPlaces (with_group i g ws)
+group_places i g [] at are = (at, tt)
+group_places i g (w ∷ ws) at are =
+    pick WatchPlaces (nat_lt w.0 i) _ _ (are.0, group_places i g ws at are.1)
+    (pick WatchPlaces (w.0 == i) _ _ are (at, are))
+
+groups_places : (g : ℕ) (is : List ℕ) (ws : List Watch) → ArePlaces is → WatchPlaces ws → WatchPlaces (with_groups g is ws)
+groups_places g [] ws are watch = watch
+groups_places g (i ∷ is) ws are watch = groups_places (g + 1) is (with_group i g ws) are.1 (group_places i g ws are.0 watch)
+
+plan_place : (args : List (List ℕ)) (vars : Variables) (o : Own) → OwnNumbered o → Gives (λ (p : Plan). WatchPlaces p.sides) (plan_of args vars o)
 plan_place args vars o k =
-    past _ (patterns_by args (patterns_of args)) _ (λ list. past _ (only_id list.ids) _
-    (λ id. along IsPlace _ (open_to id vars o) _ (open_place id vars o k) (λ i at. past _ (span_in list.timeout vars) _ (λ span. at))))
+    past _ (patterns_by args (patterns_of args)) _ (λ list. along ArePlaces _ (asked_by list vars o) _ (asked_places list vars o k)
+    (λ is are. past _ (span_in list.timeout vars) _ (λ span. groups_places (if takes_current list then 0 else 1) is [] are tt)))
+
+-- one that takes part in a wait stands at such a place
+watched_place : (ws : List Watch) (i : ℕ) → WatchPlaces ws → IsWatched i ws → IsPlace i
+watched_place [] i are among = absurd among
+watched_place (w ∷ ws) i are among = elim among [ inl same ↦ subst IsPlace same are.0 | inr more ↦ watched_place ws i are.1 more ]
 
 -- what commands change
 
@@ -152,77 +185,67 @@ shut_numbered i st k = (child_numbered i _ st.own k.0, k.1)
 
 -- waits for a pattern
 
-decided_numbered : (p : Plan) (c : Chosen) (qs : List Queued) (o : Own) (more : Own → Listened) → OwnNumbered o → ((o : Own) → OwnNumbered o → NumberedIn (more o)) → NumberedIn (decided p c qs o more)
-decided_numbered p (chosen.Pattern n spans) qs o more k numbered = k
-decided_numbered p chosen.Full qs o more k numbered = k
-decided_numbered p chosen.None qs o more k numbered = numbered (trimmed p.child o) (child_numbered p.child _ o k)
+received_numbered : (i : ℕ) (piece : List ℕ) (o : Own) → OwnNumbered o → OwnNumbered (received i piece o)
+received_numbered i piece o k =
+    let new : Own = logged (seen i piece o) o in
+    child_numbered i _ new (logged_numbered (seen i piece o) o o.log_user k)
 
-heard_numbered : (p : Plan) (i : Item) (qs : List Queued) (o : Own) (more : Own → Listened) → OwnNumbered o → ((o : Own) → OwnNumbered o → NumberedIn (more o)) → NumberedIn (heard p i qs o more)
-heard_numbered p (item.Out piece) qs o more k numbered =
-    let new : Own = logged (seen p.child piece o) o in
-    decided_numbered p (chosen_of p (received p.child piece o)) qs (received p.child piece o) more (child_numbered p.child _ new (logged_numbered (seen p.child piece o) o o.log_user k)) numbered
-heard_numbered p item.Eof qs o more k numbered = k
-heard_numbered p (item.ReadFail c) qs o more k numbered = k
+listen_numbered : (limit : Option ℕ) (h : ℕ) (p : Plan) (lanes : List Lane) (o : Own) → OwnNumbered o → WaitKept limit h p NumberedIn (listen limit h p lanes o)
+listen_numbered limit h p lanes o k =
+    listen_keeps limit h p NumberedIn (λ i w lanes o k. child_numbered i _ o k) (λ i w piece lanes o k. received_numbered i piece o k) (λ i w q qs lanes o is k. k) lanes o k
 
-listen_numbered : (limit : Option ℕ) (h : ℕ) (p : Plan) (qs : List Queued) (o : Own) → OwnNumbered o → NumberedIn (listen limit h p qs o)
-listen_numbered limit h p [] o k = k
-listen_numbered limit h p (q ∷ qs) o k =
-    pick NumberedIn (in_time limit p.deadline q.moment) _ _
-    (heard_numbered p q.item qs (at_moment q.moment o) (listen limit h p qs) k (λ o k. listen_numbered limit h p qs o k))
-    k
+look_numbered : (limit : Option ℕ) (h : ℕ) (p : Plan) (lanes : List Lane) (o : Own) → OwnNumbered o → WaitKept limit h p NumberedIn (look limit h p lanes o)
+look_numbered limit h p lanes o k =
+    look_keeps limit h p NumberedIn (λ i w lanes o k. child_numbered i _ o k) (λ i w piece lanes o k. received_numbered i piece o k) (λ i w q qs lanes o is k. k) lanes o k
 
-look_numbered : (limit : Option ℕ) (h : ℕ) (p : Plan) (qs : List Queued) (o : Own) → OwnNumbered o → NumberedIn (look limit h p qs o)
-look_numbered limit h p qs o k = decided_numbered p (chosen_of p o) qs o (listen limit h p qs) k (listen_numbered limit h p qs)
-
-pushed_numbered : (p : Plan) (o : Own) → IsPlace p.child → OwnNumbered o → OwnNumbered (record o { plans = p ∷ o.plans })
+pushed_numbered : (p : Plan) (o : Own) → WatchPlaces p.sides → OwnNumbered o → OwnNumbered (record o { plans = p ∷ o.plans })
 pushed_numbered p o at k = record { few = k.few; placed = (at, k.placed); asked = k.asked }
 
-met_numbered : (p : Plan) (n : ℕ) (rest : List ℕ) (r : Variables × Unset) (st : Dialogue) → IsPlace p.child → Numbered st → NumberedAfter (met p n rest r st)
-met_numbered p n rest (vars, None) st at k = (pushed_numbered p (with_bytes p.child rest st.own) at (child_numbered p.child _ st.own k.0), k.1)
-met_numbered p n rest (vars, Some text) st at k = k
+met_numbered : (p : Plan) (i n : ℕ) (rest : List ℕ) (r : Variables × Unset) (st : Dialogue) → WatchPlaces p.sides → Numbered st → NumberedAfter (met p i n rest r st)
+met_numbered p i n rest (vars, None) st at k = (pushed_numbered p (with_bytes i rest st.own) at (child_numbered i _ st.own k.0), k.1)
+met_numbered p i n rest (vars, Some text) st at k = k
 
-all_met_numbered : (p : Plan) (found : Option ℕ) (vars : Variables) (st : Dialogue) → IsPlace p.child → Numbered st → NumberedAfter (all_met p found vars st)
-all_met_numbered p None vars st at k = k
-all_met_numbered p (Some n) vars st at k =
-    let pairs : Pairs = met_pairs (child_of p.child st.own).id (bytes_of p.child st.own) in
-    met_numbered p n [] (set_all pairs vars) st at k
+all_met_numbered : (p : Plan) (i : ℕ) (found : Option ℕ) (vars : Variables) (st : Dialogue) → WatchPlaces p.sides → Numbered st → NumberedAfter (all_met p i found vars st)
+all_met_numbered p i None vars st at k = k
+all_met_numbered p i (Some n) vars st at k =
+    let pairs : Pairs = met_pairs (child_of i st.own).id (bytes_of i st.own) in
+    met_numbered p i n [] (set_all pairs vars) st at k
 
-matched_numbered : (p : Plan) (n : ℕ) (spans : Found) (vars : Variables) (st : Dialogue) → IsPlace p.child → Numbered st → NumberedAfter (matched p n spans vars st)
-matched_numbered p n spans vars st at k =
-    let bytes : List ℕ = bytes_of p.child st.own in
-    let pairs : Pairs = groups_from (entry_of n p).indices bytes 0 spans ++ met_pairs (child_of p.child st.own).id (take (end_of spans) bytes) in
-    met_numbered p n (if (entry_of n p).notransfer then bytes else drop (end_of spans) bytes) (set_all pairs vars) st at k
+matched_numbered : (p : Plan) (i n : ℕ) (spans : Found) (vars : Variables) (st : Dialogue) → WatchPlaces p.sides → Numbered st → NumberedAfter (matched p i n spans vars st)
+matched_numbered p i n spans vars st at k =
+    let bytes : List ℕ = bytes_of i st.own in
+    let pairs : Pairs = groups_from (entry_of n p).indices bytes 0 spans ++ met_pairs (child_of i st.own).id (take (end_of spans) bytes) in
+    met_numbered p i n (if (entry_of n p).notransfer then bytes else drop (end_of spans) bytes) (set_all pairs vars) st at k
 
-let_go_numbered : (p : Plan) (vars : Variables) (c : Option Cause) (st : Dialogue) → IsPlace p.child → Numbered st → NumberedAfter (let_go p vars c st)
-let_go_numbered p vars None st at k = all_met_numbered p (first_in waits_for_end both p.list.entries) vars st at k
-let_go_numbered p vars (Some c) st at k = k
+let_go_numbered : (p : Plan) (i : ℕ) (vars : Variables) (c : Option Cause) (st : Dialogue) → WatchPlaces p.sides → Numbered st → NumberedAfter (let_go p i vars c st)
+let_go_numbered p i vars None st at k = all_met_numbered p i (first_in waits_for_end (groups_at i p.sides) p.list.entries) vars st at k
+let_go_numbered p i vars (Some c) st at k = k
 
-acting_numbered : (p : Plan) (found : Option ℕ) (vars : Variables) (st : Dialogue) → IsPlace p.child → Numbered st → NumberedAfter (acting_at p found vars st)
+acting_numbered : (p : Plan) (found : Option ℕ) (vars : Variables) (st : Dialogue) → WatchPlaces p.sides → Numbered st → NumberedAfter (acting_at p found vars st)
 acting_numbered p None vars st at k = k
 acting_numbered p (Some n) vars st at k = (pushed_numbered p st.own at k.0, k.1)
 
-by_heard_numbered : (p : Plan) (vars : Variables) (h : Heard) (st : Dialogue) → IsPlace p.child → Numbered st → NumberedAfter (by_heard p vars h st)
-by_heard_numbered p vars (Match n spans) st at k = matched_numbered p n spans vars st at k
-by_heard_numbered p vars Full st at k = all_met_numbered p (first_in waits_for_full both p.list.entries) vars st at k
-by_heard_numbered p vars (TimedOut d) st at k = acting_numbered p (position (λ e. waits_for_time e.want) p.list.entries) vars (owning (record st.own { clock = d }) st) at k
-by_heard_numbered p vars OverLimit st at k = k
-by_heard_numbered p vars NotYet st at k = (k.0, at)
-by_heard_numbered p vars Ended st at k =
-    closing_numbered p.child (purpose.End p) (ended p p.child vars) vars st (at, at) k (λ a st k. let_go_numbered p vars (failure a) (shut p.child st) at (shut_numbered p.child st k))
-by_heard_numbered p vars (Failed c) st at k = closing_numbered p.child (purpose.Fail c) (broken p.child c vars) vars st (at, tt) k (λ a st k. shut_numbered p.child st k)
+by_heard_numbered : (p : Plan) (vars : Variables) (h : Heard) (st : Dialogue) → WatchPlaces p.sides → IsAbout (watched p) h → Numbered st → NumberedAfter (by_heard p vars h st)
+by_heard_numbered p vars (Match i n spans) st at about k = matched_numbered p i n spans vars st at k
+by_heard_numbered p vars (Full i) st at about k = all_met_numbered p i (first_in waits_for_full (groups_at i p.sides) p.list.entries) vars st at k
+by_heard_numbered p vars (TimedOut d) st at about k = acting_numbered p (position (λ e. waits_for_time e.want) p.list.entries) vars (owning (record st.own { clock = d }) st) at k
+by_heard_numbered p vars OverLimit st at about k = k
+by_heard_numbered p vars NotYet st at about k = (k.0, at)
+by_heard_numbered p vars (Ended i) st at about k =
+    let here = watched_place p.sides i at about in
+    closing_numbered i (purpose.End p) (ended p i vars) vars st (here, at) k (λ a st k. let_go_numbered p i vars (failure a) (shut i st) at (shut_numbered i st k))
+by_heard_numbered p vars (Failed i c) st at about k =
+    let here = watched_place p.sides i at about in
+    closing_numbered i (purpose.Fail c) (broken i c vars) vars st (here, tt) k (λ a st k. shut_numbered i st k)
 
-concluded_numbered : (p : Plan) (vars : Variables) (r : Listened) (st : Dialogue) → IsPlace p.child → IsOfPlaces st.phase → NumberedIn r → NumberedAfter (concluded p vars r st)
-concluded_numbered p vars (h, left, o) st at under k = by_heard_numbered p vars h (record st { lanes = with_items p.child left st.lanes; own = o }) at (k, under)
+concluded_numbered : (p : Plan) (vars : Variables) (r : Listened) (st : Dialogue) → WatchPlaces p.sides → IsOfPlaces st.phase → WaitKept st.limit st.horizon p NumberedIn r → NumberedAfter (concluded p vars r st)
+concluded_numbered p vars (h, lanes, o) st at under k = by_heard_numbered p vars h (record st { lanes = lanes; own = o }) at k.1 (k.0, under)
 
-listening_numbered : (p : Plan) (vars : Variables) (st : Dialogue) → IsPlace p.child → Numbered st → NumberedAfter (listening p vars st)
-listening_numbered p vars st at k =
-    let items : List Queued = (lane_of p.child st.lanes).items in
-    concluded_numbered p vars (listen st.limit st.horizon p items st.own) st at k.1 (listen_numbered st.limit st.horizon p items st.own k.0)
+listening_numbered : (p : Plan) (vars : Variables) (st : Dialogue) → WatchPlaces p.sides → Numbered st → NumberedAfter (listening p vars st)
+listening_numbered p vars st at k = concluded_numbered p vars (listen st.limit st.horizon p st.lanes st.own) st at k.1 (listen_numbered st.limit st.horizon p st.lanes st.own k.0)
 
-looking_numbered : (p : Plan) (vars : Variables) (st : Dialogue) → IsPlace p.child → Numbered st → NumberedAfter (looking p vars st)
-looking_numbered p vars st at k =
-    let items : List Queued = (lane_of p.child st.lanes).items in
-    concluded_numbered p vars (look st.limit st.horizon p items st.own) st at k.1 (look_numbered st.limit st.horizon p items st.own k.0)
+looking_numbered : (p : Plan) (vars : Variables) (st : Dialogue) → WatchPlaces p.sides → Numbered st → NumberedAfter (looking p vars st)
+looking_numbered p vars st at k = concluded_numbered p vars (look st.limit st.horizon p st.lanes st.own) st at k.1 (look_numbered st.limit st.horizon p st.lanes st.own k.0)
 
 -- commands
 
@@ -285,7 +308,7 @@ settled_numbered i (purpose.Spawn words) vars a st at k = started_numbered i wor
 settled_numbered i (purpose.Send x rest) vars a st at k = sent_numbered i x vars (handing i rest vars) (failure a) st k (λ st k. handing_numbered i rest vars st at.0 k)
 settled_numbered i purpose.Close vars a st at k = closed_numbered vars (failure a) (shut i st) (shut_numbered i st k)
 settled_numbered i purpose.Wait vars a st at k = k
-settled_numbered i (purpose.End p) vars a st at k = let_go_numbered p vars (failure a) (shut i st) at.1 (shut_numbered i st k)
+settled_numbered i (purpose.End p) vars a st at k = let_go_numbered p i vars (failure a) (shut i st) at.1 (shut_numbered i st k)
 settled_numbered i (purpose.Fail c) vars a st at k = shut_numbered i st k
 
 resuming_numbered : (f : Phase) (vars : Variables) (st : Dialogue) → IsOfPlaces f → Numbered st → NumberedAfter (resuming f vars st)
@@ -294,7 +317,7 @@ resuming_numbered (phase.Answer i why) vars st at k = awaited_numbered i why (se
 resuming_numbered (phase.Expect p) vars st at k = listening_numbered p vars st at k
 
 expecting_numbered : (args : List (List ℕ)) (vars : Variables) (st : Dialogue) → Numbered st → NumberedAfter (expecting args vars st)
-expecting_numbered args vars st k = said_numbered (λ (p : Plan). IsPlace p.child) (plan_of args vars st.own) vars st _ (plan_place args vars st.own k.0) k (λ p at. looking_numbered p vars st at k)
+expecting_numbered args vars st k = said_numbered (λ (p : Plan). WatchPlaces p.sides) (plan_of args vars st.own) vars st _ (plan_place args vars st.own k.0) k (λ p at. looking_numbered p vars st at k)
 
 expecting_by_numbered : (list : Option (List ℕ)) (args : List (List ℕ)) (vars : Variables) (st : Dialogue) → Numbered st → NumberedAfter (expecting_by list args vars st)
 expecting_by_numbered None args vars st k = expecting_numbered args vars st k
@@ -356,7 +379,7 @@ again_numbered : (p : Plan) (deadline : Option ℕ) (ps : List Plan) (vars : Var
 again_numbered p deadline ps vars st placed k =
     let o : Own = record st.own { plans = ps } in
     let k' : Numbered (owning o st) = (popped_numbered ps st.own placed.1 k.0, k.1) in
-    read_numbered (if_open p.child o) vars (owning o st) _ k' (λ i. looking_numbered (record p { deadline = deadline }) vars (owning o st) placed.0 k')
+    read_numbered (still_open p.order o) vars (owning o st) _ k' (λ all. looking_numbered (record p { deadline = deadline }) vars (owning o st) placed.0 k')
 
 behind_numbered : (c : Code) (value : List ℕ) (ps : List Plan) (vars : Variables) (st : Dialogue) → AreOfPlaces ps → Numbered st → NumberedAfter (behind c value ps vars st)
 behind_numbered c value [] vars st placed k = k

@@ -1,4 +1,4 @@
--- The children of a script are kept apart: a call leaves each child alone but the one that it speaks to, and an event each but its own.
+-- The children of a script are kept apart: a call leaves each child alone but those that it speaks to, and an event each but its own.
 use Rattle.std.specs.Prelude.{◌≡◌, ◌≢◌, ℕ, ◌+◌, ◌<◌, ◌==◌, List, [], ◌∷◌, length, if◌then◌else◌, Option, Some, None, Ok, Err}
 use Rattle.std.specs.List.{filter}
 use Rattle.child_events.specs.declared.event.Event.{Event}
@@ -24,7 +24,10 @@ use Rattle.expect_core.specs.Owned.{child_of}
 use Rattle.expect_core.specs.Flags.{flags_of}
 use Rattle.expect_core.specs.Ids.{spoken_to}
 use Rattle.expect_core.specs.Sending.{takes}
-use Rattle.expect_core.specs.Expecting.{patterns_by, only_id}
+use Rattle.expect_core.specs.Among.{IsAmong}
+use Rattle.expect_core.specs.Heard.{places_of, IsWatched}
+use Rattle.expect_core.specs.Sides.{spoken_by}
+use Rattle.expect_core.specs.Expecting.{patterns_by}
 use Rattle.expect_core.specs.Others.{id_alone}
 use Rattle.expect_core.specs.Options.{takes as option_takes}
 use Rattle.expect_core.specs.Calls.{name_of, outcome, fresh}
@@ -39,8 +42,8 @@ abbrev pub Untouched : ℕ → Dialogue → Dialogue → Type 0
 Untouched j old new =
     (lane_of j new.lanes ≡ lane_of j old.lanes) × (child_of j new.own ≡ child_of j old.own) × (asked_of j new.own.requests ≡ asked_of j old.own.requests)
 
--- The child that a call speaks to, at its place; an error stands for none. A command speaks to the child with the id behind its `-i` or,
--- without it, to the one that was spawned last.
+-- The children that a call speaks to, at their places; an error stands for none. A command speaks to the child with the id behind its `-i`
+-- or, without it, to the one that was spawned last; an expect to each that takes part in it.
 
 abbrev pub by_flags : Takes → List ℕ → List (List ℕ) → Variables → Own → Said ℕ
 by_flags takes word args vars o = flags_of word takes args >>= λ f. spoken_to f.0.id vars o
@@ -49,63 +52,73 @@ by_flags takes word args vars o = flags_of word takes args >>= λ f. spoken_to f
 abbrev pub by_option : List ℕ → List (List ℕ) → Variables → Own → Said ℕ
 by_option word args vars o = flags_of word option_takes args >>= λ f. if f.0.on then Err [] else spoken_to f.0.id vars o
 
-abbrev pub by_patterns : List (List ℕ) → Variables → Own → Said ℕ
-by_patterns args vars o = patterns_by args (patterns_of args) >>= λ list. only_id list.ids >>= λ id. spoken_to id vars o
+abbrev pub by_patterns : List (List ℕ) → Variables → Own → Said (List ℕ)
+by_patterns args vars o = patterns_by args (patterns_of args) >>= λ list. spoken_by list vars o
 
-abbrev pub named_by : Option Name → List ℕ → List (List ℕ) → Variables → Own → Said ℕ
-named_by (Some name.Send) word args vars o = by_flags takes word args vars o
-named_by (Some name.Expect) word args vars o = by_patterns args vars o
-named_by (Some name.Close) word args vars o = by_flags id_alone word args vars o
-named_by (Some name.Wait) word args vars o = by_flags id_alone word args vars o
-named_by (Some name.MatchMax) word args vars o = by_option word args vars o
-named_by (Some name.RemoveNulls) word args vars o = by_option word args vars o
-named_by other word args vars o = Err []
+abbrev pub one : Said ℕ → List ℕ
+one (Ok i) = i ∷ []
+one (Err text) = []
 
-abbrev pub under_way : Phase → Said ℕ
-under_way phase.Idle = Err []
-under_way (phase.Answer i why) = Ok i
-under_way (phase.Expect p) = Ok p.child
+abbrev pub each : Said (List ℕ) → List ℕ
+each (Ok is) = is
+each (Err text) = []
 
--- behind an action `exp_continue` goes back to the child of its expect
-abbrev pub on_top : Code → List Plan → Said ℕ
-on_top code.Again (p ∷ ps) = Ok p.child
-on_top code.AgainLater (p ∷ ps) = Ok p.child
-on_top c ps = Err []
+abbrev pub named_by : Option Name → List ℕ → List (List ℕ) → Variables → Own → List ℕ
+named_by (Some name.Send) word args vars o = one (by_flags takes word args vars o)
+named_by (Some name.Expect) word args vars o = each (by_patterns args vars o)
+named_by (Some name.Close) word args vars o = one (by_flags id_alone word args vars o)
+named_by (Some name.Wait) word args vars o = one (by_flags id_alone word args vars o)
+named_by (Some name.MatchMax) word args vars o = one (by_option word args vars o)
+named_by (Some name.RemoveNulls) word args vars o = one (by_option word args vars o)
+named_by other word args vars o = []
 
-abbrev pub speaks_to : Call → Dialogue → Said ℕ
-speaks_to (Begin [] vars) st = Err []
+-- Those that what is under way is about. At the end of one child's output its expect may go on with the others behind its action.
+abbrev pub under_way : Phase → List ℕ
+under_way phase.Idle = []
+under_way (phase.Answer i (purpose.End p)) = i ∷ places_of p.sides
+under_way (phase.Answer i why) = i ∷ []
+under_way (phase.Expect p) = places_of p.sides
+
+-- behind an action `exp_continue` goes back to the children of its expect
+abbrev pub on_top : Code → List Plan → List ℕ
+on_top code.Again (p ∷ ps) = places_of p.sides
+on_top code.AgainLater (p ∷ ps) = places_of p.sides
+on_top c ps = []
+
+abbrev pub speaks_to : Call → Dialogue → List ℕ
+speaks_to (Begin [] vars) st = []
 speaks_to (Begin (word ∷ args) vars) st = named_by (name_of word) word args vars st.own
 speaks_to (Resume vars) st = under_way st.phase
-speaks_to (AfterWords words vars) st = by_patterns words vars st.own
+speaks_to (AfterWords words vars) st = each (by_patterns words vars st.own)
 speaks_to (AfterBody c value vars) st = on_top c st.own.plans
-speaks_to (Knows word) st = Err []
+speaks_to (Knows word) st = []
 
--- A wait is for one child: an expect awaits the answer of its own child alone.
-abbrev pub IsOfOne : Phase → Type 0
-IsOfOne (phase.Answer i (purpose.End p)) = p.child ≡ i
-IsOfOne other = Unit {0}
+-- A wait is for children that take part: an expect awaits the answer of one of its own children.
+abbrev pub IsOfOwn : Phase → Type 0
+IsOfOwn (phase.Answer i (purpose.End p)) = IsWatched i p.sides
+IsOfOwn other = Unit {0}
 
 -- none of these expects is of the child at a place
 abbrev pub NoneIsOf : ℕ → List Plan → Type 0
 NoneIsOf j [] = Unit {0}
-NoneIsOf j (p ∷ ps) = (p.child ≢ j) × NoneIsOf j ps
+NoneIsOf j (p ∷ ps) = (¬ IsWatched j p.sides) × NoneIsOf j ps
 
 -- nothing that is under way is about the child at a place: no call that waits, and no expect whose action is evaluated
 abbrev pub IsAside : ℕ → Dialogue → Type 0
-IsAside j st = (under_way st.phase ≢ Ok j) × NoneIsOf j st.own.plans
+IsAside j st = (¬ IsAmong j (under_way st.phase)) × NoneIsOf j st.own.plans
 
--- A call leaves each child alone that was there before it, but the one that it speaks to, and nothing of it comes to be about another one.
-abbrev pub CallsOne : Type 0
-CallsOne =
-    (call : Call) (st : Dialogue) → IsOfOne st.phase → (j : ℕ) → speaks_to call st ≢ Ok j → j < length st.own.children →
+-- A call leaves each child alone that was there before it, but those that it speaks to, and nothing of it comes to be about another one.
+abbrev pub CallsOwn : Type 0
+CallsOwn =
+    (call : Call) (st : Dialogue) → IsOfOwn st.phase → (j : ℕ) → ¬ IsAmong j (speaks_to call st) → j < length st.own.children →
     let new = behind_call (outcome call st) in
     Untouched j st new × (j < length new.own.children) × (IsAside j st → IsAside j new)
 
--- Each wait is for one child: at the start, with an event more, and behind each call.
-pub record StaysOfOne : Type 0 where
-  pub begins : (limit : Option ℕ) → IsOfOne (fresh limit).phase
-  pub offered : (e : Event) (st : Dialogue) → IsOfOne st.phase → IsOfOne (offered e st).phase
-  pub called : (call : Call) (st : Dialogue) → IsOfOne st.phase → IsOfOne (behind_call (outcome call st)).phase
+-- Each wait is for children that take part: at the start, with an event more, and behind each call.
+pub record StaysOfOwn : Type 0 where
+  pub begins : (limit : Option ℕ) → IsOfOwn (fresh limit).phase
+  pub offered : (e : Event) (st : Dialogue) → IsOfOwn st.phase → IsOfOwn (offered e st).phase
+  pub called : (call : Call) (st : Dialogue) → IsOfOwn st.phase → IsOfOwn (behind_call (outcome call st)).phase
 
 -- the place of the child that an event comes from
 abbrev pub comes_from : Event → Option ℕ

@@ -1,8 +1,10 @@
 -- How long a call that waits goes on waiting, where only time passes.
-use Rattle.std.specs.Prelude.{ℕ, ◌≤◌, min, Option, Some, None}
+use Rattle.std.specs.Prelude.{ℕ, ◌≤◌, min, List, [], ◌∷◌, Option, Some, None}
+use Rattle.expect_core.specs.declared.lanes.Lane.{Lane}
 use Rattle.expect_core.specs.declared.phase.Phase.{Phase}
 use Rattle.expect_core.specs.declared.phase.Phase.TheVariants as phase
 use Rattle.expect_core.specs.declared.dialogue.Dialogue.{Dialogue}
+use Rattle.expect_core.specs.Heard.{watched, heads}
 
 -- no later than a moment, if that is there
 abbrev pub IsWithin : ℕ → Option ℕ → Type 0
@@ -20,12 +22,18 @@ abbrev pub as_moment : Option ℕ → Option ℕ
 as_moment None = None
 as_moment (Some d) = Some (min d 18446744073709551615)
 
--- the deadline of what is under way: an expect has one, and a wait for an answer none
-abbrev pub deadline_under : Phase → Option ℕ
-deadline_under phase.Idle = None
-deadline_under (phase.Answer i why) = None
-deadline_under (phase.Expect p) = as_moment p.deadline
+-- the soonest of a moment and several others
+abbrev pub soonest : Option ℕ → List (Option ℕ) → Option ℕ
+soonest first [] = first
+soonest first (m ∷ ms) = soonest (sooner first m) ms
+
+-- The deadline of what is under way. An expect has its own, and the moment of each item that is there: that item is taken when time is past
+-- it, if it had to wait for other children. A wait for an answer has none.
+abbrev pub deadline_under : Phase → List Lane → Option ℕ
+deadline_under phase.Idle lanes = None
+deadline_under (phase.Answer i why) lanes = None
+deadline_under (phase.Expect p) lanes = soonest (as_moment p.deadline) (heads (watched p) lanes)
 
 -- the last moment to which a call that waits goes on waiting: the deadline of what is under way, or the last moment of the settings
 abbrev pub deadline_of : Dialogue → Option ℕ
-deadline_of st = sooner (deadline_under st.phase) st.limit
+deadline_of st = sooner (deadline_under st.phase st.lanes) st.limit

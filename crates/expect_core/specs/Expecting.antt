@@ -29,12 +29,11 @@ use Rattle.expect_core.specs.declared.phase.Heard.{Heard}
 use Rattle.expect_core.specs.declared.phase.Heard.TheVariants.{Match, Full, TimedOut, OverLimit, NotYet, Ended, Failed}
 use Rattle.expect_core.specs.declared.own.Own.{Own}
 use Rattle.expect_core.specs.declared.dialogue.Dialogue.{Dialogue}
-use Rattle.expect_core.specs.Lanes.{lane_of, with_items}
 use Rattle.expect_core.specs.Owned.{child_of, bytes_of, with_bytes, standing_as, asked}
 use Rattle.expect_core.specs.Texts.{bad_expect_flag, bad_regular, with_cause}
 use Rattle.expect_core.specs.Scoped.{optional, Unset, set_all}
-use Rattle.expect_core.specs.Ids.{open_to, if_open}
-use Rattle.expect_core.specs.Heard.{span_of, deadline_from, both, Listened, listen, look}
+use Rattle.expect_core.specs.Heard.{span_of, deadline_from, groups_at, Listened, listen, look}
+use Rattle.expect_core.specs.Sides.{asked_by, sides_of, still_open}
 use Rattle.expect_core.specs.Answered.{Outcome, done, failed, over_limit, waits, replied, on_said, owning, failure, awaited}
 
 -- the arguments
@@ -57,12 +56,6 @@ patterns_by args (Err (fault.BadRegex at)) = Err (bad_regular (slice_index_or ar
 patterns_by args (Err fault.Refused) = Err []
 patterns_by args (Err fault.Memory) = Err []
 
--- the id behind `-i`, which may stand there once
-abbrev pub only_id : List (List ℕ) → Said (Option (List ℕ))
-only_id [] = Ok None
-only_id (id ∷ []) = Ok (Some id)
-only_id (id ∷ other ∷ more) = Err (bad_expect_flag (codes "-i"))
-
 abbrev pub span_by : List ℕ → Said Span
 span_by text = as_number text >>= λ z. Ok (span_of z)
 
@@ -76,12 +69,12 @@ abbrev pub span_in : Option (List ℕ) → Variables → Said Span
 span_in (Some text) vars = span_by text
 span_in None vars = optional (codes "timeout") vars >>= span_or_ten
 
-abbrev pub plan_at : ℕ → PatternList → Span → ℕ → Plan
-plan_at i list span clock = record { child = i; list = list; span = span; deadline = deadline_from clock span }
+abbrev pub plan_at : List ℕ → PatternList → Span → ℕ → Plan
+plan_at is list span clock = record { sides = sides_of list is; order = is; list = list; span = span; deadline = deadline_from clock span }
 
 abbrev pub plan_by : PatternList → Variables → Own → Said Plan
 plan_by list vars o =
-    only_id list.ids >>= λ id. open_to id vars o >>= λ i. span_in list.timeout vars >>= λ span. Ok (plan_at i list span o.clock)
+    asked_by list vars o >>= λ is. span_in list.timeout vars >>= λ span. Ok (plan_at is list span o.clock)
 
 -- what an expect with these arguments waits for
 abbrev pub plan_of : List (List ℕ) → Variables → Own → Said Plan
@@ -142,12 +135,12 @@ acting_at p None vars st = done [] vars st
 acting_at p (Some n) vars st = acting p (entry_of n p).action vars st
 
 -- the bytes that are met are stored, and leave the buffer
-abbrev pub met : Plan → ℕ → List ℕ → Variables × Unset → Dialogue → Outcome
-met p n rest (vars, Some text) st = failed text vars st
-met p n rest (vars, None) st = acting p (entry_of n p).action vars (owning (with_bytes p.child rest st.own) st)
+abbrev pub met : Plan → ℕ → ℕ → List ℕ → Variables × Unset → Dialogue → Outcome
+met p i n rest (vars, Some text) st = failed text vars st
+met p i n rest (vars, None) st = acting p (entry_of n p).action vars (owning (with_bytes i rest st.own) st)
 
-abbrev pub meeting : Plan → ℕ → Pairs → List ℕ → Variables → Dialogue → Outcome
-meeting p n pairs rest vars st = met p n rest (set_all pairs vars) st
+abbrev pub meeting : Plan → ℕ → ℕ → Pairs → List ℕ → Variables → Dialogue → Outcome
+meeting p i n pairs rest vars st = met p i n rest (set_all pairs vars) st
 
 abbrev pub end_in : Option (ℕ × ℕ) → ℕ
 end_in None = 0
@@ -157,28 +150,29 @@ end_in (Some s) = s.1
 abbrev pub end_of : Found → ℕ
 end_of spans = end_in (slice_index_or spans 0 None)
 
-abbrev pub matched : Plan → ℕ → Found → Variables → Dialogue → Outcome
-matched p n spans vars st =
-    let bytes = bytes_of p.child st.own in
+-- a pattern matches the bytes of the child at place i
+abbrev pub matched : Plan → ℕ → ℕ → Found → Variables → Dialogue → Outcome
+matched p i n spans vars st =
+    let bytes = bytes_of i st.own in
     let entry = entry_of n p in
-    meeting p n (groups_from entry.indices bytes 0 spans ++ met_pairs (child_of p.child st.own).id (take (end_of spans) bytes))
+    meeting p i n (groups_from entry.indices bytes 0 spans ++ met_pairs (child_of i st.own).id (take (end_of spans) bytes))
     (if entry.notransfer then bytes else drop (end_of spans) bytes) vars st
 
--- all kept bytes are met by a keyword, if it is listed
-abbrev pub all_met : Plan → Option ℕ → Variables → Dialogue → Outcome
-all_met p None vars st = done [] vars st
-all_met p (Some n) vars st = meeting p n (met_pairs (child_of p.child st.own).id (bytes_of p.child st.own)) [] vars st
+-- all kept bytes of the child at place i are met by a keyword, if it is listed
+abbrev pub all_met : Plan → ℕ → Option ℕ → Variables → Dialogue → Outcome
+all_met p i None vars st = done [] vars st
+all_met p i (Some n) vars st = meeting p i n (met_pairs (child_of i st.own).id (bytes_of i st.own)) [] vars st
 
 -- behind the output's end its child was let go
-abbrev pub let_go : Plan → Variables → Option Cause → Dialogue → Outcome
-let_go p vars None st = all_met p (first_in waits_for_end both p.list.entries) vars st
-let_go p vars (Some c) st = failed (with_cause (codes "close failed") c) vars st
+abbrev pub let_go : Plan → ℕ → Variables → Option Cause → Dialogue → Outcome
+let_go p i vars None st = all_met p i (first_in waits_for_end (groups_at i p.sides) p.list.entries) vars st
+let_go p i vars (Some c) st = failed (with_cause (codes "close failed") c) vars st
 
 abbrev pub shut : ℕ → Dialogue → Dialogue
 shut i st = owning (standing_as standing.Closed i st.own) st
 
 abbrev pub ended : Plan → ℕ → Variables → Answer → Dialogue → Outcome
-ended p i vars a st = let_go p vars (failure a) (shut i st)
+ended p i vars a st = let_go p i vars (failure a) (shut i st)
 
 abbrev pub broken : ℕ → Cause → Variables → Answer → Dialogue → Outcome
 broken i c vars a st = failed (with_cause (codes "read failed") c) vars (shut i st)
@@ -188,33 +182,33 @@ abbrev pub closing : ℕ → Purpose → (Answer → Dialogue → Outcome) → V
 closing i why more vars st = awaited i why more vars (owning (asked i act.Close st.own) st)
 
 abbrev pub by_heard : Plan → Variables → Heard → Dialogue → Outcome
-by_heard p vars (Match n spans) st = matched p n spans vars st
-by_heard p vars Full st = all_met p (first_in waits_for_full both p.list.entries) vars st
+by_heard p vars (Match i n spans) st = matched p i n spans vars st
+by_heard p vars (Full i) st = all_met p i (first_in waits_for_full (groups_at i p.sides) p.list.entries) vars st
 by_heard p vars (TimedOut d) st = acting_at p (position (λ e. waits_for_time e.want) p.list.entries) vars (owning (record st.own { clock = d }) st)
 by_heard p vars OverLimit st = over_limit vars st
 by_heard p vars NotYet st = waits (phase.Expect p) vars st
-by_heard p vars Ended st = closing p.child (purpose.End p) (ended p p.child vars) vars st
-by_heard p vars (Failed c) st = closing p.child (purpose.Fail c) (broken p.child c vars) vars st
+by_heard p vars (Ended i) st = closing i (purpose.End p) (ended p i vars) vars st
+by_heard p vars (Failed i c) st = closing i (purpose.Fail c) (broken i c vars) vars st
 
 abbrev pub concluded : Plan → Variables → Listened → Dialogue → Outcome
-concluded p vars (h, left, o) st = by_heard p vars h (record st { lanes = with_items p.child left st.lanes; own = o })
+concluded p vars (h, left, o) st = by_heard p vars h (record st { lanes = left; own = o })
 
 -- goes on with a wait for a pattern
 abbrev pub listening : Plan → Variables → Dialogue → Outcome
-listening p vars st = concluded p vars (listen st.limit st.horizon p (lane_of p.child st.lanes).items st.own) st
+listening p vars st = concluded p vars (listen st.limit st.horizon p st.lanes st.own) st
 
 -- begins one
 abbrev pub looking : Plan → Variables → Dialogue → Outcome
-looking p vars st = concluded p vars (look st.limit st.horizon p (lane_of p.child st.lanes).items st.own) st
+looking p vars st = concluded p vars (look st.limit st.horizon p st.lanes st.own) st
 
 abbrev pub expecting : List (List ℕ) → Variables → Dialogue → Outcome
 expecting args vars st = on_said (plan_of args vars st.own) vars st (λ p. looking p vars st)
 
--- an expect once more, behind its action
+-- an expect once more, behind its action, where all that take part are still open
 abbrev pub again : Plan → Option ℕ → List Plan → Variables → Dialogue → Outcome
 again p deadline plans vars st =
     let st' = owning (record st.own { plans = plans }) st in
-    on_said (if_open p.child st'.own) vars st' (λ i. looking (record p { deadline = deadline }) vars st')
+    on_said (still_open p.order st'.own) vars st' (λ all. looking (record p { deadline = deadline }) vars st')
 
 -- Behind an action: `exp_continue` goes back to the expect, with a new deadline or with the old one.
 abbrev pub behind : Code → List ℕ → List Plan → Variables → Dialogue → Outcome

@@ -1,17 +1,21 @@
--- A wait for a pattern over all that a child's list has left, as expect(1) waits.
-use Rattle.std.specs.Prelude.{ℕ, ◌+◌, ◌*◌, nat_le, nat_lt, List, [], ◌∷◌, Bool, true, ◌&&◌, if◌then◌else◌, Option, Some, None, ℤ, pos, negsuc}
+-- A wait for patterns over all that several children's lists have left, as expect(1) waits.
+use Rattle.std.specs.Prelude.{◌≡◌, ℕ, zero, suc, ◌+◌, ◌*◌, ◌<◌, ◌==◌, nat_le, nat_lt, List, [], ◌∷◌, map, length, Bool, true, ◌&&◌, if◌then◌else◌, slice_index_or, Option, Some, None, ℤ, pos, negsuc}
 use Rattle.child_events.specs.declared.event.Item.{Item}
 use Rattle.child_events.specs.declared.event.Item.TheVariants as item
 use Rattle.child_events.specs.Queue.{Queued}
+use Rattle.child_events.specs.Next.{next_of}
 use Rattle.exp_match.specs.declared.chosen.Chosen.{Chosen}
 use Rattle.exp_match.specs.declared.chosen.Chosen.TheVariants as chosen
 use Rattle.exp_match.specs.Decide.{decide}
+use Rattle.expect_core.specs.declared.lanes.Lane.{Lane}
 use Rattle.expect_core.specs.declared.plan.Span.{Span}
 use Rattle.expect_core.specs.declared.plan.Span.TheVariants.{Never, Seconds}
 use Rattle.expect_core.specs.declared.plan.Plan.{Plan}
 use Rattle.expect_core.specs.declared.phase.Heard.{Heard}
 use Rattle.expect_core.specs.declared.phase.Heard.TheVariants.{Match, Full, TimedOut, OverLimit, NotYet, Ended, Failed}
 use Rattle.expect_core.specs.declared.own.Own.{Own}
+use Rattle.expect_core.specs.Among.{IsAmong}
+use Rattle.expect_core.specs.Lanes.{lane_of, with_items}
 use Rattle.expect_core.specs.Owned.{child_of, bytes_of, received, at_moment, trimmed}
 
 -- a timeout of so many seconds; a negative one and one above 9,000,000,000,000 never comes
@@ -39,41 +43,103 @@ lapse limit horizon (Some d) =
 abbrev pub in_time : Option ℕ → Option ℕ → ℕ → Bool
 in_time limit deadline m = at_most m deadline && at_most m limit
 
--- what came of it, the items that are left, and what else changed
+-- a child that takes part, and the groups that are its own
+abbrev pub Watch : Type 0
+Watch = ℕ × List ℕ
+
+-- those that take part, in order of places
+abbrev pub watched : Plan → List Watch
+watched p = p.sides
+
+-- the place of one of them; there is no child at place 16
+abbrev pub place_in : List Watch → ℕ → ℕ
+place_in ws n = (slice_index_or ws n (16, [])).0
+
+-- the places of those that take part
+abbrev pub places_of : List Watch → List ℕ
+places_of ws = map (λ w. w.0) ws
+
+-- the child at a place takes part
+abbrev pub IsWatched : ℕ → List Watch → Type 0
+IsWatched i ws = IsAmong i (places_of ws)
+
+-- the groups of the child at a place
+abbrev pub groups_at : ℕ → List Watch → List ℕ
+groups_at i [] = []
+groups_at i (w ∷ ws) = if w.0 == i then w.1 else groups_at i ws
+
+-- what came of it, what is left of what came from each child, and what else changed
 abbrev pub Listened : Type 0
-Listened = Heard × List Queued × Own
+Listened = Heard × List Lane × Own
 
--- the groups of the one process that an expect names
-abbrev pub both : List ℕ
-both = 0 ∷ 1 ∷ []
-
--- what a plan chooses of the kept bytes
-abbrev pub chosen_of : Plan → Own → Chosen
-chosen_of p o = decide p.list.entries both (bytes_of p.child o) (child_of p.child o).kept.size
+-- what is chosen of the bytes that are kept of a child
+abbrev pub chosen_of : Plan → Watch → Own → Chosen
+chosen_of p w o = decide p.list.entries w.1 (bytes_of w.0 o) (child_of w.0 o).kept.size
 
 -- where nothing is chosen, the last bytes alone are kept, and it goes on
-abbrev pub decided : Plan → Chosen → List Queued → Own → (Own → Listened) → Listened
-decided p (chosen.Pattern n spans) items o k = (Match n spans, items, o)
-decided p chosen.Full items o k = (Full, items, o)
-decided p chosen.None items o k = k (trimmed p.child o)
+abbrev pub decided : ℕ → Chosen → List Lane → Own → (Own → Listened) → Listened
+decided i (chosen.Pattern n spans) lanes o k = (Match i n spans, lanes, o)
+decided i chosen.Full lanes o k = (Full i, lanes, o)
+decided i chosen.None lanes o k = k (trimmed i o)
 
--- the kept bytes are tested
-abbrev pub tested : Plan → List Queued → Own → (Own → Listened) → Listened
-tested p items o k = decided p (chosen_of p o) items o k
+-- the kept bytes of one child after the other are tested
+abbrev pub tested : Plan → List Watch → List Lane → Own → (Own → Listened) → Listened
+tested p [] lanes o k = k o
+tested p (w ∷ ws) lanes o k = decided w.0 (chosen_of p w o) lanes o (λ o. tested p ws lanes o k)
 
-abbrev pub heard : Plan → Item → List Queued → Own → (Own → Listened) → Listened
-heard p (item.Out piece) items o k = tested p items (received p.child piece o) k
-heard p item.Eof items o k = (Ended, items, o)
-heard p (item.ReadFail c) items o k = (Failed c, items, o)
+abbrev pub heard : Plan → ℕ → Item → List Lane → Own → (Own → Listened) → Listened
+heard p i (item.Out piece) lanes o k = tested p (watched p) lanes (received i piece o) k
+heard p i item.Eof lanes o k = (Ended i, lanes, o)
+heard p i (item.ReadFail c) lanes o k = (Failed i c, lanes, o)
+
+-- the moment of the first item
+abbrev pub head_of : List Queued → Option ℕ
+head_of [] = None
+head_of (q ∷ qs) = Some q.moment
+
+abbrev pub heads : List Watch → List Lane → List (Option ℕ)
+heads [] lanes = []
+heads (w ∷ ws) lanes = head_of (lane_of w.0 lanes).items ∷ heads ws lanes
+
+-- the first item of the child at a place is taken, where it is in time
+abbrev pub taken : Option ℕ → ℕ → Plan → ℕ → List Queued → List Lane → Own → (List Lane → Own → Listened) → Listened
+taken limit horizon p i [] lanes o k = (lapse limit horizon p.deadline, lanes, o)
+taken limit horizon p i (q ∷ qs) lanes o k =
+    if in_time limit p.deadline q.moment
+    then heard p i q.item (with_items i qs lanes) (at_moment q.moment o) (k (with_items i qs lanes))
+    else (lapse limit horizon p.deadline, lanes, o)
+
+abbrev pub on_next : Option ℕ → ℕ → Plan → Option ℕ → List Lane → Own → (List Lane → Own → Listened) → Listened
+on_next limit horizon p None lanes o k = (lapse limit horizon p.deadline, lanes, o)
+on_next limit horizon p (Some n) lanes o k =
+    let i = place_in (watched p) n in
+    taken limit horizon p i (lane_of i lanes).items lanes o k
+
+-- takes so many items at most
+abbrev pub listen_for : ℕ → Option ℕ → ℕ → Plan → List Lane → Own → Listened
+listen_for zero limit horizon p lanes o = (lapse limit horizon p.deadline, lanes, o)
+listen_for (suc n) limit horizon p lanes o = on_next limit horizon p (next_of (heads (watched p) lanes) horizon) lanes o (listen_for n limit horizon p)
+
+abbrev pub item_count : List Lane → ℕ
+item_count [] = 0
+item_count (lane ∷ lanes) = length lane.items + item_count lanes
 
 -- waits for the next item; the kept bytes were tested
-abbrev pub listen : Option ℕ → ℕ → Plan → List Queued → Own → Listened
-listen limit horizon p [] o = (lapse limit horizon p.deadline, [], o)
-listen limit horizon p (q ∷ qs) o =
-    if in_time limit p.deadline q.moment
-    then heard p q.item qs (at_moment q.moment o) (listen limit horizon p qs)
-    else (lapse limit horizon p.deadline, q ∷ qs, o)
+abbrev pub listen : Option ℕ → ℕ → Plan → List Lane → Own → Listened
+listen limit horizon p lanes o = listen_for (suc (item_count lanes)) limit horizon p lanes o
 
 -- the kept bytes are tested first
-abbrev pub look : Option ℕ → ℕ → Plan → List Queued → Own → Listened
-look limit horizon p items o = tested p items o (listen limit horizon p items)
+abbrev pub look : Option ℕ → ℕ → Plan → List Lane → Own → Listened
+look limit horizon p lanes o = tested p (watched p) lanes o (listen limit horizon p lanes)
+
+-- As many turns as there are items are enough.
+abbrev pub TakesEach : Type 0
+TakesEach = (n : ℕ) (limit : Option ℕ) (h : ℕ) (p : Plan) (lanes : List Lane) (o : Own) → item_count lanes < n → listen_for n limit h p lanes o ≡ listen limit h p lanes o
+
+-- what came of it is about one of them
+abbrev pub IsAbout : List Watch → Heard → Type 0
+IsAbout ws (Match i n spans) = IsWatched i ws
+IsAbout ws (Full i) = IsWatched i ws
+IsAbout ws (Ended i) = IsWatched i ws
+IsAbout ws (Failed i c) = IsWatched i ws
+IsAbout ws other = Unit {0}

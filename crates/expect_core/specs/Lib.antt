@@ -1,4 +1,5 @@
 pub mod Held
+pub mod Among
 pub mod Lanes
 pub mod Owned
 pub mod Texts
@@ -8,6 +9,10 @@ pub mod Scoped
 pub mod Ids
 pub mod Heard
 pub mod Hearing
+pub mod Quiet
+pub mod Sought
+pub mod Sides
+pub mod Waits
 pub mod Answered
 pub mod Spawning
 pub mod Sending

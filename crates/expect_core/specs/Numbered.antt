@@ -9,6 +9,7 @@ use Rattle.expect_core.specs.declared.phase.Phase.TheVariants as phase
 use Rattle.expect_core.specs.declared.child.Child.{Child}
 use Rattle.expect_core.specs.declared.own.Own.{Own}
 use Rattle.expect_core.specs.declared.dialogue.Dialogue.{Dialogue}
+use Rattle.expect_core.specs.Heard.{Watch}
 
 abbrev pub IsPlace : ℕ → Type 0
 IsPlace i = i < 16
@@ -17,10 +18,15 @@ IsPlace i = i < 16
 abbrev pub NamesAChild : Request → Type 0
 NamesAChild r = (1 ≤ r.child) × (r.child ≤ 16)
 
--- each expect that is kept waits for a child
+-- each of those that take part in an expect stands at a place of a child
+abbrev pub WatchPlaces : List Watch → Type 0
+WatchPlaces [] = Unit {0}
+WatchPlaces (w ∷ ws) = IsPlace w.0 × WatchPlaces ws
+
+-- each expect that is kept waits for children
 abbrev pub AreOfPlaces : List Plan → Type 0
 AreOfPlaces [] = Unit {0}
-AreOfPlaces (p ∷ ps) = IsPlace p.child × AreOfPlaces ps
+AreOfPlaces (p ∷ ps) = WatchPlaces p.sides × AreOfPlaces ps
 
 -- an answer at the end of an expect leads back to it
 abbrev pub LeadsToPlaces : Purpose → Type 0
@@ -28,14 +34,14 @@ LeadsToPlaces (purpose.Spawn words) = Unit {0}
 LeadsToPlaces (purpose.Send a rest) = Unit {0}
 LeadsToPlaces purpose.Close = Unit {0}
 LeadsToPlaces purpose.Wait = Unit {0}
-LeadsToPlaces (purpose.End p) = IsPlace p.child
+LeadsToPlaces (purpose.End p) = WatchPlaces p.sides
 LeadsToPlaces (purpose.Fail c) = Unit {0}
 
 -- what is under way is about a child
 abbrev pub IsOfPlaces : Phase → Type 0
 IsOfPlaces phase.Idle = Unit {0}
 IsOfPlaces (phase.Answer i why) = IsPlace i × LeadsToPlaces why
-IsOfPlaces (phase.Expect p) = IsPlace p.child
+IsOfPlaces (phase.Expect p) = WatchPlaces p.sides
 
 pub record Numbers (children : List Child) (plans : List Plan) (requests : List Request) : Type 0 where
   pub few : length children ≤ 16

@@ -1,15 +1,15 @@
 //! The children that a script asked for.
 
-ghost use Rattle.std.specs.Prelude.{◌≡◌, ◌<◌, ◌≤◌, ◌+◌, ◌-◌, ◌++◌, ◌∷◌, [], min, length, take, drop, position, true, slice_set, IfOk, IfSome, OnOk};
+ghost use Rattle.std.specs.Prelude.{◌≡◌, ◌<◌, ◌≤◌, ◌+◌, ◌-◌, ◌++◌, ◌∷◌, [], min, nat_le, length, take, drop, position, true, slice_set, IfOk, IfSome, OnOk};
 ghost use Rattle.circular_buffer.specs.Buffer.{keep_last};
+ghost use Rattle.exp_match.specs.Choice.{HasNone, LeavesNone};
 ghost use Rattle.exp_match.specs.Decide.{decide};
 ghost use Rattle.tty_input.specs.Sends.{handed_by, line_after, echo_of};
 ghost use Rattle.tty_output.specs.Output.{convert};
-ghost use Rattle.expect_core.specs.Heard.{both};
 ghost use Rattle.expect_core.specs.Ids.{is_born, is_open as is_open_of, has_id};
 ghost use Rattle.expect_core.specs.Owned.{child_as, child_in};
 
-use crate::kept::{BOTH, Kept};
+use crate::kept::Kept;
 use crate::place::Place;
 use exp_match::{Chosen, Matchers, PatternList};
 use std::alloc::{AllocError, Global};
@@ -331,6 +331,17 @@ impl Children {
         Ok(())
     }
 
+    /// Whether no more of a child's bytes are there than are kept.
+    pub(crate) fn fits(&self, i: Place) -> bool
+        ensures { result ≡ nat_le (length (child_in i self.now).kept.bytes) (child_in i self.now).kept.size }
+    {
+        let i = i.index();
+        if i < self.list.len() {
+            return self.list[i].kept.fits();
+        }
+        true
+    }
+
     /// Keeps the last bytes of a child alone.
     pub(crate) fn trim(&mut self, i: Place)
         ensures { self.new ≡ slice_set self.old i (record (child_in i self.old) { kept = record (child_in i self.old).kept { bytes = keep_last (child_in i self.old).kept.size (child_in i self.old).kept.bytes } }) }
@@ -365,23 +376,27 @@ impl Children {
         }
     }
 
-    /// Tests a child's bytes against patterns.
+    /// Tests a child's bytes against the patterns of some groups, of which nothing was found in so many of the first ones, or none were tested.
     pub(crate) fn choose<'l>(
         &mut self,
         alloc: Global,
         matchers: &mut Matchers<'l>,
         i: Place,
         list: &'l PatternList,
+        groups: &[usize],
+        sought: usize,
     ) -> Result<Chosen, AllocError>
+        requires { 0 < sought → HasNone list.now.entries groups.now (take sought (child_in i self.old).kept.bytes) }
         ensures same { self.new ≡ self.old }
-        ensures chosen { IfOk result (λ c. c ≡ decide list.now.entries both (child_in i self.old).kept.bytes (child_in i self.old).kept.size) }
+        ensures chosen { IfOk result (λ c. c ≡ decide list.now.entries groups.now (child_in i self.old).kept.bytes (child_in i self.old).kept.size) }
+        ensures none { IfOk result (LeavesNone list.now.entries groups.now (child_in i self.old).kept.bytes) }
     {
         let i = i.index();
         if i < self.list.len() {
             let child = &mut self.list[i];
-            return child.kept.choose(alloc, matchers, list);
+            return child.kept.choose(alloc, matchers, list, groups, sought);
         }
-        list.choose_with(alloc, matchers, &BOTH, &[], 0)
+        list.choose_with(alloc, matchers, groups, &[], 0, 0)
     }
 
     /// A child's bytes from a place to another one, as far as they are there.

@@ -1,10 +1,14 @@
 //! How long a dialogue that waits goes on waiting.
 
 ghost use Rattle.std.specs.Prelude.{◌≡◌};
-ghost use Rattle.expect_core.specs.Deadlines.{sooner as sooner_of, as_moment as as_moment_of, deadline_under as under, deadline_of};
+ghost use Rattle.expect_core.specs.Deadlines.{sooner as sooner_of, as_moment as as_moment_of, soonest as soonest_of, deadline_under as under, deadline_of};
+ghost use Rattle.expect_core.specs.Heard.{heads};
 
 use crate::dialogue::Dialogue;
+use crate::lanes::Lanes;
 use crate::phase::Phase;
+use crate::place::Place;
+use crate::plan::Groups;
 
 /// The last moment of 64 bits.
 const LAST_MOMENT: u128 = 18_446_744_073_709_551_615;
@@ -19,16 +23,6 @@ fn as_moment(deadline: Option<u128>) -> Option<u64>
     }
 }
 
-/// The deadline of what is under way: an expect has one, and a wait for an answer none.
-fn deadline_under(phase: &Phase) -> Option<u64>
-    ensures { result ≡ under phase.now }
-{
-    match phase {
-        Phase::Expect(plan) => as_moment(plan.deadline),
-        Phase::Idle | Phase::Answer(_, _) => None,
-    }
-}
-
 /// The lesser of two moments in milliseconds, where one that isn't there is later than every other.
 pub fn sooner(first: Option<u64>, second: Option<u64>) -> Option<u64>
     ensures { result ≡ sooner_of first second }
@@ -40,12 +34,34 @@ pub fn sooner(first: Option<u64>, second: Option<u64>) -> Option<u64>
     }
 }
 
+/// The soonest of a moment and those of the next items of children.
+fn soonest(first: Option<u64>, sides: &[(Place, Groups)], lanes: &Lanes) -> Option<u64>
+    ensures { result ≡ soonest_of first (heads sides.now lanes.now) }
+{
+    let mut last = first;
+    'sides: for (child, _) in sides {
+        last = sooner(last, lanes.head(*child));
+    }
+    last
+}
+
+/// The deadline of what is under way: an expect has its own and the moment of each item that it hasn't taken yet, and a wait for an answer none.
+fn deadline_under(phase: &Phase, lanes: &Lanes) -> Option<u64>
+    ensures { result ≡ under phase.now lanes.now }
+{
+    match phase {
+        Phase::Expect(plan) => soonest(as_moment(plan.deadline), plan.sides.list.as_slice(), lanes),
+        Phase::Idle | Phase::Answer(_, _) => None,
+    }
+}
+
 impl Dialogue {
-    /// The last moment in milliseconds to which a call that waits goes on waiting where only time passes: the lesser of the deadline of the
-    /// expect that waits and the last moment of the settings. None where neither is there.
+    /// The last moment in milliseconds to which a call that waits goes on waiting where only time passes: the least of the deadline of the
+    /// expect that waits, the moment of an item that it takes as soon as no other child can have an earlier one, and the last moment of the
+    /// settings. None where none is there.
     pub fn deadline(&self) -> Option<u64>
         ensures { result ≡ deadline_of self.now }
     {
-        sooner(deadline_under(&self.phase), self.limit)
+        sooner(deadline_under(&self.phase, &self.lanes), self.limit)
     }
 }

@@ -7,8 +7,7 @@ ghost use Rattle.expect_core.specs.Expecting.{acting, acting_at as acting_there,
 ghost use Rattle.expect_core.specs.Calls.{settled};
 
 use crate::dialogue::{Dialogue, done, failed, failure};
-use crate::ids::if_open;
-use crate::kept::BOTH;
+use crate::ids::all_open;
 use crate::listen::{Times, listen, look};
 use crate::own::{Own, deadline_from};
 use crate::phase::{Heard, Phase, Purpose};
@@ -19,7 +18,7 @@ use crate::request::Act;
 use crate::scoped::set_all;
 use crate::settings::Pairs;
 use crate::texts::{decimal, with_cause};
-use child_events::{Answer, Queue};
+use child_events::Answer;
 use exp_match::Spans;
 use std::alloc::{AllocError, Global};
 use tcl_commands::{Code, said};
@@ -248,16 +247,17 @@ impl Dialogue {
         alloc: Global,
         vars: &mut Vars,
         plan: Plan,
+        i: Place,
         index: usize,
         pairs: Pairs,
         count: usize,
     ) -> Result<HostStep, AllocError>
-        ensures { IfOk result (λ s. meeting_of plan index pairs (drop count (bytes_of plan.child self.old.own)) vars.old self.old ≡ (s, vars.new, self.new)) }
+        ensures { IfOk result (λ s. meeting_of plan i index pairs (drop count (bytes_of i self.old.own)) vars.old self.old ≡ (s, vars.new, self.new)) }
     {
         if let Some(text) = set_all(alloc, vars, pairs.as_slice())? {
             return Ok(HostStep::Fail(text));
         }
-        self.own.children.take(plan.child, count);
+        self.own.children.take(i, count);
         self.act(alloc, vars, plan, index)
     }
 
@@ -267,19 +267,19 @@ impl Dialogue {
         alloc: Global,
         vars: &mut Vars,
         plan: Plan,
+        i: Place,
         index: usize,
         spans: &Spans,
     ) -> Result<HostStep, AllocError>
-        ensures { IfOk result (λ s. matched_of plan index spans.now vars.old self.old ≡ (s, vars.new, self.new)) }
+        ensures { IfOk result (λ s. matched_of plan i index spans.now vars.old self.old ≡ (s, vars.new, self.new)) }
     {
         let (indices, notransfer) = plan.marks(index);
         let end = end_of(spans);
         let mut pairs = Pairs::new(alloc);
-        self.own
-            .push_groups(alloc, &mut pairs, plan.child, indices, spans)?;
-        self.own.push_met(alloc, &mut pairs, plan.child, end)?;
+        self.own.push_groups(alloc, &mut pairs, i, indices, spans)?;
+        self.own.push_met(alloc, &mut pairs, i, end)?;
         let taken = if notransfer { 0 } else { end };
-        self.meet(alloc, vars, plan, index, pairs, taken)
+        self.meet(alloc, vars, plan, i, index, pairs, taken)
     }
 
     /// All kept bytes are met by a keyword, if it is listed.
@@ -288,17 +288,18 @@ impl Dialogue {
         alloc: Global,
         vars: &mut Vars,
         plan: Plan,
+        i: Place,
         index: Option<usize>,
     ) -> Result<HostStep, AllocError>
-        ensures { IfOk result (λ s. all_met_of plan index vars.old self.old ≡ (s, vars.new, self.new)) }
+        ensures { IfOk result (λ s. all_met_of plan i index vars.old self.old ≡ (s, vars.new, self.new)) }
     {
         let Some(index) = index else {
             return Ok(done(Value::new(alloc)));
         };
-        let count = self.own.children.count_kept(plan.child);
+        let count = self.own.children.count_kept(i);
         let mut pairs = Pairs::new(alloc);
-        self.own.push_met(alloc, &mut pairs, plan.child, count)?;
-        self.meet(alloc, vars, plan, index, pairs, count)
+        self.own.push_met(alloc, &mut pairs, i, count)?;
+        self.meet(alloc, vars, plan, i, index, pairs, count)
     }
 
     /// The output ended, and the child was let go, or not.
@@ -316,8 +317,8 @@ impl Dialogue {
         if let Some(cause) = failure(answer) {
             return failed(alloc, with_cause(alloc, b"close failed", cause)?);
         }
-        let index = plan.list.at_end(&BOTH);
-        self.on_all_met(alloc, vars, plan, index)
+        let index = plan.list.at_end(plan.sides.groups(i));
+        self.on_all_met(alloc, vars, plan, i, index)
     }
 
     /// Lets a child go, and goes on with the answer.
@@ -345,10 +346,10 @@ impl Dialogue {
         ensures { IfOk result (λ s. by_heard_of plan vars.old heard self.old ≡ (s, vars.new, self.new)) }
     {
         match heard {
-            Heard::Match(index, spans) => self.on_match(alloc, vars, plan, index, &spans),
-            Heard::Full => {
-                let index = plan.list.at_full(&BOTH);
-                self.on_all_met(alloc, vars, plan, index)
+            Heard::Match(i, index, spans) => self.on_match(alloc, vars, plan, i, index, &spans),
+            Heard::Full(i) => {
+                let index = plan.list.at_full(plan.sides.groups(i));
+                self.on_all_met(alloc, vars, plan, i, index)
             }
             Heard::TimedOut(deadline) => {
                 self.own.clock = deadline;
@@ -360,8 +361,8 @@ impl Dialogue {
                 self.set_phase(Phase::Expect(plan));
                 Ok(HostStep::Wait)
             }
-            Heard::Ended => self.close(alloc, vars, plan.child, Purpose::End(plan)),
-            Heard::Failed(cause) => self.close(alloc, vars, plan.child, Purpose::Fail(cause)),
+            Heard::Ended(i) => self.close(alloc, vars, i, Purpose::End(plan)),
+            Heard::Failed(i, cause) => self.close(alloc, vars, i, Purpose::Fail(cause)),
         }
     }
 
@@ -374,13 +375,11 @@ impl Dialogue {
     ) -> Result<HostStep, AllocError>
         ensures { IfOk result (λ s. listening_of plan vars.old self.old ≡ (s, vars.new, self.new)) }
     {
-        let mut items = self.lanes.take_items(plan.child);
         let times = Times {
             limit: self.limit,
             horizon: self.horizon,
         };
-        let heard = listen(alloc, times, &plan, &mut items, &mut self.own)?;
-        self.lanes.put_items(plan.child, items);
+        let heard = listen(alloc, times, &plan, &mut self.lanes, &mut self.own)?;
         self.conclude(alloc, vars, plan, heard)
     }
 
@@ -393,13 +392,11 @@ impl Dialogue {
     ) -> Result<HostStep, AllocError>
         ensures { IfOk result (λ s. looking_of plan vars.old self.old ≡ (s, vars.new, self.new)) }
     {
-        let mut items = self.lanes.take_items(plan.child);
         let times = Times {
             limit: self.limit,
             horizon: self.horizon,
         };
-        let heard = look(alloc, times, &plan, &mut items, &mut self.own)?;
-        self.lanes.put_items(plan.child, items);
+        let heard = look(alloc, times, &plan, &mut self.lanes, &mut self.own)?;
         self.conclude(alloc, vars, plan, heard)
     }
 
@@ -428,8 +425,8 @@ impl Dialogue {
     ) -> Result<HostStep, AllocError>
         ensures { IfOk result (λ s. again_of plan deadline self.old.own.plans vars.old self.old ≡ (s, vars.new, self.new)) }
     {
-        match said(alloc, if_open(alloc, plan.child, &self.own))? {
-            Ok(_) => {
+        match said(alloc, all_open(alloc, &plan.order, &self.own))? {
+            Ok(()) => {
                 plan.deadline = deadline;
                 self.looking(alloc, vars, plan)
             }

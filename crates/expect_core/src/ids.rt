@@ -1,10 +1,12 @@
 //! The child that a command speaks to.
 
 ghost use Rattle.tcl_commands.specs.Says.{Says};
+ghost use Rattle.expect_core.specs.Sides.{still_open};
 ghost use Rattle.expect_core.specs.Ids.{known as known_of, id_of as id_named, spoken_to as spoken_to_of, if_open as if_open_of, open_to as open_to_of};
 
 use crate::own::Own;
 use crate::place::Place;
+use crate::plan::Places;
 use crate::scoped::needed;
 use crate::texts::{no_such_id, not_open};
 use std::alloc::Global;
@@ -67,4 +69,14 @@ pub(crate) fn open_to(
 {
     let i = spoken_to(alloc, id, vars, own)?;
     if_open(alloc, i, own)
+}
+
+/// Whether all of these children are open; if not, the first that isn't is told.
+pub(crate) fn all_open(alloc: Global, places: &Places, own: &Own) -> Result<(), Complaint>
+    ensures { Says result (still_open places.now own.now) }
+{
+    'places: for i in &places.list {
+        if_open(alloc, *i, own)?;
+    }
+    Ok(())
 }

@@ -1,18 +1,15 @@
 //! The bytes of a child that no expect has taken.
 
-ghost use Rattle.std.specs.Prelude.{◌≡◌, ◌-◌, ◌++◌, [], length, drop, take, IfOk, OnOk};
+ghost use Rattle.std.specs.Prelude.{◌≡◌, ◌<◌, ◌-◌, ◌++◌, [], length, drop, take, nat_le, IfOk, OnOk};
 ghost use Rattle.circular_buffer.specs.Buffer.{keep_last};
+ghost use Rattle.exp_match.specs.Choice.{HasNone, LeavesNone};
 ghost use Rattle.exp_match.specs.Decide.{decide};
-ghost use Rattle.expect_core.specs.Heard.{both};
 
 use exp_match::{Chosen, Matchers, PatternList};
 use match_buffer::Buffer;
 use std::alloc::{AllocError, Global};
 use std::marker::Model;
 use tcl_words::Text;
-
-/// The groups of the one process that an expect names.
-pub(crate) const BOTH: [usize; 2] = [0, 1];
 
 /// Bytes that no expect has taken, and how many of them are kept.
 #[derive(Drop)]
@@ -74,6 +71,13 @@ impl Kept {
         self.buffer.ring().len()
     }
 
+    /// Whether no more bytes are there than are kept.
+    pub(crate) fn fits(&self) -> bool
+        ensures { result ≡ nat_le (length self.now.bytes) self.now.size }
+    {
+        self.len() <= self.size()
+    }
+
     /// Puts bytes behind the others.
     pub(crate) fn add(&mut self, bytes: &[u8]) -> Result<(), AllocError>
         ensures { OnOk result (self.new ≡ record self.old { bytes = self.old.bytes ++ bytes.now }) }
@@ -103,18 +107,22 @@ impl Kept {
         self.buffer.take(count);
     }
 
-    /// Tests the bytes against patterns.
+    /// Tests the bytes against the patterns of some groups, of which nothing was found in so many of the first ones, or none were tested.
     pub(crate) fn choose<'l>(
         &mut self,
         alloc: Global,
         matchers: &mut Matchers<'l>,
         list: &'l PatternList,
+        groups: &[usize],
+        sought: usize,
     ) -> Result<Chosen, AllocError>
+        requires { 0 < sought → HasNone list.now.entries groups.now (take sought self.old.bytes) }
         ensures same { self.new ≡ self.old }
-        ensures chosen { IfOk result (λ c. c ≡ decide list.now.entries both self.old.bytes self.old.size) }
+        ensures chosen { IfOk result (λ c. c ≡ decide list.now.entries groups.now self.old.bytes self.old.size) }
+        ensures none { IfOk result (LeavesNone list.now.entries groups.now self.old.bytes) }
     {
         let size = self.buffer.size;
-        list.choose_with(alloc, matchers, &BOTH, self.buffer.bytes(), size)
+        list.choose_with(alloc, matchers, groups, self.buffer.bytes(), sought, size)
     }
 
     /// The bytes from a place to another one, as far as they are there.

@@ -4,14 +4,16 @@ ghost use Rattle.std.specs.Prelude.{◌≡◌, [], IfOk, OnOk};
 ghost use Rattle.child_events.specs.Queue.{with_echo};
 ghost use Rattle.expect_core.specs.Answered.{first_answer};
 ghost use Rattle.expect_core.specs.Good.{ItemsBy, LanesBy};
+ghost use Rattle.expect_core.specs.Heard.{head_of};
+ghost use Rattle.expect_core.specs.Hearing.{TakesFrom};
 ghost use Rattle.expect_core.specs.Lanes.{no_lane, no_lanes, lane_of, with_items, with_answers, with_item, lane_with, grown, untaken_of, place as place_of};
 
 use crate::answers::Answers;
+use crate::listen::{Times, take_item};
 use crate::place::{MOST_CHILDREN, Place};
 use child_events::{Answer, Item, Queue, What};
 use std::alloc::{AllocError, Global};
 use std::marker::Model;
-use std::mem;
 
 /// What came from one child, and was not taken yet.
 #[derive(Debug, Drop)]
@@ -138,29 +140,33 @@ impl Lanes {
         None
     }
 
-    /// Takes all items of the child at a place out.
-    pub(crate) fn take_items(&mut self, i: Place) -> Queue
-        ensures taken { result ≡ (lane_of i self.old).items }
-        ensures left { self.new ≡ with_items i [] self.old }
+    /// The moment of the first item of the child at a place.
+    pub(crate) fn head(&self, i: Place) -> Option<u64>
+        ensures { result ≡ head_of (lane_of i self.now).items }
     {
-        let none = Queue::new(*self.list.allocator());
         let i = i.index();
         if i < self.list.len() {
-            let lane = &mut self.list[i];
-            return mem::replace(&mut lane.items, none);
+            let (moment, _) = self.list[i].items.peek()?;
+            return Some(moment);
         }
-        none
+        None
     }
 
-    /// Puts all items of the child at a place back.
-    pub(crate) fn put_items(&mut self, i: Place, items: Queue)
-        ensures { self.new ≡ with_items i items self.old }
+    /// Takes the first item of the child at a place, where it came in time.
+    pub(crate) fn take_item(
+        &mut self,
+        i: Place,
+        times: Times,
+        deadline: Option<u128>,
+    ) -> Option<(u64, Item)>
+        ensures { TakesFrom times deadline i self.old result self.new }
     {
         let i = i.index();
         if i < self.list.len() {
             let lane = &mut self.list[i];
-            lane.items = items;
+            return take_item(&mut lane.items, times, deadline);
         }
+        None
     }
 
     /// Puts the echo of what was sent to the child at a place among its items.

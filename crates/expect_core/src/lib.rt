@@ -23,11 +23,13 @@ mod place;
 mod plan;
 mod planning;
 mod plans;
+mod quiet;
 mod request;
 mod scoped;
 mod send;
 mod settings;
 mod settle;
+mod sought;
 mod spawn;
 mod texts;
 

@@ -1,16 +1,22 @@
-//! A wait for a pattern.
+//! A wait for patterns of several children.
 
-ghost use Rattle.std.specs.Prelude.{◌≡◌, List, IfOk};
-ghost use Rattle.child_events.specs.Queue.{Queued};
+ghost use Rattle.std.specs.Prelude.{◌≡◌, ◌<◌, ◌+◌, List, length, IfOk};
+ghost use Rattle.expect_core.specs.declared.lanes.Lane.{Lane};
 ghost use Rattle.expect_core.specs.declared.own.Own.{Own};
-ghost use Rattle.expect_core.specs.Heard.{at_most as is_at_most, lapse, Listened, tested, heard, listen as listen_of, look as look_of};
-ghost use Rattle.expect_core.specs.Hearing.{goes, Takes};
+ghost use Rattle.expect_core.specs.Heard.{at_most as is_at_most, lapse, watched, Listened, chosen_of, decided, tested, heard, heads as heads_of, listen as listen_of, look as look_of};
+ghost use Rattle.expect_core.specs.Quiet.{side, AreQuiet, AreQuietBut, GoesOnQuiet, GoesOnQuietBut, TrimsNone};
+ghost use Rattle.expect_core.specs.Sought.{IsSought, AreSought, GoesOnSought, FoundNone};
+ghost use Rattle.expect_core.specs.Hearing.{goes, turns, Takes, turned, at_child, IsFewer};
 
 use crate::answers::is_within;
+use crate::lanes::Lanes;
 use crate::own::Own;
 use crate::phase::Heard;
-use crate::plan::Plan;
-use child_events::{Item, Queue};
+use crate::place::Place;
+use crate::plan::{Groups, Plan};
+use crate::quiet::Quiet;
+use crate::sought::Sought;
+use child_events::{Item, Queue, pick};
 use exp_match::{Chosen, Matchers};
 use std::alloc::{AllocError, Global};
 
@@ -56,7 +62,11 @@ fn lapsed(times: Times, deadline: Option<u128>) -> Heard
 }
 
 /// Takes the first item, where it came in time.
-fn take_item(items: &mut Queue, times: Times, deadline: Option<u128>) -> Option<(u64, Item)>
+pub(crate) fn take_item(
+    items: &mut Queue,
+    times: Times,
+    deadline: Option<u128>,
+) -> Option<(u64, Item)>
     ensures { Takes times deadline items.old result items.new }
 {
     let (moment, _) = items.peek()?;
@@ -67,26 +77,105 @@ fn take_item(items: &mut Queue, times: Times, deadline: Option<u128>) -> Option<
     }
 }
 
-/// Tests the kept bytes; where nothing is chosen, the last ones alone are kept.
+/// The moments of the next items of those that take part.
+fn heads(
+    alloc: Global,
+    sides: &[(Place, Groups)],
+    lanes: &Lanes,
+) -> Result<Vec<Option<u64>>, AllocError>
+    ensures { IfOk result (λ v. v.items ≡ heads_of sides.now lanes.now) }
+{
+    let mut list = Vec::new(alloc);
+    'sides: for (child, _) in sides {
+        list.push(lanes.head(*child))?;
+    }
+    Ok(list)
+}
+
+/// Tests the kept bytes of one child, of which so many of the first ones were tested in vain; where nothing is chosen, the last ones alone are
+/// kept.
+fn test_one<'l>(
+    alloc: Global,
+    plan: &'l Plan,
+    matchers: &mut Matchers<'l>,
+    child: Place,
+    groups: &Groups,
+    sought: usize,
+    own: &mut Own,
+) -> Result<Option<Heard>, AllocError>
+    requires { IsSought plan.now (child, groups.now) sought own.old }
+    ensures goes { IfOk result (λ r. (lanes : List Lane) (k : Own → Listened) → decided child (chosen_of plan.now (child, groups.now) own.old) lanes own.old k ≡ goes r lanes own.new k) }
+    ensures trims { IfOk result (λ r. TrimsNone r plan.now (child, groups.now) own.old own.new) }
+    ensures none { IfOk result (λ r. FoundNone r plan.now (child, groups.now) own.old) }
+{
+    let groups = groups.list.as_slice();
+    match own
+        .children
+        .choose(alloc, matchers, child, &plan.list, groups, sought)?
+    {
+        Chosen::Pattern(index, spans) => Ok(Some(Heard::Match(child, index, spans))),
+        Chosen::Full => Ok(Some(Heard::Full(child))),
+        Chosen::None => {
+            own.children.trim(child);
+            Ok(None)
+        }
+    }
+}
+
+/// Tests the kept bytes of the child at an index among those that take part, unless it is quiet.
+fn test_side<'l>(
+    alloc: Global,
+    plan: &'l Plan,
+    matchers: &mut Matchers<'l>,
+    quiet: &mut Quiet,
+    sought: &mut Sought,
+    changed: &Option<Place>,
+    at: usize,
+    own: &mut Own,
+) -> Result<Option<Heard>, AllocError>
+    requires here { at < length (watched plan.now) }
+    requires quiet { AreQuietBut changed.now at plan.now quiet.old own.old }
+    requires sought { AreSought plan.now sought.old own.old }
+    ensures goes { IfOk result (λ r. (lanes : List Lane) (k : Own → Listened) → decided (side plan.now at).0 (chosen_of plan.now (side plan.now at) own.old) lanes own.old k ≡ goes r lanes own.new k) }
+    ensures quiet { IfOk result (λ r. GoesOnQuietBut r changed.now (at + 1) plan.now quiet.new own.new) }
+    ensures sought { IfOk result (λ r. GoesOnSought r plan.now sought.new own.new) }
+{
+    let (child, groups) = &plan.sides.list[at];
+    if quiet.spares(at, *child, changed) {
+        return Ok(None);
+    }
+    let fits = own.children.fits(*child);
+    let heard = test_one(alloc, plan, matchers, *child, groups, sought.at(at), own)?;
+    quiet.set(at, fits);
+    sought.forget(plan, child);
+    sought.set(at, own.children.count_kept(*child));
+    Ok(heard)
+}
+
+/// Tests the kept bytes of one child after the other, each against its own patterns; those that are quiet needn't be tested, unless the bytes
+/// of this one have changed.
 fn test<'l>(
     alloc: Global,
     plan: &'l Plan,
     matchers: &mut Matchers<'l>,
+    quiet: &mut Quiet,
+    sought: &mut Sought,
+    changed: &Option<Place>,
     own: &mut Own,
 ) -> Result<Option<Heard>, AllocError>
-    ensures { IfOk result (λ r. (items : List Queued) (k : Own → Listened) → tested plan.now items own.old k ≡ goes r items own.new k) }
+    requires quiet { AreQuietBut changed.now 0 plan.now quiet.old own.old }
+    requires sought { AreSought plan.now sought.old own.old }
+    ensures tested { IfOk result (λ r. (lanes : List Lane) (k : Own → Listened) → tested plan.now plan.now.sides lanes own.old k ≡ goes r lanes own.new k) }
+    ensures quiet { IfOk result (λ r. GoesOnQuiet r plan.now quiet.new own.new) }
+    ensures sought { IfOk result (λ r. GoesOnSought r plan.now sought.new own.new) }
 {
-    match own
-        .children
-        .choose(alloc, matchers, plan.child, &plan.list)?
-    {
-        Chosen::Pattern(index, spans) => Ok(Some(Heard::Match(index, spans))),
-        Chosen::Full => Ok(Some(Heard::Full)),
-        Chosen::None => {
-            own.children.trim(plan.child);
-            Ok(None)
+    'sides: for at in 0..plan.sides.list.len() {
+        let tested = test_side(alloc, plan, matchers, quiet, sought, changed, at, own)?;
+        if let Some(heard) = tested {
+            return Ok(Some(heard));
         }
     }
+    Ok(None)
 }
 
 /// An item was taken: the bytes are tested, or the child has ended.
@@ -94,19 +183,77 @@ fn hear<'l>(
     alloc: Global,
     plan: &'l Plan,
     matchers: &mut Matchers<'l>,
+    quiet: &mut Quiet,
+    sought: &mut Sought,
+    child: Place,
     item: Item,
     own: &mut Own,
 ) -> Result<Option<Heard>, AllocError>
-    ensures { IfOk result (λ r. (items : List Queued) (k : Own → Listened) → heard plan.now item items own.old k ≡ goes r items own.new k) }
+    requires quiet { AreQuiet plan.now quiet.old own.old }
+    requires sought { AreSought plan.now sought.old own.old }
+    ensures heard { IfOk result (λ r. (lanes : List Lane) (k : Own → Listened) → heard plan.now child item lanes own.old k ≡ goes r lanes own.new k) }
+    ensures quiet { IfOk result (λ r. GoesOnQuiet r plan.now quiet.new own.new) }
+    ensures sought { IfOk result (λ r. GoesOnSought r plan.now sought.new own.new) }
 {
     match item {
         Item::Out(piece) => {
-            own.receive(alloc, plan.child, piece.as_slice())?;
-            test(alloc, plan, matchers, own)
+            own.receive(alloc, child, piece.as_slice())?;
+            test(alloc, plan, matchers, quiet, sought, &Some(child), own)
         }
-        Item::Eof => Ok(Some(Heard::Ended)),
-        Item::ReadFail(cause) => Ok(Some(Heard::Failed(cause))),
+        Item::Eof => Ok(Some(Heard::Ended(child))),
+        Item::ReadFail(cause) => Ok(Some(Heard::Failed(child, cause))),
     }
+}
+
+/// The child whose item is taken next. One that takes part alone waits for no other, and takes no memory.
+fn next_child(
+    alloc: Global,
+    times: Times,
+    plan: &Plan,
+    lanes: &Lanes,
+) -> Result<Option<Place>, AllocError>
+    ensures { IfOk result (λ r. (o : Own) (k : List Lane → Own → Listened) → turned times plan.now lanes.now o k ≡ at_child times plan.now r lanes.now o k) }
+{
+    let sides = plan.sides.list.as_slice();
+    if sides.len() == 1 {
+        let (child, _) = &sides[0];
+        return Ok(Some(*child));
+    }
+    let heads = heads(alloc, sides, lanes)?;
+    let Some(next) = pick(heads.as_slice(), times.horizon) else {
+        return Ok(None);
+    };
+    let (child, _) = &sides[next];
+    Ok(Some(*child))
+}
+
+/// Takes the next item, where there is one and it came in time, and tests the bytes.
+fn turn<'l>(
+    alloc: Global,
+    times: Times,
+    plan: &'l Plan,
+    matchers: &mut Matchers<'l>,
+    quiet: &mut Quiet,
+    sought: &mut Sought,
+    lanes: &mut Lanes,
+    own: &mut Own,
+) -> Result<Option<Heard>, AllocError>
+    requires quiet { AreQuiet plan.now quiet.old own.old }
+    requires sought { AreSought plan.now sought.old own.old }
+    ensures turned { IfOk result (λ r. (k : List Lane → Own → Listened) → turned times plan.now lanes.old own.old k ≡ turns r lanes.new own.new k) }
+    ensures fewer { IfOk result (λ r. IsFewer r lanes.old lanes.new) }
+    ensures quiet { IfOk result (λ r. GoesOnQuiet r plan.now quiet.new own.new) }
+    ensures sought { IfOk result (λ r. GoesOnSought r plan.now sought.new own.new) }
+{
+    let Some(child) = next_child(alloc, times, plan, lanes)? else {
+        return Ok(Some(lapsed(times, plan.deadline)));
+    };
+    let Some((moment, item)) = lanes.take_item(child, times, plan.deadline) else {
+        return Ok(Some(lapsed(times, plan.deadline)));
+    };
+    own.advance(moment);
+    let heard = hear(alloc, plan, matchers, quiet, sought, child, item, own)?;
+    Ok(heard)
 }
 
 /// Takes items until the patterns decide, or none is there in time. Each test goes on with the matchers of those before it.
@@ -115,20 +262,19 @@ fn hear_all<'l>(
     times: Times,
     plan: &'l Plan,
     matchers: &mut Matchers<'l>,
-    items: &mut Queue,
+    quiet: &mut Quiet,
+    sought: &mut Sought,
+    lanes: &mut Lanes,
     own: &mut Own,
 ) -> Result<Heard, AllocError>
-    ensures { IfOk result (λ h. listen_of times.limit times.horizon plan.now items.old own.old ≡ (h, items.new, own.new)) }
+    requires quiet { AreQuiet plan.now quiet.old own.old }
+    requires sought { AreSought plan.now sought.old own.old }
+    ensures { IfOk result (λ h. listen_of times.limit times.horizon plan.now lanes.old own.old ≡ (h, lanes.new, own.new)) }
 {
-    'items: loop {
-        match take_item(items, times, plan.deadline) {
-            None => return Ok(lapsed(times, plan.deadline)),
-            Some((moment, item)) => {
-                own.advance(moment);
-                if let Some(heard) = hear(alloc, plan, matchers, item, own)? {
-                    return Ok(heard);
-                }
-            }
+    'turns: loop {
+        match turn(alloc, times, plan, matchers, quiet, sought, lanes, own)? {
+            Some(heard) => return Ok(heard),
+            None => continue,
         }
     }
 }
@@ -138,12 +284,24 @@ pub(crate) fn listen(
     alloc: Global,
     times: Times,
     plan: &Plan,
-    items: &mut Queue,
+    lanes: &mut Lanes,
     own: &mut Own,
 ) -> Result<Heard, AllocError>
-    ensures { IfOk result (λ h. listen_of times.limit times.horizon plan.now items.old own.old ≡ (h, items.new, own.new)) }
+    ensures { IfOk result (λ h. listen_of times.limit times.horizon plan.now lanes.old own.old ≡ (h, lanes.new, own.new)) }
 {
-    hear_all(alloc, times, plan, &mut Matchers::new(alloc), items, own)
+    let mut matchers = Matchers::new(alloc);
+    let mut quiet = Quiet::new(alloc, plan.sides.list.len())?;
+    let mut sought = Sought::new();
+    hear_all(
+        alloc,
+        times,
+        plan,
+        &mut matchers,
+        &mut quiet,
+        &mut sought,
+        lanes,
+        own,
+    )
 }
 
 /// Tests the kept bytes first.
@@ -151,14 +309,34 @@ pub(crate) fn look(
     alloc: Global,
     times: Times,
     plan: &Plan,
-    items: &mut Queue,
+    lanes: &mut Lanes,
     own: &mut Own,
 ) -> Result<Heard, AllocError>
-    ensures { IfOk result (λ h. look_of times.limit times.horizon plan.now items.old own.old ≡ (h, items.new, own.new)) }
+    ensures { IfOk result (λ h. look_of times.limit times.horizon plan.now lanes.old own.old ≡ (h, lanes.new, own.new)) }
 {
     let mut matchers = Matchers::new(alloc);
-    if let Some(heard) = test(alloc, plan, &mut matchers, own)? {
+    let mut quiet = Quiet::new(alloc, plan.sides.list.len())?;
+    let mut sought = Sought::new();
+    let tested = test(
+        alloc,
+        plan,
+        &mut matchers,
+        &mut quiet,
+        &mut sought,
+        &None,
+        own,
+    )?;
+    if let Some(heard) = tested {
         return Ok(heard);
     }
-    hear_all(alloc, times, plan, &mut matchers, items, own)
+    hear_all(
+        alloc,
+        times,
+        plan,
+        &mut matchers,
+        &mut quiet,
+        &mut sought,
+        lanes,
+        own,
+    )
 }

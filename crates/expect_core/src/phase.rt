@@ -32,25 +32,25 @@ pub enum Phase {
     Idle,
     /// It awaits the answer of the child at this place.
     Answer(Place, Purpose),
-    /// It awaits an item.
+    /// It awaits an item of one of its children.
     Expect(Plan),
 }
 
-/// What came of a wait for a pattern.
+/// What came of a wait for patterns, and at which place the child stands that it is about.
 #[derive(Clone, Copy, Debug)]
 pub enum Heard {
-    /// The pattern with this number matches, with these spans.
-    Match(usize, Spans),
-    /// As many bytes are kept as may be.
-    Full,
+    /// Of this child, the pattern with this number matches, with these spans.
+    Match(Place, usize, Spans),
+    /// As many bytes of this child are kept as may be.
+    Full(Place),
     /// The deadline has passed.
     TimedOut(u64),
     /// The last moment of the settings has passed.
     OverLimit,
     /// Nothing yet.
     NotYet,
-    /// The output ended.
-    Ended,
-    /// Reading the output failed.
-    Failed(Cause),
+    /// The output of this child ended.
+    Ended(Place),
+    /// Reading the output of this child failed.
+    Failed(Place, Cause),
 }

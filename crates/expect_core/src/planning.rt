@@ -1,15 +1,15 @@
 //! The arguments of an expect.
 
-ghost use Rattle.std.specs.Prelude.{◌≡◌, [], slice_index_or, IfOk};
+ghost use Rattle.std.specs.Prelude.{◌≡◌, ◌<◌, ◌+◌, ◌^◌, [], slice_index_or, if◌then◌else◌, IfOk};
 ghost use Rattle.tcl_commands.specs.Says.{Says};
 ghost use Rattle.exp_match.specs.Arguments.{patterns_of as patterns_meant};
-ghost use Rattle.expect_core.specs.Expecting.{is_list as is_list_of, listed as listed_of, patterns_by, only_id as only_id_of, span_by as span_by_of, span_or_ten as span_or_ten_of, span_in as span_meant, plan_at as plan_there, plan_by as plan_by_of, plan_of as plan_meant};
+ghost use Rattle.expect_core.specs.Expecting.{is_list as is_list_of, listed as listed_of, patterns_by, span_by as span_by_of, span_or_ten as span_or_ten_of, span_in as span_meant, plan_at as plan_there, plan_by as plan_by_of, plan_of as plan_meant};
 ghost use Rattle.expect_core.specs.Heard.{span_of as span_told};
+ghost use Rattle.expect_core.specs.Sides.{takes_current as takes_current_of, opened as opened_of, asked_by as asked_meant, with_groups};
 
 use crate::ids::open_to;
 use crate::own::{Own, deadline_from};
-use crate::place::Place;
-use crate::plan::{Plan, Span};
+use crate::plan::{Places, Plan, Sides, Span};
 use crate::plans::Plans;
 use crate::scoped::optional;
 use crate::texts::{bad_expect_flag, bad_regular};
@@ -75,15 +75,66 @@ fn patterns_of(alloc: Global, plans: &mut Plans, args: &[Value]) -> Result<Patte
     }
 }
 
-/// The id behind `-i`, which may stand there once.
-fn only_id(alloc: Global, ids: &[Text]) -> Result<Option<Value>, Complaint>
-    ensures { Says result (only_id_of ids.now) }
+/// Whether the child that was spawned last takes part.
+fn takes_current(list: &PatternList) -> bool
+    ensures { result ≡ takes_current_of list.now }
 {
-    match ids {
-        [] => Ok(None),
-        [id] => Ok(Some(Value::from_slice(alloc, id.as_slice())?)),
-        _ => Err(Complaint::Said(bad_expect_flag(alloc, b"-i")?)),
+    if list.ids.as_slice().is_empty() {
+        return true;
     }
+    list.serves(0)
+}
+
+/// The children with these ids, behind those before them, each of which has to be open.
+fn opened(
+    alloc: Global,
+    mut places: Places,
+    ids: &[Text],
+    vars: &Vars,
+    own: &Own,
+) -> Result<Places, Complaint>
+    ensures { Says result (opened_of places ids.now vars.now own.now) }
+{
+    'ids: for id in ids {
+        let id = Some(Value::from_slice(alloc, id.as_slice())?);
+        let i = open_to(alloc, &id, vars, own)?;
+        places.push(i)?;
+    }
+    Ok(places)
+}
+
+/// The places of the children that take part, in the order of the arguments.
+fn asked_by(alloc: Global, list: &PatternList, vars: &Vars, own: &Own) -> Result<Places, Complaint>
+    ensures { Says result (asked_meant list.now vars.now own.now) }
+{
+    let mut places = Places::new(alloc);
+    if takes_current(list) {
+        let i = open_to(alloc, &None, vars, own)?;
+        places.push(i)?;
+        return opened(alloc, places, list.ids.as_slice(), vars, own);
+    }
+    opened(alloc, places, list.ids.as_slice(), vars, own)
+}
+
+/// The group of the child at an index among those that take part, in the order of the arguments. The first of them has group 0 where it is that of
+/// the patterns before the first `-i`, else group 1.
+fn group_at(first: bool, at: usize) -> usize
+    requires { at + 1 < 2 ^ 64 }
+    ensures { result ≡ (if first then at else at + 1) }
+{
+    if first { at } else { at + 1 }
+}
+
+/// The children that take part, by place, each with its groups.
+fn grouped(alloc: Global, first: bool, places: &Places) -> Result<Sides, AllocError>
+    ensures { IfOk result (λ t. t ≡ with_groups (if first then 0 else 1) places.now []) }
+{
+    let mut sides = Sides::new(alloc);
+    'places: for at in 0..places.list.len() {
+        let group = group_at(first, at);
+        sides.add(alloc, places.list[at], group)?;
+    }
+    Ok(sides)
 }
 
 /// What so many seconds mean.
@@ -125,25 +176,32 @@ fn span_in(alloc: Global, timeout: &Option<Text>, vars: &Vars) -> Result<Span, C
 }
 
 /// The wait of an expect for these patterns, which begins at a moment.
-fn plan_at(i: Place, list: PatternList, span: Span, clock: u64) -> Plan
-    ensures { result ≡ plan_there i list span clock }
+fn plan_at(
+    alloc: Global,
+    order: Places,
+    list: PatternList,
+    span: Span,
+    clock: u64,
+) -> Result<Plan, AllocError>
+    ensures { IfOk result (λ p. p ≡ plan_there order list span clock) }
 {
-    Plan {
-        child: i,
+    Ok(Plan {
+        sides: grouped(alloc, takes_current(&list), &order)?,
+        order,
         list,
         span,
         deadline: deadline_from(clock, span),
-    }
+    })
 }
 
 /// What an expect for these patterns waits for.
 fn plan_by(alloc: Global, list: PatternList, vars: &Vars, own: &Own) -> Result<Plan, Complaint>
     ensures { Says result (plan_by_of list vars.now own.now) }
 {
-    let id = only_id(alloc, list.ids.as_slice())?;
-    let i = open_to(alloc, &id, vars, own)?;
+    let order = asked_by(alloc, &list, vars, own)?;
     let span = span_in(alloc, &list.timeout, vars)?;
-    Ok(plan_at(i, list, span, own.clock))
+    let plan = plan_at(alloc, order, list, span, own.clock)?;
+    Ok(plan)
 }
 
 /// What an expect with these arguments waits for.

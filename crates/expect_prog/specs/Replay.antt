@@ -15,6 +15,7 @@ use Rattle.expect_prog.specs.declared.fault.ReplayFault.{ReplayFault}
 use Rattle.expect_prog.specs.declared.fault.ReplayFault.TheVariants.{Read, Log, Run, Write, Memory}
 use Rattle.expect_prog.specs.Report.{reports_bytes, all_done}
 use Rattle.expect_prog.specs.Devices.{WasPut, GaveUp}
+use Rattle.expect_prog.specs.declared.texts.Shown.{Shown}
 
 -- The bytes are the log text of some events, and the run of the scripts over these answers so.
 pub record RunOver (scripts : List Script) (bytes : List ℕ) (answer : Result (List Report) RunFault) : Type 0 where
@@ -23,26 +24,26 @@ pub record RunOver (scripts : List Script) (bytes : List ℕ) (answer : Result (
   pub runs : Runs scripts events answer
 
 -- What is written is the text of the run's reports, and nothing else.
-pub record Replayed (scripts : List Script) (vars : Bool) (bytes : List ℕ) (well : Bool) (old new : Option (List ℕ)) : Type 0 where
+pub record Replayed (scripts : List Script) (shown : Shown) (bytes : List ℕ) (well : Bool) (old new : Option (List ℕ)) : Type 0 where
   pub reports : List Report
   pub run : RunOver scripts bytes (Ok reports)
   pub done : well ≡ all_done reports
-  pub written : Appends old new (reports_bytes vars 1 reports)
+  pub written : Appends old new (reports_bytes shown 1 reports)
 
 -- A front of that text is written, and nothing else.
-pub record PartReplayed (scripts : List Script) (vars : Bool) (bytes : List ℕ) (old new : Option (List ℕ)) : Type 0 where
+pub record PartReplayed (scripts : List Script) (shown : Shown) (bytes : List ℕ) (old new : Option (List ℕ)) : Type 0 where
   pub reports : List Report
   pub run : RunOver scripts bytes (Ok reports)
-  pub written : WasPut old new (reports_bytes vars 1 reports)
+  pub written : WasPut old new (reports_bytes shown 1 reports)
 
 -- what a replay of bytes answers, and what it puts behind what was written before
-abbrev pub Replays : List Script → Bool → List ℕ → Option (List ℕ) → Option (List ℕ) → Result Bool ReplayFault → Type 0
-Replays scripts vars bytes old new (Ok well) = Replayed scripts vars bytes well old new
-Replays scripts vars bytes old new (Err Read) = Unit {0}
-Replays scripts vars bytes old new (Err (Log f)) = Refused bytes f
-Replays scripts vars bytes old new (Err (Run f)) = RunOver scripts bytes (Err f)
-Replays scripts vars bytes old new (Err Write) = PartReplayed scripts vars bytes old new
-Replays scripts vars bytes old new (Err Memory) = Unit {0}
+abbrev pub Replays : List Script → Shown → List ℕ → Option (List ℕ) → Option (List ℕ) → Result Bool ReplayFault → Type 0
+Replays scripts shown bytes old new (Ok well) = Replayed scripts shown bytes well old new
+Replays scripts shown bytes old new (Err Read) = Unit {0}
+Replays scripts shown bytes old new (Err (Log f)) = Refused bytes f
+Replays scripts shown bytes old new (Err (Run f)) = RunOver scripts bytes (Err f)
+Replays scripts shown bytes old new (Err Write) = PartReplayed scripts shown bytes old new
+Replays scripts shown bytes old new (Err Memory) = Unit {0}
 
 -- a fault of the log or the run is no want of memory
 abbrev pub IsNoWant : ReplayFault → Type 0
@@ -52,14 +53,14 @@ IsNoWant (Run f) = (f ≢ run.Memory) × (f ≢ run.New halls.Memory)
 IsNoWant Write = Unit {0}
 IsNoWant Memory = Unit {0}
 
--- what reading the events of a log answers, where the bytes are known, and what it leaves of the reader's counts
-abbrev pub EventsRead : Option (List ℕ) → ℕ → ℕ → Result (List HallEvent) ReplayFault → Type 0
-EventsRead known failures calls (Ok events) = IfSome known (λ bytes. LogText bytes events)
-EventsRead known failures calls (Err Read) = GaveUp failures calls
-EventsRead known failures calls (Err (Log f)) = (f ≢ logs.Memory) × IfSome known (λ bytes. Refused bytes f)
-EventsRead known failures calls (Err (Run f)) = ⊥
-EventsRead known failures calls (Err Write) = ⊥
-EventsRead known failures calls (Err Memory) = Unit {0}
+-- what judging a log answers
+abbrev pub Judged : List ℕ → Result (List HallEvent) ReplayFault → Type 0
+Judged bytes (Ok events) = LogText bytes events
+Judged bytes (Err Read) = ⊥
+Judged bytes (Err (Log f)) = (f ≢ logs.Memory) × Refused bytes f
+Judged bytes (Err (Run f)) = ⊥
+Judged bytes (Err Write) = ⊥
+Judged bytes (Err Memory) = Unit {0}
 
 -- what running the scripts answers
 abbrev pub RunOrFault : List Script → List HallEvent → Result (List Report) ReplayFault → Type 0
@@ -69,3 +70,21 @@ RunOrFault scripts events (Err (Log f)) = ⊥
 RunOrFault scripts events (Err (Run f)) = IsNoWant (Run f) × Runs scripts events (Err f)
 RunOrFault scripts events (Err Write) = ⊥
 RunOrFault scripts events (Err Memory) = Unit {0}
+
+-- what the scripts over the log of these bytes answer
+abbrev pub ReportsOver : List Script → List ℕ → Result (List Report) ReplayFault → Type 0
+ReportsOver scripts bytes (Ok reports) = RunOver scripts bytes (Ok reports)
+ReportsOver scripts bytes (Err Read) = ⊥
+ReportsOver scripts bytes (Err (Log f)) = (f ≢ logs.Memory) × Refused bytes f
+ReportsOver scripts bytes (Err (Run f)) = IsNoWant (Run f) × RunOver scripts bytes (Err f)
+ReportsOver scripts bytes (Err Write) = ⊥
+ReportsOver scripts bytes (Err Memory) = Unit {0}
+
+-- and where they are read, if they are known, with what reading leaves of the reader's counts
+abbrev pub ReportsRead : List Script → Option (List ℕ) → ℕ → ℕ → Result (List Report) ReplayFault → Type 0
+ReportsRead scripts known failures calls (Ok reports) = IfSome known (λ bytes. RunOver scripts bytes (Ok reports))
+ReportsRead scripts known failures calls (Err Read) = GaveUp failures calls
+ReportsRead scripts known failures calls (Err (Log f)) = (f ≢ logs.Memory) × IfSome known (λ bytes. Refused bytes f)
+ReportsRead scripts known failures calls (Err (Run f)) = IsNoWant (Run f) × IfSome known (λ bytes. RunOver scripts bytes (Err f))
+ReportsRead scripts known failures calls (Err Write) = ⊥
+ReportsRead scripts known failures calls (Err Memory) = Unit {0}

@@ -5,6 +5,10 @@ use Rattle.child_events.specs.Log.{hex_text}
 use Rattle.tcl_eval.specs.declared.ending.Ending.{Ending}
 use Rattle.tcl_eval.specs.declared.ending.Ending.TheVariants.{Exit, Error, StepLimit, TimeLimit, Memory, Waiting}
 use Rattle.session.specs.declared.report.Report.{Report}
+use Rattle.expect_core.specs.declared.request.Act.{Act}
+use Rattle.expect_core.specs.declared.request.Act.TheVariants as act
+use Rattle.expect_core.specs.declared.request.Request.{Request}
+use Rattle.expect_prog.specs.declared.texts.Shown.{Shown}
 
 -- a label and a number behind it; closed, so that the text of a line stays in pieces
 unfoldable pub labelled : List ℕ → ℕ → List ℕ
@@ -47,13 +51,41 @@ vars_lines (v ∷ vs) = var_line v ++ vars_lines vs
 abbrev pub vars_part : Bool → List (List ℕ × List ℕ) → List ℕ
 vars_part shown vars = if shown then vars_lines vars else []
 
-abbrev pub report_bytes : Bool → ℕ → Report → List ℕ
-report_bytes vars n r = head_line n r ++ r.transcript ++ 10 ∷ [] ++ fault_part r.ending r.fault ++ vars_part vars r.vars
+-- each word in lower-case hexadecimal, or a dash where it is empty, behind a space
+abbrev pub words_part : List (List ℕ) → List ℕ
+words_part [] = []
+words_part (w ∷ ws) = (32 ∷ [] ++ hex_text w) ++ words_part ws
+
+-- the program and its arguments, or the bytes, in hexadecimal
+abbrev pub act_text : Act → List ℕ
+act_text (act.Spawn words) = codes "spawn" ++ words_part words
+act_text (act.Write bytes) = codes "write " ++ hex_text bytes
+act_text act.End = codes "end"
+act_text act.Close = codes "close"
+act_text act.Wait = codes "wait"
+
+-- what is asked of which child
+unfoldable pub ask_line : Request → List ℕ
+ask_line r = labelled (codes "ask ") r.child ++ 32 ∷ [] ++ act_text r.act ++ 10 ∷ []
+
+abbrev pub ask_lines : List Request → List ℕ
+ask_lines [] = []
+ask_lines (r ∷ rs) = ask_line r ++ ask_lines rs
+
+abbrev pub asks_part : Bool → List Request → List ℕ
+asks_part shown requests = if shown then ask_lines requests else []
+
+-- what stands behind the transcript
+abbrev pub tail_part : Shown → Report → List ℕ
+tail_part shown r = 10 ∷ [] ++ fault_part r.ending r.fault ++ vars_part shown.vars r.vars ++ asks_part shown.requests r.requests
+
+abbrev pub report_bytes : Shown → ℕ → Report → List ℕ
+report_bytes shown n r = head_line n r ++ r.transcript ++ tail_part shown r
 
 -- all reports in order, where the first is of script n
-abbrev pub reports_bytes : Bool → ℕ → List Report → List ℕ
-reports_bytes vars n [] = []
-reports_bytes vars n (r ∷ rs) = report_bytes vars n r ++ reports_bytes vars (n + 1) rs
+abbrev pub reports_bytes : Shown → ℕ → List Report → List ℕ
+reports_bytes shown n [] = []
+reports_bytes shown n (r ∷ rs) = report_bytes shown n r ++ reports_bytes shown (n + 1) rs
 
 abbrev pub is_done : Ending → Bool
 is_done (Exit n) = n == 0

@@ -3,6 +3,7 @@
 ghost use Rattle.std.specs.Prelude.{◌≡◌, ◌≤◌, ◌*◌};
 
 use crate::help;
+use crate::texts::Shown;
 use clap::{Arg, ArgAction, ArgMatches, Command, Error, value_parser};
 use session::STEPS_LIMIT;
 use std::alloc::{AllocError, Global};
@@ -27,8 +28,8 @@ pub struct Scripts<'a> {
     pub steps: u64,
     /// The last moment of each script, in milliseconds.
     pub limit_ms: Option<u64>,
-    /// Whether variables are shown.
-    pub vars: bool,
+    /// What the reports have beside their transcripts.
+    pub shown: Shown,
     /// The files of their sources.
     pub sources: Vec<&'a str>,
 }
@@ -54,7 +55,7 @@ fn limit<'a>(alloc: Global) -> Arg<'a> {
     Arg::new(alloc, "limit")
         .long("limit")
         .value_name("S")
-        .help("End each script that still waits when this many seconds are over")
+        .help("End a script that still waits after S seconds")
         .value_parser(value_parser!(u64).range(1..=SECONDS_LIMIT))
 }
 
@@ -62,7 +63,7 @@ fn steps<'a>(alloc: Global) -> Arg<'a> {
     Arg::new(alloc, "steps")
         .long("steps")
         .value_name("N")
-        .help("End each script that begins more steps [default: 1000000]")
+        .help("End a script that begins more steps [default: 1000000]")
         .value_parser(value_parser!(u64).range(1..=STEPS_LIMIT as i64))
 }
 
@@ -70,6 +71,13 @@ fn vars<'a>(alloc: Global) -> Arg<'a> {
     Arg::new(alloc, "vars")
         .long("vars")
         .help("Show the global variables of each script, in hexadecimal")
+        .action(ArgAction::SetTrue)
+}
+
+fn requests<'a>(alloc: Global) -> Arg<'a> {
+    Arg::new(alloc, "requests")
+        .long("requests")
+        .help("Show what each script asked of its children, in hexadecimal")
         .action(ArgAction::SetTrue)
 }
 
@@ -85,17 +93,18 @@ fn sources<'a>(alloc: Global) -> Arg<'a> {
 fn log<'a>(alloc: Global) -> Arg<'a> {
     Arg::new(alloc, "log")
         .value_name("LOG")
-        .help("The file of the log")
+        .help("The file of the log, or /dev/stdin")
         .required(true)
 }
 
 fn replay_command<'a>(alloc: Global) -> Result<Command<'a>, AllocError> {
     Command::new(alloc, "replay")
-        .about("Runs scripts over a log of events, and prints their reports")
+        .about("Runs scripts over a log of a run, and prints their reports")
         .after_help(help::REPLAY)
         .arg(limit(alloc))?
         .arg(steps(alloc))?
         .arg(vars(alloc))?
+        .arg(requests(alloc))?
         .arg(log(alloc))?
         .arg(sources(alloc))
 }
@@ -104,7 +113,7 @@ fn workers<'a>(alloc: Global) -> Arg<'a> {
     Arg::new(alloc, "workers")
         .long("workers")
         .value_name("N")
-        .help("Share the scripts out among this many threads [default: 1]")
+        .help("Share the scripts out among N threads [default: 1]")
         .value_parser(value_parser!(u64).range(1..=64))
 }
 
@@ -112,7 +121,7 @@ fn record<'a>(alloc: Global) -> Arg<'a> {
     Arg::new(alloc, "record")
         .long("record")
         .value_name("FILE")
-        .help("Write a log of all that happened, which replay reads")
+        .help("Write a log of what happened, which replay reads")
 }
 
 fn run_command<'a>(alloc: Global) -> Result<Command<'a>, AllocError> {
@@ -124,6 +133,7 @@ fn run_command<'a>(alloc: Global) -> Result<Command<'a>, AllocError> {
         .arg(steps(alloc))?
         .arg(record(alloc))?
         .arg(vars(alloc))?
+        .arg(requests(alloc))?
         .arg(sources(alloc))
 }
 
@@ -131,6 +141,8 @@ fn command<'a>(alloc: Global) -> Result<Command<'a>, AllocError> {
     Command::new(alloc, "exprun")
         .bin_name("exprun")?
         .about("Runs Expect scripts with real programs, or over a log of what programs did")
+        .version(help::VERSION)
+        .long_version(help::LONG_VERSION)
         .after_help(help::PROGRAM)
         .subcommand_required(true)
         .subcommand(run_command(alloc)?)?
@@ -154,7 +166,10 @@ fn scripts_of<'a>(alloc: Global, matches: &ArgMatches<'a>) -> Result<Scripts<'a>
     Ok(Scripts {
         steps: matches.get_one::<u64>("steps").unwrap_or(DEFAULT_STEPS),
         limit_ms: matches.get_one::<u64>("limit").map(milliseconds),
-        vars: matches.get_flag("vars"),
+        shown: Shown {
+            vars: matches.get_flag("vars"),
+            requests: matches.get_flag("requests"),
+        },
         sources,
     })
 }

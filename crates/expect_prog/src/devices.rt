@@ -1,8 +1,7 @@
 //! Whole readers and writers.
 
-ghost use Rattle.std.specs.Prelude.{◌≡◌, ◌<◌, IfOk, IfSome, OnOk, OnErr, vec_len};
-ghost use Rattle.std.specs.Io.KnownBytes.{Appends};
-ghost use Rattle.expect_prog.specs.Devices.{WasPut, GaveUp};
+ghost use Rattle.std.specs.Prelude.{◌≡◌, ◌<◌, ◌≤◌, IfOk, IfSome, Err, vec_len};
+ghost use Rattle.expect_prog.specs.Devices.{Writes, GaveUp};
 
 use child_events::Counted;
 use std::alloc::{AllocError, Global};
@@ -70,16 +69,14 @@ pub fn read_all<R: Read>(alloc: Global, reader: &mut Counted<R>) -> Result<Text,
     Err(ReadFault::Failed)
 }
 
-/// Writes a whole text. An interrupted write is tried again.
+/// Writes a whole text. An interrupted write is tried again. What was written before counts among the most calls.
 pub fn write_all<W: Write>(writer: &mut Counted<W>, text: &[u8]) -> Result<(), Unwritten>
     requires failures { writer.old.failures ≡ 0 }
-    requires calls { writer.old.calls ≡ 0 }
-    ensures all { OnOk result (Appends (W.contents writer.old.device) (W.contents writer.new.device) text.now) }
-    ensures front { OnErr result (WasPut (W.contents writer.old.device) (W.contents writer.new.device) text.now) }
-    ensures failed { OnErr result (GaveUp writer.new.failures writer.new.calls) }
+    requires calls { writer.old.calls ≤ MOST_CALLS }
+    ensures { Writes text.now (W.contents writer.old.device) (W.contents writer.new.device) writer.new.failures writer.new.calls result }
 {
     let mut done = 0;
-    'writes: for _ in 0..MOST_CALLS {
+    'writes: for _ in writer.calls()..MOST_CALLS {
         if done == text.len() {
             return Ok(());
         }

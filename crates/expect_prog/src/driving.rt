@@ -1,18 +1,19 @@
 //! Scripts over children, whose record and reports go to any two writers.
 
-ghost use Rattle.std.specs.Prelude.{◌≡◌, ◌<◌, ◌≤◌, length, map, IfOk, IfErr, Err};
-ghost use Rattle.child_events.specs.Log.{AllFit, LogText2};
+ghost use Rattle.std.specs.Prelude.{◌≡◌, ◌<◌, ◌≤◌, length, map, IfErr, Err};
 ghost use Rattle.child_serve.specs.Whole.{keeping_of};
 ghost use Rattle.expect_prog.specs.Devices.{GaveUp};
 ghost use Rattle.expect_prog.specs.Drive.{Drives, Serves, Puts, IsBefore};
-ghost use Rattle.expect_prog.specs.Report.{reports_bytes, all_done as all_done_of};
+ghost use Rattle.expect_prog.specs.Written.{AreSpares};
 
 use crate::devices::write_all;
-use crate::texts::{all_done, report_text};
+use crate::reporting::write_reports;
+use crate::texts::{Shown, spare_texts};
 use child_events::{Counted, write_log};
 use child_keeper::{Clock, Gate, Keeper};
 use child_serve::{ServeFault, Served, serve};
 use dialogue_sched::Script;
+use session::Report;
 use std::alloc::{AllocError, Global};
 use std::io::Write;
 use std::sync::Wait;
@@ -69,50 +70,29 @@ fn served_by<
     }
 }
 
-/// What a run writes, and whether each of its scripts ended with status 0.
-#[derive(Drop)]
-struct Output {
-    record: Text,
-    reports: Text,
-    well: bool,
-}
-
-/// The log text of the record of what was served and the text of its reports, with their variables or without.
-fn output_of(alloc: Global, vars: bool, served: &Served) -> Result<Output, DriveFault>
-    requires { AllFit served.now.logged }
-    ensures record { IfOk result (λ o. LogText2 o.record served.now.logged) }
-    ensures reports { IfOk result (λ o. o.reports ≡ reports_bytes vars 1 served.now.reports) }
-    ensures well { IfOk result (λ o. o.well ≡ all_done_of served.now.reports) }
-    ensures fault { IfErr result (λ fault. fault ≡ DriveFault.Memory) }
-{
-    let record = write_log(alloc, served.logged.as_slice())?;
-    let reports = report_text(alloc, vars, served.reports.as_slice())?;
-    let well = all_done(served.reports.as_slice());
-    Ok(Output {
-        record,
-        reports,
-        well,
-    })
-}
-
-/// Writes the record, and then the reports.
+/// Writes the text of a record, and then the reports.
 fn write_both<L: Write, O: Write>(
-    output: &Output,
+    alloc: Global,
+    shown: Shown,
+    record: &Text,
+    reports: &[Report],
+    spares: &[Text],
     log: &mut Counted<L>,
     out: &mut Counted<O>,
 ) -> Result<bool, DriveFault>
+    requires spares { AreSpares shown (length reports.now) spares.now }
     requires log_failures { log.old.failures ≡ 0 }
     requires log_calls { log.old.calls ≡ 0 }
     requires out_failures { out.old.failures ≡ 0 }
     requires out_calls { out.old.calls ≡ 0 }
-    ensures answers { Puts output.now (L.contents log.old.device) (L.contents log.new.device) (O.contents out.old.device) (O.contents out.new.device) result }
+    ensures answers { Puts record.now shown reports.now (L.contents log.old.device) (L.contents log.new.device) (O.contents out.old.device) (O.contents out.new.device) result }
     ensures reports { result ≡ Err DriveFault.WriteLog → out.new ≡ out.old }
     ensures log { result ≡ Err DriveFault.WriteLog → GaveUp log.new.failures log.new.calls }
     ensures out { result ≡ Err DriveFault.Write → GaveUp out.new.failures out.new.calls }
 {
-    match write_all(log, output.record.as_slice()) {
-        Ok(()) => match write_all(out, output.reports.as_slice()) {
-            Ok(()) => Ok(output.well),
+    match write_all(log, record.as_slice()) {
+        Ok(()) => match write_reports(alloc, shown, reports, spares, out) {
+            Ok(well) => Ok(well),
             Err(_) => Err(DriveFault::Write),
         },
         Err(_) => Err(DriveFault::WriteLog),
@@ -120,10 +100,11 @@ fn write_both<L: Write, O: Write>(
 }
 
 /// Serves scripts, each with its keeper, by as many workers as there are clocks. Writes the record's log text to `log` and then the reports to
-/// `out`, with their variables or without. The answer says whether each script ended with status 0.
+/// `out`, with what is shown of them. The answer says whether each script ended with status 0.
 ///
-/// Both texts are made before the first byte is written. After `WriteLog` a front of the record was written and nothing of the reports, after
-/// `Write` the record and a front of the reports, after any other fault nothing. An interrupted write is tried again.
+/// The record's text is made before the first byte is written, and reports are written one by one: where memory is refused for one report or its
+/// text, that script's report says `memory`, and the others are whole. After `WriteLog` a front of the record was written and nothing of the
+/// reports, after `Write` the record and a front of the reports, after any other fault nothing. An interrupted write is tried again.
 pub fn drive<
     K: Keeper + Send + Drop + 'static,
     C: Clock + Send + Drop + 'static,
@@ -138,7 +119,7 @@ pub fn drive<
     keepers: Vec<K>,
     clocks: Vec<C>,
     gate: G,
-    vars: bool,
+    shown: Shown,
     log: &mut Counted<L>,
     out: &mut Counted<O>,
 ) -> Result<bool, DriveFault>
@@ -148,14 +129,16 @@ pub fn drive<
     requires log_calls { log.old.calls ≡ 0 }
     requires out_failures { out.old.failures ≡ 0 }
     requires out_calls { out.old.calls ≡ 0 }
-    ensures answers { Drives K.told K.gives (length clocks.items) (map (keeping_of K.named K.made) keepers.items) scripts.items vars
+    ensures answers { Drives K.told K.gives (length clocks.items) (map (keeping_of K.named K.made) keepers.items) scripts.items shown
         (L.contents log.old.device) (L.contents log.new.device) (O.contents out.old.device) (O.contents out.new.device) result }
     ensures unwritten { IfErr result (λ fault. IsBefore fault → (log.new ≡ log.old) × (out.new ≡ out.old)) }
     ensures reports { result ≡ Err DriveFault.WriteLog → out.new ≡ out.old }
     ensures log { result ≡ Err DriveFault.WriteLog → GaveUp log.new.failures log.new.calls }
     ensures out { result ≡ Err DriveFault.Write → GaveUp out.new.failures out.new.calls }
 {
+    let spares = spare_texts(alloc, shown, scripts.len())?;
     let served = served_by(rt, alloc, scripts, keepers, clocks, gate)?;
-    let output = output_of(alloc, vars, &served)?;
-    write_both(&output, log, out)
+    let record = write_log(alloc, served.logged.as_slice())?;
+    let reports = served.reports.as_slice();
+    write_both(alloc, shown, &record, reports, spares.as_slice(), log, out)
 }

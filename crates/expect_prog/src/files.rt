@@ -70,7 +70,7 @@ pub fn replay_files<'a, R: Files + Print>(
     let scripts = scripts(rt, alloc, &order.scripts)?;
     let mut log = Counted::new(opened(rt, order.log)?);
     let mut out = Counted::new(io::writer(rt));
-    match replay(alloc, &mut log, scripts, order.scripts.vars, &mut out) {
+    match replay(alloc, &mut log, scripts, order.scripts.shown, &mut out) {
         Ok(well) => Ok(well),
         Err(fault) => Err(Complaint::of(fault, order)),
     }

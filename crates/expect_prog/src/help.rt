@@ -1,25 +1,46 @@
 //! What help tells behind the list of options.
 
+/// The version, as `-V` tells it.
+pub const VERSION: &str = "1.0";
+
+/// The version, as `--version` tells it.
+pub const LONG_VERSION: &str = "\
+1.0
+It reads logs of versions 1 and 2, and writes version 2. The file BUILT beside
+it has its commit and its kit; in the repository ./exprun --version tells them.";
+
 /// Behind the help of the program.
 pub const PROGRAM: &str = "\
-A script is a file of commands of Expect (spawn, send, expect, ..) in a subset of Tcl.
-Several scripts run side by side; none changes another.
+A script is a file of commands of Expect (spawn, send, expect, ..) in a subset
+of Tcl. It starts programs, types at them, and waits for what they write.
 
-The status is 0 where each script ended with exit:0, 1 where one ended otherwise,
-and 2 at a fault, which is a line on standard error.
+run starts the programs and talks with them. When all scripts are over it prints
+a report of each: how it ended, and what an operator would have seen. With the
+option --record it also writes a log of what the programs did.
 
-`exprun run --help` says how programs are run, `exprun replay --help` what a log and a
-report are, each with an example.";
+replay starts nothing. It reads such a log in place of the programs, and prints
+the reports of the scripts over it: those of the run again, or, where a script
+was changed since, what it makes of the same events.
+
+Up to 64 scripts run side by side; none changes another.
+
+The status is 0 where each script ended with exit:0, 1 where one ended
+otherwise, and 2 at a fault, which is a line on standard error.
+
+`exprun run --help` says how programs are run, `exprun replay --help` what a log
+and a report are, each with an example.";
 
 /// Behind the help of `replay`.
 pub const REPLAY: &str = "\
-A log is what happened to the children of the scripts, a line an event: what it was, the
-script, its child, and the moment in milliseconds.
+LOG comes before FILE. /dev/stdin as LOG is standard input.
+
+A log is what happened to the children of the scripts, a line an event: what it
+was, the script, its child (by spawns, from 1), and the moment in milliseconds.
 
     exprun-log 2         the first line: this is version 2 of the log
     ok 1 1 5             what script 1 asked of its child 1 is done
-    bad 1 1 5 broken     it failed: notfound, denied, broken, memory or other
-    out 1 1 20 68690a    the child wrote these bytes
+    bad 1 1 5 broken     failed: notfound, denied, broken, memory or other
+    out 1 1 20 68690a    the child wrote these bytes, in hex, - for none
     end 1 1 30           its output has ended
     fail 1 1 30 other    its output can't be read any more
     exit 1 1 31 0        it ended with this status
@@ -27,12 +48,29 @@ script, its child, and the moment in milliseconds.
     tick 10031           it is so late now, for all scripts
     total 8              the last line: how many events there are
 
-Fault 8 at the line behind the last one tells of a log that was cut off. Version 1, without
-the first and the last line, is read too.
+No comments, no empty lines, one space between fields, none in front or behind.
+Each line ends with LF alone, the last one too: there is no CR. Version 1, which
+has neither the first line nor the last, is read too.
 
-A report has a line with the script's ending and counts, and then its transcript. The
-endings are exit:N, error (its text follows the transcript), steplimit, timelimit, memory,
-and waiting, for an event that the log doesn't have.
+Where a log has a fault no script runs, the status is 2, and its first bad line
+is told: `exprun: log fault F at line L`, where F is
+
+    1  no such line or cause, a field too many or too few, or no LF
+    2  a number that is none, has a 0 in front, or is too great
+    3  bytes that aren't pairs of hexadecimal digits in lower case
+    4  no such script: they are 1 to 64
+    5  no such child: they are 1 to 16
+    6  more than 8,219 bytes in a line, or 8,192 digits in an out
+    8  a total that is wrong, is missing, or has a line behind it
+    9  a first line exprun-log that isn't `exprun-log 2`
+
+Fault 8 at the line behind the last one tells of a log that was cut off. 7 isn't
+told: it is want of memory, which is `exprun: out of memory`.
+
+A report has a line with the script's ending and counts, and then its
+transcript. The endings are exit:N, error (its text follows the transcript),
+steplimit, timelimit, memory, and waiting, for an event that the log doesn't
+have.
 
 Example: cat.exp is
 
@@ -55,21 +93,24 @@ Then `exprun replay log cat.exp` prints
     hi
     hi
 
-where the terminal showed the first hi when it was sent, and cat wrote the second.";
+where the terminal showed the first hi when it was sent, and cat wrote the
+second.";
 
 /// Behind the help of `run`.
 pub const RUN: &str = "\
-Each script spawns its own programs, over pipes: a program is looked for in the folders of
-PATH, and is told that it has no terminal. What it writes on standard error goes to the
-standard error of exprun; `spawn sh -c {exec 2>&1; ..}` joins it to the dialogue.
+Each script spawns its own programs, over pipes: a program is looked for in the
+folders of PATH, and is told that it has no terminal. What it writes on standard
+error goes to the standard error of exprun; `spawn sh -c {exec 2>&1; ..}` joins
+it to the dialogue.
 
-The scripts run side by side, and none changes another. With --workers they are shared out
-among threads in turn: of two workers the first has scripts 1, 3, .. A script that computes
-for long delays those of its own worker alone.
+The scripts run side by side, and none changes another. With --workers they are
+shared out among threads in turn: of two workers the first has scripts 1, 3, ..
+A script that computes for long delays those of its own worker alone.
 
-When a script has ended, the input of its programs ends and what they still write is
-dropped. exprun ends when their outputs have ended: a program that is silent and stays
-holds it, so `close` it, give it a time limit, or let it end with its input.
+When a script has ended, the input of its programs ends, and what they still
+write is dropped. exprun ends when their outputs have ended: a program that is
+silent and stays holds it, so `close` it, start it under `timeout 60`, or let it
+end with its input.
 
 Example: cat.exp is
 
@@ -84,6 +125,6 @@ Then `exprun run cat.exp` prints
     hi
     hi
 
-where the terminal showed the first hi when it was sent, and cat wrote the second. With
-`--record log` the run writes what happened, and `exprun replay log cat.exp` prints the
-same report again.";
+where the terminal showed the first hi when it was sent, and cat wrote the
+second. With `--record log` the run writes what happened, and
+`exprun replay log cat.exp` prints the same report again.";

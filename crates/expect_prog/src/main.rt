@@ -1,6 +1,7 @@
 //! Runs scripts over a log of events, and prints their reports.
 #![tactic(auto)]
 
+mod asks;
 mod command_line;
 mod complaint;
 mod devices;
@@ -9,6 +10,7 @@ mod fault;
 mod files;
 mod help;
 mod replaying;
+mod reporting;
 mod running;
 mod texts;
 

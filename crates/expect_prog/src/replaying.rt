@@ -1,44 +1,28 @@
 //! Scripts over a log of events, from any reader to any writer.
 
-ghost use Rattle.std.specs.Prelude.{◌≡◌, ◌≢◌, IfErr, IfSome};
+ghost use Rattle.std.specs.Prelude.{◌≡◌, ◌≢◌, length, IfOk, IfErr, IfSome, Err};
 ghost use Rattle.expect_prog.specs.Devices.{GaveUp};
-ghost use Rattle.expect_prog.specs.Replay.{EventsRead, RunOrFault, Replays, IsNoWant};
+ghost use Rattle.expect_prog.specs.Replay.{Judged, RunOrFault, ReportsOver, ReportsRead, Replays, IsNoWant};
 
-use crate::devices::{ReadFault, read_all, write_all};
+use crate::devices::{ReadFault, read_all};
 use crate::fault::ReplayFault;
-use crate::texts::{all_done, report_text};
-use child_events::{Counted, HallEvent, HallEvents, LogFault, read_log};
-use dialogue_sched::{HallFault, Reports, RunFault, Script, run_all};
+use crate::reporting::write_reports;
+use crate::texts::{Shown, spare_texts};
+use child_events::{Counted, LogFault, LogReader};
+use dialogue_sched::{HallFault, Reports, RunFault, Script, run_log};
 use std::alloc::Global;
 use std::io::{Read, Write};
 
-/// The events of the log that a reader has left.
-fn events_of<R: Read>(alloc: Global, log: &mut Counted<R>) -> Result<HallEvents, ReplayFault>
-    requires failures { log.old.failures ≡ 0 }
-    requires calls { log.old.calls ≡ 0 }
-    ensures { EventsRead (R.remaining log.old.device) log.new.failures log.new.calls result }
-{
-    let bytes = match read_all(alloc, log) {
-        Ok(bytes) => bytes,
-        Err(ReadFault::Failed) => return Err(ReplayFault::Read),
-        Err(ReadFault::Memory) => return Err(ReplayFault::Memory),
-    };
-    match read_log(alloc, bytes.as_slice()) {
-        Ok(events) => Ok(events),
-        Err(LogFault::Memory) => Err(ReplayFault::Memory),
-        Err(fault) => Err(ReplayFault::Log(fault)),
-    }
-}
-
-/// The reports of scripts over events.
+/// The reports of scripts over the events that are left of a log.
 fn reports_of(
     alloc: Global,
     scripts: Vec<Script>,
-    events: &[HallEvent],
+    log: &mut LogReader,
 ) -> Result<Reports, ReplayFault>
-    ensures { RunOrFault scripts.items events.now result }
+    ensures ran { RunOrFault scripts.items log.old result }
+    ensures count { IfOk result (λ rs. length rs ≡ length scripts.items) }
 {
-    match run_all(alloc, scripts, events) {
+    match run_log(alloc, scripts, log) {
         Ok(reports) => Ok(reports),
         Err(RunFault::Memory) => Err(ReplayFault::Memory),
         Err(RunFault::New(HallFault::Memory)) => Err(ReplayFault::Memory),
@@ -46,17 +30,58 @@ fn reports_of(
     }
 }
 
-/// Reads a log, runs the scripts over its events, and writes their reports, with their variables or
-/// without. The answer says whether each script ended with status 0.
+/// A log of these bytes, judged.
+fn judged(bytes: &[u8]) -> Result<LogReader, ReplayFault>
+    ensures { Judged bytes.now result }
+{
+    match LogReader::new(bytes) {
+        Ok(log) => Ok(log),
+        Err(LogFault::Memory) => Err(ReplayFault::Memory),
+        Err(fault) => Err(ReplayFault::Log(fault)),
+    }
+}
+
+/// The reports of scripts over a log of these bytes.
+fn reports_over(alloc: Global, scripts: Vec<Script>, bytes: &[u8]) -> Result<Reports, ReplayFault>
+    ensures over { ReportsOver scripts.items bytes.now result }
+    ensures count { IfOk result (λ rs. length rs ≡ length scripts.items) }
+{
+    let mut log = judged(bytes)?;
+    reports_of(alloc, scripts, &mut log)
+}
+
+/// The reports of scripts over the log that a reader has left.
+fn reports_read<R: Read>(
+    alloc: Global,
+    log: &mut Counted<R>,
+    scripts: Vec<Script>,
+) -> Result<Reports, ReplayFault>
+    requires failures { log.old.failures ≡ 0 }
+    requires calls { log.old.calls ≡ 0 }
+    ensures read { ReportsRead scripts.items (R.remaining log.old.device) log.new.failures log.new.calls result }
+    ensures count { IfOk result (λ rs. length rs ≡ length scripts.items) }
+{
+    let bytes = match read_all(alloc, log) {
+        Ok(bytes) => bytes,
+        Err(ReadFault::Failed) => return Err(ReplayFault::Read),
+        Err(ReadFault::Memory) => return Err(ReplayFault::Memory),
+    };
+    reports_over(alloc, scripts, bytes.as_slice())
+}
+
+/// Reads a log, runs the scripts over its events, and writes their reports one by one, with what is
+/// shown of them. The answer says whether each script ended with status 0.
+///
+/// Where memory is refused for one report or its text, that script's report says `memory`, and the others are whole.
 ///
 /// Faults come in the order of `ReplayFault`'s variants, but for want of memory, which may come in place
-/// of any of them. After `Write` a front of the reports' text was written, after any other fault nothing.
-/// An interrupted read or write is tried again.
+/// of any of them before the first byte is written. After `Write` a front of the reports' text was written, after any other
+/// fault nothing. An interrupted read or write is tried again.
 pub fn replay<R: Read, W: Write>(
     alloc: Global,
     log: &mut Counted<R>,
     scripts: Vec<Script>,
-    vars: bool,
+    shown: Shown,
     out: &mut Counted<W>,
 ) -> Result<bool, ReplayFault>
     requires log_failures { log.old.failures ≡ 0 }
@@ -64,17 +89,16 @@ pub fn replay<R: Read, W: Write>(
     requires out_failures { out.old.failures ≡ 0 }
     requires out_calls { out.old.calls ≡ 0 }
     ensures answers { IfSome (R.remaining log.old.device) (λ bytes.
-        Replays scripts.items vars bytes (W.contents out.old.device) (W.contents out.new.device) result) }
+        Replays scripts.items shown bytes (W.contents out.old.device) (W.contents out.new.device) result) }
     ensures unwritten { IfErr result (λ fault. fault ≢ ReplayFault.Write → out.new ≡ out.old) }
     ensures read { result ≡ Err ReplayFault.Read → GaveUp log.new.failures log.new.calls }
     ensures write { result ≡ Err ReplayFault.Write → GaveUp out.new.failures out.new.calls }
     ensures memory { IfErr result (λ fault. IsNoWant fault) }
 {
-    let events = events_of(alloc, log)?;
-    let reports = reports_of(alloc, scripts, events.as_slice())?;
-    let text = report_text(alloc, vars, reports.as_slice())?;
-    match write_all(out, text.as_slice()) {
-        Ok(()) => Ok(all_done(reports.as_slice())),
+    let spares = spare_texts(alloc, shown, scripts.len())?;
+    let reports = reports_read(alloc, log, scripts)?;
+    match write_reports(alloc, shown, reports.as_slice(), spares.as_slice(), out) {
+        Ok(well) => Ok(well),
         Err(_) => Err(ReplayFault::Write),
     }
 }

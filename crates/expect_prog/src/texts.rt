@@ -1,17 +1,34 @@
-//! The text of reports.
+//! The texts of reports.
 
 ghost use Rattle.std.specs.Prelude.{◌≡◌, ◌++◌, ◌∷◌, [], sum, Bool, true, IfOk, OnOk};
+ghost use Rattle.session.specs.Spent.{memory_report};
 ghost use Rattle.std.specs.Fmt.{decimal};
 ghost use Rattle.child_events.specs.Log.{hex_text};
-ghost use Rattle.expect_prog.specs.Report.{labelled, ended_text, ending_text, head_line, fault_part, var_line, vars_lines, vars_part, report_bytes, reports_bytes, is_done as is_done_of, all_done as all_done_of};
+ghost use Rattle.expect_prog.specs.Report.{labelled, ended_text, ending_text, head_line, tail_part, fault_part, var_line, vars_lines, vars_part, report_bytes, is_done as is_done_of};
+ghost use Rattle.expect_prog.specs.Written.{AreSpares};
 
+use crate::asks::push_shown_asks;
 use session::{Ending, Report};
 use std::alloc::{AllocError, Global};
 use tcl_words::Text;
 
+/// What a report's text has behind its transcript and its fault.
+#[derive(Clone, Copy, Debug)]
+pub struct Shown {
+    /// The global variables.
+    pub vars: bool,
+    /// What was asked of the children.
+    pub requests: bool,
+}
+
 /// Puts a label and a number behind a text.
 #[tactic(auto, unfolding(crate::specs::Report::labelled))]
-fn push_labelled(alloc: Global, text: &mut Text, label: &[u8], n: u128) -> Result<(), AllocError>
+pub(crate) fn push_labelled(
+    alloc: Global,
+    text: &mut Text,
+    label: &[u8],
+    n: u128,
+) -> Result<(), AllocError>
     ensures { OnOk result (text.new ≡ text.old ++ labelled label.now n) }
 {
     text.extend(label)?;
@@ -99,7 +116,7 @@ fn push_fault(
 }
 
 /// Puts bytes in hexadecimal behind a text, or a dash for none.
-fn push_hex(alloc: Global, text: &mut Text, bytes: &[u8]) -> Result<(), AllocError>
+pub(crate) fn push_hex(alloc: Global, text: &mut Text, bytes: &[u8]) -> Result<(), AllocError>
     ensures { OnOk result (text.new ≡ text.old ++ hex_text bytes.now) }
 {
     if bytes.is_empty() {
@@ -143,37 +160,51 @@ fn push_shown_vars(
     push_vars(alloc, text, vars)
 }
 
-/// Puts the report of script `number` behind a text.
-fn push_report(
-    alloc: Global,
-    text: &mut Text,
-    number: usize,
-    vars: bool,
-    report: &Report,
-) -> Result<(), AllocError>
-    ensures { OnOk result (text.new ≡ text.old ++ report_bytes vars number report.now) }
-{
-    push_head(alloc, text, number, report)?;
-    text.extend(report.transcript.as_slice())?;
-    text.push(b'\n')?;
-    push_fault(alloc, text, report.ending, &report.fault)?;
-    push_shown_vars(alloc, text, vars, report.vars.as_slice())
-}
-
-/// The text of reports in order, the first of which is of script 1, with their variables or without.
-pub fn report_text(alloc: Global, vars: bool, reports: &[Report]) -> Result<Text, AllocError>
-    ensures { IfOk result (λ t. t ≡ reports_bytes vars 1 reports.now) }
+/// The text of the report of script `number` up to its transcript.
+pub fn head_text(alloc: Global, number: usize, report: &Report) -> Result<Text, AllocError>
+    ensures { IfOk result (λ t. t ≡ head_line number report.now) }
 {
     let mut text = Text::new(alloc);
-    let mut number = 1;
-    for report in reports {
-        push_report(alloc, &mut text, number, vars, report)?;
-        number += 1;
-    }
+    push_head(alloc, &mut text, number, report)?;
     Ok(text)
 }
 
-fn is_done(ending: Ending) -> bool
+/// The text of a report behind its transcript, with what is shown of it.
+pub fn tail_text(alloc: Global, shown: Shown, report: &Report) -> Result<Text, AllocError>
+    ensures { IfOk result (λ t. t ≡ tail_part shown report.now) }
+{
+    let mut text = Text::new(alloc);
+    text.push(b'\n')?;
+    push_fault(alloc, &mut text, report.ending, &report.fault)?;
+    push_shown_vars(alloc, &mut text, shown.vars, report.vars.as_slice())?;
+    push_shown_asks(alloc, &mut text, shown.requests, report.requests.as_slice())?;
+    Ok(text)
+}
+
+/// The text of the report of script `number`, which was refused memory.
+fn memory_text(alloc: Global, shown: Shown, number: usize) -> Result<Text, AllocError>
+    ensures { IfOk result (λ t. t ≡ report_bytes shown number memory_report) }
+{
+    let report = Report::of_memory(alloc);
+    let mut text = head_text(alloc, number, &report)?;
+    let tail = tail_text(alloc, shown, &report)?;
+    text.extend(tail.as_slice())?;
+    Ok(text)
+}
+
+/// The texts of the reports of so many scripts, if each were refused memory.
+pub fn spare_texts(alloc: Global, shown: Shown, count: usize) -> Result<Vec<Text>, AllocError>
+    ensures { IfOk result (λ ts. AreSpares shown count ts.items) }
+{
+    let mut texts = Vec::with_capacity(alloc, count)?;
+    for i in 0..count {
+        texts.push_reserved(memory_text(alloc, shown, i + 1)?);
+    }
+    Ok(texts)
+}
+
+/// Whether it is an end with status 0.
+pub fn is_done(ending: Ending) -> bool
     ensures { result ≡ is_done_of ending }
 {
     match ending {
@@ -184,16 +215,4 @@ fn is_done(ending: Ending) -> bool
         Ending::Memory => false,
         Ending::Waiting => false,
     }
-}
-
-/// Whether each script ended with status 0.
-pub fn all_done(reports: &[Report]) -> bool
-    ensures { result ≡ all_done_of reports.now }
-{
-    for report in reports {
-        if !is_done(report.ending) {
-            return false;
-        }
-    }
-    true
 }

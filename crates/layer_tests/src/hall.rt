@@ -63,7 +63,7 @@ fn is_refused(hall: &mut Hall, event: HallEvent, why: HallRefusal) -> bool {
 
 /// Whether the first script waits, having asked for its start alone.
 fn waits_for_its_start(hall: &Hall) -> Result<bool, Fail> {
-    let report = hall.report(1).ok().ok_or("no report")?;
+    let report = hall.report(1).ok_or("no report")?;
     Ok(matches!(report.ending, Ending::Waiting) && report.requests.len() == 1)
 }
 
@@ -85,7 +85,7 @@ fn refuses<R: Abort>(rt: &R, hall: &mut Hall, piece: HallEvent) {
     assert!(rt; is_refused(hall, answered(1, 17, late), HallRefusal::NoSuchChild));
     assert!(rt; is_refused(hall, answered(1, 1, late), HallRefusal::MomentTooLarge));
     assert!(rt; is_refused(hall, piece, HallRefusal::PieceTooLong));
-    assert!(rt; hall.report(2).is_err() && hall.report(0).is_err());
+    assert!(rt; hall.report(2).is_none() && hall.report(0).is_none());
 }
 
 /// Whether the first script starts its first child next.
@@ -106,7 +106,7 @@ fn writes(hall: &mut Hall) -> bool {
 
 /// Whether the first script has ended, after all that it was to show and send.
 fn is_done(hall: &Hall) -> Result<bool, Fail> {
-    let report = hall.report(1).ok().ok_or("no report")?;
+    let report = hall.report(1).ok_or("no report")?;
     let is_shown = report.transcript.as_slice() == b"spawn p\r\na\r\nbdone\n".as_slice();
     let is_sent = report.sent.as_slice() == [2].as_slice();
     Ok(matches!(report.ending, Ending::Exit(0)) && is_shown && is_sent)
@@ -167,7 +167,7 @@ fn waits(alloc: Global, pieces: usize) -> Result<bool, Fail> {
     for _ in 0..pieces {
         step(&mut hall, output(alloc, 1)?)?;
     }
-    let report = hall.report(1).ok().ok_or("no report")?;
+    let report = hall.report(1).ok_or("no report")?;
     let told = report.transcript.len().checked_sub(9) == Some(pieces);
     Ok(matches!(report.ending, Ending::Waiting) && report.steps == 30_004 && told)
 }

@@ -2,11 +2,15 @@
 #![tactic(auto)]
 
 #[cfg(test)]
+mod failing;
+#[cfg(test)]
 mod hall;
 #[cfg(test)]
 mod hands;
 #[cfg(test)]
 mod keeper;
+#[cfg(test)]
+mod next;
 #[cfg(test)]
 mod pieces;
 #[cfg(test)]

@@ -1,3 +1,4 @@
+pub mod Spending
 pub mod Suspending
 pub mod Lefts
 pub mod Grows

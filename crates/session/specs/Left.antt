@@ -11,7 +11,7 @@ use Rattle.session.specs.declared.report.Report.{Report}
 use Rattle.session.specs.Play.{play}
 
 -- What a session keeps: its machine, the steps that are left, and its dialogue, without the events that were taken. One that was refused
--- memory doesn't live, and nothing is promised of it.
+-- memory doesn't live, and nothing is promised of it but that it reports so.
 pub record Kept : Type 0 where
   pub bound : ℕ
   pub engine : Engine

@@ -4,6 +4,7 @@ pub mod Meaning
 pub mod Growth
 pub mod Requests
 pub mod Left
+pub mod Spent
 pub mod Quiet
 pub mod Shown
 pub mod Sound

@@ -1,6 +1,7 @@
 //! What came of a script.
 
-ghost use Rattle.std.specs.Prelude.{◌≡◌, [], IfOk};
+ghost use Rattle.std.specs.Prelude.{◌≡◌, IfOk};
+ghost use Rattle.session.specs.Spent.{memory_report};
 
 use expect_core::{Pairs, Requests};
 use std::alloc::{AllocError, Global};
@@ -57,9 +58,9 @@ pub struct Report {
 }
 
 impl Report {
-    /// The report of a script that was refused memory: its ending, and nothing else.
+    /// The report of a script that was refused memory: its ending, and nothing else. It allocates nothing.
     pub fn of_memory(alloc: Global) -> Report
-        ensures { result.ending ≡ Ending.Memory }
+        ensures { result ≡ memory_report }
     {
         Report {
             ending: Ending::Memory,

@@ -1,6 +1,6 @@
 //! A script that is fed its events one by one.
 
-ghost use Rattle.std.specs.Prelude.{◌≡◌, ◌<◌, ◌≤◌, ◌↔◌, ◌≢◌, ◌++◌, [], ◌∷◌, List, length, drop, IfOk, OnOk, IsTrue, IsErrOf, false};
+ghost use Rattle.std.specs.Prelude.{◌≡◌, ◌<◌, ◌≤◌, ◌↔◌, ◌≢◌, ◌++◌, [], ◌∷◌, List, length, drop, IfOk, OnOk, IsTrue, IsErrOf, Ok, false};
 ghost use Rattle.std.specs.Bool.{OnFalse};
 ghost use Rattle.child_events.specs.declared.event.Event.{Event};
 ghost use Rattle.tcl_eval.specs.Steps.{left_of};
@@ -11,6 +11,7 @@ ghost use Rattle.session.specs.Left.{left, Fed, HandsOut};
 ghost use Rattle.session.specs.Meaning.{meaning, steps_of, tree_of};
 ghost use Rattle.session.specs.Quiet.{QuietUntil, waits_until};
 ghost use Rattle.session.specs.Shown.{Ran};
+ghost use Rattle.session.specs.Spent.{memory_report, Reports};
 
 use crate::first::first_variables;
 use crate::report::Report;
@@ -304,11 +305,11 @@ impl Session {
         self.dialogue.untaken(child)
     }
 
-    /// What came of it so far.
+    /// What came of it so far. Memory is asked for, and refused, only where the session lives.
     #[tactic(auto, unfolding(crate::specs::Left::left))]
     pub fn report(&self) -> Result<Report, AllocError>
         ensures lives { IfOk result (λ r. IsTrue self.now.lives → r ≡ left self.now []) }
-        ensures spent { IfOk result (λ r. self.now.lives ≡ false → r.ending ≡ Ending.Memory) }
+        ensures spent { self.now.lives ≡ false → result ≡ Ok memory_report }
     {
         if !self.lives {
             return Ok(Report::of_memory(self.alloc));
@@ -321,5 +322,22 @@ impl Session {
             self.meter.left(),
             &self.dialogue,
         )
+    }
+
+    /// What came of it so far. Where memory for that is refused, it is the report of a script that was refused memory.
+    pub fn report_or_memory(&self) -> Report
+        ensures { Reports self.now result }
+    {
+        match self.report() {
+            Ok(report) => report,
+            Err(_) => Report::of_memory(self.alloc),
+        }
+    }
+
+    /// The same, for which the session is given up.
+    pub fn into_report(self) -> Report
+        ensures { Reports self result }
+    {
+        self.report_or_memory()
     }
 }

@@ -1,4 +1,5 @@
 pub mod Begun
+pub mod Bounded
 pub mod Filled
 pub mod Led
 pub mod Told

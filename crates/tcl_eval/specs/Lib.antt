@@ -6,4 +6,5 @@ pub mod Rest
 pub mod Steps
 pub mod Suspended
 pub mod Tree
+pub mod Unrolled
 pub mod Work

@@ -190,6 +190,12 @@ abbrev pub advanced : Eval → Option (List Reading) → Next → (State → Tre
 advanced ev None k more st = more st
 advanced ev (Some next) k more st = ev next (on_ok (λ v st. more st) k) st
 
+-- A loop is this, with the loop itself as what comes again (`Unrolled`): its condition and, where that holds, a turn, which is the body, the
+-- script behind it, and then the loop.
+abbrev pub one_turn : Eval → Expression → List Reading → Option (List Reading) → Next → (State → Tree) → State → Tree
+one_turn ev test body next k again st =
+    condition ev test k (λ b st. decided b k (λ st. ev body (turn_end k (λ st. advanced ev next k again st)) st) st) st
+
 -- A turn that was begun, and at most n more. Each turn takes a step, so there are no more of them than steps are left.
 abbrev pub turned : Eval → Expression → List Reading → Option (List Reading) → Next → ℕ → State → Tree
 turned ev test body next k zero st = Over StepLimit st
@@ -294,6 +300,12 @@ after_script c Memory k more st = Over NoMemory st
 abbrev pub after_script_by : Code → Reply → Next → (List ℕ → State → Tree) → State → Tree
 after_script_by c r k more st = after_script c (step_of r) k more (record st { vars = vars_of r })
 
+-- A script that the host asks for is this, with such a script as what comes again (`Unrolled`): the script, and behind it the host is told
+-- how it ended, and may ask for one more.
+abbrev pub one_body : Eval → Next → (List ℕ → State → Tree) → List ℕ → State → Tree
+one_body ev k again text st =
+    ev (commands text) (λ c v st. Ask (AfterBody c v st.vars) st.left (λ r. after_script_by c r k again st)) st
+
 -- One more script of the host, and at most n behind it. Each is asked for at a code that took a step, so there are no more of them than steps
 -- are left.
 abbrev pub next_body : Eval → Next → ℕ → List ℕ → State → Tree
@@ -306,11 +318,15 @@ next_body ev k (suc n) text st =
 abbrev pub after_body : Eval → Next → ℕ → Next
 after_body ev k n c v st = Ask (AfterBody c v st.vars) st.left (λ r. after_script_by c r k (next_body ev k n) st)
 
+-- a script that the host asks for
+abbrev pub host_body : Eval → Next → List ℕ → State → Tree
+host_body ev k text st = ev (commands text) (after_body ev k st.left) st
+
 -- what a reply to words that the host asked for makes of the command
 abbrev pub worded : Eval → HostStep → Next → State → Tree
 worded ev (Done c v) k st = k c v st
 worded ev (Fail text) k st = k Error text st
-worded ev (Body text) k st = ev (commands text) (after_body ev k st.left) st
+worded ev (Body text) k st = host_body ev k text st
 worded ev (Words text) k st = k Error text st
 worded ev Wait k st = k Error [] st
 worded ev (Stop e) k st = Over (Stopped e) st
@@ -328,7 +344,7 @@ host_words ev None k words st = Ask (AfterWords words st.vars) st.left (λ r. wo
 abbrev pub begun : Eval → List (List ℕ) → HostStep → Next → State → Tree
 begun ev words (Done c v) k st = k c v st
 begun ev words (Fail text) k st = k Error text st
-begun ev words (Body text) k st = ev (commands text) (after_body ev k st.left) st
+begun ev words (Body text) k st = host_body ev k text st
 begun ev words (Words text) k st =
     fill_words ev ((all_words (commands text)).0) [] k (λ ws st. host_words ev ((all_words (commands text)).1) k ws st) st
 begun ev words Wait k st = k Error [] st

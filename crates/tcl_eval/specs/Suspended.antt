@@ -2,7 +2,7 @@
 use Rattle.std.specs.Prelude.{◌≡◌, List}
 use Rattle.tcl_eval.specs.declared.machine.Pause.{Pause}
 use Rattle.tcl_eval.specs.declared.machine.Pause.TheVariants.{Finished, Waits, Stopped, StepLimit, Memory}
-use Rattle.tcl_eval.specs.declared.frame.End.TheVariants.{Finished as FinishedSo, Stopped as StoppedSo, StepLimit as AtLimit}
+use Rattle.tcl_eval.specs.declared.frame.End.TheVariants.{Finished as FinishedSo, Stopped as StoppedSo, StepLimit as AtLimit, Memory as NoMemory}
 use Rattle.tcl_eval.specs.declared.frame.Mode.{Mode}
 use Rattle.tcl_eval.specs.declared.frame.Mode.TheVariants.{Ended}
 use Rattle.tcl_eval.specs.Tree.{Reply, Over}
@@ -21,13 +21,19 @@ abbrev pub IsSuspended : Mode → Type 0
 IsSuspended (Ended end) = ⊥
 IsSuspended _ = Unit {0}
 
+-- a run can answer `Memory`: it ended so, or its value has to be copied
+abbrev pub CanBeRefused : Mode → Type 0
+CanBeRefused (Ended NoMemory) = Unit {0}
+CanBeRefused (Ended (FinishedSo c v)) = Unit {0}
+CanBeRefused _ = ⊥
+
 -- the pause that a machine shows
 abbrev pub IsShownBy : Pause → Mode → Type 0
 IsShownBy Waits mode = IsSuspended mode
 IsShownBy (Finished c v) mode = mode ≡ Ended (FinishedSo c v)
 IsShownBy (Stopped e) mode = mode ≡ Ended (StoppedSo e)
 IsShownBy StepLimit mode = mode ≡ Ended AtLimit
-IsShownBy Memory mode = Unit {0}
+IsShownBy Memory mode = CanBeRefused mode
 
 -- it is over by this pause, or it waits in a call and the last reply was a `Wait`
 abbrev pub IsPauseOf : Pause → Mode → List Reply → Type 0

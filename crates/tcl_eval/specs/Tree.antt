@@ -46,6 +46,11 @@ pub data Tree : Type 0 where
   Over : End → State → Tree
   Ask : Call → ℕ → (Reply → Tree) → Tree
 
+-- the steps that are left where a call is needed, or where it is over
+abbrev pub left_at : Tree → ℕ
+left_at (Over end st) = st.left
+left_at (Ask call left go) = left
+
 -- a `Wait` leaves the same open, as a call of `resume`
 abbrev pub answered : HostStep → Variables → ℕ → (Reply → Tree) → Tree
 answered Wait vars left go = Ask (Resume vars) left go

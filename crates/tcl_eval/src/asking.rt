@@ -23,6 +23,7 @@ impl Engine {
         ensures rest { IfOk result (λ m. engine_rest self.new (left_of meter.new) m ≡ engine_rest self.old (left_of meter.old) mode) }
         ensures potential { IfOk result (λ m. potential self.new (left_of meter.new) m ≤ potential self.old (left_of meter.old) mode) }
         ensures settled { IfOk result IsSettled }
+        ensures bound { meter.new.bound ≡ meter.old.bound }
     {
         let mut mode = mode;
         'hands: loop {
@@ -86,6 +87,7 @@ impl Engine {
         ensures answered { IfOk result (λ a. (r : Reply) × IsReply H.answers (engine_rest self.old) (Mode.Begin words depth resumed) host.old r host.new × (engine_rest self.new (left_of meter.new) a.mode ≡ follow (engine_rest self.old (left_of meter.old) (Mode.Begin words depth resumed)) r) × WaitsAt a r) }
         ensures asking { IfOk result (λ a. IsAskingOnPause a) }
         ensures potential { IfOk result (λ a. GoesDown a (potential self.new (left_of meter.new) a.mode) (8 * left_of meter.old + bodies self.old.stack + 6)) }
+        ensures bound { meter.new.bound ≡ meter.old.bound }
     {
         let step = self.call_begin(host, &words, resumed);
         let asked = self.take_begun(meter, words, depth, step)?;
@@ -154,6 +156,7 @@ impl Engine {
     ) -> Result<Asked, AllocError>
         ensures leads { IfOk result (λ a. (replies : List Reply) × Leads H.answers replies (engine_rest self.old (left_of meter.old) mode) host.old (engine_rest self.new (left_of meter.new) a.mode) host.new × OnPause a replies) }
         ensures potential { IfOk result (λ a. GoesDown a (potential self.new (left_of meter.new) a.mode) (Falls mode (potential self.old (left_of meter.old) mode))) }
+        ensures bound { meter.new.bound ≡ meter.old.bound }
     {
         match mode {
             Mode::Give(code, value) => Ok(on(Mode::Give(code, value))),
@@ -199,6 +202,7 @@ impl Engine {
         mode: Mode,
     ) -> Result<Asked, AllocError>
         ensures leads { IfOk result (λ a. (replies : List Reply) × Leads H.answers replies (engine_rest self.old (left_of meter.old) mode) host.old (engine_rest self.new (left_of meter.new) a.mode) host.new × PausesAt a.mode replies) }
+        ensures bound { meter.new.bound ≡ meter.old.bound }
     {
         let mut mode = mode;
         'rounds: loop {

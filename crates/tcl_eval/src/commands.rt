@@ -37,6 +37,7 @@ impl Engine {
     ) -> Result<Mode, AllocError>
         ensures rest { RestIs self.old meter.old result self.new meter.new (λ k st. invoke (eval depth) words k st) }
         ensures potential { IfOk result (λ mode. potential self.new (left_of meter.new) mode ≤ 8 * left_of meter.old + bodies self.old.stack + 6) }
+        ensures bound { meter.new.bound ≡ meter.old.bound }
     {
         let Some((name, args)) = words.as_slice().split_first() else {
             return Ok(Mode::Give(Code::Ok, Value::new(self.alloc)));
@@ -62,6 +63,7 @@ impl Engine {
     ) -> Result<Mode, AllocError>
         ensures rest { RestIs self.old meter.old result self.new meter.new (λ k st. invoked (eval depth) verb name.now args.now k st) }
         ensures potential { IfOk result (λ mode. potential self.new (left_of meter.new) mode ≤ 8 * left_of meter.old + bodies self.old.stack + 6) }
+        ensures bound { meter.new.bound ≡ meter.old.bound }
     {
         match verb {
             Verb::Plain(verb) => {
@@ -98,6 +100,7 @@ impl Engine {
     ) -> Result<Mode, AllocError>
         ensures rest { RestIs self.old meter.old result self.new meter.new (λ k st. invoked (eval depth) Verb.If name.now args.now k st) }
         ensures potential { IfOk result (λ mode. potential self.new (left_of meter.new) mode ≤ 8 * left_of meter.old + bodies self.old.stack + 6) }
+        ensures bound { meter.new.bound ≡ meter.old.bound }
     {
         match said(self.alloc, arms_of(self.alloc, name, args))? {
             Ok(arms) => self.arms(meter, arms, depth),
@@ -115,6 +118,7 @@ impl Engine {
     ) -> Result<Mode, AllocError>
         ensures rest { RestIs self.old meter.old result self.new meter.new (λ k st. while_command (eval depth) name.now args.now k st) }
         ensures potential { IfOk result (λ mode. potential self.new (left_of meter.new) mode ≤ 8 * left_of meter.old + bodies self.old.stack + 6) }
+        ensures bound { meter.new.bound ≡ meter.old.bound }
     {
         let [test, body] = args else {
             let mode = self.wrong(name)?;
@@ -175,6 +179,7 @@ impl Engine {
     ) -> Result<Mode, AllocError>
         ensures rest { RestIs self.old meter.old result self.new meter.new (λ k st. invoked (eval depth) Verb.Foreach name.now args.now k st) }
         ensures potential { IfOk result (λ mode. potential self.new (left_of meter.new) mode ≤ 8 * left_of meter.old + bodies self.old.stack + 6) }
+        ensures bound { meter.new.bound ≡ meter.old.bound }
     {
         match said(self.alloc, each_of(self.alloc, name, args))? {
             Ok((groups, body)) => {
@@ -229,6 +234,7 @@ impl Engine {
     ) -> Result<Mode, AllocError>
         ensures rest { RestIs self.old meter.old result self.new meter.new (λ k st. invoked (eval depth) Verb.Expr name.now args.now k st) }
         ensures potential { IfOk result (λ mode. potential self.new (left_of meter.new) mode ≤ 8 * left_of meter.old + bodies self.old.stack + 6) }
+        ensures bound { meter.new.bound ≡ meter.old.bound }
     {
         match said(self.alloc, expr_text(self.alloc, name, args))? {
             Ok(text) => self.arm(meter, text, Goal::Result, depth),

@@ -22,13 +22,13 @@ use tcl_values::Value;
 #[derive(Drop)]
 pub struct Engine {
     /// Where values are allocated.
-    pub alloc: Global,
+    pub(crate) alloc: Global,
     /// What is still to be done, the innermost first.
-    pub stack: Pile<Frame>,
+    pub(crate) stack: Pile<Frame>,
     /// The variables.
     pub vars: Vars,
     /// The procedures.
-    pub procs: Names<Procedure>,
+    pub(crate) procs: Names<Procedure>,
 }
 
 impl Engine {
@@ -78,6 +78,7 @@ impl Engine {
         ensures rest { RestIs self.old meter.old result self.new meter.new (λ k st. sequence (eval depth) (drop next script) k value st) }
         ensures work { WorkIs self.old meter.old result self.new meter.new (λ k st. sequence_work (eval_work depth) (drop next script) k value st) }
         ensures potential { IfOk result (λ mode. potential self.new (left_of meter.new) mode ≤ 8 * left_of meter.old + bodies self.old.stack) }
+        ensures bound { meter.new.bound ≡ meter.old.bound }
     {
         match script.next(next) {
             None => Ok(Mode::Give(Code::Ok, value)),
@@ -104,6 +105,7 @@ impl Engine {
         ensures rest { RestIs self.old meter.old result self.new meter.new (λ k st. command (eval depth) words.now (on_ok (sequence (eval depth) (drop next script.now) k) k) st) }
         ensures work { WorkIs self.old meter.old result self.new meter.new (λ k st. command_work (eval_work depth) words.now (one_more (on_ok (sequence_work (eval_work depth) (drop next script.now) k) k)) st) }
         ensures potential { IfOk result (λ mode. potential self.new (left_of meter.new) mode ≤ 8 * left_of meter.old + bodies self.old.stack) }
+        ensures bound { meter.new.bound ≡ meter.old.bound }
     {
         let words = words.shared()?;
         let script = script.shared()?;
@@ -127,6 +129,7 @@ impl Engine {
         ensures rest { RestIs self.old meter.old result self.new meter.new (λ k st. k code value st) }
         ensures work { IfOk result (λ mode. Tick (engine_work self.new (left_of meter.new) mode) ≡ frames_work self.old.stack code value (state_of self.old (left_of meter.old))) }
         ensures potential { IfOk result (λ mode. potential self.new (left_of meter.new) mode ≤ 8 * left_of meter.old + bodies self.old.stack + again code) }
+        ensures bound { meter.new.bound ≡ meter.old.bound }
     {
         match self.stack.pop() {
             None => Ok(Mode::Ended(End::Finished(code, value))),
@@ -145,6 +148,7 @@ impl Engine {
         ensures rest { RestIs self.old meter.old result self.new meter.new (λ k st. frame_rest frame k code value st) }
         ensures work { WorkIs self.old meter.old result self.new meter.new (λ k st. frame_work frame k code value st) }
         ensures potential { IfOk result (λ mode. potential self.new (left_of meter.new) mode ≤ 8 * left_of meter.old + bodies (frame ∷ self.old.stack) + again code) }
+        ensures bound { meter.new.bound ≡ meter.old.bound }
     {
         match frame {
             Frame::Onward(onward) => self.on_ok(meter, onward, code, value),
@@ -177,6 +181,7 @@ impl Engine {
         ensures rest { RestIs self.old meter.old result self.new meter.new (λ k st. on_ok (onward_rest onward k) k code value st) }
         ensures work { WorkIs self.old meter.old result self.new meter.new (λ k st. on_ok (onward_work onward k) k code value st) }
         ensures potential { IfOk result (λ mode. potential self.new (left_of meter.new) mode ≤ 8 * left_of meter.old + bodies self.old.stack + onward_weight onward + again code) }
+        ensures bound { meter.new.bound ≡ meter.old.bound }
     {
         match code {
             Code::Ok => self.onward(meter, onward, value),
@@ -197,6 +202,7 @@ impl Engine {
         ensures rest { RestIs self.old meter.old result self.new meter.new (λ k st. onward_rest onward k value st) }
         ensures work { WorkIs self.old meter.old result self.new meter.new (λ k st. onward_work onward k value st) }
         ensures potential { IfOk result (λ mode. potential self.new (left_of meter.new) mode ≤ 8 * left_of meter.old + bodies self.old.stack + onward_weight onward) }
+        ensures bound { meter.new.bound ≡ meter.old.bound }
     {
         match onward {
             Onward::Seq {

@@ -34,6 +34,7 @@ impl Engine {
         ensures rest { RestIs self.old meter.old result self.new meter.new (λ k st. evaluated depth evaluation goal k st) }
         ensures work { WorkIs self.old meter.old result self.new meter.new (λ k st. evaluated_work (eval_work depth) evaluation goal k st) }
         ensures potential { IfOk result (λ mode. potential self.new (left_of meter.new) mode ≤ 8 * left_of meter.old + bodies self.old.stack) }
+        ensures bound { meter.new.bound ≡ meter.old.bound }
     {
         let step = evaluation.advance(self.alloc)?;
         let mode = self.express_to(meter, step, evaluation, goal, depth)?;
@@ -52,6 +53,7 @@ impl Engine {
         ensures rest { RestIs self.old meter.old result self.new meter.new (λ k st. advanced_to depth step evaluation goal k st) }
         ensures work { WorkIs self.old meter.old result self.new meter.new (λ k st. advanced_work (eval_work depth) step evaluation goal k st) }
         ensures potential { IfOk result (λ mode. potential self.new (left_of meter.new) mode ≤ 8 * left_of meter.old + bodies self.old.stack) }
+        ensures bound { meter.new.bound ≡ meter.old.bound }
     {
         match step {
             Advance::Value(value) => {
@@ -109,6 +111,7 @@ impl Engine {
         ensures rest { RestIs self.old meter.old result self.new meter.new (λ k st. onward_rest (Onward.Operand evaluation filler goal depth) k value st) }
         ensures work { WorkIs self.old meter.old result self.new meter.new (λ k st. onward_work (Onward.Operand evaluation filler goal depth) k value st) }
         ensures potential { IfOk result (λ mode. potential self.new (left_of meter.new) mode ≤ 8 * left_of meter.old + bodies self.old.stack) }
+        ensures bound { meter.new.bound ≡ meter.old.bound }
     {
         let step = resumed(self.alloc, value, &mut filler, &self.vars)?;
         self.operand_to(meter, step, evaluation, filler, goal, depth)
@@ -127,6 +130,7 @@ impl Engine {
         ensures rest { RestIs self.old meter.old result self.new meter.new (λ k st. fill_word (eval depth) (told (step, filler)) k (λ v st. evaluated depth (with_operand v evaluation) goal k st) st) }
         ensures work { WorkIs self.old meter.old result self.new meter.new (λ k st. word_work (eval_work depth) (told (step, filler)) k (λ v st. evaluated_work (eval_work depth) (with_operand v evaluation) goal k st) st) }
         ensures potential { IfOk result (λ mode. potential self.new (left_of meter.new) mode ≤ 8 * left_of meter.old + bodies self.old.stack) }
+        ensures bound { meter.new.bound ≡ meter.old.bound }
     {
         match step {
             FillStep::Value(value) => {
@@ -156,6 +160,7 @@ impl Engine {
         ensures rest { RestIs self.old meter.old result self.new meter.new (λ k st. evaluated depth (with_operand value evaluation) goal k st) }
         ensures work { WorkIs self.old meter.old result self.new meter.new (λ k st. evaluated_work (eval_work depth) (with_operand value evaluation) goal k st) }
         ensures potential { IfOk result (λ mode. potential self.new (left_of meter.new) mode ≤ 8 * left_of meter.old + bodies self.old.stack) }
+        ensures bound { meter.new.bound ≡ meter.old.bound }
     {
         evaluation.give(self.alloc, value)?;
         self.express(meter, evaluation, goal, depth)
@@ -196,6 +201,7 @@ impl Engine {
         ensures rest { RestIs self.old meter.old result self.new meter.new (λ k st. goal_rest depth goal k value st) }
         ensures work { WorkIs self.old meter.old result self.new meter.new (λ k st. goal_work (eval_work depth) goal k value st) }
         ensures potential { IfOk result (λ mode. potential self.new (left_of meter.new) mode ≤ 8 * left_of meter.old + bodies self.old.stack) }
+        ensures bound { meter.new.bound ≡ meter.old.bound }
     {
         match goal {
             Goal::Result => Ok(Mode::Give(Code::Ok, value)),
@@ -215,6 +221,7 @@ impl Engine {
         ensures rest { RestIs self.old meter.old result self.new meter.new (λ k st. goal_rest depth (Goal.Turn turning) k value.now st) }
         ensures work { WorkIs self.old meter.old result self.new meter.new (λ k st. goal_work (eval_work depth) (Goal.Turn turning) k value.now st) }
         ensures potential { IfOk result (λ mode. potential self.new (left_of meter.new) mode ≤ 8 * left_of meter.old + bodies self.old.stack) }
+        ensures bound { meter.new.bound ≡ meter.old.bound }
     {
         match read_truth(value.as_slice()) {
             None => self.no_truth(value),
@@ -272,6 +279,7 @@ impl Engine {
         ensures rest { RestIs self.old meter.old result self.new meter.new (λ k st. turns_left depth turning k holds st) }
         ensures work { WorkIs self.old meter.old result self.new meter.new (λ k st. decided_work holds k st) }
         ensures potential { IfOk result (λ mode. potential self.new (left_of meter.new) mode ≤ 8 * left_of meter.old + bodies self.old.stack) }
+        ensures bound { meter.new.bound ≡ meter.old.bound }
     {
         if !holds {
             return Ok(Mode::Give(Code::Ok, Value::new(self.alloc)));
@@ -311,6 +319,7 @@ impl Engine {
         ensures rest { RestIs self.old meter.old result self.new meter.new (λ k st. arms (eval depth) left.0 left.1 k st) }
         ensures work { WorkIs self.old meter.old result self.new meter.new (λ k st. arms_work (eval_work depth) left.0 left.1 k st) }
         ensures potential { IfOk result (λ mode. potential self.new (left_of meter.new) mode ≤ 8 * left_of meter.old + bodies self.old.stack) }
+        ensures bound { meter.new.bound ≡ meter.old.bound }
     {
         match left.take() {
             None => match left.otherwise() {
@@ -335,6 +344,7 @@ impl Engine {
         ensures rest { RestIs self.old meter.old result self.new meter.new (λ k st. on_said (tree_of text) k (λ t st. evaluated depth (fresh t) goal k st) st) }
         ensures work { WorkIs self.old meter.old result self.new meter.new (λ k st. on_said (tree_of text) k (λ t st. evaluated_work (eval_work depth) (fresh t) goal k st) st) }
         ensures potential { IfOk result (λ mode. potential self.new (left_of meter.new) mode ≤ 8 * left_of meter.old + bodies self.old.stack) }
+        ensures bound { meter.new.bound ≡ meter.old.bound }
     {
         match said(self.alloc, read_test(self.alloc, &text))? {
             Ok(test) => {

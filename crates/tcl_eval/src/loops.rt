@@ -28,6 +28,7 @@ impl Engine {
         ensures rest { RestIs self.old meter.old result self.new meter.new (λ k st. looped depth turning k st) }
         ensures work { WorkIs self.old meter.old result self.new meter.new (λ k st. loop_work (eval_work depth) turning.test k st) }
         ensures potential { IfOk result (λ mode. potential self.new (left_of meter.new) mode ≤ 8 * left_of meter.old + bodies self.old.stack) }
+        ensures bound { meter.new.bound ≡ meter.old.bound }
     {
         let test = turning.test.shared()?;
         let evaluation = Evaluation::new(self.alloc, test);
@@ -46,6 +47,7 @@ impl Engine {
         ensures rest { RestIs self.old meter.old result self.new meter.new (λ k st. turn_end k (λ st. advanced (eval depth) turning.next k (λ st. looped depth turning k st) st) code value st) }
         ensures work { WorkIs self.old meter.old result self.new meter.new (λ k st. turn_end k (λ st. next_work (eval_work depth) turning.next k (λ st. loop_work (eval_work depth) turning.test k st) st) code value st) }
         ensures potential { IfOk result (λ mode. potential self.new (left_of meter.new) mode ≤ 8 * left_of meter.old + bodies self.old.stack + again code) }
+        ensures bound { meter.new.bound ≡ meter.old.bound }
     {
         match code {
             Code::Ok => self.turn_next(meter, turning, depth),
@@ -65,6 +67,7 @@ impl Engine {
         ensures rest { RestIs self.old meter.old result self.new meter.new (λ k st. advanced (eval depth) turning.next k (λ st. looped depth turning k st) st) }
         ensures work { WorkIs self.old meter.old result self.new meter.new (λ k st. next_work (eval_work depth) turning.next k (λ st. loop_work (eval_work depth) turning.test k st) st) }
         ensures potential { IfOk result (λ mode. potential self.new (left_of meter.new) mode ≤ 8 * left_of meter.old + bodies self.old.stack) }
+        ensures bound { meter.new.bound ≡ meter.old.bound }
     {
         match shared_next(&turning.next)? {
             None => self.turn(meter, turning, depth),
@@ -89,6 +92,7 @@ impl Engine {
         ensures rest { RestIs self.old meter.old result self.new meter.new (λ k st. loop_of (eval depth) test body next k st) }
         ensures work { WorkIs self.old meter.old result self.new meter.new (λ k st. loop_work (eval_work depth) test k st) }
         ensures potential { IfOk result (λ mode. potential self.new (left_of meter.new) mode ≤ 8 * left_of meter.old + bodies self.old.stack) }
+        ensures bound { meter.new.bound ≡ meter.old.bound }
     {
         let bound = meter.left();
         let turning = Turning {
@@ -112,6 +116,7 @@ impl Engine {
         ensures rest { RestIs self.old meter.old result self.new meter.new (λ k st. on_said (tree_of test) k (λ t st. loop_of (eval depth) t (commands body) (Some (commands next)) k st) st) }
         ensures work { WorkIs self.old meter.old result self.new meter.new (λ k st. on_said (tree_of test) k (λ t st. loop_work (eval_work depth) t k st) st) }
         ensures potential { IfOk result (λ mode. potential self.new (left_of meter.new) mode ≤ 8 * left_of meter.old + bodies self.old.stack) }
+        ensures bound { meter.new.bound ≡ meter.old.bound }
     {
         self.for_loop(meter, &test, &next, &body, depth)
     }
@@ -128,6 +133,7 @@ impl Engine {
         ensures rest { RestIs self.old meter.old result self.new meter.new (λ k st. on_said (tree_of test.now) k (λ t st. loop_of (eval depth) t (commands body.now) (Some (commands next.now)) k st) st) }
         ensures work { WorkIs self.old meter.old result self.new meter.new (λ k st. on_said (tree_of test.now) k (λ t st. loop_work (eval_work depth) t k st) st) }
         ensures potential { IfOk result (λ mode. potential self.new (left_of meter.new) mode ≤ 8 * left_of meter.old + bodies self.old.stack) }
+        ensures bound { meter.new.bound ≡ meter.old.bound }
     {
         match said(self.alloc, read_test(self.alloc, test))? {
             Ok(test) => {
@@ -152,6 +158,7 @@ impl Engine {
         ensures rest { RestIs self.old meter.old result self.new meter.new (λ k st. turn_end k (λ st. each (eval depth) groups.names groups.left body k st) code value st) }
         ensures work { WorkIs self.old meter.old result self.new meter.new (λ k st. turn_end k (λ st. each_work groups.names groups.left k st) code value st) }
         ensures potential { IfOk result (λ mode. potential self.new (left_of meter.new) mode ≤ 8 * left_of meter.old + bodies self.old.stack + again code) }
+        ensures bound { meter.new.bound ≡ meter.old.bound }
     {
         match code {
             Code::Ok => self.each(meter, groups, body, depth),
@@ -172,6 +179,7 @@ impl Engine {
         ensures rest { RestIs self.old meter.old result self.new meter.new (λ k st. each (eval depth) groups.names groups.left body k st) }
         ensures work { WorkIs self.old meter.old result self.new meter.new (λ k st. each_work groups.names groups.left k st) }
         ensures potential { IfOk result (λ mode. potential self.new (left_of meter.new) mode ≤ 8 * left_of meter.old + bodies self.old.stack) }
+        ensures bound { meter.new.bound ≡ meter.old.bound }
     {
         if groups.is_done() {
             return Ok(Mode::Give(Code::Ok, Value::new(self.alloc)));

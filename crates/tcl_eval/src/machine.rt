@@ -1,12 +1,12 @@
 //! A machine that is run again.
 
-ghost use Rattle.std.specs.Prelude.{◌≡◌, ◌≢◌, ℕ, List, IfOk, []};
+ghost use Rattle.std.specs.Prelude.{◌≡◌, ◌≢◌, ℕ, ◌+◌, List, IfOk, []};
 ghost use Rattle.tcl_scripts.specs.Commands.{commands};
 ghost use Rattle.tcl_eval.specs.Meaning.{eval};
 ghost use Rattle.tcl_eval.specs.Rest.{engine_rest};
 ghost use Rattle.tcl_eval.specs.Steps.{left_of};
 ghost use Rattle.tcl_eval.specs.Suspended.{IsPauseOf, IsShownBy, IsOver, at_the_end};
-ghost use Rattle.tcl_eval.specs.Tree.{Reply, Leads};
+ghost use Rattle.tcl_eval.specs.Tree.{Reply, Leads, left_at};
 
 use crate::ending::Ending;
 use crate::engine::Engine;
@@ -47,7 +47,7 @@ pub struct Machine<H: Host> {
     pub engine: Engine,
     /// What is done next.
     pub mode: Mode,
-    pub host: PhantomData<H>,
+    host: PhantomData<H>,
 }
 
 impl<H: Host> Machine<H> {
@@ -97,14 +97,17 @@ impl<H: Host> Machine<H> {
     /// Runs on until it is over or the host waits.
     ///
     /// There are replies to just the calls that what was left of the run names, each once and in order, which lead the host from its old
-    /// state to its new one, and with which what was left of the run is what is left of it now. The steps that are left fall with it. A run
-    /// that is over stays as it is, and shows the same pause again, or `Memory` where a copy of its text was refused.
+    /// state to its new one, and with which what was left of the run is what is left of it now. The meter keeps its bound, and counts just
+    /// the steps that the meaning begins on the way. A run that is over stays as it is, and shows the same pause again, or `Memory` where a
+    /// copy of its text was refused. Behind `Memory` it is over.
     pub fn run(&mut self, host: &mut H, meter: &mut Meter) -> Pause
         ensures leads { result ≢ Pause.Memory → (replies : List Reply) × Leads H.answers replies (engine_rest self.old.engine (left_of meter.old) self.old.mode) host.old (engine_rest self.new.engine (left_of meter.new) self.new.mode) host.new × IsPauseOf result self.new.mode replies }
         ensures shown { IsShownBy result self.new.mode }
         ensures over { IsOver self.old.mode → self.new ≡ self.old }
         ensures host { IsOver self.old.mode → host.new ≡ host.old }
         ensures meter { IsOver self.old.mode → meter.new ≡ meter.old }
+        ensures bound { meter.new.bound ≡ meter.old.bound }
+        ensures counted { result ≢ Pause.Memory → meter.new.count + left_at (engine_rest self.new.engine (left_of meter.new) self.new.mode) ≡ meter.old.count + left_of meter.old }
     {
         if matches!(&self.mode, Mode::Ended(_)) {
             return self.pause();

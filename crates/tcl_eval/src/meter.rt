@@ -30,6 +30,7 @@ impl Meter {
         ensures counted { OnTrue result (self.new.count ≡ self.old.count + 1) }
         ensures spent { OnFalse result (left_of self.old ≡ 0) }
         ensures same { OnFalse result (self.new ≡ self.old) }
+        ensures bound { self.new.bound ≡ self.old.bound }
     {
         if self.count == self.bound {
             return false;

@@ -49,6 +49,7 @@ impl Engine {
     ) -> Result<Mode, AllocError>
         ensures rest { RestIs self.old meter.old result self.new meter.new (λ k st. begun (eval depth) [] (HostStep.Words text.now) k st) }
         ensures potential { IfOk result (λ mode. potential self.new (left_of meter.new) mode ≤ 8 * left_of meter.old + bodies self.old.stack + 5) }
+        ensures bound { meter.new.bound ≡ meter.old.bound }
     {
         let script = Script::read(self.alloc, text.as_slice())?;
         let (words, fault) = script.all_words(self.alloc)?;
@@ -69,6 +70,7 @@ impl Engine {
         ensures paused { IfOk result (λ a. WaitsAt a (Stepped step self.old.vars)) }
         ensures asking { IfOk result (λ a. IsAskingOnPause a) }
         ensures potential { IfOk result (λ a. GoesDown a (potential self.new (left_of meter.new) a.mode) (8 * left_of meter.old + bodies self.old.stack + 6)) }
+        ensures bound { meter.new.bound ≡ meter.old.bound }
     {
         match step {
             HostStep::Done(code, value) => Ok(on(Mode::Give(code, value))),

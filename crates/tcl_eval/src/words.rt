@@ -36,6 +36,7 @@ impl Engine {
         ensures rest { RestIs self.old meter.old result self.new meter.new (λ k st. then_rest depth then k done st) }
         ensures work { WorkIs self.old meter.old result self.new meter.new (λ k st. then_work then k done st) }
         ensures potential { IfOk result (λ mode. potential self.new (left_of meter.new) mode ≤ 8 * left_of meter.old + bodies self.old.stack + then_weight then) }
+        ensures bound { meter.new.bound ≡ meter.old.bound }
     {
         match then {
             Then::Command => {
@@ -67,6 +68,7 @@ impl Engine {
         ensures rest { RestIs self.old meter.old result self.new meter.new (λ k st. fill_words (eval depth) (drop next words) done k (then_rest depth then k) st) }
         ensures work { WorkIs self.old meter.old result self.new meter.new (λ k st. words_work (eval_work depth) (drop next words) done k (then_work then k) st) }
         ensures potential { IfOk result (λ mode. potential self.new (left_of meter.new) mode ≤ 8 * left_of meter.old + bodies self.old.stack + then_weight then) }
+        ensures bound { meter.new.bound ≡ meter.old.bound }
     {
         match words.next(next) {
             None => self.filled(meter, done, then, depth),
@@ -104,6 +106,7 @@ impl Engine {
         ensures rest { RestIs self.old meter.old result self.new meter.new (λ k st. onward_rest (Onward.Fill words next expand filler done then depth) k value st) }
         ensures work { WorkIs self.old meter.old result self.new meter.new (λ k st. onward_work (Onward.Fill words next expand filler done then depth) k value st) }
         ensures potential { IfOk result (λ mode. potential self.new (left_of meter.new) mode ≤ 8 * left_of meter.old + bodies self.old.stack + then_weight then) }
+        ensures bound { meter.new.bound ≡ meter.old.bound }
     {
         let step = resumed(self.alloc, value, &mut filler, &self.vars)?;
         self.fill_to(meter, step, words, next, expand, filler, done, then, depth)
@@ -125,6 +128,7 @@ impl Engine {
         ensures rest { RestIs self.old meter.old result self.new meter.new (λ k st. fill_word (eval depth) (told (step, filler)) k (λ v st. on_said (spread expand v done) k (λ done st. fill_words (eval depth) (drop next words) done k (then_rest depth then k) st) st) st) }
         ensures work { WorkIs self.old meter.old result self.new meter.new (λ k st. word_work (eval_work depth) (told (step, filler)) k (λ v st. on_said (spread expand v done) k (λ done st. words_work (eval_work depth) (drop next words) done k (then_work then k) st) st) st) }
         ensures potential { IfOk result (λ mode. potential self.new (left_of meter.new) mode ≤ 8 * left_of meter.old + bodies self.old.stack + then_weight then) }
+        ensures bound { meter.new.bound ≡ meter.old.bound }
     {
         match step {
             FillStep::Value(value) => self.fill_past(
@@ -182,6 +186,7 @@ impl Engine {
         ensures rest { RestIs self.old meter.old result self.new meter.new (λ k st. on_said (spread expand value done) k (λ done st. fill_words (eval depth) (drop next words) done k (then_rest depth then k) st) st) }
         ensures work { WorkIs self.old meter.old result self.new meter.new (λ k st. on_said (spread expand value done) k (λ done st. words_work (eval_work depth) (drop next words) done k (then_work then k) st) st) }
         ensures potential { IfOk result (λ mode. potential self.new (left_of meter.new) mode ≤ 8 * left_of meter.old + bodies self.old.stack + then_weight then) }
+        ensures bound { meter.new.bound ≡ meter.old.bound }
     {
         match said(self.alloc, spread(self.alloc, expand, value, done))? {
             Ok(done) => self.fill(meter, words, next, done, then, depth),

@@ -1,12 +1,10 @@
-use Rattle.std.proofs.Common.{List, length, map, sym, ap, subst, ◌∙◌, arith}
+use Rattle.std.proofs.Common.{length, map, sym, ap, subst, ◌∙◌, arith}
 use Rattle.dialogue_sched.specs.Hall.{AllBegin}
 use Rattle.child_desk.specs.declared.book.Book.{Book}
-use Rattle.child_desk.specs.declared.line.Line.{Line}
 use Rattle.child_desk.specs.Book.{IsRecord}
 use Rattle.child_desk.proofs.Hears.{all_then}
 use Rattle.child_desk.proofs.Kept.{all_still}
 use Rattle.child_serve.specs.Opened.{AreOpened}
-use Rattle.child_serve.specs.Teams.{AllShown}
 use Rattle.child_serve.proofs.Settling.{linked_all, linked_still, given_all, unheard_all}
 use Rattle.child_serve.proofs.Working.{begun_length, first_length, line_of, is_work}
 use Rattle.child_serve.proofs.worker.work.Goals as goal
@@ -16,14 +14,6 @@ turn_all-requires-after_bounds g c κs within =
     let halls = ap (λ (b : Book). length b.hall) c.new-desk.ensures.book ∙ ap length c.new-book.ensures.hall ∙ begun_length c.args.team.scripts.items c.in_ok-hall_of.field-0 c.in_ok-hall_of.ensures in
     let lines = ap length c.new-desk.ensures.lines ∙ first_length g.K.Keeper.named g.K.Keeper.made c.as_slice.result.now c.in_ok-lines.lines.items c.in_ok-lines.ensures ∙ ap length c.as_slice.ensures.value ∙ c.requires.keepers in
     (omega (arith, halls, lines), omega (arith, halls, c.requires.few))
-
-pub reports_of-requires-clause-there : goal.reports_of-requires-clause-there
-reports_of-requires-clause-there g c κs within =
-    let begun = ap (λ (b : Book). length b.hall) c.new-desk.ensures.book ∙ ap length c.new-book.ensures.hall ∙ begun_length c.args.team.scripts.items c.in_ok-hall_of.field-0 c.in_ok-hall_of.ensures in
-    let lines = ap length c.new-desk.ensures.lines ∙ first_length g.K.Keeper.named g.K.Keeper.made c.as_slice.result.now c.in_ok-lines.lines.items c.in_ok-lines.ensures ∙ ap length c.as_slice.ensures.value ∙ c.requires.keepers in
-    let turned = c.turn_all.ensures.kept in
-    let settled = c.settle_all.ensures in
-    omega (arith, begun, lines, turned.halls, turned.count, settled.book.halls, ap length settled.lines)
 
 pub settle_all-requires-clause-few : goal.settle_all-requires-clause-few
 settle_all-requires-clause-few g c κs within =
@@ -67,8 +57,8 @@ returns g c =
     c.turn_all.ensures.kept
     c.in-Ok.ensures.over
     (all_still turned.lines.items turned.ends.items settled.ends.items turned.book settled.book c.settle_all.ensures.book c.settle_all.ensures.hands)
-    (subst (λ (ls : List Line). AllShown ls settled.book c.in_ok-reports.reports) c.settle_all.ensures.lines c.in_ok-reports.ensures)
-    c.into_record.ensures
+    c.into_outcome-reports.ensures.shown
+    c.into_outcome-reports.ensures.record
     (given_all workers worker keepers desk.ends.items settled.ends.items begun.log.items settled.book.log.items hands c.in_ok-settled.settled.unsettled.items empty
     are_opened
     (all_then desk.ends.items turned.ends.items settled.ends.items begun.log.items turned.book.log.items settled.book.log.items c.turn_all.ensures.heard c.settle_all.ensures.heard) c.in_ok-settled.ensures.settled)

@@ -1,5 +1,12 @@
-use Rattle.expect_prog.proofs.Drives.{drives_of}
+use Rattle.std.proofs.Common.{List, subst}
+use Rattle.child_events.specs.declared.event.HallEvent.{HallEvent}
+use Rattle.child_events.specs.Log.{LogText2}
+use Rattle.expect_prog.proofs.Drives.{drives_of, puts_as}
 use Rattle.expect_prog.proofs.driving.drive.Goals as goal
 
 pub returns-clause-answers : goal.returns-clause-answers
-returns-clause-answers g c = drives_of _ _ _ _ _ _ c.in_ok-served.served c.in_ok-output.output _ _ _ _ c.write_both.result c.in_ok-served.ensures c.in_ok-output.ensures.record c.in_ok-output.ensures.reports c.in_ok-output.ensures.well c.write_both.ensures.answers
+returns-clause-answers g c =
+    let served = c.in_ok-served.served in
+    let record_is = subst (λ (es : List HallEvent). LogText2 c.in_ok-record.record es) c.as_slice.ensures c.in_ok-record.ensures in
+    drives_of _ _ _ _ _ _ served c.in_ok-record.record _ _ _ _ c.write_both.result c.in_ok-served.ensures record_is
+    (puts_as c.in_ok-record.record c.args.shown c.as_slice-reports.result.now served.reports _ _ _ _ c.write_both.result c.as_slice-reports.ensures.value c.write_both.ensures.answers)

@@ -1,4 +1,3 @@
-use Rattle.std.proofs.Common.{take}
 use Rattle.dialogue_sched.proofs.Quieting.{SoonestTo}
 use Rattle.dialogue_sched.proofs.hall.Hall.deadline.Given as goal
 

@@ -53,7 +53,7 @@ pub returns-clause-value : goal.returns-clause-value
 returns-clause-value c = is_first_span c.args.nocase c.args.text.now c.args.self.now _ (returns-clause-first c)
 
 pub returns-then-lacks_literal-clause-first : goal.returns-then-lacks_literal-clause-first
-returns-then-lacks_literal-clause-first c = λ a b h. c.if-lacks_literal.ensures refl c.args.nocase c.args.self.now.elements a b c.literals-literals.ensures h.2
+returns-then-lacks_literal-clause-first c = λ a b h. c.if-lacks_literal.ensures refl c.args.nocase c.args.self.now.elements a b c.literals-literals.ensures.runs h.2
 
 pub returns-then-lacks_literal-clause-value : goal.returns-then-lacks_literal-clause-value
 returns-then-lacks_literal-clause-value c = is_first_span c.args.nocase c.args.text.now c.args.self.now _ (returns-then-lacks_literal-clause-first c)

@@ -8,4 +8,4 @@ pub returns-clause-rest : goal.returns-clause-rest
 returns-clause-rest c =
     c.in_ok-mode.ensures.rest
     ∙ seq_frame c.args.depth c.args.next c.args.script.now _ c.args.words.now _ _ c.args.self.now.stack _ (state_of c.args.self.now (left_of c.args.meter.now))
-    c.in_ok-words.ensures c.in_ok-script.ensures c.in_ok-push.ensures c.new-done.ensures
+    c.in_ok-words.ensures c.in_ok-script.ensures c.in_ok-push.ensures.pushed c.new-done.ensures

@@ -8,6 +8,7 @@ abbrev pub invariant-hands : goal.invariant-hands
 invariant-hands l = record {
   same : engine_rest l.self (left_of l.meter) l.mode ≡ engine_rest l.initial.self (left_of l.initial.meter) l.initial.mode;
   down : potential l.self (left_of l.meter) l.mode ≤ potential l.initial.self (left_of l.initial.meter) l.initial.mode;
+  bound : l.meter.bound ≡ l.initial.meter.bound;
 }
 
 abbrev pub decreases-hands : goal.decreases-hands

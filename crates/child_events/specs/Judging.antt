@@ -1,0 +1,43 @@
+-- A log that is judged first, and read afterwards.
+use Rattle.std.specs.Prelude.{◌≡◌, ℕ, zero, suc, ◌+◌, ◌<◌, ◌^◌, List, [], ◌∷◌, IsOk, Result, Ok, Err, ⊤}
+use Rattle.child_events.specs.declared.event.What.TheVariants as what
+use Rattle.child_events.specs.declared.event.HallEvent.{HallEvent}
+use Rattle.child_events.specs.declared.faults.LogFault.{LogFault}
+use Rattle.child_events.specs.declared.faults.LogFault.TheVariants as fault
+use Rattle.child_events.specs.declared.version.Version.{Version}
+use Rattle.child_events.specs.declared.line.Line.{Line}
+use Rattle.child_events.specs.declared.line.Line.TheVariants as line
+use Rattle.child_events.specs.Reading.{◌>>=◌, parts, piece_of, stamped, line_event, first_line, lines_events}
+
+-- the event that a line says, in line n
+abbrev pub said_event : ℕ → Line → Result HallEvent LogFault
+said_event n (line.Event e) = Ok e
+said_event n (line.Piece stamp digits) = stamped (Ok stamp) (piece_of n digits >>= λ piece. Ok (what.Out piece))
+
+abbrev pub says : ℕ → Result Line LogFault → Result HallEvent LogFault
+says n read = read >>= said_event n
+
+-- the fault alone
+abbrev pub judged : {A : Type 0} → Result A LogFault → Result ⊤ LogFault
+judged r = r >>= λ x. Ok tt
+
+-- the events of so many lines, the first of them line n, each of which ends with a newline
+abbrev pub lines_read : ℕ → ℕ → List (List ℕ) → Result (List HallEvent) LogFault
+lines_read n zero ws = Ok []
+lines_read n (suc k) [] = Err (fault.Shape n)
+lines_read n (suc k) (w ∷ []) = Err (fault.Shape n)
+lines_read n (suc k) (w ∷ x ∷ ws) = line_event n w >>= λ e. lines_read (n + 1) k (x ∷ ws) >>= λ es. Ok (e ∷ es)
+
+abbrev pub events_in : Result (List HallEvent) LogFault → List HallEvent
+events_in (Ok es) = es
+events_in (Err f) = []
+
+-- so many lines are left, from line n on, and each is an event
+pub record AreJudged (n k : ℕ) (rest : List ℕ) : Type 0 where
+  pub events : IsOk (lines_read n k (parts 10 rest))
+  pub few : n + k < 2 ^ 64
+
+-- the first so many lines are the log's events; or this is its first fault
+abbrev pub Judges : Version → List (List ℕ) → Result ℕ LogFault → Type 0
+Judges v ws (Ok k) = (lines_events v (first_line v) ws ≡ lines_read (first_line v) k ws) × IsOk (lines_read (first_line v) k ws)
+Judges v ws (Err f) = lines_events v (first_line v) ws ≡ Err f

@@ -1,0 +1,194 @@
+//! A line of a log: what it says, with its faults, and the event that it is.
+
+ghost use Rattle.std.specs.Prelude.{◌≡◌, ◌∷◌, []};
+ghost use Rattle.child_events.specs.Reading.{parts, stamp_of, failed_event as failed_of, fields_event, line_event, Reads, SplitsAt};
+ghost use Rattle.child_events.specs.Judging.{said_event, says, judged};
+
+use crate::digits::Digits;
+use crate::event::{Answer, HallEvent, What};
+use crate::faults::LogFault;
+use crate::fields::{
+    LONGEST, Stamp, StampWords, check_piece, is, moment, piece, read_stamp, split_first, status,
+    what_alone, what_failed,
+};
+use std::alloc::Global;
+
+/// What a line says, as far as no memory is needed for it.
+#[derive(Drop)]
+pub enum Line<'a> {
+    Event(HallEvent),
+    /// Whose output this is, and when, with the digits of its piece, which were not judged.
+    Piece(Stamp, Digits<'a>),
+}
+
+impl Line<'_> {
+    /// Whether it is an event.
+    fn check(&self, number: usize) -> Result<(), LogFault>
+        ensures { result ≡ judged (said_event number self.now) }
+    {
+        match self {
+            Line::Event(_) => Ok(()),
+            Line::Piece(_, digits) => check_piece(number, digits),
+        }
+    }
+
+    /// The event.
+    fn event(self, alloc: Global, number: usize) -> Result<HallEvent, LogFault>
+        ensures { Reads result (said_event number self.entry) }
+    {
+        match self {
+            Line::Event(event) => Ok(event),
+            Line::Piece(stamp, digits) => {
+                let piece = piece(alloc, number, &digits)?;
+                Ok(stamp.bring(What::Out(piece)))
+            }
+        }
+    }
+}
+
+fn tick_event(line: usize, kind: &[u8], word: &[u8]) -> Result<HallEvent, LogFault>
+    ensures { result ≡ fields_event line (kind.now ∷ word.now ∷ []) }
+{
+    if word.is_empty() || !is(kind, b"tick") {
+        return Err(LogFault::Shape(line));
+    }
+    let moment = moment(line, word)?;
+    Ok(HallEvent::Tick { moment })
+}
+
+/// The event of a child whose first word says all that it brings.
+fn bare_event(line: usize, kind: &[u8], words: &StampWords) -> Result<HallEvent, LogFault>
+    ensures { result ≡ fields_event line (kind.now ∷ words.now.script.now ∷ words.now.child.now ∷ words.now.moment.now ∷ []) }
+{
+    if words.any_empty() {
+        return Err(LogFault::Shape(line));
+    }
+    let Some(what) = what_alone(kind) else {
+        return Err(LogFault::Shape(line));
+    };
+    Ok(read_stamp(line, words)?.bring(what))
+}
+
+/// The event of a child whose last word is a cause.
+fn failed_event(
+    line: usize,
+    kind: &[u8],
+    words: &StampWords,
+    held: &[u8],
+) -> Result<HallEvent, LogFault>
+    ensures { result ≡ failed_of line kind.now held.now (stamp_of line words.now.script.now words.now.child.now words.now.moment.now) }
+{
+    let Some(what) = what_failed(kind, held) else {
+        return Err(LogFault::Shape(line));
+    };
+    Ok(read_stamp(line, words)?.bring(what))
+}
+
+fn failed_line<'a>(
+    line: usize,
+    kind: &[u8],
+    words: &StampWords,
+    held: &[u8],
+) -> Result<Line<'a>, LogFault>
+    ensures { says line result ≡ failed_of line kind.now held.now (stamp_of line words.now.script.now words.now.child.now words.now.moment.now) }
+{
+    let event = failed_event(line, kind, words, held)?;
+    Ok(Line::Event(event))
+}
+
+/// The event of a child whose last word holds what it brings.
+fn held_line<'a>(
+    line: usize,
+    kind: &[u8],
+    words: &StampWords,
+    held: Digits<'a>,
+) -> Result<Line<'a>, LogFault>
+    ensures { says line result ≡ fields_event line (kind.now ∷ words.now.script.now ∷ words.now.child.now ∷ words.now.moment.now ∷ held.entry ∷ []) }
+{
+    let word = held.word();
+    if words.any_empty() || word.is_empty() {
+        return Err(LogFault::Shape(line));
+    }
+    if is(kind, b"out") {
+        let stamp = read_stamp(line, words)?;
+        return Ok(Line::Piece(stamp, held));
+    }
+    if is(kind, b"exit") {
+        let stamp = read_stamp(line, words)?;
+        let status = status(line, word)?;
+        return Ok(Line::Event(stamp.bring(What::Answer(Answer::Exit(status)))));
+    }
+    failed_line(line, kind, words, word)
+}
+
+/// What stands round a further space. Digits of a piece have none among them.
+#[tactic(auto, using(crate::proofs::Judged::lower_whole))]
+fn further<'a>(held: &Digits<'a>) -> Option<(&'a [u8], &'a [u8])>
+    ensures { SplitsAt 32 held.now result }
+{
+    if held.is_lower() {
+        return None;
+    }
+    split_first(held.word(), b' ')
+}
+
+/// What the fields of a line say.
+fn read_fields(number: usize, line: &[u8]) -> Result<Line, LogFault>
+    ensures { says number result ≡ fields_event number (parts 32 line.now) }
+{
+    let Some((kind, rest)) = split_first(line, b' ') else {
+        return Err(LogFault::Shape(number));
+    };
+    let Some((script, rest)) = split_first(rest, b' ') else {
+        let event = tick_event(number, kind, rest)?;
+        return Ok(Line::Event(event));
+    };
+    let Some((child, rest)) = split_first(rest, b' ') else {
+        return Err(LogFault::Shape(number));
+    };
+    let Some((moment, held)) = split_first(rest, b' ') else {
+        let words = StampWords {
+            script,
+            child,
+            moment: rest,
+        };
+        let event = bare_event(number, kind, &words)?;
+        return Ok(Line::Event(event));
+    };
+    let held = Digits::new(held);
+    if let Some(_) = further(&held) {
+        return Err(LogFault::Shape(number));
+    }
+    let words = StampWords {
+        script,
+        child,
+        moment,
+    };
+    held_line(number, kind, &words, held)
+}
+
+/// What a line says, which is given without its newline.
+fn read_words(number: usize, line: &[u8]) -> Result<Line, LogFault>
+    ensures { says number result ≡ line_event number line.now }
+{
+    if line.len() > LONGEST {
+        return Err(LogFault::TooLong(number));
+    }
+    read_fields(number, line)
+}
+
+/// Whether a line is an event.
+pub fn judge_line(number: usize, line: &[u8]) -> Result<(), LogFault>
+    ensures { result ≡ judged (line_event number line.now) }
+{
+    let said = read_words(number, line)?;
+    said.check(number)
+}
+
+/// The event of a line.
+pub fn read_line(alloc: Global, number: usize, line: &[u8]) -> Result<HallEvent, LogFault>
+    ensures { Reads result (line_event number line.now) }
+{
+    let said = read_words(number, line)?;
+    said.event(alloc, number)
+}

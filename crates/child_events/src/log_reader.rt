@@ -1,0 +1,167 @@
+//! A log that is judged first, and gives its events part by part.
+
+ghost use Rattle.std.specs.Prelude.{◌≡◌, ◌∷◌, ◌<◌, ◌≤◌, length, take as first, drop, IfOk, IfErr, OnOk, OnErr};
+ghost use Rattle.child_events.specs.Log.{LogText};
+ghost use Rattle.child_events.specs.Reading.{parts, first_line, last_part as last_of, lines_events, log_events, Refused};
+ghost use Rattle.child_events.specs.Judging.{Judges};
+
+use crate::event::HallEvent;
+use crate::faults::LogFault;
+use crate::fields::{LONGEST, split_line};
+use crate::hall_events::HallEvents;
+use crate::line::{judge_line, read_line};
+use crate::version::{Version, close, line_total, version_of};
+use std::alloc::{AllocError, Global};
+use std::marker::Model;
+
+/// The events that are left of a log, seen as a list. The log was judged, and nothing of it is kept but its bytes.
+#[derive(Debug, Drop)]
+pub struct LogReader<'a> {
+    rest: &'a [u8],
+    /// The number of the next line.
+    number: usize,
+    /// How many lines of events are left.
+    left: usize,
+}
+
+impl<'a> Model for LogReader<'a> {
+    ghost use Rattle.std.specs.Prelude.{List};
+    ghost use Rattle.child_events.specs.declared.event.HallEvent.{HallEvent};
+    ghost use Rattle.child_events.specs.Reading.{parts};
+    ghost use Rattle.child_events.specs.Judging.{lines_read, events_in, AreJudged};
+
+    ghost Value = { List HallEvent };
+
+    ghost view = { λ r. events_in (lines_read r.number r.left (parts 10 r.rest.now)) };
+
+    ghost invariant = { λ r. AreJudged r.number r.left r.rest.now };
+}
+
+/// The end of a log whose last newline stands before these bytes, which would be the line of this number.
+fn last_part(version: Version, number: usize, rest: &[u8]) -> Result<(), LogFault>
+    ensures { result ≡ last_of version number rest.now }
+{
+    if rest.len() > LONGEST {
+        return Err(LogFault::TooLong(number));
+    }
+    if !rest.is_empty() {
+        return Err(LogFault::Shape(number));
+    }
+    match version {
+        Version::First => Ok(()),
+        Version::Second => Err(LogFault::Total(number)),
+    }
+}
+
+/// How many lines of events a log of this version has, from its first event's line on, or the first fault.
+fn judge_lines(version: Version, bytes: &[u8]) -> Result<usize, LogFault>
+    ensures judged { Judges version (parts 10 bytes.now) result }
+    ensures few { IfOk result (λ seen. seen ≤ length bytes.now) }
+{
+    let mut seen: usize = 0;
+    let mut rest = bytes;
+    let mut number = version.first_line();
+    'lines: while let Some((line, behind)) = split_line(rest) {
+        match judge_line(number, line) {
+            Ok(()) => {
+                seen += 1;
+                rest = behind;
+                number += 1;
+            }
+            Err(fault) => {
+                let total = line_total(version, number, line, fault)?;
+                close(number, seen, total, behind)?;
+                return Ok(seen);
+            }
+        }
+    }
+    last_part(version, number, rest)?;
+    Ok(seen)
+}
+
+impl<'a> LogReader<'a> {
+    /// The events of the lines of a log of this version.
+    fn of_lines(version: Version, bytes: &'a [u8]) -> Result<LogReader<'a>, LogFault>
+        ensures { result ≡ lines_events version (first_line version) (parts 10 bytes.now) }
+    {
+        let left = judge_lines(version, bytes)?;
+        Ok(LogReader {
+            rest: bytes,
+            number: version.first_line(),
+            left,
+        })
+    }
+
+    /// The events of a log of either version.
+    fn of_log(bytes: &'a [u8]) -> Result<LogReader<'a>, LogFault>
+        ensures { result ≡ log_events bytes.now }
+    {
+        let Some((line, behind)) = split_line(bytes) else {
+            return LogReader::of_lines(Version::First, bytes);
+        };
+        match version_of(line)? {
+            Version::First => LogReader::of_lines(Version::First, bytes),
+            Version::Second => LogReader::of_lines(Version::Second, behind),
+        }
+    }
+
+    /// The events of a log, which is judged to its end; no memory is taken for it.
+    ///
+    /// An error has the number of the first bad line, counted from 1, and says which fault is the first in it.
+    #[tactic(auto, using(crate::proofs::Judged::judged_found, crate::proofs::Judged::judged_refused))]
+    pub fn new(bytes: &'a [u8]) -> Result<LogReader<'a>, LogFault>
+        ensures found { IfOk result (λ es. LogText bytes.now es) }
+        ensures refused { IfErr result (λ f. Refused bytes.now f) }
+    {
+        LogReader::of_log(bytes)
+    }
+
+    /// How many events are left.
+    pub fn len(&self) -> usize
+        ensures { result ≡ length self.now }
+    {
+        self.left
+    }
+
+    /// The next event.
+    fn next(&mut self, alloc: Global) -> Result<HallEvent, AllocError>
+        requires { 0 < length self.old }
+        ensures { IfOk result (λ e. self.old ≡ e ∷ self.new) }
+    {
+        let Some((line, behind)) = split_line(self.rest) else {
+            unreachable!()
+        };
+        match read_line(alloc, self.number, line) {
+            Ok(event) => {
+                *self = LogReader {
+                    rest: behind,
+                    number: self.number + 1,
+                    left: self.left - 1,
+                };
+                Ok(event)
+            }
+            Err(_) => Err(AllocError),
+        }
+    }
+
+    /// The first events of those that are left, so many at the most; the others are left then. Where memory is refused, all are left.
+    pub fn take(&mut self, alloc: Global, most: usize) -> Result<HallEvents, AllocError>
+        ensures given { IfOk result (λ es. es ≡ first most self.old) }
+        ensures left { OnOk result (self.new ≡ drop most self.old) }
+        ensures kept { OnErr result (self.new ≡ self.old) }
+    {
+        let count = most.min(self.left);
+        let mut reader = LogReader {
+            rest: self.rest,
+            number: self.number,
+            left: self.left,
+        };
+        let mut events = HallEvents::with_capacity(alloc, count)?;
+        for _ in 0..count {
+            let event = reader.next(alloc)?;
+            events.push(event)?;
+        }
+        *self = reader;
+        Ok(events)
+    }
+}

@@ -1,0 +1,29 @@
+//! What came of several scripts.
+
+ghost use Rattle.std.specs.Prelude.{◌≡◌};
+
+use session::Report;
+use std::marker::Model;
+
+/// Reports in order of their scripts, seen as a list.
+#[derive(Debug, Drop)]
+pub struct Reports {
+    pub list: Vec<Report>,
+}
+
+impl Model for Reports {
+    ghost use Rattle.std.specs.Prelude.{List};
+    ghost use Rattle.session.specs.declared.report.Report.{Report};
+
+    ghost Value = { List Report };
+
+    ghost view = { λ t. t.list.items };
+}
+
+impl Reports {
+    pub fn as_slice(&self) -> &[Report]
+        ensures value { result.now ≡ self.now }
+    {
+        self.list.as_slice()
+    }
+}

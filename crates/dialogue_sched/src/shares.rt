@@ -1,0 +1,123 @@
+//! Events, dealt to the scripts that see them.
+
+ghost use Rattle.std.specs.Prelude.{◌≡◌, ◌<◌, ◌++◌, ◌∷◌, [], length, replicate, vec_len, IfOk, OnOk};
+ghost use Rattle.dialogue_sched.specs.Shares.{dealt, PutAt};
+
+use child_events::{Event, HallEvent};
+use std::alloc::{AllocError, Global};
+use std::marker::Model;
+
+/// What one script sees, seen as a list.
+#[derive(Debug, Drop)]
+pub struct Share {
+    pub events: Vec<Event>,
+}
+
+impl Model for Share {
+    ghost use Rattle.std.specs.Prelude.{List};
+    ghost use Rattle.child_events.specs.declared.event.Event.{Event};
+
+    ghost Value = { List Event };
+
+    ghost view = { λ t. t.events.items };
+}
+
+impl Share {
+    /// Puts an event behind the others.
+    fn put(&mut self, event: Event) -> Result<(), AllocError>
+        ensures { OnOk result (self.new ≡ self.old ++ event ∷ []) }
+    {
+        self.events.push(event)?;
+        Ok(())
+    }
+}
+
+/// What each script sees, in order of the scripts, seen as a list of lists.
+#[derive(Debug, Drop)]
+pub struct Shares {
+    pub list: Vec<Share>,
+}
+
+impl Model for Shares {
+    ghost use Rattle.std.specs.Prelude.{List};
+    ghost use Rattle.child_events.specs.declared.event.Event.{Event};
+
+    ghost Value = { List (List Event) };
+
+    ghost view = { λ t. t.list.items };
+}
+
+/// An event comes behind the share at a place.
+fn put_at(shares: &mut Vec<Share>, i: usize, event: Event) -> Result<(), AllocError>
+    requires { i < vec_len shares.old }
+    ensures put { OnOk result (PutAt i event shares.old.items shares.new.items) }
+    ensures same { vec_len shares.new ≡ vec_len shares.old }
+{
+    let share = &mut shares[i];
+    share.put(event)?;
+    Ok(())
+}
+
+/// A tick comes behind each share.
+fn put_tick(shares: &mut Vec<Share>, moment: u64) -> Result<(), AllocError>
+    ensures { OnOk result (Paired (λ old new. new ≡ old ++ events.Tick moment ∷ []) shares.old.items shares.new.items) }
+{
+    for i in 0..shares.len() {
+        put_at(shares, i, Event::Tick { moment })?;
+    }
+    Ok(())
+}
+
+ghost use Rattle.child_events.specs.declared.event.Event.TheVariants as events;
+ghost use Rattle.dialogue_sched.specs.Pairs.{Paired};
+
+impl Shares {
+    /// Nothing, for so many scripts.
+    pub fn new(alloc: Global, scripts: usize) -> Result<Shares, AllocError>
+        ensures { IfOk result (λ shares. shares ≡ replicate scripts []) }
+    {
+        let mut list = Vec::with_capacity(alloc, scripts)?;
+        for _ in 0..scripts {
+            list.push(Share {
+                events: Vec::new(alloc),
+            })?;
+        }
+        Ok(Shares { list })
+    }
+
+    /// Each script that sees the event has it behind what it saw.
+    pub fn deal(&mut self, event: HallEvent) -> Result<(), AllocError>
+        ensures { OnOk result (self.new ≡ dealt 1 event self.old) }
+    {
+        match event {
+            HallEvent::Child {
+                script,
+                child,
+                moment,
+                what,
+            } => {
+                let number = script as usize;
+                if number == 0 {
+                    return Ok(());
+                }
+                if number > self.list.len() {
+                    return Ok(());
+                }
+                put_at(
+                    &mut self.list,
+                    number - 1,
+                    Event::Child {
+                        child,
+                        moment,
+                        what,
+                    },
+                )?;
+                Ok(())
+            }
+            HallEvent::Tick { moment } => {
+                put_tick(&mut self.list, moment)?;
+                Ok(())
+            }
+        }
+    }
+}

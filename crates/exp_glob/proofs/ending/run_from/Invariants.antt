@@ -1,0 +1,12 @@
+use Rattle.std.proofs.Common.{◌≤◌, drop, length}
+use Rattle.exp_glob.specs.Endings.{HasNoStar}
+use Rattle.exp_glob.proofs.ending.run_from.Given as goal
+
+abbrev pub invariant-loop-from : goal.invariant-loop-from
+invariant-loop-from l = record {
+  within : l.from ≤ length l.elements;
+  so_far : HasNoStar (drop l.from l.elements);
+}
+
+abbrev pub decreases-loop-from : goal.decreases-loop-from
+decreases-loop-from l = l.from

@@ -1,0 +1,74 @@
+//! The text of what a script asked of its children.
+
+ghost use Rattle.std.specs.Prelude.{◌≡◌, ◌++◌, OnOk};
+ghost use Rattle.expect_prog.specs.Report.{labelled, words_part, act_text, ask_line, ask_lines, asks_part};
+
+use crate::texts::{push_hex, push_labelled};
+use session::{Act, Request};
+use std::alloc::{AllocError, Global};
+use tcl_words::Text;
+
+/// Puts the words of a program behind a text, each in hexadecimal behind a space.
+fn push_words(alloc: Global, text: &mut Text, words: &[Text]) -> Result<(), AllocError>
+    ensures { OnOk result (text.new ≡ text.old ++ words_part words.now) }
+{
+    for word in words {
+        text.push(b' ')?;
+        push_hex(alloc, text, word.as_slice())?;
+    }
+    Ok(())
+}
+
+/// Puts what is asked of a child behind a text.
+fn push_act(alloc: Global, text: &mut Text, act: &Act) -> Result<(), AllocError>
+    ensures { OnOk result (text.new ≡ text.old ++ act_text act.now) }
+{
+    match act {
+        Act::Spawn(words) => {
+            text.extend(b"spawn")?;
+            push_words(alloc, text, words.as_slice())
+        }
+        Act::Write(bytes) => {
+            text.extend(b"write ")?;
+            push_hex(alloc, text, bytes.as_slice())
+        }
+        Act::End => text.extend(b"end"),
+        Act::Close => text.extend(b"close"),
+        Act::Wait => text.extend(b"wait"),
+    }
+}
+
+/// Puts the line of a request behind a text.
+#[tactic(auto, unfolding(crate::specs::Report::ask_line))]
+fn push_ask(alloc: Global, text: &mut Text, request: &Request) -> Result<(), AllocError>
+    ensures { OnOk result (text.new ≡ text.old ++ ask_line request.now) }
+{
+    push_labelled(alloc, text, b"ask ", u128::from(request.child))?;
+    text.push(b' ')?;
+    push_act(alloc, text, &request.act)?;
+    text.push(b'\n')
+}
+
+fn push_asks(alloc: Global, text: &mut Text, requests: &[Request]) -> Result<(), AllocError>
+    ensures { OnOk result (text.new ≡ text.old ++ ask_lines requests.now) }
+{
+    for request in requests {
+        push_ask(alloc, text, request)?;
+    }
+    Ok(())
+}
+
+/// Puts the lines of requests in order behind a text, where they are shown.
+pub fn push_shown_asks(
+    alloc: Global,
+    text: &mut Text,
+    shown: bool,
+    requests: &[Request],
+) -> Result<(), AllocError>
+    ensures { OnOk result (text.new ≡ text.old ++ asks_part shown requests.now) }
+{
+    if !shown {
+        return Ok(());
+    }
+    push_asks(alloc, text, requests)
+}
