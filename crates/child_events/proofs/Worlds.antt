@@ -12,8 +12,8 @@ use Rattle.child_events.specs.declared.event.Item.TheVariants as item
 use Rattle.child_events.specs.declared.event.Event.{Event}
 use Rattle.child_events.specs.declared.event.Event.TheVariants as event
 use Rattle.child_events.specs.declared.event.HallEvent.{HallEvent}
-use Rattle.child_events.specs.declared.lane.Lane.{Lane}
-use Rattle.child_events.specs.declared.world.World.{World}
+use Rattle.child_events.specs.World.{Lane}
+use Rattle.child_events.specs.World.{World}
 use Rattle.child_events.specs.World.{blank, with_item, lane_with, lane_at, lanes_with, lane_of, grown, grown_all, blank_lanes, fresh, raised_from, raised, horizon_from, horizon_of, items_of, answers_of, Knows, own_of, after_own, own}
 
 -- the lane of a child that an event is of

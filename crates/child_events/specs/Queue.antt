@@ -1,6 +1,7 @@
 -- What comes to a script from one child, and the echo of what is sent to it, in the order in which both are taken.
 -- A terminal puts the echo of its input among the output that it hands over (POSIX.1-2017, XBD 11.1.7 and 11.2.5).
 use Rattle.std.specs.Prelude.{ℕ, zero, suc, ◌+◌, ◌/◌, ◌≤◌, nat_le, max, List, [], ◌∷◌, ◌++◌, map, take, drop, length, Bool, true, false, if◌then◌else◌, Option, Some, None, ⊤}
+use Rattle.std.specs.Borrow.{Bor}
 use Rattle.child_events.specs.declared.event.Item.{Item}
 use Rattle.child_events.specs.declared.event.Item.TheVariants as item
 use Rattle.child_events.specs.declared.slot.Slot.{Slot}
@@ -25,6 +26,11 @@ stamped q = (q.moment, q.item)
 abbrev pub first : List Queued → Option (ℕ × Item)
 first [] = None
 first (q ∷ qs) = Some (stamped q)
+
+-- an item without where it lies in memory
+abbrev pub item_view : Option (ℕ × Bor Item) → Option (ℕ × Item)
+item_view None = None
+item_view (Some found) = Some (found.0, found.1.now)
 
 -- the moment of the last item that came from the child, or m where none did
 abbrev pub last_moment : ℕ → List Queued → ℕ

@@ -1,7 +1,6 @@
 -- What a script can know of its children: for each, what came from it and what its requests came to,
 -- each with its moment, and how late it is.
 use Rattle.std.specs.Prelude.{◌≡◌, ℕ, ◌-◌, max, List, [], ◌∷◌, ◌++◌, replicate, Bool, true, false, ◌==◌, if◌then◌else◌, Option, Some, None, slice_index_or, slice_set}
-use Rattle.std.specs.Borrow.{Bor}
 use Rattle.child_events.specs.declared.event.Answer.{Answer}
 use Rattle.child_events.specs.declared.event.What.{What}
 use Rattle.child_events.specs.declared.event.What.TheVariants as what
@@ -11,8 +10,18 @@ use Rattle.child_events.specs.declared.event.Event.{Event}
 use Rattle.child_events.specs.declared.event.Event.TheVariants as event
 use Rattle.child_events.specs.declared.event.HallEvent.{HallEvent}
 use Rattle.child_events.specs.declared.event.HallEvent.TheVariants as hall
-use Rattle.child_events.specs.declared.lane.Lane.{Lane}
-use Rattle.child_events.specs.declared.world.World.{World}
+
+-- What is known of one child: what came from it, what its requests came to, each with its moment, and whether an end or a read failure is
+-- among the items, behind which nothing is kept.
+pub record Lane : Type 0 where
+  pub items : List (ℕ × Item)
+  pub answers : List (ℕ × Answer)
+  pub over : Bool
+
+-- What is known of all children of a script, child 1 first, and the greatest moment so far, in milliseconds.
+pub record World : Type 0 where
+  pub lanes : List Lane
+  pub horizon : ℕ
 
 -- what a script sees of an event: its own children's events, and all ticks
 abbrev pub own_of : ℕ → HallEvent → Option Event
@@ -68,11 +77,6 @@ blank_lanes = replicate 16 blank
 
 abbrev pub fresh : World
 fresh = record { lanes = blank_lanes; horizon = 0 }
-
--- an item without where it lies in memory
-abbrev pub item_view : Option (ℕ × Bor Item) → Option (ℕ × Item)
-item_view None = None
-item_view (Some found) = Some (found.0, found.1.now)
 
 -- What a world holds, in terms of the events alone.
 

@@ -13,7 +13,7 @@ use std::alloc::Global;
 use tcl_words::Text;
 
 /// The greatest moment of a log, in milliseconds.
-const MOST_MOMENT: u64 = 9_000_000_000_000_000;
+pub(crate) const MOST_MOMENT: u64 = 9_000_000_000_000_000;
 
 /// The most bytes of a line, without its newline.
 pub const LONGEST: usize = 8219;

@@ -1,8 +1,7 @@
 //! What comes to a script from one child, and the echo of what is sent to it.
 
 ghost use Rattle.std.specs.Prelude.{◌≡◌, ◌++◌, [], map, drop, length, OnOk, OnErr, IfOk};
-ghost use Rattle.child_events.specs.Queue.{first, pushed, with_echo, how_many_came, echoes, latest, place, Rises};
-ghost use Rattle.child_events.specs.World.{item_view};
+ghost use Rattle.child_events.specs.Queue.{first, item_view, pushed, with_echo, how_many_came, echoes, latest, place, Rises};
 
 use crate::event::Item;
 use crate::slot::Slot;

@@ -1,12 +1,14 @@
 //! The log of events, written.
 
+ghost use Rattle.std.specs.Bool.{Decides};
 ghost use Rattle.std.specs.Prelude.{◌≡◌, ◌<◌, ◌++◌, ◌∷◌, [], IfOk, OnOk};
 ghost use Rattle.std.specs.List.{flat_map};
 ghost use Rattle.std.specs.Fmt.{decimal};
 ghost use Rattle.hex.specs.Hex.{IsBytes};
-ghost use Rattle.child_events.specs.Log.{cause_text, hex_text, kind_text, held_text, line_of, heading, lines_text, total_line, AllFit, LogText2, HoldsBytes, IsOfBytes};
+ghost use Rattle.child_events.specs.Log.{cause_text, fits as fits_meant, piece_len as piece_len_of, hex_text, kind_text, held_text, line_of, heading, lines_text, total_line, AllFit, LogText2, HoldsBytes, IsOfBytes};
 
 use crate::event::{Answer, Cause, HallEvent, What};
+use crate::fields::MOST_MOMENT;
 use std::alloc::{AllocError, Global};
 use tcl_words::Text;
 
@@ -149,8 +151,50 @@ fn tell_event_bytes(event: &HallEvent)
     }
 }
 
-/// The log of a list of events in version 2. Each event has a script from 1 to 64, a child from 1 to 16, a
-/// moment of at most 9,000,000,000,000,000 and a piece of at most 4,096 bytes.
+/// The longest piece of output that an event brings, in bytes.
+const LONGEST_PIECE: usize = 4096;
+
+/// The length of the piece that an event brings.
+fn piece_len(what: &What) -> usize
+    ensures { result ≡ piece_len_of what.now }
+{
+    match what {
+        What::Out(piece) => piece.len(),
+        What::Eof => 0,
+        What::ReadFail(_) => 0,
+        What::Answer(_) => 0,
+    }
+}
+
+/// Whether an event is within a log's limits.
+fn fits_alone(event: &HallEvent) -> bool
+    ensures { result ≡ fits_meant event.now }
+{
+    match event {
+        HallEvent::Child {
+            script,
+            child,
+            moment,
+            what,
+        } => {
+            (1..=64).contains(script)
+                && (1..=16).contains(child)
+                && *moment <= MOST_MOMENT
+                && piece_len(what) <= LONGEST_PIECE
+        }
+        HallEvent::Tick { moment } => *moment <= MOST_MOMENT,
+    }
+}
+
+/// Whether events can be written to a log: each has a script from 1 to 64, a child from 1 to 16, a moment of at most
+/// 9,000,000,000,000,000 and a piece of at most 4,096 bytes.
+pub fn fits(events: &[HallEvent]) -> bool
+    ensures { Decides result (AllFit events.now) }
+{
+    events.iter().all(|event| fits_alone(event))
+}
+
+/// The log of a list of events that fit, in version 2.
 pub fn write_log(alloc: Global, events: &[HallEvent]) -> Result<Text, AllocError>
     requires { AllFit events.now }
     ensures { IfOk result (λ t. LogText2 t events.now) }

@@ -32,7 +32,9 @@ use Rattle.expect_core.specs.Answered.{Outcome, idle, on_said, owning, failure}
 use Rattle.expect_core.specs.Spawning.{announced, current, stored, started, with_new, spawning_as, order_of}
 use Rattle.expect_core.specs.Sending.{act_of, counted, sent_by, handing, echoed, sending_to, send_of}
 use Rattle.expect_core.specs.Expecting.{listed, plan_of, expecting, again, behind, shut}
-use Rattle.expect_core.specs.Others.{put_of, to_user, writing, continued, closed_by, close_of, wait_of, logging_as, logging}
+use Rattle.expect_core.specs.Again.{continued}
+use Rattle.expect_core.specs.Ends.{closed_by, close_of, wait_of}
+use Rattle.expect_core.specs.Transcript.{put_of, to_user, writing, logging_as, logging}
 use Rattle.expect_core.specs.Options.{option_of, size_of, sizing_at, removal_of, removing_at}
 use Rattle.expect_core.specs.Texts.{id_at}
 use Rattle.expect_core.specs.Calls.{name_of, expecting_by, named, begun, resuming, outcome, onward}

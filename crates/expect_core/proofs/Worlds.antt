@@ -8,8 +8,8 @@ use Rattle.child_events.specs.declared.event.What.{What}
 use Rattle.child_events.specs.declared.event.What.TheVariants as what
 use Rattle.child_events.specs.declared.event.Event.{Event}
 use Rattle.child_events.specs.declared.event.Event.TheVariants as event
-use Rattle.child_events.specs.declared.lane.Lane.{Lane as Known}
-use Rattle.child_events.specs.declared.world.World.{World}
+use Rattle.child_events.specs.World.{Lane as Known}
+use Rattle.child_events.specs.World.{World}
 use Rattle.child_events.specs.Queue.{Queued, came}
 use Rattle.child_events.specs.World.{blank, blank_lanes, lanes_with, grown as grown_world, grown_all, fresh as nothing_known}
 use Rattle.child_events.specs.World.{with_item as known_item, lane_with as known_with}

@@ -28,7 +28,7 @@ use Rattle.expect_core.specs.Among.{IsAmong}
 use Rattle.expect_core.specs.Heard.{places_of, IsWatched}
 use Rattle.expect_core.specs.Sides.{spoken_by}
 use Rattle.expect_core.specs.Expecting.{patterns_by}
-use Rattle.expect_core.specs.Others.{id_alone}
+use Rattle.expect_core.specs.Ends.{id_alone}
 use Rattle.expect_core.specs.Options.{takes as option_takes}
 use Rattle.expect_core.specs.Calls.{name_of, outcome, fresh}
 use Rattle.expect_core.specs.Laws.{behind_call}

@@ -19,7 +19,9 @@ use Rattle.expect_core.specs.Answered.{Outcome, idle, replied, failed, awaited}
 use Rattle.expect_core.specs.Spawning.{spawning, spawned}
 use Rattle.expect_core.specs.Sending.{sending, handed}
 use Rattle.expect_core.specs.Expecting.{listed, expecting, listening, behind, ended, broken}
-use Rattle.expect_core.specs.Others.{put_of, to_user, writing, continuing, closing_of, closed, waiting, waited, logging}
+use Rattle.expect_core.specs.Again.{continuing}
+use Rattle.expect_core.specs.Ends.{closing_of, closed, waiting, waited}
+use Rattle.expect_core.specs.Transcript.{put_of, to_user, writing, logging}
 use Rattle.expect_core.specs.Options.{sizing, removing}
 
 -- the command that a word names

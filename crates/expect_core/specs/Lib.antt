@@ -17,7 +17,9 @@ pub mod Answered
 pub mod Spawning
 pub mod Sending
 pub mod Expecting
-pub mod Others
+pub mod Again
+pub mod Ends
+pub mod Transcript
 pub mod Options
 pub mod Calls
 pub mod Good

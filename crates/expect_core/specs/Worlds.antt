@@ -1,8 +1,8 @@
 -- A dialogue to which events came holds the world that they make, as long as it has taken nothing.
 use Rattle.std.specs.Prelude.{◌≡◌, ℕ, List, map, Option}
 use Rattle.child_events.specs.declared.event.Event.{Event}
-use Rattle.child_events.specs.declared.lane.Lane.{Lane as Known}
-use Rattle.child_events.specs.declared.world.World.{World}
+use Rattle.child_events.specs.World.{Lane as Known}
+use Rattle.child_events.specs.World.{World}
 use Rattle.child_events.specs.Queue.{came}
 use Rattle.child_events.specs.World.{grown_all, fresh as nothing_known}
 use Rattle.expect_core.specs.declared.lanes.Lane.{Lane}

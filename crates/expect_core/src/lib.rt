@@ -1,10 +1,12 @@
 //! The commands of Expect, as the host of a script: its children, and what came from them and was not taken yet.
 #![tactic(auto)]
 
+mod again;
 mod answers;
 mod child;
 mod deadline;
 mod dialogue;
+mod ends;
 mod expect;
 mod flags;
 mod host;
@@ -16,7 +18,6 @@ mod listen;
 mod name;
 mod options;
 mod order;
-mod others;
 mod own;
 mod phase;
 mod place;
@@ -32,6 +33,7 @@ mod settle;
 mod sought;
 mod spawn;
 mod texts;
+mod transcript;
 
 pub use deadline::sooner;
 pub use dialogue::Dialogue;

@@ -4,7 +4,7 @@ ghost use Rattle.std.specs.Prelude.{◌≡◌, IfOk};
 ghost use Rattle.expect_core.specs.Answered.{awaited};
 ghost use Rattle.expect_core.specs.Calls.{settled};
 ghost use Rattle.expect_core.specs.Expecting.{broken, shut};
-ghost use Rattle.expect_core.specs.Others.{closed, end_text as end_text_of, failed_by, waited};
+ghost use Rattle.expect_core.specs.Ends.{closed, end_text as end_text_of, failed_by, waited};
 
 use crate::child::Standing;
 use crate::dialogue::{Dialogue, done, failed, failure};

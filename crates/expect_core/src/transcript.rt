@@ -1,21 +1,16 @@
-//! The other commands of Expect, and `puts`.
+//! The commands that write to the transcript, and the one that says whether children's output is seen there.
 
 ghost use Rattle.std.specs.Prelude.{◌≡◌, IfOk, ◌++◌, ◌∷◌, [], if◌then◌else◌, ℕ, List};
 ghost use Rattle.tcl_commands.specs.Says.{Says};
 ghost use Rattle.tcl_commands.specs.Texts.{wrong_args};
 ghost use Rattle.tcl_commands.specs.Said.{Said};
-ghost use Rattle.expect_core.specs.Others.{again_code, close_of as close_meant, closing_of, continued as continued_of, continuing, if_unwaited, logging as logging_of, logging_as, no_channel as no_channel_text, put_of as put_meant, puts_to as puts_to_of, to_user as user_text, wait_of as wait_meant, waiting, writing, waiting_at};
+ghost use Rattle.expect_core.specs.Transcript.{logging as logging_of, logging_as, no_channel as no_channel_text, put_of as put_meant, puts_to as puts_to_of, to_user as user_text, writing};
 
 use crate::dialogue::{Dialogue, done, failed};
-use crate::flags::{Flags, Switch, Takes, bad_flag, bare, flags_of, is, is_flag, with_text};
-use crate::ids::{open_to, spoken_to};
-use crate::own::Own;
-use crate::phase::Purpose;
-use crate::place::Place;
-use crate::request::Act;
-use crate::texts::{bit, waited_for};
+use crate::flags::{Takes, bad_flag, flags_of, is, is_flag, with_text};
+use crate::texts::bit;
 use std::alloc::{AllocError, Global};
-use tcl_commands::{Code, Complaint, bad_option, said, wrong_args};
+use tcl_commands::{Complaint, bad_option, said, wrong_args};
 use tcl_eval::HostStep;
 use tcl_subst::Vars;
 use tcl_values::Value;
@@ -123,78 +118,6 @@ fn to_user(alloc: Global, name: &[u8], args: &[Value]) -> Result<Text, Complaint
     Ok(Text::from_slice(alloc, text.as_slice())?)
 }
 
-/// The code of an `exp_continue`.
-fn continued(alloc: Global, name: &[u8], args: &[Value]) -> Result<Code, Complaint>
-    ensures { Says result (continued_of name.now args.now) }
-{
-    let takes = Takes {
-        own: Some(Switch::Timer),
-        id: false,
-        end: false,
-    };
-    let (flags, at) = flags_of(alloc, name, takes, args)?;
-    bare(alloc, name, &args[at..])?;
-    Ok(code_of(&flags))
-}
-
-/// The code by which an action goes back to its expect.
-fn code_of(flags: &Flags) -> Code
-    ensures { result ≡ again_code flags.now }
-{
-    if flags.on {
-        Code::AgainLater
-    } else {
-        Code::Again
-    }
-}
-
-const ID_ALONE: Takes = Takes {
-    own: None,
-    id: true,
-    end: false,
-};
-
-/// The child that a `close` lets go.
-fn close_of(
-    alloc: Global,
-    name: &[u8],
-    args: &[Value],
-    vars: &Vars,
-    own: &Own,
-) -> Result<Place, Complaint>
-    ensures { Says result (close_meant name.now args.now vars.now own.now) }
-{
-    let (flags, at) = flags_of(alloc, name, ID_ALONE, args)?;
-    bare(alloc, name, &args[at..])?;
-    open_to(alloc, &flags.id, vars, own)
-}
-
-/// The child, where no `wait` has asked for its end.
-fn unwaited(alloc: Global, i: Place, own: &Own) -> Result<Place, Complaint>
-    ensures { Says result (if_unwaited i own.now) }
-{
-    if own.children.is_waited(i) {
-        return Err(Complaint::Said(waited_for(alloc, own.children.id(i))?));
-    }
-    Ok(i)
-}
-
-/// The child that a `wait` waits for.
-fn wait_of(
-    alloc: Global,
-    name: &[u8],
-    args: &[Value],
-    vars: &Vars,
-    own: &Own,
-) -> Result<Place, Complaint>
-    ensures { Says result (wait_meant name.now args.now vars.now own.now) }
-{
-    let (flags, at) = flags_of(alloc, name, ID_ALONE, args)?;
-    bare(alloc, name, &args[at..])?;
-    let i = spoken_to(alloc, &flags.id, vars, own)?;
-    unwaited(alloc, i, own)
-}
-
 /// A command has too few or too many arguments.
 fn wrong_call(alloc: Global, name: &[u8]) -> Result<HostStep, AllocError>
     ensures { IfOk result (λ s. s ≡ HostStep.Fail (wrong_args name.now)) }
@@ -247,65 +170,6 @@ impl Dialogue {
         self.write(alloc, vars, to_user(alloc, name, args))
     }
 
-    /// `exp_continue ?-continue_timer?`.
-    pub(crate) fn exp_continue(
-        &mut self,
-        alloc: Global,
-        vars: &Vars,
-        name: &[u8],
-        args: &[Value],
-    ) -> Result<HostStep, AllocError>
-        ensures { IfOk result (λ s. continuing name.now args.now vars.now self.old ≡ (s, vars.now, self.new)) }
-    {
-        match said(alloc, continued(alloc, name, args))? {
-            Ok(code) => Ok(HostStep::Done(code, Value::new(alloc))),
-            Err(text) => Ok(HostStep::Fail(text)),
-        }
-    }
-
-    /// `close ?-i id?`.
-    pub(crate) fn close_child(
-        &mut self,
-        alloc: Global,
-        vars: &mut Vars,
-        name: &[u8],
-        args: &[Value],
-    ) -> Result<HostStep, AllocError>
-        ensures { IfOk result (λ s. closing_of name.now args.now vars.old self.old ≡ (s, vars.new, self.new)) }
-    {
-        match said(alloc, close_of(alloc, name, args, vars, &self.own))? {
-            Ok(i) => self.close(alloc, vars, i, Purpose::Close),
-            Err(text) => Ok(HostStep::Fail(text)),
-        }
-    }
-
-    /// Asks for a child's end, and goes on with the answer.
-    fn wait_at(&mut self, alloc: Global, vars: &mut Vars, i: Place) -> Result<HostStep, AllocError>
-        ensures { IfOk result (λ s. waiting_at i vars.old self.old ≡ (s, vars.new, self.new)) }
-    {
-        self.own.children.set_waited(i);
-        self.own.ask(i, Act::Wait)?;
-        self.answered(alloc, vars, i, Purpose::Wait)
-    }
-
-    /// `wait ?-i id?`.
-    pub(crate) fn wait(
-        &mut self,
-        alloc: Global,
-        vars: &mut Vars,
-        name: &[u8],
-        args: &[Value],
-    ) -> Result<HostStep, AllocError>
-        ensures { IfOk result (λ s. waiting name.now args.now vars.old self.old ≡ (s, vars.new, self.new)) }
-    {
-        match said(alloc, wait_of(alloc, name, args, vars, &self.own))? {
-            Ok(i) => self.wait_at(alloc, vars, i),
-            Err(text) => Ok(HostStep::Fail(text)),
-        }
-    }
-}
-
-impl Dialogue {
     /// What the word of a `log_user` says.
     fn log_as(&mut self, alloc: Global, vars: &Vars, word: &[u8]) -> Result<HostStep, AllocError>
         ensures { IfOk result (λ s. logging_as word.now vars.now self.old ≡ (s, vars.now, self.new)) }
