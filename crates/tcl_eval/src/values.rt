@@ -1,6 +1,6 @@
 //! Values in order.
 
-ghost use Rattle.std.specs.Prelude.{◌≡◌, ◌++◌, ◌∷◌, [], length, OnOk};
+ghost use Rattle.std.specs.Prelude.{◌≡◌, ◌++◌, ◌∷◌, [], length, take, OnErr, OnOk};
 
 use std::alloc::{AllocError, Global};
 use std::marker::Model;
@@ -45,24 +45,33 @@ impl Values {
         self.list.len()
     }
 
-    /// Puts one behind the others.
+    /// Puts one behind the others. Where memory is refused, the list stays as it was.
     pub fn push(&mut self, value: Value) -> Result<(), AllocError>
-        ensures { OnOk result (self.new ≡ self.old ++ value ∷ []) }
+        ensures pushed { OnOk result (self.new ≡ self.old ++ value ∷ []) }
+        ensures kept { OnErr result (self.new ≡ self.old) }
     {
         self.list.push(value)?;
         Ok(())
     }
 
-    /// Puts the values of texts behind the others, in order.
+    /// Puts the values of texts behind the others, in order. Where memory is refused, the list stays as it was.
     pub fn push_all(&mut self, alloc: Global, texts: &[Text]) -> Result<(), AllocError>
-        ensures { OnOk result (self.new ≡ self.old ++ texts.now) }
+        ensures pushed { OnOk result (self.new ≡ self.old ++ texts.now) }
+        ensures kept { OnErr result (self.new ≡ self.old) }
     {
-        push_texts(&mut self.list, alloc, texts)
+        let count = self.list.len();
+        let pushed = push_texts(&mut self.list, alloc, texts);
+        if pushed.is_err() {
+            self.list.truncate(count);
+        }
+        pushed
     }
 }
 
+/// Puts the values of texts behind others, in order. Where memory is refused, some of them stand there, and the others are as they were.
 fn push_texts(list: &mut Vec<Value>, alloc: Global, texts: &[Text]) -> Result<(), AllocError>
-    ensures { OnOk result (list.new.items ≡ list.old.items ++ texts.now) }
+    ensures pushed { OnOk result (list.new.items ≡ list.old.items ++ texts.now) }
+    ensures front { take (length list.old.items) list.new.items ≡ list.old.items }
 {
     for text in texts {
         list.push(Value::from_slice(alloc, text.as_slice())?)?;
