@@ -118,9 +118,10 @@ impl Requests {
         self.list.len()
     }
 
-    /// Puts one behind the others.
+    /// Puts one behind the others. Where memory is refused, the list stays as it was.
     pub fn push(&mut self, request: Request) -> Result<(), AllocError>
-        ensures { OnOk result (self.new ≡ self.old ++ request ∷ []) }
+        ensures pushed { OnOk result (self.new ≡ self.old ++ request ∷ []) }
+        ensures kept { OnErr result (self.new ≡ self.old) }
     {
         self.list.push(request)?;
         Ok(())
