@@ -1,0 +1,5 @@
+pub mod Stops
+pub mod Spans
+pub mod Braces
+pub mod Gaps
+pub mod Followed

@@ -1,0 +1,47 @@
+-- The bytes that mean something in a command, by their names.
+use Rattle.std.specs.Prelude.{ℕ}
+
+abbrev pub tab : ℕ
+tab = 9
+
+abbrev pub newline : ℕ
+newline = 10
+
+abbrev pub space : ℕ
+space = 32
+
+abbrev pub quote : ℕ
+quote = 34
+
+abbrev pub hash : ℕ
+hash = 35
+
+abbrev pub dollar : ℕ
+dollar = 36
+
+abbrev pub open_paren : ℕ
+open_paren = 40
+
+abbrev pub close_paren : ℕ
+close_paren = 41
+
+abbrev pub star : ℕ
+star = 42
+
+abbrev pub open_bracket : ℕ
+open_bracket = 91
+
+abbrev pub backslash : ℕ
+backslash = 92
+
+abbrev pub close_bracket : ℕ
+close_bracket = 93
+
+abbrev pub letter_x : ℕ
+letter_x = 120
+
+abbrev pub open_brace : ℕ
+open_brace = 123
+
+abbrev pub close_brace : ℕ
+close_brace = 125
