@@ -40,7 +40,7 @@ no_brace s t r (Span.stop c s' dark) e = e
 no_brace s t r (Span.more c s' t' r' named h) e = apart is_name_byte c 123 named refl
 
 -- the byte behind a place
-behind_it : (b k : ℕ) (s r : List ℕ) → b ∷ r ≡ drop k s → r ≡ drop (1 + k) s
+pub behind_it : (b k : ℕ) (s r : List ℕ) → b ∷ r ≡ drop k s → r ≡ drop (1 + k) s
 behind_it b k s r e =
     let m : k + 1 ≡ 1 + k = omega arith in
     ap (drop 1) e ∙ drop-drop 1 k s ∙ ap (λ (i : ℕ). drop i s) m
@@ -83,11 +83,15 @@ slash_took d b s r h =
     record { n = k.n; is = ap (λ (p : ℕ × ℕ). Ok (byte p.0, p.1)) k.is; rest = k.rest; within = k.within }
 
 -- behind a `$` with no `{` behind it
-dollar_is : (inside : Inside) (s : List ℕ) → begins_with 123 s ≡ false
+pub dollar_is : (inside : Inside) (s : List ℕ) → begins_with 123 s ≡ false
     → token_at inside 36 s ≡ cond (begins_with 40 (drop (name_len s) s)) (array_member (name_len s) s (inside.index (drop (1 + name_len s) s)))
     (cond (eqb (name_len s) 0) (Ok (byte 36, 0)) (Ok (substitution (variable (take (name_len s) s)), name_len s)))
 unfolding token_at
 dollar_is inside s e = rw e refl
+
+pub braces_open : (inside : Inside) (s : List ℕ) → begins_with 123 s ≡ true → token_at inside 36 s ≡ braced_variable s (brace_at (drop 1 s))
+unfolding token_at
+braces_open inside s e = rw e refl
 
 name_part : (d b : ℕ) (s n r : List ℕ) → Span is_name_byte s (b ∷ n) r → begins_with 40 r ≡ false → TookPart d (36 ∷ s) (substitution (variable (b ∷ n))) r
 name_part d b s n r h no_index =
@@ -140,7 +144,7 @@ lone_part d s h no_index dark =
     let len : name_len s ≡ 0 = k.is ∙ none in
     record { n = 0; is = dollar_is (inside_of d) s dark ∙ rw (len, no_index) refl; rest = refl; within = omega arith }
 
-bracket_is : (d : ℕ) (s : List ℕ) → token_at (inside_of (suc d)) 91 s ≡ script_token s (nested_script (inside_of d) s true)
+pub bracket_is : (d : ℕ) (s : List ℕ) → token_at (inside_of (suc d)) 91 s ≡ script_token s (nested_script (inside_of d) s true)
 unfolding token_at inside_of
 bracket_is d s = refl
 
@@ -206,11 +210,11 @@ word_is : (inside : Inside) (stop : Stop) (s : List ℕ) (ps : Pieces) (n : ℕ)
 unfolding word
 word_is inside stop s ps n e is = rw e (ap (spelled false) is)
 
-plain_is : (inside : Inside) (stop : Stop) (b : ℕ) (s : List ℕ) → eqb b 34 ≡ false → eqb b 123 ≡ false → plain_word inside stop (b ∷ s) ≡ parts inside stop (b ∷ s)
+pub plain_is : (inside : Inside) (stop : Stop) (b : ℕ) (s : List ℕ) → eqb b 34 ≡ false → eqb b 123 ≡ false → plain_word inside stop (b ∷ s) ≡ parts inside stop (b ∷ s)
 unfolding plain_word
 plain_is inside stop b s e f = rw (e, f) refl
 
-braces_is : (inside : Inside) (stop : Stop) (s : List ℕ) → plain_word inside stop (123 ∷ s) ≡ in_braces stop s (closing s 0)
+pub braces_is : (inside : Inside) (stop : Stop) (s : List ℕ) → plain_word inside stop (123 ∷ s) ≡ in_braces stop s (closing s 0)
 unfolding plain_word
 braces_is inside stop s = refl
 
@@ -370,20 +374,20 @@ begins_word b s dark = (neither (is_gap b s) (eqb b 93) dark).1
 begins_in_gap : (b : ℕ) (s : List ℕ) → ends brackets b s ≡ false → is_gap b s ≡ false
 begins_in_gap b s dark = (neither (is_gap b s) (eqb b 93) dark).0
 
-no_comment : (b : ℕ) → eqb b 35 && false ≡ false
+pub no_comment : (b : ℕ) → eqb b 35 && false ≡ false
 no_comment b = by (eqb b 35)
   where
     by : (t : Bool) → t && false ≡ false
     by true = refl
     by false = refl
 
-no_end : (b : ℕ) (s : List ℕ) → is_gap b s ≡ false → ends_command b ≡ false
+pub no_end : (b : ℕ) (s : List ℕ) → is_gap b s ≡ false → ends_command b ≡ false
 no_end b s dark =
     let p = neither (is_blank b || ends_command b) (is_continued b s) dark in
     (neither (is_blank b) (ends_command b) p.0).1
 
 -- behind the byte of a place
-drop_less : (b n : ℕ) (s r : List ℕ) → 0 < n → r ≡ drop n (b ∷ s) → drop (n - 1) s ≡ r
+pub drop_less : (b n : ℕ) (s r : List ℕ) → 0 < n → r ≡ drop n (b ∷ s) → drop (n - 1) s ≡ r
 drop_less b n s r some e =
     let m : n ≡ 1 + (n - 1) = omega arith in
     sym (drop_cons b (n - 1) s) ∙ ap (λ (i : ℕ). drop i (b ∷ s)) (sym m) ∙ sym e

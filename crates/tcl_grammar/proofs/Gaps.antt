@@ -29,7 +29,7 @@ pub begins : (c : ℕ) (s : List ℕ) → begins_with c s ≡ true → s ≡ c �
 begins c [] h = absurd (cc)
 begins c (b ∷ s) h = ap (λ (x : ℕ). x ∷ s) (eqb-true b c h)
 
-both_true : (a b : Bool) → a && b ≡ true → (a ≡ true) × (b ≡ true)
+pub both_true : (a b : Bool) → a && b ≡ true → (a ≡ true) × (b ≡ true)
 both_true true b e = (refl, e)
 both_true false b e = absurd (cc)
 
@@ -129,7 +129,7 @@ pub record IsBefore (s : List ℕ) : Type 0 where
   pub rest : List ℕ
   pub derived : Before s rest
 
-first_true : (a : Bool) → a && true ≡ false → a ≡ false
+pub first_true : (a : Bool) → a && true ≡ false → a ≡ false
 first_true true e = absurd (cc)
 first_true false e = refl
 

@@ -1,11 +1,8 @@
-use Rattle.tcl_grammar.proofs.Stops.{stop_of}
-use Rattle.tcl_grammar.proofs.Braces.{Closed}
-use Rattle.tcl_grammar.proofs.Gaps.{start_passes}
-use Rattle.tcl_grammar.proofs.Followed.{TookRun}
+use Rattle.tcl_grammar.proofs.Ruled.{is_next, next_is, is_last, last_is}
 use Rattle.tcl_grammar.proofs.laws.command_rules.Goals as goal
 
 pub returns-clause-some : goal.returns-clause-some
-returns-clause-some c = ?
+returns-clause-some c = λ text at next words. (is_next text at next words, next_is text at next words)
 
 pub returns-clause-none : goal.returns-clause-none
-returns-clause-none c = ?
+returns-clause-none c = λ text at. (is_last text at, last_is text at)
