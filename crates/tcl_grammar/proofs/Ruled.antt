@@ -138,3 +138,12 @@ last_is text at h =
     let t = start_passes (drop at text) [] h in
     let none : start (drop at text) ≡ None = t.is ∙ ap (plus t.n) start_nothing in
     ap (command_at at text) none
+
+-- so the rules give one command at most
+
+pub one_next : (text : List ℕ) (at j k : ℕ) (v w : List Spelled) → IsNext text at v j → IsNext text at w k → (v ≡ w) × (j ≡ k)
+one_next text at j k v w g h = same_found v w j k (sym (next_is text at j v g) ∙ next_is text at k w h)
+
+-- and none where there is a fault
+pub fault_is : (text : List ℕ) (at next : ℕ) (ws : List Spelled) (e : WordFault) → next_command text at ≡ Err e → (¬ IsNext text at ws next) × (¬ IsLast text at)
+fault_is text at next ws e is = (λ h. let read = next_is text at next ws h in cc, λ h. let none = last_is text at h in cc)

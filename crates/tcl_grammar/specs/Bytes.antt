@@ -7,6 +7,15 @@ tab = 9
 abbrev pub newline : ℕ
 newline = 10
 
+abbrev pub vertical_tab : ℕ
+vertical_tab = 11
+
+abbrev pub form_feed : ℕ
+form_feed = 12
+
+abbrev pub carriage_return : ℕ
+carriage_return = 13
+
 abbrev pub space : ℕ
 space = 32
 
@@ -27,6 +36,9 @@ close_paren = 41
 
 abbrev pub star : ℕ
 star = 42
+
+abbrev pub semicolon : ℕ
+semicolon = 59
 
 abbrev pub open_bracket : ℕ
 open_bracket = 91

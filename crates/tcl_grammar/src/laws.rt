@@ -1,13 +1,16 @@
 //! The law of the grammar. Its function does nothing: its contract is the law.
 
-ghost use Rattle.std.specs.Prelude.{◌≡◌, ◌↔◌, ℕ, List, Ok, Some, None};
+ghost use Rattle.std.specs.Prelude.{◌≡◌, ◌↔◌, ℕ, List, Ok, Err, Some, None};
 ghost use Rattle.tcl_words.specs.Pieces.{Spelled};
 ghost use Rattle.tcl_words.specs.Commands.{next_command};
+ghost use Rattle.tcl_words.specs.declared.faults.WordFault.{WordFault};
 ghost use Rattle.tcl_grammar.specs.CommandRules.{IsNext, IsLast};
 
-/// From a place on a text has a next command, with its words and the place behind it, just where the rules give it that one; and it has none just
-/// where the rules leave nothing there. So the rules give one command at most, and where there is a fault they give none.
+/// The grammar's law: from a place on a text is read as a command, with its words and the place behind it, just where the rules give it that one, and
+/// as none just where they leave nothing there. So the rules give a text one command at most, and none where a fault is read.
 pub fn command_rules()
     ensures some { (text : List ℕ) (at next : ℕ) (words : List Spelled) → (next_command text at ≡ Ok (Some (words, next))) ↔ IsNext text at words next }
     ensures none { (text : List ℕ) (at : ℕ) → (next_command text at ≡ Ok None) ↔ IsLast text at }
+    ensures one { (text : List ℕ) (at j k : ℕ) (v w : List Spelled) → IsNext text at v j → IsNext text at w k → (v ≡ w) × (j ≡ k) }
+    ensures fault { (text : List ℕ) (at next : ℕ) (words : List Spelled) (e : WordFault) → next_command text at ≡ Err e → (¬ IsNext text at words next) × (¬ IsLast text at) }
 {}
