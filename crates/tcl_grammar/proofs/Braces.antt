@@ -1,16 +1,14 @@
 -- Text in braces: where it ends and what it is.
-use Rattle.std.proofs.Common.{◌≡◌, ◌≢◌, ℕ, zero, suc, ◌+◌, ◌-◌, ◌<◌, ◌≤◌, Bool, true, false, not, ◌&&◌, ◌||◌, List, [], ◌∷◌, ◌++◌, length, take, drop, Option, Some, None, refl, sym, ap, ◌∙◌, subst, eqb, cond, length-drop, arith}
-use Rattle.std.specs.List.{prefix_len}
-use Rattle.std.proofs.lemmas.Bool.{eqb-true, eq-eqb, cond_both}
-use Rattle.std.proofs.lemmas.List.{drop-drop}
+use Rattle.std.proofs.Common.{◌≡◌, ◌≢◌, ℕ, zero, suc, ◌+◌, ◌-◌, ◌≤◌, Bool, true, false, List, [], ◌∷◌, length, take, drop, Option, Some, None, refl, sym, ap, ◌∙◌, subst, eqb, cond, arith}
+use Rattle.std.proofs.lemmas.Bool.{eqb-true, cond_both}
 use Rattle.tcl_words.specs.Lists.{closing, closing_step, plus}
 use Rattle.tcl_words.specs.Backslash.{blanks}
-use Rattle.tcl_words.specs.Commands.{joined, joined_step, is_continued}
+use Rattle.tcl_words.specs.Commands.{joined, joined_step}
 use Rattle.tcl_words.proofs.Readings.{reading_step, reading_end}
 use Rattle.tcl_words.proofs.ListGraph.{course_induction}
 use Rattle.tcl_words.proofs.Closings.{plus-plus, plus-zero}
 use Rattle.tcl_grammar.specs.CommandRules.{Braced, Span, is_indent}
-use Rattle.tcl_grammar.proofs.Spans.{Took, drop_cons, take_cons, other_byte, test_other, both_rest, both_within, blanks_of, blanks_took, span_took}
+use Rattle.tcl_grammar.proofs.Spans.{drop_cons, take_cons, other_byte, test_other, both_rest, both_within, blanks_of}
 
 -- ---- The two functions, byte by byte
 
@@ -51,9 +49,6 @@ pub record Closed (n : ℕ) (s t r : List ℕ) : Type 0 where
   pub text : joined (take k s) ≡ t
   pub rest : r ≡ drop (1 + k) s
   pub within : 1 + k ≤ length s
-
-plus_some : (j k : ℕ) (o : Option ℕ) → o ≡ Some k → plus j o ≡ Some (j + k)
-plus_some j k o e = ap (plus j) e
 
 take_two : (a b k : ℕ) (s : List ℕ) → take (2 + k) (a ∷ b ∷ s) ≡ a ∷ b ∷ take k s
 take_two a b k s = let m : 2 + k ≡ suc (suc k) = omega arith in ap (λ (i : ℕ). take i (a ∷ b ∷ s)) m

@@ -1,5 +1,5 @@
 -- What is read is derived by the rules.
-use Rattle.std.proofs.Common.{◌≡◌, ◌≢◌, ℕ, zero, suc, ◌+◌, ◌-◌, ◌<◌, ◌≤◌, Bool, true, false, not, ◌&&◌, ◌||◌, List, [], ◌∷◌, ◌++◌, length, take, drop, Option, Some, None, Result, Ok, Err, refl, sym, ap, ◌∙◌, subst, eqb, cond, length-drop, length-take-le, take-append-drop, append_assoc, arith}
+use Rattle.std.proofs.Common.{◌≡◌, ℕ, zero, suc, ◌+◌, ◌-◌, ◌<◌, ◌≤◌, Bool, true, false, not, ◌&&◌, List, [], ◌∷◌, ◌++◌, length, take, drop, Option, Some, None, Result, Ok, Err, refl, sym, ap, ◌∙◌, subst, eqb, cond, length-drop, length-take-le, take-append-drop, append_assoc, arith}
 use Rattle.std.specs.Prelude.{nat_lt}
 use Rattle.std.specs.List.{prefix_len}
 use Rattle.std.proofs.lemmas.Bool.{eqb-true, eq-eqb, cond_both}
@@ -7,20 +7,19 @@ use Rattle.std.proofs.lemmas.Bool.Decides.{nat_tests}
 use Rattle.std.proofs.lemmas.List.{drop-drop}
 use Rattle.std.proofs.lemmas.List.Sums.{prefix_len-le-length}
 use Rattle.tcl_words.specs.declared.faults.WordFault.{WordFault}
-use Rattle.tcl_words.specs.declared.faults.WordFault.TheVariants.{MissingBrace, MissingBracket, ExtraAfterQuote, ExtraAfterBrace, TooDeep}
-use Rattle.tcl_words.specs.Lists.{begins_with, closing, plus}
+use Rattle.tcl_words.specs.declared.faults.WordFault.TheVariants.{MissingBracket, ExtraAfterQuote, ExtraAfterBrace, TooDeep}
+use Rattle.tcl_words.specs.Lists.{begins_with, closing}
 use Rattle.tcl_words.specs.Pieces.{Pieces, no_pieces, piece, literal, variable, member, script, Spelled}
 use Rattle.tcl_words.specs.Commands.{Read, behind, Inside, is_name_byte, is_blank, is_gap, ends_command, gap_at, comment_len, Token, byte, substitution, put_token, token_at, dollar, braced_variable, array_member, script_token, name_len, brace_at, inside_of, nested_script, script_step, more_bytes, parts, part_step, at_end, stops, join, plain_word, in_quotes, in_braces, closed, is_expansion, spelled, word, joined, count_of, after_word, words, words_step, words_at, after_nested_word, script_at}
 use Rattle.tcl_words.specs.Commands as commands
-use Rattle.tcl_words.proofs.Readings.{reading_step, reading_end}
 use Rattle.tcl_words.proofs.Runs.{gap-dark}
 use Rattle.tcl_words.proofs.ListGraph.{course_induction}
-use Rattle.tcl_grammar.specs.CommandRules.{Span, no_close_brace, White, Before, Place, top, brackets, quotes, index, ends, ends_with_text, may_end, single, split, Part, Run, Word, Words, Command, Script}
+use Rattle.tcl_grammar.specs.CommandRules.{Span, no_close_brace, Before, Place, top, brackets, quotes, index, ends, ends_with_text, may_end, single, split, Part, Run, Word, Words, Command, Script}
 use Rattle.tcl_grammar.proofs.Stops.{Stop, stop_of, index_is, quoted_is, words_at_is, script_at_is, ends_is, may_end_is, TextEnd, text_end}
-use Rattle.tcl_grammar.proofs.Spans.{Took, drop_cons, other_byte, test_other, span_of, escape_of, comment_of}
-use Rattle.tcl_grammar.proofs.Braces.{IsBraced, braced_found, braced_closed}
+use Rattle.tcl_grammar.proofs.Spans.{other_byte, span_of, escape_of, comment_of}
+use Rattle.tcl_grammar.proofs.Braces.{braced_found, braced_closed}
 use Rattle.tcl_grammar.proofs.Gaps.{begins, both_true, first_true, no_gap, gap_cases, start_passes}
-use Rattle.tcl_grammar.proofs.Followed.{behind_it, bracket_is, dollar_is, braces_open, TookWord, part_read, run_read, word_read, command_read, plain_is, braces_is, drop_less, no_end, no_comment, words_on}
+use Rattle.tcl_grammar.proofs.Followed.{behind_it, bracket_is, dollar_is, braces_open, part_read, run_read, word_read, command_read, plain_is, braces_is, drop_less, no_end, no_comment, words_on}
 
 pub record IsPart (d b : ℕ) (s : List ℕ) : Type 0 where
   token : Token
@@ -234,6 +233,13 @@ part_of d inner b s = by (eqb b 92) (eqb b 91) (eqb b 36) refl refl refl
 
 -- ---- Runs of parts
 
+-- what is left behind a reading, by a count that is the same
+left_behind : (n m : ℕ) (s r : List ℕ) → n ≡ m → r ≡ drop n s → drop m s ≡ r
+left_behind n m s r e h = ap (λ (k : ℕ). drop k s) (sym e) ∙ sym h
+
+left_behind_byte : (b n m : ℕ) (s r : List ℕ) → n ≡ m → 0 < n → r ≡ drop n (b ∷ s) → drop (m - 1) s ≡ r
+left_behind_byte b n m s r e some h = ap (λ (k : ℕ). drop (k - 1) s) (sym e) ∙ drop_less b n s r some h
+
 abbrev FindsRun : ℕ → Place → List ℕ → Read Pieces → Type 0
 FindsRun d place s read = (p : Pieces × ℕ) → read ≡ Ok p → IsRun d place s
 
@@ -242,7 +248,7 @@ run_end d place p is = by (ends_with_text place) refl (text_end place)
   where
     by : (t : Bool) → ends_with_text place ≡ t → TextEnd place t → IsRun d place []
     by true e h = record { pieces = no_pieces; rest = []; derived = Run.over d place e }
-    by false e h = let bad = h.1 in absurd (let no : ◌≡◌ {A = Read Pieces} (Err h.0) (Ok p) = sym h.1 ∙ is in cc)
+    by false e h = absurd (let no : ◌≡◌ {A = Read Pieces} (Err h.0) (Ok p) = sym h.1 ∙ is in cc)
 
 behind_found : {A B : Type 0} (n : ℕ) (f : A → B) (r : Read A) (p : B × ℕ) → behind n f r ≡ Ok p → (q : A × ℕ) × (r ≡ Ok q)
 behind_found n f (Err e) p is = absurd (cc)
@@ -263,7 +269,7 @@ run_part d inner place b s dark on ih (Ok q) token p is =
     let n : k.n ≡ q.1 = same_count (i.token, k.n) q (token_at (inside_of d) b s) k.is token in
     let f = behind_found (1 + q.1) (put_token q.0) (on q.1) p is in
     let more = ih q.1 f.0 f.1 in
-    let next : drop q.1 s ≡ i.rest = ap (λ (j : ℕ). drop j s) (sym n) ∙ sym k.rest in
+    let next : drop q.1 s ≡ i.rest = left_behind k.n q.1 s i.rest n k.rest in
     record {
       pieces = put_token i.token more.pieces;
       rest = more.rest;
@@ -299,7 +305,7 @@ quoted_found d inner place s (Ok q) inside p is =
     let i = run_of d inner quotes s q inside in
     let k = run_read d quotes s i.pieces i.rest i.derived in
     let n : k.n ≡ q.1 = same_count (i.pieces, k.n) q (parts (inside_of d) (stop_of quotes) s) k.is inside in
-    let left : drop q.1 s ≡ i.rest = ap (λ (j : ℕ). drop j s) (sym n) ∙ sym k.rest in
+    let left : drop q.1 s ≡ i.rest = left_behind k.n q.1 s i.rest n k.rest in
     let end : may_end place i.rest ≡ true = ap (may_end place) (sym left) ∙ sym (may_end_is place (drop q.1 s)) ∙ closed_found (stop_of place) s ExtraAfterQuote q.0 q.1 p is in
     record { pieces = i.pieces; rest = i.rest; derived = Word.quoted d place s i.rest i.pieces i.derived end }
 
@@ -320,9 +326,6 @@ single_of d inner place b s dark = by (eqb b 34) (eqb b 123) refl refl
   where
     stop : Stop
     stop = stop_of place
-
-    finds : (c : ℕ) → Type 0
-    finds c = FindsSingle d place (c ∷ s) (plain_word (inside_of d) stop (c ∷ s))
 
     by : (t u : Bool) → eqb b 34 ≡ t → eqb b 123 ≡ u → FindsSingle d place (b ∷ s) (plain_word (inside_of d) stop (b ∷ s))
     by true u e f =
@@ -413,7 +416,7 @@ first_word d inner b s dark on ih p is =
     let i = word_of d inner top b s dark f.0 f.2 in
     let k = word_read d top (b ∷ s) i.value i.rest i.derived refl in
     let n : k.n ≡ f.0.1 = same_count (i.value, k.n) f.0 read k.is f.2 in
-    let left : drop (f.0.1 - 1) s ≡ i.rest = ap (λ (j : ℕ). drop (j - 1) s) {y = k.n} (sym n) ∙ drop_less b k.n s i.rest k.some k.rest in
+    let left : drop (f.0.1 - 1) s ≡ i.rest = left_behind_byte b k.n f.0.1 s i.rest n k.some k.rest in
     record { value = i.value; next = i.rest; derived = i.derived; later = subst (IsWords d) left (ih (f.0.1 - 1) f.1 f.3) }
 
 words_turn : (d : ℕ) → Inner d → (b : ℕ) (s : List ℕ) → ((k : ℕ) → FindsWords d (drop k s) (words (inside_of d) (drop k s)))
@@ -477,7 +480,7 @@ nested_word d inner b s other dark on ih k is =
     let i = word_of d inner brackets b s within f.0 f.2 in
     let w = word_read d brackets (b ∷ s) i.value i.rest i.derived refl in
     let n : w.n ≡ f.0.1 = same_count (i.value, w.n) f.0 read w.is f.2 in
-    let left : drop (f.0.1 - 1) s ≡ i.rest = ap (λ (j : ℕ). drop (j - 1) s) {y = w.n} (sym n) ∙ drop_less b w.n s i.rest w.some w.rest in
+    let left : drop (f.0.1 - 1) s ≡ i.rest = left_behind_byte b w.n f.0.1 s i.rest n w.some w.rest in
     record { value = i.value; next = i.rest; derived = i.derived; later = subst (IsAfter d) left ((ih (f.0.1 - 1)).goes_on f.1 f.3) }
 
 module _ (d : ℕ) (inner : Inner d) (b : ℕ) (s : List ℕ) (on : ℕ → Bool → Result ℕ WordFault) (ih : (k : ℕ) → FindsScript d (drop k s) (on k)) (other : eqb b 93 ≡ false) where

@@ -1,23 +1,22 @@
 -- What the rules derive is read so.
-use Rattle.std.proofs.Common.{◌≡◌, ◌≢◌, ℕ, zero, suc, ◌+◌, ◌-◌, ◌<◌, ◌≤◌, Bool, true, false, not, ◌&&◌, ◌||◌, List, [], ◌∷◌, ◌++◌, length, take, drop, Option, Some, None, Result, Ok, Err, refl, sym, ap, ◌∙◌, subst, eqb, cond, length-drop, length-append, arith}
+use Rattle.std.proofs.Common.{◌≡◌, ◌≢◌, ℕ, suc, ◌+◌, ◌-◌, ◌<◌, ◌≤◌, Bool, true, false, ◌&&◌, ◌||◌, List, [], ◌∷◌, ◌++◌, length, take, drop, Some, None, Result, Ok, refl, sym, ap, ◌∙◌, subst, eqb, cond, length-drop, length-append, arith}
 use Rattle.std.specs.Prelude.{nat_lt}
 use Rattle.std.specs.List.{prefix_len}
-use Rattle.std.proofs.lemmas.Bool.{eqb-true, eq-eqb, cond_both}
+use Rattle.std.proofs.lemmas.Bool.{eqb-true}
 use Rattle.std.proofs.lemmas.Bool.Decides.{nat_tests}
 use Rattle.std.proofs.lemmas.List.{drop-drop, take-append-le, take_all}
 use Rattle.tcl_words.specs.declared.faults.WordFault.{WordFault}
-use Rattle.tcl_words.specs.Backslash.{backslash}
 use Rattle.tcl_words.specs.Lists.{begins_with, closing, plus}
 use Rattle.tcl_words.specs.Pieces.{Pieces, no_pieces, piece, literal, variable, member, script, Spelled}
 use Rattle.tcl_words.specs.Commands.{Read, behind, Inside, is_name_byte, is_blank, is_gap, is_continued, ends_command, gap_at, Token, byte, substitution, put_token, token_at, dollar, braced_variable, array_member, script_token, name_len, brace_at, inside_of, nested_script, more_bytes, parts, part_step, at_end, stop_len, join, plain_word, in_quotes, in_braces, closed, is_expansion, spelled, word, joined, count_of, after_word, words, words_step, words_at, after_nested_word, script_at, start}
 use Rattle.tcl_words.specs.Commands as commands
 use Rattle.tcl_words.proofs.Readings.{reading_step, reading_end}
 use Rattle.tcl_words.proofs.Runs.{more-more, more-none, word-takes}
-use Rattle.tcl_grammar.specs.CommandRules.{Span, no_close_brace, Escape, White, Before, Braced, Place, top, brackets, quotes, index, ends, left_at, ends_with_text, may_end, single, split, Part, Run, Word, Words, Command, Script}
+use Rattle.tcl_grammar.specs.CommandRules.{Span, no_close_brace, Escape, Before, Place, top, brackets, quotes, index, ends, left_at, ends_with_text, may_end, single, split, Part, Run, Word, Words, Command, Script}
 use Rattle.tcl_grammar.proofs.Stops.{Stop, stop_of, index_is, quoted_is, words_at_is, script_at_is, ends_is, may_end_is, left_is, left_within, TextEnd, text_end}
-use Rattle.tcl_grammar.proofs.Spans.{Took, drop_cons, other_byte, test_other, both_rest, both_within, span_took, span_text, escape_took}
+use Rattle.tcl_grammar.proofs.Spans.{Took, drop_cons, test_other, both_rest, both_within, span_took, span_text, escape_took}
 use Rattle.tcl_grammar.proofs.Braces.{Closed, braced_closed, closing_next, closing_plain}
-use Rattle.tcl_grammar.proofs.Gaps.{apart, neither, begins, white_gap, GapAt, no_gap, Stands, before_stands, start_passes, start_here, script_close, script_gap, script_next, script_passes}
+use Rattle.tcl_grammar.proofs.Gaps.{apart, neither, white_gap, GapAt, no_gap, Stands, before_stands, start_passes, start_here, script_close, script_gap, script_next, script_passes}
 
 -- ---- Names
 
@@ -132,7 +131,7 @@ element_part d s n m r ps h i =
     record {
       n = 1 + k.n + i.n;
       is = dollar_is (inside_of (suc d)) s dark ∙ rw open_it (ap (array_member (name_len s) s) inner ∙ ap (λ x. Ok (substitution (member x ps), 1 + name_len s + i.n)) name
-      ∙ ap (λ (j : ℕ). Ok (substitution (member n ps), 1 + j + i.n)) k.is);
+          ∙ ap (λ (j : ℕ). Ok (substitution (member n ps), 1 + j + i.n)) k.is);
       rest = both_rest s m r (1 + k.n) i.n (behind_it 40 k.n s m k.rest) i.rest;
       within = both_within s m (1 + k.n) i.n (behind_it 40 k.n s m k.rest) (behind_within 40 k.n s m k.rest) i.within;
     }
@@ -401,7 +400,7 @@ top_word d b s m r w ws k on =
     record {
       n = k.n + on.n;
       is = words_on (inside_of d) b s off ∙ ap (words_at (inside_of d) (λ i. more (drop i s)) (b ∷ s)) gap ∙ words_at_is (inside_of d) (λ i. more (drop i s)) (b ∷ s)
-      ∙ ap (after_word (λ i. more (drop i s))) k.is ∙ ap (λ x. behind k.n (λ ws. w ∷ ws) (more x)) next ∙ ap (behind k.n (λ ws. w ∷ ws)) on.is;
+          ∙ ap (after_word (λ i. more (drop i s))) k.is ∙ ap (λ x. behind k.n (λ ws. w ∷ ws) (more x)) next ∙ ap (behind k.n (λ ws. w ∷ ws)) on.is;
       rest = both_rest (b ∷ s) m r k.n on.n k.rest on.rest;
       within = both_within (b ∷ s) m k.n on.n k.rest k.within on.within;
     }
@@ -414,8 +413,8 @@ nested_word d b s m r first w gap k on =
     record {
       n = k.n + on.n;
       is = script_next (inside_of d) b s first ∙ rw other (ap (script_at (inside_of d) (λ i f. nested_script (inside_of d) (drop i s) f) (b ∷ s)) gap
-      ∙ script_at_is (inside_of d) (λ i f. nested_script (inside_of d) (drop i s) f) (b ∷ s)
-      ∙ ap (λ x. after_nested_word (λ i f. nested_script (inside_of d) (drop i s) f) (count_of x)) k.is ∙ ap (λ x. more_bytes k.n (more x)) next ∙ ap (more_bytes k.n) on.is ∙ more-more k.n on.n _);
+          ∙ script_at_is (inside_of d) (λ i f. nested_script (inside_of d) (drop i s) f) (b ∷ s)
+          ∙ ap (λ x. after_nested_word (λ i f. nested_script (inside_of d) (drop i s) f) (count_of x)) k.is ∙ ap (λ x. more_bytes k.n (more x)) next ∙ ap (more_bytes k.n) on.is ∙ more-more k.n on.n _);
       rest = both_rest (b ∷ s) m r k.n on.n k.rest on.rest;
       within = both_within (b ∷ s) m k.n on.n k.rest k.within on.within;
     }

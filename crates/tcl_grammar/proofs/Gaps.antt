@@ -1,16 +1,16 @@
 -- White space, ends of commands and comments: what the rules derive is passed over, and what is passed over is derived.
-use Rattle.std.proofs.Common.{◌≡◌, ◌≢◌, ℕ, zero, suc, ◌+◌, ◌-◌, ◌<◌, ◌≤◌, Bool, true, false, not, ◌&&◌, ◌||◌, List, [], ◌∷◌, length, take, drop, Option, Some, None, Result, Ok, Err, refl, sym, ap, ◌∙◌, subst, eqb, cond, length-drop, arith}
-use Rattle.std.proofs.lemmas.Bool.{eqb-true, eq-eqb, cond_both}
+use Rattle.std.proofs.Common.{◌≡◌, ℕ, ◌+◌, Bool, true, false, ◌&&◌, ◌||◌, List, [], ◌∷◌, drop, Option, Some, None, Result, Ok, Err, refl, sym, ap, ◌∙◌, subst, eqb, arith}
+use Rattle.std.proofs.lemmas.Bool.{eqb-true, cond_both}
 use Rattle.tcl_words.specs.declared.faults.WordFault.{WordFault}
 use Rattle.tcl_words.specs.Lists.{begins_with, plus}
 use Rattle.tcl_words.specs.Backslash.{blanks}
-use Rattle.tcl_words.specs.Commands.{Inside, is_blank, ends_command, is_gap, is_continued, gap_at, comment_len, start, start_step, start_at, nested_script, script_step, script_at, more_bytes}
+use Rattle.tcl_words.specs.Commands.{Inside, is_blank, ends_command, is_gap, is_continued, gap_at, comment_len, start, start_step, start_at, nested_script, script_step, more_bytes}
 use Rattle.tcl_words.specs.declared.faults.WordFault.TheVariants.{MissingBracket}
 use Rattle.tcl_words.proofs.Readings.{reading_step, reading_end}
 use Rattle.tcl_words.proofs.ListGraph.{course_induction}
 use Rattle.tcl_words.proofs.Closings.{plus-plus, plus-zero}
 use Rattle.tcl_words.proofs.Runs.{more-more, more-none}
-use Rattle.tcl_grammar.specs.CommandRules.{White, Before, Span, is_indent}
+use Rattle.tcl_grammar.specs.CommandRules.{White, Before}
 use Rattle.tcl_grammar.proofs.Spans.{Took, drop_cons, other_byte, test_other, both_rest, both_within, blanks_of, blanks_took, comment_of, comment_took}
 
 -- a byte for which a test holds is none for which it doesn't
@@ -168,10 +168,6 @@ module _ (inside : Inside) where
   pub script_next : (b : ℕ) (s : List ℕ) (first : Bool) → nested_script inside (b ∷ s) first ≡ script_step inside (λ k f. nested_script inside (drop k s) f) b s first
   unfolding nested_script
   script_next b s first = ap (λ (f : Bool → Result ℕ WordFault). f first) (reading_step (λ first. Err MissingBracket) (script_step inside) b s)
-
-  pub script_nothing : (first : Bool) → nested_script inside [] first ≡ Err MissingBracket
-  unfolding nested_script
-  script_nothing first = ap (λ (f : Bool → Result ℕ WordFault). f first) (reading_end (λ first. Err MissingBracket) (script_step inside))
 
   pub script_close : (s : List ℕ) (first : Bool) → nested_script inside (93 ∷ s) first ≡ Ok 1
   script_close s first = script_next 93 s first

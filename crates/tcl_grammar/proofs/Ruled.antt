@@ -1,15 +1,14 @@
 -- A text has a next command just where the rules give it that one, and none just where they leave nothing.
-use Rattle.std.proofs.Common.{◌≡◌, ℕ, zero, suc, ◌+◌, ◌<◌, ◌≤◌, List, [], ◌∷◌, length, drop, Option, Some, None, Result, Ok, Err, refl, sym, ap, ◌∙◌, subst, length-drop, arith}
+use Rattle.std.proofs.Common.{◌≡◌, ℕ, ◌+◌, ◌<◌, ◌≤◌, List, [], ◌∷◌, length, drop, Option, Some, None, Result, Ok, Err, refl, sym, ap, ◌∙◌, subst, length-drop, arith}
 use Rattle.std.proofs.lemmas.List.{drop-drop}
 use Rattle.tcl_words.specs.declared.faults.WordFault.{WordFault}
 use Rattle.tcl_words.specs.Lists.{plus}
 use Rattle.tcl_words.specs.Pieces.{Spelled}
 use Rattle.tcl_words.specs.Commands.{Read, ◌>>=◌, start, words, inside_of, command_at, next_command}
-use Rattle.tcl_grammar.specs.CommandRules.{Before, Word, Words, Command, top, deepest, IsNext, IsLast}
-use Rattle.tcl_grammar.proofs.Spans.{both_rest}
+use Rattle.tcl_grammar.specs.CommandRules.{Before, Command, top, deepest, IsNext, IsLast}
 use Rattle.tcl_grammar.proofs.Gaps.{Stands, before_of, before_stands, start_passes, start_here, start_nothing}
 use Rattle.tcl_grammar.proofs.Followed.{TookCommand, command_read}
-use Rattle.tcl_grammar.proofs.Derived.{IsFirst, first_words}
+use Rattle.tcl_grammar.proofs.Derived.{first_words}
 
 -- the words that were read at a place, and the place behind them
 abbrev found_from : ℕ → Read (List Spelled) → Result (Option (List Spelled × ℕ)) WordFault
@@ -60,26 +59,30 @@ read_at text at next ws within t =
 pub next_is : (text : List ℕ) (at next : ℕ) (ws : List Spelled) → IsNext text at ws next → next_command text at ≡ Ok (Some (ws, next))
 next_is text at next ws h = read_at text at next ws h.0 (command_read deepest top (drop at text) ws (drop next text) h.1)
 
+-- what the rules give is what was read
+same_next : (text : List ℕ) (at next n : ℕ) (ws v : List Spelled) (r : List ℕ) → Command deepest top (drop at text) v r → TookCommand deepest (drop at text) v r → start (drop at text) ≡ Some n → WordsAt text at n ws next
+    → IsNext text at ws next
+same_next text at next n ws v r all t begins w =
+    let same_start : ◌≡◌ {A = Option ℕ} (Some t.j) (Some n) = sym t.begins ∙ begins in
+    let j : t.j ≡ n = cc in
+    let place : drop t.j (drop at text) ≡ drop (at + n) text = drop-drop t.j at text ∙ ap (λ (x : ℕ). drop (at + x) text) j in
+    let here : words (inside_of deepest) (drop t.j (drop at text)) ≡ Ok (ws, w.k) = ap (words (inside_of deepest)) place ∙ w.is in
+    let same = same_words v ws t.k w.k (sym t.is ∙ here) in
+    let k : t.k ≡ w.k = same.1 in
+    let some = some_text (drop at text) n begins in
+    let total : at + (t.j + t.k) ≡ next = omega (arith, w.place) in
+    let rest : r ≡ drop next text = t.rest ∙ drop-drop (t.j + t.k) at text ∙ ap (λ (x : ℕ). drop x text) total in
+    (omega (arith, t.within, length-drop at text, total, some), subst (λ x. Command deepest top (drop at text) ws x) rest (subst (λ x. Command deepest top (drop at text) x r) same.0 all))
+
 -- what is read is given by the rules
 derived_at : (text : List ℕ) (at next n : ℕ) (ws : List Spelled) → start (drop at text) ≡ Some n → WordsAt text at n ws next → (m : List ℕ) → Before (drop at text) m → start m ≡ Some 0
     → m ≡ drop (at + n) text → Stands m → IsNext text at ws next
 derived_at text at next n ws begins w [] before starts place stands = let none = start_nothing in absurd (cc)
 derived_at text at next n ws begins w (b ∷ m) before starts place stands =
-    let s : List ℕ = drop at text in
     let i = first_words deepest b m (ws, w.k) stands (ap (words (inside_of deepest)) place ∙ w.is) in
     let l = i.later in
-    let all : Command deepest top s (i.value ∷ l.value) l.rest = Command.some_words deepest top s (b ∷ m) i.next l.rest i.value l.value before i.derived l.derived in
-    let t = command_read deepest top s (i.value ∷ l.value) l.rest all in
-    let same_start : ◌≡◌ {A = Option ℕ} (Some t.j) (Some n) = sym t.begins ∙ begins in
-    let j : t.j ≡ n = cc in
-    let here : words (inside_of deepest) (drop t.j s) ≡ Ok (ws, w.k) = ap (words (inside_of deepest)) (ap (λ (x : ℕ). drop x s) j ∙ drop-drop n at text) ∙ w.is in
-    let same = same_words (i.value ∷ l.value) ws t.k w.k (sym t.is ∙ here) in
-    let k : t.k ≡ w.k = same.1 in
-    let some = some_text s n begins in
-    let total : at + (t.j + t.k) ≡ next = omega (arith, w.place) in
-    let rest : l.rest ≡ drop next text = t.rest ∙ drop-drop (t.j + t.k) at text ∙ ap (λ (x : ℕ). drop x text) total in
-    (omega (arith, t.within, length-drop at text, total, some),
-    subst (λ r. Command deepest top s ws r) rest (subst (λ v. Command deepest top s v l.rest) same.0 all))
+    let all = Command.some_words deepest top (drop at text) (b ∷ m) i.next l.rest i.value l.value before i.derived l.derived in
+    same_next text at next n ws (i.value ∷ l.value) l.rest all (command_read deepest top (drop at text) (i.value ∷ l.value) l.rest all) begins w
 
 starts_at_zero : (m : List ℕ) (j n : ℕ) → Stands m → plus j (start m) ≡ Some n → (start m ≡ Some 0) × (j ≡ n)
 starts_at_zero [] j n stands is = let none : plus j (start []) ≡ None = ap (plus j) start_nothing in absurd (cc)

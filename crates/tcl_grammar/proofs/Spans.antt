@@ -1,12 +1,11 @@
 -- Spans, numbers, backslashes and comments: what the functions take is what the rules say, and the other way round.
-use Rattle.std.proofs.Common.{◌≡◌, ◌≢◌, ℕ, zero, suc, ◌+◌, ◌*◌, ◌<◌, ◌≤◌, Bool, true, false, not, ◌&&◌, List, [], ◌∷◌, length, take, drop, Option, Some, None, refl, sym, ap, ◌∙◌, subst, eqb, cond, length-drop, arith}
+use Rattle.std.proofs.Common.{◌≡◌, ◌≢◌, ℕ, zero, suc, ◌+◌, ◌*◌, ◌<◌, ◌≤◌, Bool, true, false, ◌&&◌, List, [], ◌∷◌, length, take, drop, Option, Some, None, refl, sym, ap, ◌∙◌, subst, eqb, cond, length-drop, arith}
 use Rattle.std.specs.List.{prefix_len}
 use Rattle.std.proofs.lemmas.Bool.{eqb-true, eq-eqb, cond_both}
 use Rattle.std.proofs.lemmas.Bool.Decides.{nat_tests}
 use Rattle.std.proofs.lemmas.List.{drop-drop}
 use Rattle.std.specs.Prelude.{nat_lt}
-use Rattle.tcl_words.specs.Lists.{is_empty}
-use Rattle.tcl_words.specs.Backslash.{digit, digits, digit_step, below, hex_digit, blanks, escaped, backslash, hex_escape, octal_escape, one_more}
+use Rattle.tcl_words.specs.Backslash.{digit, digits, digit_step, below, hex_digit, blanks, backslash, hex_escape, octal_escape, one_more}
 use Rattle.tcl_words.specs.Commands.{comment_len, comment_step}
 use Rattle.tcl_words.proofs.Readings.{reading_step, reading_end}
 use Rattle.tcl_words.proofs.ListGraph.{course_induction}

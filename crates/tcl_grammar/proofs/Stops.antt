@@ -1,8 +1,8 @@
 -- What ends parts, as the function names it. Its type has no name here, so each is told by where the function has it.
-use Rattle.std.proofs.Common.{◌≡◌, ℕ, zero, suc, Bool, true, false, List, [], ◌∷◌, length, drop, Option, Some, None, Result, Ok, Err, ◌≤◌, refl, arith}
+use Rattle.std.proofs.Common.{◌≡◌, ℕ, suc, Bool, true, false, List, [], ◌∷◌, length, drop, None, Result, Ok, Err, ◌≤◌, refl, arith}
 use Rattle.tcl_words.specs.declared.faults.WordFault.{WordFault}
 use Rattle.tcl_words.specs.declared.faults.WordFault.TheVariants.{MissingQuote, MissingParen}
-use Rattle.tcl_words.specs.Pieces.{Pieces, no_pieces, Spelled}
+use Rattle.tcl_words.specs.Pieces.{no_pieces, Spelled}
 use Rattle.tcl_words.specs.Commands.{Read, Inside, stops, stop_len, at_end, parts, plain_word, in_quotes, inside_of, words_at, after_word, word, script_at, after_nested_word, count_of}
 use Rattle.tcl_words.specs.Commands as commands
 use Rattle.tcl_grammar.specs.CommandRules.{Place, top, brackets, quotes, index, ends, left_at, ends_with_text, may_end}
