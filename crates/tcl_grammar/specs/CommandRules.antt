@@ -21,7 +21,7 @@ ends_command b = b == newline || b == semicolon
 abbrev pub is_gap : ℕ → List ℕ → Bool
 is_gap b s = is_blank b || ends_command b || (b == backslash && begins_with newline s)
 
--- what begins a line that a backslash before a newline continues, and belongs to that newline
+-- blanks and tabs, which belong to a backslash and a newline before them
 abbrev pub is_indent : ℕ → Bool
 is_indent b = b == space || b == tab
 
