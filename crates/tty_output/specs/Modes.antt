@@ -1,9 +1,9 @@
 -- A terminal's modes as words of stty(1) set them (POSIX.1-2017, XCU stty and XBD chapter 11), of which these words are known.
-use Rattle.std.specs.Prelude.{ℕ, ◌+◌, ◌==◌, List, [], ◌∷◌, codes, Bool, true, false, not, ◌||◌, if◌then◌else◌, Option, Some, None, Result, Ok, Err}
+use Rattle.std.specs.Prelude.{ℕ, ◌+◌, ◌==◌, List, [], ◌∷◌, codes, Bool, true, false, not, ◌||◌, if◌then◌else◌, Option, Some, None, Result, Ok, Err, is_some}
 use Rattle.std.specs.Str.{bytes_eq}
 use Rattle.tty_output.specs.declared.modes.Modes.{Modes}
 use Rattle.tty_output.specs.declared.modes.BadMode.{BadMode}
-use Rattle.tty_output.specs.Number.{is_number}
+use Rattle.tcl_expr.specs.Number.{number_of}
 
 -- as a terminal begins: all on
 abbrev pub sane : Modes
@@ -54,7 +54,7 @@ read_words None at (w ∷ ws) m =
     if names_size w then read_words (Some at) (at + 1) ws m
     else then_words at (set_by w m) (read_words None (at + 1) ws)
 read_words (Some size) at [] m = bad size
-read_words (Some size) at (w ∷ ws) m = if is_number w then read_words None (at + 1) ws m else bad size
+read_words (Some size) at (w ∷ ws) m = if is_some (number_of w) then read_words None (at + 1) ws m else bad size
 
 -- the words from the left, from a terminal as it begins
 abbrev pub read : List (List ℕ) → Result Modes BadMode

@@ -4,7 +4,6 @@
 #![tactic(auto)]
 
 mod modes;
-mod number;
 mod output;
 
 pub use modes::{BadMode, Modes};

@@ -4,7 +4,7 @@ ghost use Rattle.std.specs.Prelude.{◌≡◌};
 ghost use Rattle.std.specs.Str.{bytes_eq};
 ghost use Rattle.tty_output.specs.Modes.{sane, cooked, switched, set_by, names_size, read};
 
-use crate::number::is_number;
+use tcl_expr::read_number;
 use tcl_words::Text;
 
 /// The modes of a terminal, as POSIX.1-2017 XBD chapter 11 names them.
@@ -124,7 +124,7 @@ impl Modes {
         for (at, word) in words.iter().enumerate() {
             match size {
                 Some(named) => {
-                    if !is_number(word.as_slice()) {
+                    if read_number(word.as_slice()).is_none() {
                         return Err(BadMode { at: named });
                     }
                     size = None;

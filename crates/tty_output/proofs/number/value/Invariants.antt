@@ -1,9 +1,0 @@
-use Rattle.std.proofs.Common.{◌≡◌, ◌<◌, ◌^◌, drop}
-use Rattle.tty_output.specs.Number.{value_from}
-use Rattle.tty_output.proofs.number.value.Given as goal
-
-abbrev pub invariant-loop-b : goal.invariant-loop-b
-invariant-loop-b l = record {
-  same : value_from l.n (drop l.b-index l.digits) ≡ value_from 0 l.digits;
-  small : l.n < 10 ^ l.b-index;
-}
