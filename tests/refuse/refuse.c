@@ -1,7 +1,8 @@
 /* Loaded before a program, this refuses one growth: call number REFUSE_CALL of those that ask for memory,
-   counted from 1. When it refuses, it makes the file REFUSE_MARK. */
+   counted from 1, of whichever thread. When it refuses, it makes the file REFUSE_MARK. Children know nothing of this. */
 #include <errno.h>
 #include <fcntl.h>
+#include <stdatomic.h>
 #include <stddef.h>
 #include <stdlib.h>
 #include <unistd.h>
@@ -13,7 +14,12 @@ extern void *__libc_realloc(void *block, size_t size);
 extern void *__libc_memalign(size_t align, size_t size);
 
 static long refused_call = -1; /* -1: not read yet */
-static long calls;
+static atomic_long calls;
+
+__attribute__((constructor)) static void begin(void)
+{
+    unsetenv("LD_PRELOAD");
+}
 
 static int refuses(void)
 {
@@ -21,7 +27,7 @@ static int refuses(void)
         const char *number = getenv("REFUSE_CALL");
         refused_call = number ? atol(number) : 0;
     }
-    if (++calls != refused_call)
+    if (atomic_fetch_add(&calls, 1) + 1 != refused_call)
         return 0;
     const char *mark = getenv("REFUSE_MARK");
     int file = mark ? open(mark, O_WRONLY | O_CREAT, 0600) : -1;

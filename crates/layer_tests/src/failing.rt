@@ -2,9 +2,9 @@
 
 ghost use Rattle.std.specs.Prelude.{◌≡◌, ◌+◌, ◌^◌, ◌<◌, ◌≤◌, ⊤, OnOk, OnErr};
 
-use crate::served::script;
+use crate::served::{Open, Still, script};
 use child_events::{Answer, Cause};
-use child_keeper::{Clock, Gate, Keeper};
+use child_keeper::Keeper;
 use child_serve::{Served, serve};
 use session::{Ending, Report};
 use std::alloc::Global;
@@ -184,26 +184,6 @@ impl Keeper for Unlucky {
 
     fn failures(&self) -> u64 {
         self.failures
-    }
-}
-
-/// A clock that stands still.
-#[derive(Clone, Copy, Debug)]
-struct Still;
-
-impl Clock for Still {
-    fn now(&mut self) -> u64 {
-        0
-    }
-}
-
-/// A gate that is open.
-#[derive(Clone, Copy, Debug)]
-struct Open;
-
-impl Gate for Open {
-    fn pass(&self, _script: u8, _child: u8, _turn: u64) -> bool {
-        true
     }
 }
 

@@ -14,6 +14,8 @@ mod next;
 #[cfg(test)]
 mod pieces;
 #[cfg(test)]
+mod refused;
+#[cfg(test)]
 mod requests;
 #[cfg(test)]
 mod rings;

@@ -38,11 +38,32 @@ pub fn all_of_cat(served: &Served, count: usize) -> bool {
     reports.len() == count && reports.iter().all(is_of_cat)
 }
 
-fn is_of_cat(report: &Report) -> bool {
+/// Whether it is the report of [`CAT`] over a child that writes the line that it was sent.
+pub fn is_of_cat(report: &Report) -> bool {
     matches!(report.ending, Ending::Exit(0))
         && report.steps == 3
         && report.sent.as_slice() == [3].as_slice()
         && report.transcript.as_slice() == b"spawn cat\r\nhi\r\nhi\r\n".as_slice()
+}
+
+/// A clock that stands still.
+#[derive(Clone, Copy, Debug)]
+pub struct Still;
+
+impl Clock for Still {
+    fn now(&mut self) -> u64 {
+        0
+    }
+}
+
+/// A gate that is open.
+#[derive(Clone, Copy, Debug)]
+pub struct Open;
+
+impl Gate for Open {
+    fn pass(&self, _script: u8, _child: u8, _turn: u64) -> bool {
+        true
+    }
 }
 
 /// A clock that gains so many milliseconds in each reading.

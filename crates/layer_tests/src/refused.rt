@@ -1,0 +1,165 @@
+//! Runs of which tests/refuse refuses each growth in turn. What comes of one is what should, or memory was refused: to the call, as its fault says,
+//! or to one script, as its report says, and then the others have their own.
+
+use crate::keeper::Liner;
+use crate::served::{CAT, Open, Still, is_of_cat, script};
+use child_events::{own_event, read_log};
+use child_serve::serve;
+use dialogue_sched::{Script, run_all};
+use session::{Ending, Report, Session};
+use std::alloc::Global;
+use std::sync::Wait;
+use std::test::Fail;
+use std::thread::Threads;
+
+/// What a test ends with that met a refusal and nothing else.
+const REFUSED: &str = "memory was refused";
+
+const BROKEN: &[u8] = b"ok 1 1 5\nok 2 1 5\nbad 1 1 10 broken\nok 2 1 10\nout 2 1 20 68690a\n";
+
+fn is_refused(report: &Report) -> bool {
+    matches!(report.ending, Ending::Memory)
+}
+
+/// Whether it is the report of [`CAT`] whose child's input was broken.
+fn is_of_broken(report: &Report) -> bool {
+    matches!(report.ending, Ending::Error)
+        && report.steps == 2
+        && report.sent.as_slice() == [0].as_slice()
+        && report.transcript.as_slice() == b"spawn cat\r\n".as_slice()
+        && report.fault.as_slice() == b"write failed: broken".as_slice()
+}
+
+// Two scripts, of which the first can't write.
+#[test]
+fn run_of_two(rt: HostRuntime) -> Result<(), Fail> {
+    let alloc = rt.alloc();
+    let mut scripts = Vec::new(alloc);
+    scripts.push(script(alloc, CAT)?)?;
+    scripts.push(script(alloc, CAT)?)?;
+    let events = read_log(alloc, BROKEN)?;
+    let reports = run_all(alloc, scripts, events.as_slice())?;
+    let [first, second] = reports.as_slice() else {
+        return Err(Fail::from("not two reports"));
+    };
+    assert!(rt; is_of_broken(first) || is_refused(first) && is_of_cat(second));
+    assert!(rt; is_of_cat(second) || is_refused(second));
+    if is_refused(first) || is_refused(second) {
+        return Err(Fail::from(REFUSED));
+    }
+    Ok(())
+}
+
+/// Whether a session that is fed the events of a log ends well with this transcript, unless it was refused memory.
+fn ends_with(alloc: Global, source: &[u8], log: &[u8], transcript: &[u8]) -> Result<bool, Fail> {
+    let Script { source, settings } = script(alloc, source)?;
+    let events = read_log(alloc, log)?;
+    let mut session = Session::new(alloc, source, settings)?;
+    for event in events.as_slice() {
+        if let Some(event) = own_event(alloc, 1, event)? {
+            session.feed(event);
+        }
+    }
+    let report = session.report_or_memory();
+    if is_refused(&report) {
+        return Err(Fail::from(REFUSED));
+    }
+    Ok(matches!(report.ending, Ending::Exit(0)) && report.transcript.as_slice() == transcript)
+}
+
+#[test]
+fn session_with_indices(rt: HostRuntime) -> Result<(), Fail> {
+    let well = ends_with(
+        rt.alloc(),
+        b"spawn p; expect -indices -re {b(b*).*(k+)}; foreach n {0 1 2} {puts \"$expect_out($n,start) $expect_out($n,end)\"}",
+        b"ok 1 1 1\nout 1 1 2 616262626361626b6b6b6b610a\n",
+        b"spawn p\r\nabbbcabkkkka\r\n1 10\n2 3\n10 10\n",
+    )?;
+    assert!(rt; well);
+    Ok(())
+}
+
+#[test]
+fn session_whose_spawn_fails(rt: HostRuntime) -> Result<(), Fail> {
+    let well = ends_with(
+        rt.alloc(),
+        b"if {[catch {spawn nosuch} m]} {puts $m}",
+        b"bad 1 1 3 notfound\n",
+        b"spawn nosuch\r\ncouldn't execute \"nosuch\": notfound\n",
+    )?;
+    assert!(rt; well);
+    Ok(())
+}
+
+#[test]
+fn session_that_waits_for_children(rt: HostRuntime) -> Result<(), Fail> {
+    let well = ends_with(
+        rt.alloc(),
+        b"spawn p; puts [wait]; spawn q; puts [wait]; catch {wait} m; puts $m",
+        b"ok 1 1 1\nexit 1 1 2 3\nok 1 2 3\nkilled 1 2 4\n",
+        b"spawn p\r\n1 exp1 0 3\nspawn q\r\n2 exp2 0 -1 CHILDKILLED unknown unknown\nspawn id exp2 already waited for\n",
+    )?;
+    assert!(rt; well);
+    Ok(())
+}
+
+#[test]
+fn session_of_expressions(rt: HostRuntime) -> Result<(), Fail> {
+    let well = ends_with(
+        rt.alloc(),
+        b"puts [expr {-7 / 2}]; puts [expr {-7 % 2}]; catch {expr {-9223372036854775808 / -1}} m; puts $m; catch {expr {1 / 0}} m; puts $m; puts [expr {0 && [exit 9]}]",
+        b"",
+        b"-4\n1\ninteger overflow\ndivide by zero\n0\n",
+    )?;
+    assert!(rt; well);
+    Ok(())
+}
+
+#[test]
+fn session_that_writes_a_list(rt: HostRuntime) -> Result<(), Fail> {
+    let well = ends_with(
+        rt.alloc(),
+        b"set l [list x {b c} {} a\\{b]; puts $l",
+        b"",
+        b"x {b c} {} a\\{b\n",
+    )?;
+    assert!(rt; well);
+    Ok(())
+}
+
+/// Serves three scripts, and says whether all reports are those of [`CAT`] but for one at most.
+fn serves_three<W: Threads + Wait + std::time::Clock + Copy + Send + Drop + 'static>(
+    rt: W,
+    alloc: Global,
+    workers: usize,
+) -> Result<bool, Fail> {
+    let mut scripts = Vec::new(alloc);
+    let mut keepers = Vec::new(alloc);
+    for _ in 0..3u8 {
+        scripts.push(script(alloc, CAT)?)?;
+        keepers.push(Liner::new(None, true))?;
+    }
+    let mut clocks = Vec::new(alloc);
+    for _ in 0..workers {
+        clocks.push(Still)?;
+    }
+    let served = serve(rt, alloc, scripts, keepers, clocks, Open)?;
+    let reports = served.reports.as_slice();
+    let others = reports.iter().filter(|report| !is_of_cat(report)).count();
+    if reports.len() == 3 && others == 1 {
+        return Err(Fail::from(REFUSED));
+    }
+    Ok(reports.len() == 3 && others == 0 && served.unsettled.is_empty())
+}
+
+#[test]
+fn three_by_one_worker(rt: HostRuntime) -> Result<(), Fail> {
+    assert!(rt; serves_three(rt, rt.alloc(), 1)?);
+    Ok(())
+}
+
+#[test]
+fn three_by_three_workers(rt: HostRuntime) -> Result<(), Fail> {
+    assert!(rt; serves_three(rt, rt.alloc(), 3)?);
+    Ok(())
+}
