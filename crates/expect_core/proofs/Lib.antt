@@ -20,4 +20,5 @@ pub mod Asleep
 pub mod Pushing
 pub mod Steps
 pub mod Apart
+pub mod Asking
 pub mod Worlds

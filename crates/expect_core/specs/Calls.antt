@@ -1,5 +1,5 @@
 -- What each call of a dialogue comes to.
-use Rattle.std.specs.Prelude.{◌≡◌, ℕ, List, [], ◌∷◌, codes, Bool, true, IsTrue, is_some, if◌then◌else◌, Option, Some, None}
+use Rattle.std.specs.Prelude.{◌≡◌, ℕ, List, [], ◌∷◌, codes, Bool, true, false, IsTrue, is_some, if◌then◌else◌, Option, Some, None}
 use Rattle.std.specs.Str.{bytes_eq}
 use Rattle.child_events.specs.declared.event.Answer.{Answer}
 use Rattle.child_events.specs.declared.event.Event.{Event}
@@ -104,9 +104,11 @@ onward e (Stop n, vars, st) = (Stop n, vars, offered e st)
 onward e (Unknown, vars, st) = (Unknown, vars, offered e st)
 onward e (Memory, vars, st) = (Memory, vars, offered e st)
 
--- a call came to this step, these variables and this dialogue; where memory was refused, nothing is said
+-- A call came to this step, these variables and this dialogue. Where memory was refused, then or before, the step says so, and nothing else
+-- is said.
 abbrev pub Comes : Dialogue → Call → HostStep → Variables → Dialogue → Type 0
-Comes old call step vars new = IsTrue new.lives → IsTrue old.lives × (outcome call old ≡ (step, vars, new))
+Comes old call step vars new =
+    (IsTrue new.lives → IsTrue old.lives × (outcome call old ≡ (step, vars, new))) × (new.lives ≡ false → step ≡ Memory)
 
 -- the reply to a call, and the dialogue behind it
 abbrev pub IsReply : Dialogue → Call → Reply → Dialogue → Type 0

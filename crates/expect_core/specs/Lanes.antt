@@ -1,5 +1,5 @@
 -- What came from each child and was not taken yet, and how an event adds to it.
-use Rattle.std.specs.Prelude.{ℕ, ◌-◌, ◌==◌, max, List, [], ◌∷◌, ◌++◌, replicate, Bool, true, false, if◌then◌else◌, slice_set, slice_index_or}
+use Rattle.std.specs.Prelude.{◌≡◌, ℕ, ◌-◌, ◌==◌, max, List, [], ◌∷◌, ◌++◌, replicate, Bool, true, false, if◌then◌else◌, slice_set, slice_index_or}
 use Rattle.child_events.specs.declared.event.Answer.{Answer}
 use Rattle.child_events.specs.declared.event.What.{What}
 use Rattle.child_events.specs.declared.event.What.TheVariants as what
@@ -60,6 +60,11 @@ offered e st = record st {
   horizon = max st.horizon (moment_of e);
   lanes = arrived e (max st.horizon (moment_of e)) st.lanes;
 }
+
+-- A tick asks for no memory, so a dialogue lives on behind it.
+abbrev pub OutlivesTicks : Event → Dialogue → Dialogue → Type 0
+OutlivesTicks (event.Tick m) old new = new.lives ≡ old.lives
+OutlivesTicks (event.Child c m w) old new = Unit {0}
 
 -- events more, one after another
 abbrev pub extended : List Event → Dialogue → Dialogue

@@ -4,7 +4,7 @@ ghost use Rattle.std.specs.Prelude.{◌≡◌, map, IfOk, OnOk, IsTrue, None};
 ghost use Rattle.child_events.specs.declared.event.Answer.{Answer};
 ghost use Rattle.tcl_subst.specs.Variables.{Variables};
 ghost use Rattle.expect_core.specs.Good.{Good};
-ghost use Rattle.expect_core.specs.Lanes.{offered, untaken_of};
+ghost use Rattle.expect_core.specs.Lanes.{offered, untaken_of, OutlivesTicks};
 ghost use Rattle.expect_core.specs.Answered.{Outcome, failure as failure_of, after_answer, awaited as awaited_of};
 ghost use Rattle.expect_core.specs.Calls.{fresh};
 ghost use Rattle.expect_core.specs.declared.phase.Purpose.{Purpose};
@@ -95,9 +95,10 @@ impl Dialogue {
 
     /// Puts what came behind what is there. Its moment is raised to the greatest one before it.
     ///
-    /// Where memory is refused, the dialogue doesn't live on, and nothing is said of it any more.
+    /// Where memory is refused, the dialogue doesn't live on, and nothing is said of it any more. A tick asks for none.
     pub fn offer(&mut self, event: Event)
         ensures lived { IsTrue self.new.lives → IsTrue self.old.lives }
+        ensures ticks { OutlivesTicks event self.old self.new }
         ensures came { Good self.old → IsTrue self.new.lives → self.new ≡ offered event self.old }
     {
         if !self.lives {

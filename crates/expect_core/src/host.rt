@@ -1,6 +1,6 @@
 //! A dialogue as the host of a script.
 
-ghost use Rattle.std.specs.Prelude.{◌≡◌, IfOk};
+ghost use Rattle.std.specs.Prelude.{◌≡◌, false, IfOk};
 ghost use Rattle.expect_core.specs.Answered.{idle};
 ghost use Rattle.expect_core.specs.Calls.{begun as begun_of, expecting_by, name_of as name_meant, named as named_of, resumed, IsReply};
 ghost use Rattle.expect_core.specs.Expecting.{behind as behind_of, expecting, listed as listed_of};
@@ -149,17 +149,18 @@ impl Dialogue {
         self.behind(alloc, vars, code, value)
     }
 
-    /// The step, or the end where memory was refused.
+    /// The step, or the end where memory was refused: the dialogue doesn't live on, and the step says so.
     fn or_memory(&mut self, step: Result<HostStep, AllocError>) -> HostStep
-        ensures { OrMemory self.old step result self.new }
+        ensures step { OrMemory self.old step result self.new }
+        ensures refused { self.new.lives ≡ false → result ≡ HostStep.Memory }
     {
-        match step {
-            Ok(step) => step,
-            Err(_) => {
-                self.lives = false;
-                HostStep::Memory
+        if let Ok(step) = step {
+            if self.lives {
+                return step;
             }
         }
+        self.lives = false;
+        HostStep::Memory
     }
 }
 

@@ -125,10 +125,10 @@ good_along call d s vars d' g e = subst (λ (x : Outcome). GoodAfter x) e (outco
 
 -- what a reply says of the dialogue before it
 lived_by : (call : Call) (r : Reply) (d d' : Dialogue) → IsReply d call r d' → IsTrue d'.lives → IsTrue d.lives
-lived_by (Begin words w) (Stepped s vars) d d' a lives = (a lives).0
-lived_by (Resume w) (Stepped s vars) d d' a lives = (a lives).0
-lived_by (AfterWords words w) (Stepped s vars) d d' a lives = (a lives).0
-lived_by (AfterBody c value w) (Stepped s vars) d d' a lives = (a lives).0
+lived_by (Begin words w) (Stepped s vars) d d' a lives = (a.0 lives).0
+lived_by (Resume w) (Stepped s vars) d d' a lives = (a.0 lives).0
+lived_by (AfterWords words w) (Stepped s vars) d d' a lives = (a.0 lives).0
+lived_by (AfterBody c value w) (Stepped s vars) d d' a lives = (a.0 lives).0
 lived_by (Knows word) (Known b) d d' a lives = subst (λ (x : Dialogue). IsTrue x.lives) a.1 lives
 lived_by (Knows word) (Stepped s vars) d d' a lives = absurd a
 lived_by (Begin words w) (Known b) d d' a lives = absurd a
@@ -155,10 +155,10 @@ told_step call left go s vars d d' t g e = record {
 }
 
 step_by : (call : Call) (left : ℕ) (go : Reply → Tree) (r : Reply) (d d' : Dialogue) → Good d → IsReply d call r d' → IsTrue d'.lives → Steps (Ask call left go) r d d'
-step_by (Begin words w) left go (Stepped s vars) d d' g a lives = told_step (Begin words w) left go s vars d d' tt g (a lives).1
-step_by (Resume w) left go (Stepped s vars) d d' g a lives = told_step (Resume w) left go s vars d d' tt g (a lives).1
-step_by (AfterWords words w) left go (Stepped s vars) d d' g a lives = told_step (AfterWords words w) left go s vars d d' tt g (a lives).1
-step_by (AfterBody c value w) left go (Stepped s vars) d d' g a lives = told_step (AfterBody c value w) left go s vars d d' tt g (a lives).1
+step_by (Begin words w) left go (Stepped s vars) d d' g a lives = told_step (Begin words w) left go s vars d d' tt g (a.0 lives).1
+step_by (Resume w) left go (Stepped s vars) d d' g a lives = told_step (Resume w) left go s vars d d' tt g (a.0 lives).1
+step_by (AfterWords words w) left go (Stepped s vars) d d' g a lives = told_step (AfterWords words w) left go s vars d d' tt g (a.0 lives).1
+step_by (AfterBody c value w) left go (Stepped s vars) d d' g a lives = told_step (AfterBody c value w) left go s vars d d' tt g (a.0 lives).1
 step_by (Knows word) left go (Known b) d d' g a lives = record {
   good = subst Good (sym a.1) g;
   same = λ bound es. ap (λ (k : Bool). play bound (go (Known k)) (extended es d)) (sym a.0) ∙ ap (λ (x : Dialogue). play bound (go (Known b)) (extended es x)) (sym a.1);
@@ -205,10 +205,10 @@ told_waits call left go s vars d mid t' d' g e w same there = record {
     came = e ∙ ap (λ (x : HostStep). let y : Outcome = (x, vars, mid) in y) w
 
 last_waits : (call : Call) (left : ℕ) (go : Reply → Tree) (r : Reply) (d mid : Dialogue) (t' : Tree) (d' : Dialogue) → Good d → IsReply d call r mid → IsTrue mid.lives → EndsInWait (r ∷ []) → follow (Ask call left go) r ≡ t' → mid ≡ d' → Waiting t' d'
-last_waits (Begin words w) left go (Stepped s vars) d mid t' d' g a lives ends same there = told_waits (Begin words w) left go s vars d mid t' d' g (a lives).1 ends same there
-last_waits (Resume w) left go (Stepped s vars) d mid t' d' g a lives ends same there = told_waits (Resume w) left go s vars d mid t' d' g (a lives).1 ends same there
-last_waits (AfterWords words w) left go (Stepped s vars) d mid t' d' g a lives ends same there = told_waits (AfterWords words w) left go s vars d mid t' d' g (a lives).1 ends same there
-last_waits (AfterBody c value w) left go (Stepped s vars) d mid t' d' g a lives ends same there = told_waits (AfterBody c value w) left go s vars d mid t' d' g (a lives).1 ends same there
+last_waits (Begin words w) left go (Stepped s vars) d mid t' d' g a lives ends same there = told_waits (Begin words w) left go s vars d mid t' d' g (a.0 lives).1 ends same there
+last_waits (Resume w) left go (Stepped s vars) d mid t' d' g a lives ends same there = told_waits (Resume w) left go s vars d mid t' d' g (a.0 lives).1 ends same there
+last_waits (AfterWords words w) left go (Stepped s vars) d mid t' d' g a lives ends same there = told_waits (AfterWords words w) left go s vars d mid t' d' g (a.0 lives).1 ends same there
+last_waits (AfterBody c value w) left go (Stepped s vars) d mid t' d' g a lives ends same there = told_waits (AfterBody c value w) left go s vars d mid t' d' g (a.0 lives).1 ends same there
 last_waits (Knows word) left go (Known b) d mid t' d' g a lives ends same there = absurd ends
 last_waits (Knows word) left go (Stepped s vars) d mid t' d' g a lives ends same there = absurd a
 last_waits (Begin words w) left go (Known b) d mid t' d' g a lives ends same there = absurd a

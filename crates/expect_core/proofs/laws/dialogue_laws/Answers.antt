@@ -4,6 +4,7 @@ use Rattle.expect_core.proofs.Fronts.{outcome_told}
 use Rattle.expect_core.proofs.Numbered.{numbered_fresh, outcome_numbered}
 use Rattle.expect_core.proofs.Moments.{good_offered}
 use Rattle.expect_core.proofs.Asleep.{waits_on}
+use Rattle.expect_core.proofs.Asking.{answers_asked}
 use Rattle.expect_core.proofs.Worlds.{holds_worlds}
 use Rattle.expect_core.proofs.laws.dialogue_laws.Goals as goal
 
@@ -24,3 +25,6 @@ returns-clause-holds_worlds c = holds_worlds
 
 pub returns-clause-waits_on : goal.returns-clause-waits_on
 returns-clause-waits_on c = waits_on
+
+pub returns-clause-answers_asked : goal.returns-clause-answers_asked
+returns-clause-answers_asked c = answers_asked
