@@ -5,3 +5,4 @@ pub mod Grows
 pub mod Numbering
 pub mod Quieting
 pub mod Readying
+pub mod Sparing

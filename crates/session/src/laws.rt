@@ -2,6 +2,7 @@
 
 ghost use Rattle.session.specs.Growth.{EndingStays, OnlyGrows};
 ghost use Rattle.session.specs.Requests.{AllNameAChild, StaysAsking};
+ghost use Rattle.session.specs.Spent.{NoneMeansMemory, StaysSpared};
 
 /// More events only make a waiting script go on. So each request of a report is handed out once, in order, whenever the events that come
 /// later are known. It does nothing when it runs.
@@ -15,4 +16,11 @@ pub fn growth()
 pub fn request_law()
     ensures asked { AllNameAChild }
     ensures handed { StaysAsking }
+{}
+
+/// No script means the ending for want of memory, whatever its source, its settings and its events are. So a session that lives never says
+/// it, from its start on and whatever it was fed: where a report has it, memory was refused. It does nothing when it runs.
+pub fn no_meaning_is_memory()
+    ensures meant { NoneMeansMemory }
+    ensures said { StaysSpared }
 {}

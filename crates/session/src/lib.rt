@@ -10,7 +10,7 @@ mod session;
 mod show;
 
 pub use expect_core::{Act, Pairs, Request, Requests, Settings};
-pub use laws::{growth, request_law};
+pub use laws::{growth, no_meaning_is_memory, request_law};
 pub use report::{Counts, Report};
 pub use session::{NewFault, SOURCE_LIMIT, STEPS_LIMIT, Session};
 pub use tcl_eval::Ending;
