@@ -38,7 +38,9 @@ use Rattle.expect_core.specs.Answered.{Outcome, idle, on_said, owning, failure, 
 use Rattle.expect_core.specs.Spawning.{spawned, announced, current, stored, started, with_new, spawning_as, order_of}
 use Rattle.expect_core.specs.Sending.{act_of, counted, sent_by, handing, handed, echoed, sending_to, send_of}
 use Rattle.expect_core.specs.Expecting.{Pairs, met_pairs, groups_from, entry_of, end_of, ended, broken, listed, plan_of, met, matched, all_met, acting_at, let_go, by_heard, concluded, listening, looking, expecting, again, behind, shut}
-use Rattle.expect_core.specs.Others.{put_of, to_user, writing, continued, closed_by, closed, close_of, wait_of, waited, logging_as, logging}
+use Rattle.expect_core.specs.Again.{continued}
+use Rattle.expect_core.specs.Ends.{closed_by, closed, close_of, wait_of, waited}
+use Rattle.expect_core.specs.Transcript.{put_of, to_user, writing, logging_as, logging}
 use Rattle.expect_core.specs.Options.{option_of, size_of, sizing_at, removal_of, removing_at}
 use Rattle.expect_core.specs.Texts.{id_at}
 use Rattle.expect_core.specs.Calls.{name_of, expecting_by, named, settled, resuming, outcome}
