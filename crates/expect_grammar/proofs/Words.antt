@@ -4,15 +4,17 @@ use Rattle.std.proofs.lemmas.Bool.{cond_both, or_cases}
 use Rattle.std.proofs.lemmas.Slice.Eq.{bytes_eq-Decides}
 use Rattle.std.specs.Str.{bytes_eq}
 use Rattle.tcl_words.specs.Lists.{begins_with}
-use Rattle.exp_match.specs.Arguments.{is_dash, plain_role, way_role, role_of}
+use Rattle.exp_match.specs.Arguments.{with_mark, is_dash, plain_role, way_role, role_of}
 use Rattle.exp_match.specs.declared.entry.Keyword.{Keyword}
 use Rattle.exp_match.specs.declared.entry.Keyword.TheVariants as key
-use Rattle.exp_match.specs.declared.pending.Mark.TheVariants as mark
+use Rattle.exp_match.specs.declared.pending.Mark.{Mark}
+use Rattle.exp_match.specs.declared.pending.Mark.TheVariants as kind
+use Rattle.exp_match.specs.declared.pending.Marks.{Marks}
 use Rattle.exp_match.specs.declared.pending.Way.{Way}
 use Rattle.exp_match.specs.declared.pending.Way.TheVariants as way
 use Rattle.exp_match.specs.declared.pending.Role.{Role}
 use Rattle.exp_match.specs.declared.pending.Role.TheVariants as role
-use Rattle.expect_grammar.specs.ArgumentRules.{IsKeyword, IsWay, IsPlain}
+use Rattle.expect_grammar.specs.ArgumentRules.{no_flags, IsMark, IsKeyword, IsWay, IsFlag, IsUnknown, IsPlain}
 
 -- ---- From the rules to the function
 
@@ -32,17 +34,17 @@ keyword_is word k IsKeyword.timeout = refl
 keyword_is word k IsKeyword.default = refl
 keyword_is word k IsKeyword.full_buffer = refl
 
-pub nocase_is : role_of (codes "-nocase") ≡ role.Mark mark.Nocase
-unfolding role_of
-nocase_is = refl
+-- what follows a flag for the next pattern
+pub record Marked (word : List ℕ) (m n : Marks) : Type 0 where
+  pub k : Mark
+  pub is : role_of word ≡ role.Mark k
+  pub flags : with_mark m k ≡ n
 
-pub indices_is : role_of (codes "-indices") ≡ role.Mark mark.Indices
+pub mark_is : (word : List ℕ) (m n : Marks) → IsMark word m n → Marked word m n
 unfolding role_of
-indices_is = refl
-
-pub notransfer_is : role_of (codes "-notransfer") ≡ role.Mark mark.Notransfer
-unfolding role_of
-notransfer_is = refl
+mark_is word m n (IsMark.nocase f) = record { k = kind.Nocase; is = refl; flags = refl }
+mark_is word m n (IsMark.indices f) = record { k = kind.Indices; is = refl; flags = refl }
+mark_is word m n (IsMark.notransfer f) = record { k = kind.Notransfer; is = refl; flags = refl }
 
 pub id_is : role_of (codes "-i") ≡ role.Id
 unfolding role_of
@@ -60,6 +62,11 @@ differ word name other = by (bytes_eq word name) refl
     by true e = absurd (other ((bytes_eq-Decides word name).0 e))
     by false e = refl
 
+-- a `-` at its front
+dash_is : (word : List ℕ) → begins_with 45 word ≡ is_dash word
+dash_is [] = refl
+dash_is (b ∷ s) = refl
+
 plain_word : (word : List ℕ) → IsPlain word → plain_role word ≡ role.Glob
 plain_word word p =
     let n = differ word (codes "null") p.1 in
@@ -67,11 +74,7 @@ plain_word word p =
     let t = differ word (codes "timeout") (λ z. p.2 key.Timeout (subst (λ w. IsKeyword w key.Timeout) (sym z) IsKeyword.timeout)) in
     let d = differ word (codes "default") (λ z. p.2 key.Default (subst (λ w. IsKeyword w key.Default) (sym z) IsKeyword.default)) in
     let f = differ word (codes "full_buffer") (λ z. p.2 key.FullBuffer (subst (λ w. IsKeyword w key.FullBuffer) (sym z) IsKeyword.full_buffer)) in
-    rw (dashless word p.0, n, e, t, d, f) refl
-  where
-    dashless : (w : List ℕ) → begins_with 45 w ≡ false → is_dash w ≡ false
-    dashless [] z = refl
-    dashless (b ∷ s) z = z
+    rw (sym (dash_is word) ∙ p.0, n, e, t, d, f) refl
 
 -- a word without a `-` at its front is no flag
 no_flag : (word : List ℕ) → begins_with 45 word ≡ false → role_of word ≡ plain_role word
@@ -82,19 +85,47 @@ no_flag (b ∷ s) e = rw e refl
 pub plain_is : (word : List ℕ) → IsPlain word → role_of word ≡ role.Glob
 plain_is word p = no_flag word p.0 ∙ plain_word word p
 
+nocase_flag : IsFlag (codes "-nocase")
+nocase_flag = IsFlag.mark (codes "-nocase") no_flags _ (IsMark.nocase no_flags)
+
+indices_flag : IsFlag (codes "-indices")
+indices_flag = IsFlag.mark (codes "-indices") no_flags _ (IsMark.indices no_flags)
+
+notransfer_flag : IsFlag (codes "-notransfer")
+notransfer_flag = IsFlag.mark (codes "-notransfer") no_flags _ (IsMark.notransfer no_flags)
+
+-- a word that is no flag isn't this one
+no_name : (word name : List ℕ) → ¬ IsFlag word → IsFlag name → bytes_eq word name ≡ false
+no_name word name other f = differ word name (λ e. other (subst (λ w. IsFlag w) (sym e) f))
+
+pub unknown_is : (word : List ℕ) → IsUnknown word → role_of word ≡ role.Bad
+unfolding role_of
+unknown_is word (IsUnknown.no_flag v e other) =
+    let c = no_name word (codes "-nocase") other nocase_flag in
+    let i = no_name word (codes "-indices") other indices_flag in
+    let n = no_name word (codes "-notransfer") other notransfer_flag in
+    let d = no_name word (codes "-i") other IsFlag.id in
+    let t = no_name word (codes "-timeout") other IsFlag.timeout in
+    let x = no_name word (codes "-ex") other (IsFlag.written (codes "-ex") way.Exact IsWay.ex) in
+    let exact = no_name word (codes "-exact") other (IsFlag.written (codes "-exact") way.Exact IsWay.exact) in
+    let g = no_name word (codes "-gl") other (IsFlag.written (codes "-gl") way.Glob IsWay.gl) in
+    let glob = no_name word (codes "-glob") other (IsFlag.written (codes "-glob") way.Glob IsWay.glob) in
+    let r = no_name word (codes "-re") other (IsFlag.written (codes "-re") way.Regular IsWay.re) in
+    let regexp = no_name word (codes "-regexp") other (IsFlag.written (codes "-regexp") way.Regular IsWay.regexp) in
+    rw (c, i, n, d, t, x, exact, g, glob, r, regexp, sym (dash_is word) ∙ e) refl
+unknown_is word IsUnknown.null = refl
+
 -- ---- From the function to the rules
 
 -- what a word of a role is
 pub data RoleIs : List ℕ → Role → Type 0 where
-  nocase : RoleIs (codes "-nocase") (role.Mark mark.Nocase)
-  indices : RoleIs (codes "-indices") (role.Mark mark.Indices)
-  notransfer : RoleIs (codes "-notransfer") (role.Mark mark.Notransfer)
+  mark : (word : List ℕ) (k : Mark) → ((m : Marks) → IsMark word m (with_mark m k)) → RoleIs word (role.Mark k)
   id : RoleIs (codes "-i") role.Id
   timeout : RoleIs (codes "-timeout") role.Timeout
   written : (word : List ℕ) (w : Way) → IsWay word w → RoleIs word (role.Written w)
   keyword : (word : List ℕ) (k : Keyword) → IsKeyword word k → RoleIs word (role.Keyword k)
   plain : (word : List ℕ) → IsPlain word → RoleIs word role.Glob
-  bad : (word : List ℕ) → RoleIs word role.Bad
+  unknown : (word : List ℕ) → IsUnknown word → RoleIs word role.Bad
 
 -- a word that a test found
 found : (word name : List ℕ) (P : List ℕ → Type 0) → P name → bytes_eq word name ≡ true → P word
@@ -119,13 +150,11 @@ neither : (a b : Bool) → a || b ≡ false → (a ≡ false) × (b ≡ false)
 neither true b e = absurd (cc)
 neither false b e = (refl, e)
 
-dashless : (word : List ℕ) → is_dash word ≡ false → begins_with 45 word ≡ false
-dashless [] e = refl
-dashless (b ∷ s) e = e
-
-of_plain : (word : List ℕ) → RoleIs word (plain_role word)
-of_plain word =
-    cond_both (is_dash word || bytes_eq word (codes "null")) _ _ (RoleIs word) (λ e. RoleIs.bad word)
+of_plain : (word : List ℕ) → ¬ IsFlag word → RoleIs word (plain_role word)
+of_plain word other =
+    cond_both (is_dash word || bytes_eq word (codes "null")) _ _ (RoleIs word)
+    (λ z. RoleIs.unknown word (⊎_elim (λ d. IsUnknown.no_flag word (dash_is word ∙ d) other) (found word (codes "null") (λ w. IsUnknown w) IsUnknown.null)
+    (or_cases (is_dash word) (bytes_eq word (codes "null")) z)))
     (λ n. cond_both (bytes_eq word (codes "eof")) _ _ (RoleIs word) (λ z. RoleIs.keyword word key.Eof (found word (codes "eof") (λ w. IsKeyword w key.Eof) IsKeyword.eof z))
     (λ e. cond_both (bytes_eq word (codes "timeout")) _ _ (RoleIs word)
     (λ z. RoleIs.keyword word key.Timeout (found word (codes "timeout") (λ w. IsKeyword w key.Timeout) IsKeyword.timeout z))
@@ -134,25 +163,47 @@ of_plain word =
     (λ d. cond_both (bytes_eq word (codes "full_buffer")) _ _ (RoleIs word)
     (λ z. RoleIs.keyword word key.FullBuffer (found word (codes "full_buffer") (λ w. IsKeyword w key.FullBuffer) IsKeyword.full_buffer z))
     (λ f. let p = neither (is_dash word) (bytes_eq word (codes "null")) n in
-    RoleIs.plain word (dashless word p.0, missed word (codes "null") p.1, no_keyword word e t d f))))))
+    RoleIs.plain word (dash_is word ∙ p.0, missed word (codes "null") p.1, no_keyword word e t d f))))))
 
-of_way : (word : List ℕ) → RoleIs word (way_role word)
-of_way word =
+never : true ≡ false → ⊥
+never e = cc
+
+-- a word that is none of the flags
+no_flag_at_all : (word : List ℕ) → bytes_eq word (codes "-nocase") ≡ false → bytes_eq word (codes "-indices") ≡ false → bytes_eq word (codes "-notransfer") ≡ false
+    → bytes_eq word (codes "-i") ≡ false → bytes_eq word (codes "-timeout") ≡ false → bytes_eq word (codes "-ex") || bytes_eq word (codes "-exact") ≡ false
+    → bytes_eq word (codes "-gl") || bytes_eq word (codes "-glob") ≡ false → bytes_eq word (codes "-re") || bytes_eq word (codes "-regexp") ≡ false → ¬ IsFlag word
+no_flag_at_all word c i n d t x g r (IsFlag.mark v before behind (IsMark.nocase f)) = never c
+no_flag_at_all word c i n d t x g r (IsFlag.mark v before behind (IsMark.indices f)) = never i
+no_flag_at_all word c i n d t x g r (IsFlag.mark v before behind (IsMark.notransfer f)) = never n
+no_flag_at_all word c i n d t x g r (IsFlag.written v w IsWay.ex) = never x
+no_flag_at_all word c i n d t x g r (IsFlag.written v w IsWay.exact) = never x
+no_flag_at_all word c i n d t x g r (IsFlag.written v w IsWay.gl) = never g
+no_flag_at_all word c i n d t x g r (IsFlag.written v w IsWay.glob) = never g
+no_flag_at_all word c i n d t x g r (IsFlag.written v w IsWay.re) = never r
+no_flag_at_all word c i n d t x g r (IsFlag.written v w IsWay.regexp) = never r
+no_flag_at_all word c i n d t x g r IsFlag.id = never d
+no_flag_at_all word c i n d t x g r IsFlag.timeout = never t
+
+of_way : (word : List ℕ) → (bytes_eq word (codes "-ex") || bytes_eq word (codes "-exact") ≡ false → bytes_eq word (codes "-gl") || bytes_eq word (codes "-glob") ≡ false
+    → bytes_eq word (codes "-re") || bytes_eq word (codes "-regexp") ≡ false → ¬ IsFlag word) → RoleIs word (way_role word)
+of_way word other =
     cond_both (bytes_eq word (codes "-ex") || bytes_eq word (codes "-exact")) _ _ (RoleIs word)
     (λ z. RoleIs.written word way.Exact (either word (codes "-ex") (codes "-exact") (λ w. IsWay w way.Exact) IsWay.ex IsWay.exact z))
     (λ x. cond_both (bytes_eq word (codes "-gl") || bytes_eq word (codes "-glob")) _ _ (RoleIs word)
     (λ z. RoleIs.written word way.Glob (either word (codes "-gl") (codes "-glob") (λ w. IsWay w way.Glob) IsWay.gl IsWay.glob z))
     (λ g. cond_both (bytes_eq word (codes "-re") || bytes_eq word (codes "-regexp")) _ _ (RoleIs word)
     (λ z. RoleIs.written word way.Regular (either word (codes "-re") (codes "-regexp") (λ w. IsWay w way.Regular) IsWay.re IsWay.regexp z))
-    (λ r. of_plain word)))
+    (λ r. of_plain word (other x g r))))
+
+of_mark : (word name : List ℕ) (k : Mark) → ((m : Marks) → IsMark name m (with_mark m k)) → bytes_eq word name ≡ true → RoleIs word (role.Mark k)
+of_mark word name k h = found word name (λ w. RoleIs w (role.Mark k)) (RoleIs.mark name k h)
 
 pub role_is : (word : List ℕ) → RoleIs word (role_of word)
 unfolding role_of
 role_is word =
-    cond_both (bytes_eq word (codes "-nocase")) _ _ (RoleIs word) (found word (codes "-nocase") (λ w. RoleIs w (role.Mark mark.Nocase)) RoleIs.nocase)
-    (λ c. cond_both (bytes_eq word (codes "-indices")) _ _ (RoleIs word) (found word (codes "-indices") (λ w. RoleIs w (role.Mark mark.Indices)) RoleIs.indices)
-    (λ i. cond_both (bytes_eq word (codes "-notransfer")) _ _ (RoleIs word)
-    (found word (codes "-notransfer") (λ w. RoleIs w (role.Mark mark.Notransfer)) RoleIs.notransfer)
+    cond_both (bytes_eq word (codes "-nocase")) _ _ (RoleIs word) (of_mark word (codes "-nocase") kind.Nocase (λ m. IsMark.nocase m))
+    (λ c. cond_both (bytes_eq word (codes "-indices")) _ _ (RoleIs word) (of_mark word (codes "-indices") kind.Indices (λ m. IsMark.indices m))
+    (λ i. cond_both (bytes_eq word (codes "-notransfer")) _ _ (RoleIs word) (of_mark word (codes "-notransfer") kind.Notransfer (λ m. IsMark.notransfer m))
     (λ n. cond_both (bytes_eq word (codes "-i")) _ _ (RoleIs word) (found word (codes "-i") (λ w. RoleIs w role.Id) RoleIs.id)
     (λ d. cond_both (bytes_eq word (codes "-timeout")) _ _ (RoleIs word) (found word (codes "-timeout") (λ w. RoleIs w role.Timeout) RoleIs.timeout)
-    (λ t. of_way word)))))
+    (λ t. of_way word (no_flag_at_all word c i n d t))))))

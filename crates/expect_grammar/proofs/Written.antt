@@ -11,10 +11,12 @@ use Rattle.exp_match.specs.declared.pending.Marks.{Marks}
 use Rattle.exp_match.specs.declared.pending.Pending.TheVariants as pending
 use Rattle.exp_match.specs.declared.pending.Reader.{Reader}
 use Rattle.exp_match.specs.declared.pending.Role.{Role}
-use Rattle.exp_match.proofs.Accepting.{a_pattern}
+use Rattle.exp_match.proofs.Accepting.{pattern_parts, a_pattern}
+use Rattle.exp_match.proofs.Derived.{derived}
 use Rattle.exp_match.proofs.Followed.{followed}
+use Rattle.exp_match.proofs.Meant.{token_means}
 use Rattle.expect_grammar.specs.ArgumentRules.{Pattern, Action, Arguments, Write, no_patterns, before, entry, unless}
-use Rattle.expect_grammar.proofs.Words.{way_is, keyword_is, nocase_is, indices_is, notransfer_is, id_is, timeout_is, plain_is}
+use Rattle.expect_grammar.proofs.Words.{way_is, keyword_is, mark_is, id_is, timeout_is, plain_is}
 
 -- ---- Lists, one behind another
 
@@ -58,43 +60,44 @@ from list m = record { list = list; marks = m; pending = pending.Front }
 abbrev pub awaiting : PatternList → Marks → Want → Reader
 awaiting list m w = record { list = list; marks = m; pending = pending.Action w }
 
-reads : (word : List ℕ) (rest : List (List ℕ)) (at : ℕ) (list : PatternList) (m : Marks) (r : Role) → role_of word ≡ r
+pub reads : (word : List ℕ) (rest : List (List ℕ)) (at : ℕ) (list : PatternList) (m : Marks) (r : Role) → role_of word ≡ r
     → read_on (word ∷ rest) at (from list m) ≡ read_more (read_on rest (at + 1)) (by_role list m at word r)
 reads word rest at list m r e = ap (λ x. read_more (read_on rest (at + 1)) (by_role list m at word x)) e
 
 pub is_regular : (word : List ℕ) → RePattern word → is_pattern word ≡ true
 is_regular word r = a_pattern word r.0 r.1 (followed (chars word) r.2)
 
+pub regular_is : (word : List ℕ) → is_pattern word ≡ true → RePattern word
+regular_is word e = let p = pattern_parts word e in (p.0, p.1, derived token_means (chars word) p.2)
+
 -- what is read at the front leaves the rest to be read from some place on
 pub record Leads (args : List (List ℕ)) (at : ℕ) (r : Reader) (rest : List (List ℕ)) (next : Reader) : Type 0 where
   pub n : ℕ
   pub is : read_on args at r ≡ read_on rest n next
+  pub place : n + length rest ≡ at + length args
 
 pub pattern_leads : (nocase : Bool) (args behind : List (List ℕ)) (w : Want) → Pattern nocase args w behind → (at : ℕ) (list : PatternList) (m : Marks) → nocase ≡ m.nocase
     → Leads args at (from list m) behind (awaiting list m w)
 pattern_leads nocase args behind w (Pattern.exact flag word rest f) at list m e =
-    record { n = at + 1 + 1; is = reads flag (word ∷ rest) at list m _ (way_is flag _ f) ∙ ap (λ (c : Bool). read_on behind (at + 1 + 1) (awaiting list m (want.Exact word c))) (sym e) }
+    record { n = at + 1 + 1; is = reads flag (word ∷ rest) at list m _ (way_is flag _ f) ∙ ap (λ (c : Bool). read_on behind (at + 1 + 1) (awaiting list m (want.Exact word c))) (sym e); place = omega arith }
 pattern_leads nocase args behind w (Pattern.glob flag word rest f) at list m e =
-    record { n = at + 1 + 1; is = reads flag (word ∷ rest) at list m _ (way_is flag _ f) ∙ ap (λ (c : Bool). read_on behind (at + 1 + 1) (awaiting list m (want.Glob (glob_of word) c))) (sym e) }
+    record { n = at + 1 + 1; is = reads flag (word ∷ rest) at list m _ (way_is flag _ f) ∙ ap (λ (c : Bool). read_on behind (at + 1 + 1) (awaiting list m (want.Glob (glob_of word) c))) (sym e); place = omega arith }
 pattern_leads nocase args behind w (Pattern.regular flag word rest f p) at list m e =
-    record { n = at + 1 + 1; is = reads flag (word ∷ rest) at list m _ (way_is flag _ f) ∙ rw (is_regular word p, sym e) refl }
+    record { n = at + 1 + 1; is = reads flag (word ∷ rest) at list m _ (way_is flag _ f) ∙ rw (is_regular word p, sym e) refl; place = omega arith }
 pattern_leads nocase args behind w (Pattern.plain word rest p) at list m e =
-    record { n = at + 1; is = reads word rest at list m _ (plain_is word p) ∙ ap (λ (c : Bool). read_on behind (at + 1) (awaiting list m (want.Glob (glob_of word) c))) (sym e) }
+    record { n = at + 1; is = reads word rest at list m _ (plain_is word p) ∙ ap (λ (c : Bool). read_on behind (at + 1) (awaiting list m (want.Glob (glob_of word) c))) (sym e); place = omega arith }
 
 pub action_leads : (behind rest : List (List ℕ)) (action : List ℕ) → Action behind action rest → (at : ℕ) (list : PatternList) (m : Marks) (w : Want)
     → Leads behind at (awaiting list m w) rest (from (with_entry list m w action) no_marks)
-action_leads behind rest action (Action.given a s) at list m w = record { n = at + 1; is = refl }
-action_leads behind rest action Action.absent at list m w = record { n = at; is = refl }
+action_leads behind rest action (Action.given a s) at list m w = record { n = at + 1; is = refl; place = omega arith }
+action_leads behind rest action Action.absent at list m w = record { n = at; is = refl; place = omega arith }
 
 pub written : (group : ℕ) (m : Marks) (args : List (List ℕ)) (list : PatternList) → Arguments group m args list → (at : ℕ) (front : PatternList) → group ≡ length front.ids
     → read_on args at (from front m) ≡ Ok (joined front list)
 written group m args list (Arguments.end g f) at front e = ap (λ x. Ok x) (sym (with_none front))
-written group m args list (Arguments.nocase g f word rest l h) at front e =
-    reads (codes "-nocase") (word ∷ rest) at front m _ nocase_is ∙ written group _ (word ∷ rest) list h (at + 1) front e
-written group m args list (Arguments.indices g f word rest l h) at front e =
-    reads (codes "-indices") (word ∷ rest) at front m _ indices_is ∙ written group _ (word ∷ rest) list h (at + 1) front e
-written group m args list (Arguments.notransfer g f word rest l h) at front e =
-    reads (codes "-notransfer") (word ∷ rest) at front m _ notransfer_is ∙ written group _ (word ∷ rest) list h (at + 1) front e
+written group m args list (Arguments.mark g f n flag word rest l p h) at front e =
+    let k = mark_is flag m n p in
+    reads flag (word ∷ rest) at front m _ k.is ∙ ap (λ (x : Marks). read_on (word ∷ rest) (at + 1) (from front x)) k.flags ∙ written group n (word ∷ rest) list h (at + 1) front e
 written group m args list (Arguments.id g f id rest l h) at front e =
     let more : group + 1 ≡ length (front.ids ++ id ∷ []) = omega (arith, e, length-append front.ids (id ∷ [])) in
     reads (codes "-i") (id ∷ rest) at front m _ id_is ∙ written (group + 1) m rest l h (at + 1 + 1) (with_id front id) more ∙ ap (λ x. Ok x) (with_process front l id)

@@ -1,6 +1,6 @@
 -- The arguments of `expect`, as the manual page expect(1) has them, rule by rule.
 -- `X args v rest` says that an X whose value is v stands at the front of the arguments, and that the rest is left behind it.
-use Rattle.std.specs.Prelude.{◌≡◌, ◌≢◌, ℕ, ◌+◌, Bool, true, false, List, [], ◌∷◌, Option, Some, None, codes}
+use Rattle.std.specs.Prelude.{◌≡◌, ◌≢◌, ℕ, ◌+◌, ◌-◌, Bool, true, false, List, [], ◌∷◌, length, Option, Some, None, codes}
 use Rattle.tcl_words.specs.Lists.{begins_with}
 use Rattle.exp_glob.specs.Elements.{glob_of}
 use Rattle.exp_match.specs.Grammar.{RePattern}
@@ -9,12 +9,26 @@ use Rattle.exp_match.specs.declared.entry.Keyword.{Keyword}
 use Rattle.exp_match.specs.declared.entry.Keyword.TheVariants as key
 use Rattle.exp_match.specs.declared.entry.Want.{Want}
 use Rattle.exp_match.specs.declared.entry.Want.TheVariants as want
+use Rattle.exp_match.specs.declared.faults.PatternFault.{PatternFault}
+use Rattle.exp_match.specs.declared.faults.PatternFault.TheVariants as fault
 use Rattle.exp_match.specs.declared.list.PatternList.{PatternList}
 use Rattle.exp_match.specs.declared.pending.Marks.{Marks}
 use Rattle.exp_match.specs.declared.pending.Way.{Way}
 use Rattle.exp_match.specs.declared.pending.Way.TheVariants as way
 
+abbrev pub dash : ℕ
+dash = 45
+
 -- ---- Words with a meaning of their own
+
+-- a flag for the next pattern, with the flags before and behind it
+pub data IsMark : List ℕ → Marks → Marks → Type 0 where
+  -- the pattern matches letters in either case
+  nocase : (flags : Marks) → IsMark (codes "-nocase") flags (record flags { nocase = true })
+  -- the places of its match are stored too
+  indices : (flags : Marks) → IsMark (codes "-indices") flags (record flags { indices = true })
+  -- what it matches stays in the buffer
+  notransfer : (flags : Marks) → IsMark (codes "-notransfer") flags (record flags { notransfer = true })
 
 -- a keyword in the place of a pattern
 pub data IsKeyword : List ℕ → Keyword → Type 0 where
@@ -39,9 +53,23 @@ pub data IsWay : List ℕ → Way → Type 0 where
   re : IsWay (codes "-re") way.Regular
   regexp : IsWay (codes "-regexp") way.Regular
 
--- no flag and no keyword; `null` isn't supported
+-- a flag: an argument has to stand behind it
+pub data IsFlag : List ℕ → Type 0 where
+  mark : (word : List ℕ) (before behind : Marks) → IsMark word before behind → IsFlag word
+  written : (word : List ℕ) (w : Way) → IsWay word w → IsFlag word
+  id : IsFlag (codes "-i")
+  timeout : IsFlag (codes "-timeout")
+
+-- a word that may not stand where a pattern may
+pub data IsUnknown : List ℕ → Type 0 where
+  -- it begins with `-` and is no flag
+  no_flag : (word : List ℕ) → begins_with dash word ≡ true → ¬ IsFlag word → IsUnknown word
+  -- this pattern isn't supported
+  null : IsUnknown (codes "null")
+
+-- a pattern without a flag
 abbrev pub IsPlain : List ℕ → Type 0
-IsPlain word = (begins_with 45 word ≡ false) × (word ≢ codes "null") × ((k : Keyword) → ¬ IsKeyword word k)
+IsPlain word = (begins_with dash word ≡ false) × (word ≢ codes "null") × ((k : Keyword) → ¬ IsKeyword word k)
 
 -- ---- Patterns and actions
 
@@ -89,15 +117,9 @@ unless (Some later) time = later
 pub data Arguments : ℕ → Marks → List (List ℕ) → PatternList → Type 0 where
   -- there may be no further argument
   end : (group : ℕ) (flags : Marks) → Arguments group flags [] no_patterns
-  -- `-nocase`: the next pattern matches letters in either case; something has to stand behind it
-  nocase : (group : ℕ) (flags : Marks) (word : List ℕ) (rest : List (List ℕ)) (list : PatternList)
-      → Arguments group (record flags { nocase = true }) (word ∷ rest) list → Arguments group flags (codes "-nocase" ∷ word ∷ rest) list
-  -- `-indices`: the places of the next pattern's match are stored too
-  indices : (group : ℕ) (flags : Marks) (word : List ℕ) (rest : List (List ℕ)) (list : PatternList)
-      → Arguments group (record flags { indices = true }) (word ∷ rest) list → Arguments group flags (codes "-indices" ∷ word ∷ rest) list
-  -- `-notransfer`: what the next pattern matches stays in the buffer
-  notransfer : (group : ℕ) (flags : Marks) (word : List ℕ) (rest : List (List ℕ)) (list : PatternList)
-      → Arguments group (record flags { notransfer = true }) (word ∷ rest) list → Arguments group flags (codes "-notransfer" ∷ word ∷ rest) list
+  -- a flag for the next pattern: something has to stand behind it
+  mark : (group : ℕ) (flags behind : Marks) (flag word : List ℕ) (rest : List (List ℕ)) (list : PatternList)
+      → IsMark flag flags behind → Arguments group behind (word ∷ rest) list → Arguments group flags (flag ∷ word ∷ rest) list
   -- `-i id`: the patterns behind it are for that process, and the next group
   id : (group : ℕ) (flags : Marks) (id : List ℕ) (rest : List (List ℕ)) (list : PatternList)
       → Arguments (group + 1) flags rest list → Arguments group flags (codes "-i" ∷ id ∷ rest) (record list { ids = id ∷ list.ids })
@@ -116,3 +138,36 @@ pub data Arguments : ℕ → Marks → List (List ℕ) → PatternList → Type 
 -- These arguments write this list of patterns.
 abbrev pub Write : List (List ℕ) → PatternList → Type 0
 Write args list = Arguments 0 no_flags args list
+
+-- ---- The first bad argument
+
+-- the index of the argument with which a rest of all begins
+abbrev pub place : List (List ℕ) → List (List ℕ) → ℕ
+place all rest = length all - length rest
+
+-- `Bad all args f`: of all arguments, up to these nothing is wrong, and the first bad one is that which f names.
+pub data Bad (all : List (List ℕ)) : List (List ℕ) → PatternFault → Type 0 where
+  -- no flag, and no pattern
+  unknown : (word : List ℕ) (rest : List (List ℕ)) → IsUnknown word → Bad all (word ∷ rest) (fault.BadFlag (place all (word ∷ rest)))
+  -- a flag with nothing behind it
+  last : (flag : List ℕ) → IsFlag flag → Bad all (flag ∷ []) (fault.BadFlag (place all (flag ∷ [])))
+  -- behind `-re` no regular expression
+  regular : (flag word : List ℕ) (rest : List (List ℕ)) → IsWay flag way.Regular → ¬ RePattern word
+      → Bad all (flag ∷ word ∷ rest) (fault.BadRegex (place all (word ∷ rest)))
+  -- it stands behind a flag for the next pattern
+  mark : (before behind : Marks) (flag word : List ℕ) (rest : List (List ℕ)) (f : PatternFault)
+      → IsMark flag before behind → Bad all (word ∷ rest) f → Bad all (flag ∷ word ∷ rest) f
+  -- behind `-i id`
+  id : (id : List ℕ) (rest : List (List ℕ)) (f : PatternFault) → Bad all rest f → Bad all (codes "-i" ∷ id ∷ rest) f
+  -- behind `-timeout time`
+  timeout : (time : List ℕ) (rest : List (List ℕ)) (f : PatternFault) → Bad all rest f → Bad all (codes "-timeout" ∷ time ∷ rest) f
+  -- behind a pattern with its action
+  pattern : (nocase : Bool) (args behind rest : List (List ℕ)) (w : Want) (action : List ℕ) (f : PatternFault)
+      → Pattern nocase args w behind → Action behind action rest → Bad all rest f → Bad all args f
+  -- behind a keyword with its action
+  keyword : (word : List ℕ) (behind rest : List (List ℕ)) (k : Keyword) (action : List ℕ) (f : PatternFault)
+      → IsKeyword word k → Action behind action rest → Bad all rest f → Bad all (word ∷ behind) f
+
+-- The first bad one of these arguments is that which f names.
+abbrev pub AreBad : List (List ℕ) → PatternFault → Type 0
+AreBad args f = Bad args args f
