@@ -2,3 +2,4 @@ pub mod Words
 pub mod Written
 pub mod Faulted
 pub mod Derived
+pub mod Modes

@@ -128,11 +128,11 @@ pub data RoleIs : List ℕ → Role → Type 0 where
   unknown : (word : List ℕ) → IsUnknown word → RoleIs word role.Bad
 
 -- a word that a test found
-found : (word name : List ℕ) (P : List ℕ → Type 0) → P name → bytes_eq word name ≡ true → P word
+pub found : (word name : List ℕ) (P : List ℕ → Type 0) → P name → bytes_eq word name ≡ true → P word
 found word name P p e = subst P (sym ((bytes_eq-Decides word name).0 e)) p
 
 -- a word that one of two tests found
-either : (word a b : List ℕ) (P : List ℕ → Type 0) → P a → P b → bytes_eq word a || bytes_eq word b ≡ true → P word
+pub either : (word a b : List ℕ) (P : List ℕ → Type 0) → P a → P b → bytes_eq word a || bytes_eq word b ≡ true → P word
 either word a b P p q e = ⊎_elim (found word a P p) (found word b P q) (or_cases (bytes_eq word a) (bytes_eq word b) e)
 
 -- a word that a test didn't find
@@ -146,7 +146,7 @@ no_keyword word e t d f k IsKeyword.timeout = missed word (codes "timeout") t re
 no_keyword word e t d f k IsKeyword.default = missed word (codes "default") d refl
 no_keyword word e t d f k IsKeyword.full_buffer = missed word (codes "full_buffer") f refl
 
-neither : (a b : Bool) → a || b ≡ false → (a ≡ false) × (b ≡ false)
+pub neither : (a b : Bool) → a || b ≡ false → (a ≡ false) × (b ≡ false)
 neither true b e = absurd (cc)
 neither false b e = (refl, e)
 
@@ -165,7 +165,7 @@ of_plain word other =
     (λ f. let p = neither (is_dash word) (bytes_eq word (codes "null")) n in
     RoleIs.plain word (dash_is word ∙ p.0, missed word (codes "null") p.1, no_keyword word e t d f))))))
 
-never : true ≡ false → ⊥
+pub never : true ≡ false → ⊥
 never e = cc
 
 -- a word that is none of the flags

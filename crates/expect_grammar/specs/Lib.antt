@@ -1,1 +1,2 @@
 pub mod ArgumentRules
+pub mod ModeRules
