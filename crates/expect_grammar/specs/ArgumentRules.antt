@@ -36,7 +36,7 @@ pub data IsKeyword : List ℕ → Keyword → Type 0 where
   eof : IsKeyword (codes "eof") key.Eof
   -- the time is over
   timeout : IsKeyword (codes "timeout") key.Timeout
-  -- either of the two
+  -- the output ended, or the time is over
   default : IsKeyword (codes "default") key.Default
   -- as many bytes are kept as may be
   full_buffer : IsKeyword (codes "full_buffer") key.FullBuffer
@@ -55,9 +55,13 @@ pub data IsWay : List ℕ → Way → Type 0 where
 
 -- a flag: an argument has to stand behind it
 pub data IsFlag : List ℕ → Type 0 where
+  -- of the next pattern
   mark : (word : List ℕ) (before behind : Marks) → IsMark word before behind → IsFlag word
+  -- of the pattern that is the next argument
   written : (word : List ℕ) (w : Way) → IsWay word w → IsFlag word
+  -- the process of the patterns behind it
   id : IsFlag (codes "-i")
+  -- the time after which `expect` gives up
   timeout : IsFlag (codes "-timeout")
 
 -- a word that may not stand where a pattern may

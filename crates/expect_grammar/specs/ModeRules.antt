@@ -38,7 +38,9 @@ pub data Sets : List ℕ → Modes → Modes → Type 0 where
 
 -- a word that names a size: a number has to stand behind it
 pub data IsSize : List ℕ → Type 0 where
+  -- the terminal's lines
   rows : IsSize (codes "rows")
+  -- its columns, by either name
   cols : IsSize (codes "cols")
   columns : IsSize (codes "columns")
 

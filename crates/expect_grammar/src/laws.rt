@@ -11,7 +11,7 @@ ghost use Rattle.expect_grammar.specs.ArgumentRules.{Write, AreBad};
 ghost use Rattle.expect_grammar.specs.ModeRules.{SetModes, FirstBad};
 
 /// The law of `expect`'s arguments: they are read as a list of patterns just where the rules give them that one, and a fault is told just where the rules
-/// find that first bad argument. So the rules give one list at most or one bad argument, and never both.
+/// find that first bad argument. So the rules give one list or one bad argument, and never both.
 pub fn argument_rules()
     ensures list { (args : List (List ℕ)) (list : PatternList) → (patterns_of args ≡ Ok list) ↔ Write args list }
     ensures fault { (args : List (List ℕ)) (f : PatternFault) → (patterns_of args ≡ Err f) ↔ AreBad args f }
@@ -21,7 +21,7 @@ pub fn argument_rules()
 {}
 
 /// The law of `stty_init`'s words: they leave modes just where the rules give them those, and a word is told just where the rules find that first bad one.
-/// So the rules give modes once at most or one bad word, and never both.
+/// So the rules leave one set of modes or find one bad word, and never both.
 pub fn mode_rules()
     ensures modes { (words : List (List ℕ)) (m : Modes) → (read words ≡ Ok m) ↔ SetModes words m }
     ensures fault { (words : List (List ℕ)) (e : BadMode) → (read words ≡ Err e) ↔ FirstBad words e.at }
