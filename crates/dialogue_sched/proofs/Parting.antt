@@ -4,6 +4,7 @@ use Rattle.std.proofs.lemmas.List.{take-append-drop}
 use Rattle.child_events.specs.declared.event.Event.{Event}
 use Rattle.child_events.specs.declared.event.HallEvent.{HallEvent}
 use Rattle.child_events.specs.World.{own}
+use Rattle.tcl_eval.specs.Suspended.{IsOver}
 use Rattle.session.specs.Left.{Kept, left, Fed}
 use Rattle.dialogue_sched.specs.declared.refusal.HallRefusal.{HallRefusal}
 use Rattle.dialogue_sched.specs.Refusal.{refusal_of, refused_or, first_refusal, IsAcceptedTo}
@@ -24,6 +25,7 @@ one_join (e ∷ es) [] a b c s t = subst (λ (k : Kept). Fed a (e ∷ (es ++ [])
 one_join (e ∷ es) (f ∷ fs) a b c s t = record {
   handed = t.handed ∙ s.handed;
   lived = λ lives. s.lived (t.lived lives);
+  over = λ over. t.over (subst (λ (k : Kept). IsOver k.mode) (sym (s.over over)) over) ∙ s.over over;
   says = λ lives later.
       t.says lives later ∙ s.says (t.lived lives) ((f ∷ fs) ++ later) ∙ ap (λ (xs : List Event). left a xs) (sym (append_assoc (e ∷ es) (f ∷ fs) later));
 }

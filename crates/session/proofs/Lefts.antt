@@ -1,6 +1,6 @@
 -- What a session says, before and behind events.
-use Rattle.std.proofs.Common.{◌≡◌, ℕ, zero, suc, ◌+◌, false, List, [], ◌∷◌, ◌++◌, length, drop, Some, None, refl, sym, ap, ◌∙◌, arith}
-use Rattle.std.specs.Prelude.{IsTrue, map, slice_get, ◌≤◌}
+use Rattle.std.proofs.Common.{◌≡◌, ℕ, zero, suc, ◌+◌, Bool, false, List, [], ◌∷◌, ◌++◌, length, drop, Some, None, refl, sym, ap, ◌∙◌, arith}
+use Rattle.std.specs.Prelude.{IsTrue, ◌↔◌, map, slice_get, ◌≤◌}
 use Rattle.std.proofs.lemmas.List.{drop-drop}
 use Rattle.child_events.specs.declared.event.Event.{Event}
 use Rattle.tcl_subst.specs.Report.{values_of}
@@ -50,19 +50,25 @@ over_says : (bound : ℕ) (engine : Engine) (mode : Mode) (steps : ℕ) (d : Dia
 over_says bound engine (Ended e) steps d xs ys over = said_extended (ending_of e) (fault_of e) _ engine.vars xs d ∙ sym (said_extended (ending_of e) (fault_of e) _ engine.vars ys d)
 over_says bound engine _ steps d xs ys over = absurd over
 
+-- what a test says of a run that isn't over
+pub goes_on : (mode : Mode) (b : Bool) → (IsTrue b ↔ IsOver mode) → b ≡ false → IsOver mode → ⊥
+goes_on mode b tells differs over = let yes : IsTrue b = tells.1 over in cc
+
 pub passed_over : (k : Kept) (es : List Event) → IsOver k.mode → Fed k es k
 unfolding left
 passed_over k es over = record {
   handed = refl;
   lived = λ h. h;
+  over = λ h. refl;
   says = λ h later. over_says k.bound k.engine k.mode k.steps k.dialogue later (es ++ later) over;
 }
 
-pub fed : (k k' : Kept) (es : List Event) (before : Dialogue) → k'.handed ≡ k.handed → k'.bound ≡ k.bound → IsTrue k.lives → (IsTrue before.lives → before ≡ extended es k.dialogue) → (IsTrue k'.lives → Ran k.engine k.mode k.steps before k'.engine k'.mode k'.steps k'.dialogue) → Fed k es k'
+pub fed : (k k' : Kept) (es : List Event) (before : Dialogue) → k'.handed ≡ k.handed → k'.bound ≡ k.bound → IsTrue k.lives → (IsOver k.mode → ⊥) → (IsTrue before.lives → before ≡ extended es k.dialogue) → (IsTrue k'.lives → Ran k.engine k.mode k.steps before k'.engine k'.mode k'.steps k'.dialogue) → Fed k es k'
 unfolding left
-fed k k' es before handed bound lives came ran = record {
+fed k k' es before handed bound lives goes came ran = record {
   handed = handed;
   lived = λ h. lives;
+  over = λ h. absurd (goes h);
   says = λ h later.
       (ran h).says k'.bound later
       ∙ ap (λ (d : Dialogue). play k'.bound (engine_rest k.engine k.steps k.mode) (extended later d)) (came (ran h).lived)

@@ -4,6 +4,7 @@ use Rattle.child_events.specs.declared.event.Event.{Event}
 use Rattle.tcl_eval.specs.declared.engine.Engine.{Engine}
 use Rattle.tcl_eval.specs.declared.frame.Mode.{Mode}
 use Rattle.tcl_eval.specs.Rest.{engine_rest}
+use Rattle.tcl_eval.specs.Suspended.{IsOver}
 use Rattle.expect_core.specs.declared.request.Request.{Request}
 use Rattle.expect_core.specs.declared.dialogue.Dialogue.{Dialogue}
 use Rattle.expect_core.specs.Lanes.{extended}
@@ -25,10 +26,11 @@ pub record Kept : Type 0 where
 unfoldable pub left : Kept → List Event → Report
 left k later = play k.bound (engine_rest k.engine k.steps k.mode) (extended later k.dialogue)
 
--- from old to new these events came, unless memory was refused
+-- from old to new these events came, unless memory was refused; where it is over, they change nothing
 pub record Fed (old : Kept) (events : List Event) (new : Kept) : Type 0 where
   pub handed : new.handed ≡ old.handed
   pub lived : IsTrue new.lives → IsTrue old.lives
+  pub over : IsOver old.mode → new ≡ old
   pub says : IsTrue new.lives → (later : List Event) → left new later ≡ left old (events ++ later)
 
 -- the next request is handed out, if there is one, and is counted

@@ -56,7 +56,7 @@ fn is_memory(pause: &Pause) -> bool
 
 /// Whether nothing more can happen.
 fn is_over(mode: &Mode) -> bool
-    ensures { IsTrue result → IsOver mode.now }
+    ensures { IsTrue result ↔ IsOver mode.now }
 {
     match mode {
         Mode::Ended(_) => true,
