@@ -19,7 +19,7 @@ use Rattle.expect_prog.specs.declared.driving.DriveFault.TheVariants.{Serve, Wri
 use Rattle.child_events.specs.Log.{LogText2}
 use Rattle.expect_prog.specs.Drive.{Drives, Puts}
 use Rattle.expect_prog.specs.Written.{StandsFor, AllStandFor}
-use Rattle.expect_prog.specs.declared.texts.Shown.{Shown}
+use Rattle.expect_prog.specs.declared.form.Form.{Form}
 
 -- the report in whose place one stands
 stands_at : (i : ℕ) (rs told : List Report) (t : Report) → AllStandFor rs told → slice_get told i ≡ Some t → (r : Report) × (slice_get rs i ≡ Some r) × StandsFor r t
@@ -29,8 +29,8 @@ stands_at i (r ∷ rs) [] t stand got = absurd stand
 stands_at zero (r ∷ rs) (x ∷ told) t stand got = (r, refl, subst (λ (z : Report). StandsFor r z) (some_of x t got) stand.0)
 stands_at (suc i) (r ∷ rs) (x ∷ told) t stand got = stands_at i rs told t stand.1 got
 
-pub puts_as : (text : List ℕ) (shown : Shown) (slice reports : List Report) (log log' out out' : Option (List ℕ)) (result : Result Bool DriveFault) → slice ≡ reports → Puts text shown slice log log' out out' result → Puts text shown reports log log' out out' result
-puts_as text shown slice reports log log' out out' result is = subst (λ (rs : List Report). Puts text shown rs log log' out out' result) is
+pub puts_as : (text : List ℕ) (form : Form) (slice reports : List Report) (log log' out out' : Option (List ℕ)) (result : Result Bool DriveFault) → slice ≡ reports → Puts text form slice log log' out out' result → Puts text form reports log log' out out' result
+puts_as text form slice reports log log' out out' result is = subst (λ (rs : List Report). Puts text form rs log log' out out' result) is
 
 module _ (told_by : ℕ → ℕ → Request → Answer → Type 0) (gives : ℕ → ℕ → Option (List ℕ) → Type 0) where
   ended_still : (P : Report → Type 0) (r t m : Report) → ((r ≡ m) × P r) ⊎ (r ≡ memory_report) → StandsFor r t → ((t ≡ m) × P t) ⊎ (t ≡ memory_report)
@@ -66,9 +66,9 @@ module _ (told_by : ℕ → ℕ → Request → Answer → Type 0) (gives : ℕ 
     },
   )
 
-  pub drives_of : (workers : ℕ) (keepers : List Keeping) (scripts : List Script) (shown : Shown) (served : Served) (text : List ℕ) (log log' out out' : Option (List ℕ)) (result : Result Bool DriveFault) →
-      IsServing told_by gives workers keepers scripts (Ok served) → LogText2 text served.logged → Puts text shown served.reports log log' out out' result → Drives told_by gives workers keepers scripts shown log log' out out' result
-  drives_of workers keepers scripts shown served text log log' out out' (Ok well) s record_is (logged, (told, stand, written, done)) = record {
+  pub drives_of : (workers : ℕ) (keepers : List Keeping) (scripts : List Script) (form : Form) (served : Served) (text : List ℕ) (log log' out out' : Option (List ℕ)) (result : Result Bool DriveFault) →
+      IsServing told_by gives workers keepers scripts (Ok served) → LogText2 text served.logged → Puts text form served.reports log log' out out' result → Drives told_by gives workers keepers scripts form log log' out out' result
+  drives_of workers keepers scripts form served text log log' out out' (Ok well) s record_is (logged, (told, stand, written, done)) = record {
     served = record served { reports = told };
     text = text;
     was = record { serves = serves_still workers keepers scripts served told s stand; log = record_is };
@@ -76,13 +76,13 @@ module _ (told_by : ℕ → ℕ → Request → Answer → Type 0) (gives : ℕ 
     written = written;
     done = done;
   }
-  drives_of workers keepers scripts shown served text log log' out out' (Err (Serve f)) s record_is put = absurd put
-  drives_of workers keepers scripts shown served text log log' out out' (Err WriteLog) s record_is put = record { served = served; text = text; was = record { serves = s; log = record_is }; logged = put }
-  drives_of workers keepers scripts shown served text log log' out out' (Err Write) s record_is (logged, (told, stand, front)) = record {
+  drives_of workers keepers scripts form served text log log' out out' (Err (Serve f)) s record_is put = absurd put
+  drives_of workers keepers scripts form served text log log' out out' (Err WriteLog) s record_is put = record { served = served; text = text; was = record { serves = s; log = record_is }; logged = put }
+  drives_of workers keepers scripts form served text log log' out out' (Err Write) s record_is (logged, (told, stand, front)) = record {
     served = record served { reports = told };
     text = text;
     was = record { serves = serves_still workers keepers scripts served told s stand; log = record_is };
     logged = logged;
     written = front;
   }
-  drives_of workers keepers scripts shown served text log log' out out' (Err Memory) s record_is put = absurd put
+  drives_of workers keepers scripts form served text log log' out out' (Err Memory) s record_is put = absurd put

@@ -10,7 +10,7 @@ use Rattle.expect_prog.specs.declared.devices.Unwritten.{Unwritten}
 use Rattle.expect_prog.specs.declared.fault.ReplayFault.TheVariants.{Write}
 use Rattle.expect_prog.specs.Replay.{RunOver, Replays}
 use Rattle.expect_prog.specs.Written.{StandsFor, AllStandFor, WritesAll}
-use Rattle.expect_prog.specs.declared.texts.Shown.{Shown}
+use Rattle.expect_prog.specs.declared.form.Form.{Form}
 
 -- what stands for a report that is meant, or for one of memory, is one of these
 pub one_still : (r t m : Report) → (r ≡ m) ⊎ (r ≡ memory_report) → StandsFor r t → (t ≡ m) ⊎ (t ≡ memory_report)
@@ -41,20 +41,20 @@ over_still scripts bytes rs told over stand = record {
 }
 
 -- what is written where the reports of a log's events are
-pub replayed : (scripts : List Script) (shown : Shown) (well : Bool) (known : Option (List ℕ)) (slice rs : List Report) (old new : Option (List ℕ)) (failures calls : ℕ) → slice ≡ rs →
-    IfSome known (λ bytes. RunOver scripts bytes (Ok rs)) → WritesAll shown slice old new failures calls (Ok well) → IfSome known (λ bytes. Replays scripts shown bytes old new (Ok well))
-replayed scripts shown well None slice rs old new failures calls is over w = tt
-replayed scripts shown well (Some bytes) slice rs old new failures calls is over w = record {
+pub replayed : (scripts : List Script) (form : Form) (well : Bool) (known : Option (List ℕ)) (slice rs : List Report) (old new : Option (List ℕ)) (failures calls : ℕ) → slice ≡ rs →
+    IfSome known (λ bytes. RunOver scripts bytes (Ok rs)) → WritesAll form slice old new failures calls (Ok well) → IfSome known (λ bytes. Replays scripts form bytes old new (Ok well))
+replayed scripts form well None slice rs old new failures calls is over w = tt
+replayed scripts form well (Some bytes) slice rs old new failures calls is over w = record {
   reports = w.told;
   run = over_still scripts bytes rs w.told over (subst (λ (z : List Report). AllStandFor z w.told) is w.stand);
   done = w.done;
   written = w.writes.0;
 }
 
-pub part_replayed : (scripts : List Script) (shown : Shown) (known : Option (List ℕ)) (slice rs : List Report) (old new : Option (List ℕ)) (failures calls : ℕ) (fault : Unwritten) → slice ≡ rs →
-    IfSome known (λ bytes. RunOver scripts bytes (Ok rs)) → WritesAll shown slice old new failures calls (Err fault) → IfSome known (λ bytes. Replays scripts shown bytes old new (Err Write))
-part_replayed scripts shown None slice rs old new failures calls fault is over w = tt
-part_replayed scripts shown (Some bytes) slice rs old new failures calls fault is over w = record {
+pub part_replayed : (scripts : List Script) (form : Form) (known : Option (List ℕ)) (slice rs : List Report) (old new : Option (List ℕ)) (failures calls : ℕ) (fault : Unwritten) → slice ≡ rs →
+    IfSome known (λ bytes. RunOver scripts bytes (Ok rs)) → WritesAll form slice old new failures calls (Err fault) → IfSome known (λ bytes. Replays scripts form bytes old new (Err Write))
+part_replayed scripts form None slice rs old new failures calls fault is over w = tt
+part_replayed scripts form (Some bytes) slice rs old new failures calls fault is over w = record {
   reports = w.told;
   run = over_still scripts bytes rs w.told over (subst (λ (z : List Report). AllStandFor z w.told) is w.stand);
   written = w.writes.0;

@@ -1,5 +1,6 @@
 -- Which line a fault gives.
-use Rattle.std.specs.Prelude.{◌≡◌, ℕ, ◌+◌}
+use Rattle.std.specs.Prelude.{◌≡◌, ℕ, ◌+◌, ◌-◌, List, slice_get, IfSome}
+use Rattle.std.specs.Borrow.{Bor}
 use Rattle.child_events.specs.declared.faults.LogFault.{LogFault}
 use Rattle.child_events.specs.declared.faults.LogFault.TheVariants as logs
 use Rattle.dialogue_sched.specs.declared.hall.HallFault.{HallFault}
@@ -33,37 +34,40 @@ LogLine (logs.Total n) c = c ≡ line.Log 8 n
 LogLine (logs.Version n) c = c ≡ line.Log 9 n
 LogLine logs.Memory c = c ≡ line.Memory
 
--- a line that names a source's file
-abbrev pub IsTooLong : Complaint → Type 0
-IsTooLong (line.SourceTooLong path) = Unit {0}
-IsTooLong c = ⊥
+-- a line that names the file of the script of a number; the first file is that of script 1
+abbrev pub IsTooLong : List (Bor (List ℕ)) → ℕ → Complaint → Type 0
+IsTooLong files n (line.SourceTooLong path) = IfSome (slice_get files (n - 1)) (λ file. path ≡ file)
+IsTooLong files n c = ⊥
 
-abbrev pub IsUnreadable : Complaint → Type 0
-IsUnreadable (line.Unreadable path) = Unit {0}
-IsUnreadable c = ⊥
+-- a log that can't be read is named by its own file
+abbrev pub IsUnreadable : Bor (List ℕ) → Complaint → Type 0
+IsUnreadable file (line.Unreadable path) = path ≡ file
+IsUnreadable file c = ⊥
 
-abbrev pub OpeningLine : HallFault → Complaint → Type 0
-OpeningLine halls.TooManyScripts c = c ≡ line.TooManyScripts
-OpeningLine (halls.SourceTooLong n) c = IsTooLong c
-OpeningLine halls.Memory c = c ≡ line.Memory
+abbrev pub OpeningLine : List (Bor (List ℕ)) → HallFault → Complaint → Type 0
+OpeningLine files halls.TooManyScripts c = c ≡ line.TooManyScripts
+OpeningLine files (halls.SourceTooLong n) c = IsTooLong files n c
+OpeningLine files halls.Memory c = c ≡ line.Memory
 
 -- events count from 1 here
-abbrev pub RunLine : RunFault → Complaint → Type 0
-RunLine (run.Refused at r) c = c ≡ line.Event (at + 1) (refusal_number r)
-RunLine (run.New f) c = OpeningLine f c
-RunLine run.Memory c = c ≡ line.Memory
+abbrev pub RunLine : List (Bor (List ℕ)) → RunFault → Complaint → Type 0
+RunLine files (run.Refused at r) c = c ≡ line.Event (at + 1) (refusal_number r)
+RunLine files (run.New f) c = OpeningLine files f c
+RunLine files run.Memory c = c ≡ line.Memory
 
-abbrev pub FaultLine : ReplayFault → Complaint → Type 0
-FaultLine replay.Read c = IsUnreadable c
-FaultLine (replay.Log f) c = LogLine f c
-FaultLine (replay.Run f) c = RunLine f c
-FaultLine replay.Write c = c ≡ line.Unwritten
-FaultLine replay.Memory c = c ≡ line.Memory
+-- the line of a replay of a log's file with the files of scripts
+abbrev pub FaultLine : Bor (List ℕ) → List (Bor (List ℕ)) → ReplayFault → Complaint → Type 0
+FaultLine log files replay.Read c = IsUnreadable log c
+FaultLine log files (replay.Log f) c = LogLine f c
+FaultLine log files (replay.Run f) c = RunLine files f c
+FaultLine log files replay.Write c = c ≡ line.Unwritten
+FaultLine log files replay.Memory c = c ≡ line.Memory
 
-abbrev pub DriveLine : DriveFault → Complaint → Type 0
-DriveLine (drive.Serve (serve.New f)) c = OpeningLine f c
-DriveLine (drive.Serve serve.NoThread) c = c ≡ line.NoThread
-DriveLine (drive.Serve serve.Memory) c = c ≡ line.Memory
-DriveLine drive.WriteLog c = c ≡ line.Unwritten
-DriveLine drive.Write c = c ≡ line.Unwritten
-DriveLine drive.Memory c = c ≡ line.Memory
+-- the line of a run of the files of scripts
+abbrev pub DriveLine : List (Bor (List ℕ)) → DriveFault → Complaint → Type 0
+DriveLine files (drive.Serve (serve.New f)) c = OpeningLine files f c
+DriveLine files (drive.Serve serve.NoThread) c = c ≡ line.NoThread
+DriveLine files (drive.Serve serve.Memory) c = c ≡ line.Memory
+DriveLine files drive.WriteLog c = c ≡ line.Unwritten
+DriveLine files drive.Write c = c ≡ line.Unwritten
+DriveLine files drive.Memory c = c ≡ line.Memory

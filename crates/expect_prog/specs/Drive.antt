@@ -12,10 +12,11 @@ use Rattle.child_serve.specs.declared.serving.ServeFault.TheVariants as serve
 use Rattle.child_serve.specs.Whole.{IsServing}
 use Rattle.expect_prog.specs.declared.driving.DriveFault.{DriveFault}
 use Rattle.expect_prog.specs.declared.driving.DriveFault.TheVariants.{Serve, WriteLog, Write, Memory}
-use Rattle.expect_prog.specs.Report.{reports_bytes, all_done}
+use Rattle.expect_prog.specs.Report.{all_done}
+use Rattle.expect_prog.specs.Form.{told_bytes}
 use Rattle.expect_prog.specs.Devices.{WasPut}
 use Rattle.expect_prog.specs.Written.{AllStandFor}
-use Rattle.expect_prog.specs.declared.texts.Shown.{Shown}
+use Rattle.expect_prog.specs.declared.form.Form.{Form}
 
 module _ (told : ℕ → ℕ → Request → Answer → Type 0) (gives : ℕ → ℕ → Option (List ℕ) → Type 0) (workers : ℕ) (keepers : List Keeping) (scripts : List Script) where
   -- The scripts were served, and this is the log text of their record.
@@ -24,12 +25,12 @@ module _ (told : ℕ → ℕ → Request → Answer → Type 0) (gives : ℕ →
     pub log : LogText2 text served.logged
 
   -- What is written is the log text of the record, and the text of the reports that stand with it.
-  pub record Driven (shown : Shown) (well : Bool) (log log' out out' : Option (List ℕ)) : Type 0 where
+  pub record Driven (form : Form) (well : Bool) (log log' out out' : Option (List ℕ)) : Type 0 where
     pub served : Served
     pub text : List ℕ
     pub was : WasServed served text
     pub logged : Appends log log' text
-    pub written : Appends out out' (reports_bytes shown 1 served.reports)
+    pub written : Appends out out' (told_bytes form served.reports)
     pub done : well ≡ all_done served.reports
 
   -- A front of the record's text is written.
@@ -40,20 +41,20 @@ module _ (told : ℕ → ℕ → Request → Answer → Type 0) (gives : ℕ →
     pub logged : WasPut log log' text
 
   -- The record is written, and a front of the reports.
-  pub record PartDriven (shown : Shown) (log log' out out' : Option (List ℕ)) : Type 0 where
+  pub record PartDriven (form : Form) (log log' out out' : Option (List ℕ)) : Type 0 where
     pub served : Served
     pub text : List ℕ
     pub was : WasServed served text
     pub logged : Appends log log' text
-    pub written : WasPut out out' (reports_bytes shown 1 served.reports)
+    pub written : WasPut out out' (told_bytes form served.reports)
 
   -- what a run answers, and what it puts behind what was written before
-  abbrev pub Drives : Shown → Option (List ℕ) → Option (List ℕ) → Option (List ℕ) → Option (List ℕ) → Result Bool DriveFault → Type 0
-  Drives shown log log' out out' (Ok well) = Driven shown well log log' out out'
-  Drives shown log log' out out' (Err (Serve f)) = (f ≢ serve.Memory) × IsServing told gives workers keepers scripts (Err f)
-  Drives shown log log' out out' (Err WriteLog) = PartLogged log log'
-  Drives shown log log' out out' (Err Write) = PartDriven shown log log' out out'
-  Drives shown log log' out out' (Err Memory) = Unit {0}
+  abbrev pub Drives : Form → Option (List ℕ) → Option (List ℕ) → Option (List ℕ) → Option (List ℕ) → Result Bool DriveFault → Type 0
+  Drives form log log' out out' (Ok well) = Driven form well log log' out out'
+  Drives form log log' out out' (Err (Serve f)) = (f ≢ serve.Memory) × IsServing told gives workers keepers scripts (Err f)
+  Drives form log log' out out' (Err WriteLog) = PartLogged log log'
+  Drives form log log' out out' (Err Write) = PartDriven form log log' out out'
+  Drives form log log' out out' (Err Memory) = Unit {0}
 
   -- what serving the scripts answers here
   abbrev pub Serves : Result Served DriveFault → Type 0
@@ -64,12 +65,12 @@ module _ (told : ℕ → ℕ → Request → Answer → Type 0) (gives : ℕ →
   Serves (Err Memory) = Unit {0}
 
 -- what is answered where the text of a record and then reports were written, or a front of them
-abbrev pub Puts : List ℕ → Shown → List Report → Option (List ℕ) → Option (List ℕ) → Option (List ℕ) → Option (List ℕ) → Result Bool DriveFault → Type 0
-Puts record_text shown reports log log' out out' (Ok well) = Appends log log' record_text × ((told : List Report) × AllStandFor reports told × Appends out out' (reports_bytes shown 1 told) × (well ≡ all_done told))
-Puts record_text shown reports log log' out out' (Err (Serve f)) = ⊥
-Puts record_text shown reports log log' out out' (Err WriteLog) = WasPut log log' record_text
-Puts record_text shown reports log log' out out' (Err Write) = Appends log log' record_text × ((told : List Report) × AllStandFor reports told × WasPut out out' (reports_bytes shown 1 told))
-Puts record_text shown reports log log' out out' (Err Memory) = ⊥
+abbrev pub Puts : List ℕ → Form → List Report → Option (List ℕ) → Option (List ℕ) → Option (List ℕ) → Option (List ℕ) → Result Bool DriveFault → Type 0
+Puts record_text form reports log log' out out' (Ok well) = Appends log log' record_text × ((told : List Report) × AllStandFor reports told × Appends out out' (told_bytes form told) × (well ≡ all_done told))
+Puts record_text form reports log log' out out' (Err (Serve f)) = ⊥
+Puts record_text form reports log log' out out' (Err WriteLog) = WasPut log log' record_text
+Puts record_text form reports log log' out out' (Err Write) = Appends log log' record_text × ((told : List Report) × AllStandFor reports told × WasPut out out' (told_bytes form told))
+Puts record_text form reports log log' out out' (Err Memory) = ⊥
 
 -- a fault before the first byte is written
 abbrev pub IsBefore : DriveFault → Type 0

@@ -1,6 +1,11 @@
 pub mod Report
+pub mod Line
+pub mod Tap
+pub mod Json
+pub mod Form
 pub mod Devices
 pub mod Written
 pub mod Replay
 pub mod Drive
 pub mod Complaint
+pub mod Given

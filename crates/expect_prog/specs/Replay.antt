@@ -13,9 +13,10 @@ use Rattle.dialogue_sched.specs.declared.run.RunFault.TheVariants as run
 use Rattle.dialogue_sched.specs.Run.{Runs}
 use Rattle.expect_prog.specs.declared.fault.ReplayFault.{ReplayFault}
 use Rattle.expect_prog.specs.declared.fault.ReplayFault.TheVariants.{Read, Log, Run, Write, Memory}
-use Rattle.expect_prog.specs.Report.{reports_bytes, all_done}
+use Rattle.expect_prog.specs.Report.{all_done}
+use Rattle.expect_prog.specs.Form.{told_bytes}
 use Rattle.expect_prog.specs.Devices.{WasPut, GaveUp}
-use Rattle.expect_prog.specs.declared.texts.Shown.{Shown}
+use Rattle.expect_prog.specs.declared.form.Form.{Form}
 
 -- The bytes are the log text of some events, and the run of the scripts over these answers so.
 pub record RunOver (scripts : List Script) (bytes : List ℕ) (answer : Result (List Report) RunFault) : Type 0 where
@@ -24,26 +25,26 @@ pub record RunOver (scripts : List Script) (bytes : List ℕ) (answer : Result (
   pub runs : Runs scripts events answer
 
 -- What is written is the text of the run's reports, and nothing else.
-pub record Replayed (scripts : List Script) (shown : Shown) (bytes : List ℕ) (well : Bool) (old new : Option (List ℕ)) : Type 0 where
+pub record Replayed (scripts : List Script) (form : Form) (bytes : List ℕ) (well : Bool) (old new : Option (List ℕ)) : Type 0 where
   pub reports : List Report
   pub run : RunOver scripts bytes (Ok reports)
   pub done : well ≡ all_done reports
-  pub written : Appends old new (reports_bytes shown 1 reports)
+  pub written : Appends old new (told_bytes form reports)
 
 -- A front of that text is written, and nothing else.
-pub record PartReplayed (scripts : List Script) (shown : Shown) (bytes : List ℕ) (old new : Option (List ℕ)) : Type 0 where
+pub record PartReplayed (scripts : List Script) (form : Form) (bytes : List ℕ) (old new : Option (List ℕ)) : Type 0 where
   pub reports : List Report
   pub run : RunOver scripts bytes (Ok reports)
-  pub written : WasPut old new (reports_bytes shown 1 reports)
+  pub written : WasPut old new (told_bytes form reports)
 
 -- what a replay of bytes answers, and what it puts behind what was written before
-abbrev pub Replays : List Script → Shown → List ℕ → Option (List ℕ) → Option (List ℕ) → Result Bool ReplayFault → Type 0
-Replays scripts shown bytes old new (Ok well) = Replayed scripts shown bytes well old new
-Replays scripts shown bytes old new (Err Read) = Unit {0}
-Replays scripts shown bytes old new (Err (Log f)) = Refused bytes f
-Replays scripts shown bytes old new (Err (Run f)) = RunOver scripts bytes (Err f)
-Replays scripts shown bytes old new (Err Write) = PartReplayed scripts shown bytes old new
-Replays scripts shown bytes old new (Err Memory) = Unit {0}
+abbrev pub Replays : List Script → Form → List ℕ → Option (List ℕ) → Option (List ℕ) → Result Bool ReplayFault → Type 0
+Replays scripts form bytes old new (Ok well) = Replayed scripts form bytes well old new
+Replays scripts form bytes old new (Err Read) = Unit {0}
+Replays scripts form bytes old new (Err (Log f)) = Refused bytes f
+Replays scripts form bytes old new (Err (Run f)) = RunOver scripts bytes (Err f)
+Replays scripts form bytes old new (Err Write) = PartReplayed scripts form bytes old new
+Replays scripts form bytes old new (Err Memory) = Unit {0}
 
 -- a fault of the log or the run is no want of memory
 abbrev pub IsNoWant : ReplayFault → Type 0

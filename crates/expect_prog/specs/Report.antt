@@ -25,11 +25,14 @@ ending_text Waiting = codes "waiting"
 unfoldable pub ended_text : Ending → List ℕ
 ended_text e = codes " end=" ++ ending_text e
 
--- the first line of the report of script n
-unfoldable pub head_line : ℕ → Report → List ℕ
-head_line n r =
+-- what the first line of the report of script n says
+unfoldable pub head_words : ℕ → Report → List ℕ
+head_words n r =
     labelled (codes "script ") n ++ ended_text r.ending ++ labelled (codes " steps=") r.steps
-    ++ labelled (codes " sent=") (sum r.sent) ++ labelled (codes " transcript=") (length r.transcript) ++ 10 ∷ []
+    ++ labelled (codes " sent=") (sum r.sent) ++ labelled (codes " transcript=") (length r.transcript)
+
+abbrev pub head_line : ℕ → Report → List ℕ
+head_line n r = head_words n r ++ 10 ∷ []
 
 -- for an error alone, its text
 abbrev pub fault_part : Ending → List ℕ → List ℕ
@@ -65,8 +68,11 @@ act_text act.Close = codes "close"
 act_text act.Wait = codes "wait"
 
 -- what is asked of which child
-unfoldable pub ask_line : Request → List ℕ
-ask_line r = labelled (codes "ask ") r.child ++ 32 ∷ [] ++ act_text r.act ++ 10 ∷ []
+unfoldable pub ask_words : Request → List ℕ
+ask_words r = labelled (codes "ask ") r.child ++ 32 ∷ [] ++ act_text r.act
+
+abbrev pub ask_line : Request → List ℕ
+ask_line r = ask_words r ++ 10 ∷ []
 
 abbrev pub ask_lines : List Request → List ℕ
 ask_lines [] = []
@@ -81,11 +87,6 @@ tail_part shown r = 10 ∷ [] ++ fault_part r.ending r.fault ++ vars_part shown.
 
 abbrev pub report_bytes : Shown → ℕ → Report → List ℕ
 report_bytes shown n r = head_line n r ++ r.transcript ++ tail_part shown r
-
--- all reports in order, where the first is of script n
-abbrev pub reports_bytes : Shown → ℕ → List Report → List ℕ
-reports_bytes shown n [] = []
-reports_bytes shown n (r ∷ rs) = report_bytes shown n r ++ reports_bytes shown (n + 1) rs
 
 abbrev pub is_done : Ending → Bool
 is_done (Exit n) = n == 0

@@ -1,7 +1,7 @@
 //! The text of what a script asked of its children.
 
 ghost use Rattle.std.specs.Prelude.{◌≡◌, ◌++◌, OnOk};
-ghost use Rattle.expect_prog.specs.Report.{labelled, words_part, act_text, ask_line, ask_lines, asks_part};
+ghost use Rattle.expect_prog.specs.Report.{labelled, words_part, act_text, ask_words, ask_line, ask_lines, asks_part};
 
 use crate::texts::{push_hex, push_labelled};
 use session::{Act, Request};
@@ -38,14 +38,25 @@ fn push_act(alloc: Global, text: &mut Text, act: &Act) -> Result<(), AllocError>
     }
 }
 
-/// Puts the line of a request behind a text.
-#[tactic(auto, unfolding(crate::specs::Report::ask_line))]
-fn push_ask(alloc: Global, text: &mut Text, request: &Request) -> Result<(), AllocError>
-    ensures { OnOk result (text.new ≡ text.old ++ ask_line request.now) }
+/// Puts what a request asks of which child behind a text.
+#[tactic(auto, unfolding(crate::specs::Report::ask_words))]
+pub(crate) fn push_ask_words(
+    alloc: Global,
+    text: &mut Text,
+    request: &Request,
+) -> Result<(), AllocError>
+    ensures { OnOk result (text.new ≡ text.old ++ ask_words request.now) }
 {
     push_labelled(alloc, text, b"ask ", u128::from(request.child))?;
     text.push(b' ')?;
-    push_act(alloc, text, &request.act)?;
+    push_act(alloc, text, &request.act)
+}
+
+/// Puts the line of a request behind a text.
+fn push_ask(alloc: Global, text: &mut Text, request: &Request) -> Result<(), AllocError>
+    ensures { OnOk result (text.new ≡ text.old ++ ask_line request.now) }
+{
+    push_ask_words(alloc, text, request)?;
     text.push(b'\n')
 }
 

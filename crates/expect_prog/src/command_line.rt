@@ -1,12 +1,15 @@
 //! What the words of the command line ask for.
 
-ghost use Rattle.std.specs.Prelude.{◌≡◌, ◌≤◌, ◌*◌};
+ghost use Rattle.std.specs.Prelude.{◌≡◌, ◌≤◌, ◌*◌, option_map, IfOk, IfSome, Some, None};
+ghost use Rattle.expect_prog.specs.Given.{steps_given, names_of, files_told, format_given};
 
+use crate::form::{Form, Format};
 use crate::help;
 use crate::texts::Shown;
 use clap::{Arg, ArgAction, ArgMatches, Command, Error, value_parser};
 use session::STEPS_LIMIT;
 use std::alloc::{AllocError, Global};
+use tcl_words::{Text, Texts};
 
 /// How many steps a script has where the command line names none.
 const DEFAULT_STEPS: u64 = 1_000_000;
@@ -28,8 +31,8 @@ pub struct Scripts<'a> {
     pub steps: u64,
     /// The last moment of each script, in milliseconds.
     pub limit_ms: Option<u64>,
-    /// What the reports have beside their transcripts.
-    pub shown: Shown,
+    /// The form that their reports are told in.
+    pub form: Form,
     /// The files of their sources.
     pub sources: Vec<&'a str>,
 }
@@ -81,6 +84,26 @@ fn requests<'a>(alloc: Global) -> Arg<'a> {
         .action(ArgAction::SetTrue)
 }
 
+/// The names of formats, each by itself.
+const FORMATS: [&str; 3] = ["text", "json", "tap"];
+
+fn format<'a>(alloc: Global) -> Arg<'a> {
+    Arg::new(alloc, "format")
+        .long("format")
+        .value_name("F")
+        .help("Print the reports as text, json or tap [default: text]")
+        .value_parser(FORMATS.as_slice())
+        .hide_possible_values(true)
+}
+
+fn summary<'a>(alloc: Global) -> Result<Arg<'a>, AllocError> {
+    Arg::new(alloc, "summary")
+        .long("summary")
+        .help("Print a line of each report, and one of counts")
+        .action(ArgAction::SetTrue)
+        .conflicts_with("format")
+}
+
 fn sources<'a>(alloc: Global) -> Arg<'a> {
     Arg::new(alloc, "sources")
         .value_name("FILE")
@@ -105,6 +128,8 @@ fn replay_command<'a>(alloc: Global) -> Result<Command<'a>, AllocError> {
         .arg(steps(alloc))?
         .arg(vars(alloc))?
         .arg(requests(alloc))?
+        .arg(format(alloc))?
+        .arg(summary(alloc)?)?
         .arg(log(alloc))?
         .arg(sources(alloc))
 }
@@ -134,6 +159,8 @@ fn run_command<'a>(alloc: Global) -> Result<Command<'a>, AllocError> {
         .arg(record(alloc))?
         .arg(vars(alloc))?
         .arg(requests(alloc))?
+        .arg(format(alloc))?
+        .arg(summary(alloc)?)?
         .arg(sources(alloc))
 }
 
@@ -156,21 +183,79 @@ fn milliseconds(seconds: u64) -> u64
     seconds.saturating_mul(1000)
 }
 
-fn scripts_of<'a>(alloc: Global, matches: &ArgMatches<'a>) -> Result<Scripts<'a>, AllocError> {
-    let mut sources = Vec::new(alloc);
-    if let Some(files) = matches.get_strs("sources") {
-        for file in files {
-            sources.push(*file)?;
-        }
+/// How many steps each script may begin, where so many or none are asked for.
+fn steps_of(asked: Option<u64>) -> u64
+    ensures { result ≡ steps_given asked }
+{
+    asked.unwrap_or(DEFAULT_STEPS)
+}
+
+/// The last moment of each script in milliseconds, where so many seconds or none are asked for.
+fn limit_of(asked: Option<u64>) -> Option<u64>
+    ensures none { asked ≡ None → result ≡ None }
+    ensures some { IfSome asked (λ seconds. seconds ≤ 9000000000 → result ≡ Some (1000 * seconds)) }
+{
+    match asked {
+        Some(seconds) => Some(milliseconds(seconds)),
+        None => None,
     }
+}
+
+/// The files of sources, in the order of the command line.
+fn files_of<'a>(alloc: Global, matches: &ArgMatches<'a>) -> Result<Vec<&'a str>, AllocError>
+    ensures { IfOk result (λ files. names_of files.items ≡ files_told matches.now) }
+{
+    let mut files = Vec::new(alloc);
+    if let Some(words) = matches.get_strs("sources") {
+        files.extend_from_slice(words)?;
+    }
+    Ok(files)
+}
+
+/// The names of files.
+fn texts_of(alloc: Global, files: &[&str]) -> Result<Texts, AllocError>
+    ensures { IfOk result (λ texts. texts ≡ names_of files.now) }
+{
+    let mut texts = Texts::new(alloc);
+    for file in files {
+        texts.push(Text::from_slice(alloc, file.as_bytes())?)?;
+    }
+    Ok(texts)
+}
+
+/// The format that is asked for by a name, or a summary.
+fn format_of(summary: bool, name: Option<&str>) -> Format
+    ensures { result ≡ format_given summary (option_map (λ n. n.now) name.entry) }
+{
+    if summary {
+        return Format::Summary;
+    }
+    match name {
+        Some("json") => Format::Json,
+        Some("tap") => Format::Tap,
+        Some(_) => Format::Text,
+        None => Format::Text,
+    }
+}
+
+fn scripts_of<'a>(alloc: Global, matches: &ArgMatches<'a>) -> Result<Scripts<'a>, AllocError>
+    ensures files { IfOk result (λ scripts. names_of scripts.sources.items ≡ files_told matches.now) }
+    ensures names { IfOk result (λ scripts. scripts.form.files ≡ files_told matches.now) }
+{
+    let files = files_of(alloc, matches)?;
+    let names = texts_of(alloc, files.as_slice())?;
     Ok(Scripts {
-        steps: matches.get_one::<u64>("steps").unwrap_or(DEFAULT_STEPS),
-        limit_ms: matches.get_one::<u64>("limit").map(milliseconds),
-        shown: Shown {
-            vars: matches.get_flag("vars"),
-            requests: matches.get_flag("requests"),
+        steps: steps_of(matches.get_one::<u64>("steps")),
+        limit_ms: limit_of(matches.get_one::<u64>("limit")),
+        form: Form {
+            format: format_of(matches.get_flag("summary"), matches.get_str("format")),
+            shown: Shown {
+                vars: matches.get_flag("vars"),
+                requests: matches.get_flag("requests"),
+            },
+            files: names,
         },
-        sources,
+        sources: files,
     })
 }
 

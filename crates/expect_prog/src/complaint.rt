@@ -87,7 +87,7 @@ impl<'a> Complaint<'a> {
     }
 
     fn of_opening(fault: HallFault, sources: &[&'a str]) -> Complaint<'a>
-        ensures { OpeningLine fault result }
+        ensures { OpeningLine sources.now fault result }
     {
         match fault {
             HallFault::TooManyScripts => Complaint::TooManyScripts,
@@ -100,7 +100,7 @@ impl<'a> Complaint<'a> {
     }
 
     fn of_run(fault: RunFault, order: &Replay<'a>) -> Complaint<'a>
-        ensures { RunLine fault result }
+        ensures { RunLine order.now.scripts.sources.items fault result }
     {
         match fault {
             RunFault::Refused { at, refusal } => Complaint::Event {
@@ -116,7 +116,7 @@ impl<'a> Complaint<'a> {
 
     /// The complaint of a fault in an order's replay.
     pub fn of(fault: ReplayFault, order: &Replay<'a>) -> Complaint<'a>
-        ensures { FaultLine fault result }
+        ensures { FaultLine order.now.log order.now.scripts.sources.items fault result }
     {
         match fault {
             ReplayFault::Read => Complaint::Unreadable(order.log),
@@ -129,7 +129,7 @@ impl<'a> Complaint<'a> {
 
     /// The complaint of a fault in an order's run.
     pub fn of_drive(fault: DriveFault, order: &Run<'a>) -> Complaint<'a>
-        ensures { DriveLine fault result }
+        ensures { DriveLine order.now.scripts.sources.items fault result }
     {
         match fault {
             DriveFault::Serve(ServeFault::New(fault)) => {

@@ -1,6 +1,6 @@
 //! Whole readers and writers.
 
-ghost use Rattle.std.specs.Prelude.{◌≡◌, ◌<◌, ◌≤◌, IfOk, IfSome, Err, vec_len};
+ghost use Rattle.std.specs.Prelude.{◌≡◌, ◌≢◌, ◌<◌, ◌≤◌, IfOk, IfSome, Err, vec_len};
 ghost use Rattle.expect_prog.specs.Devices.{Writes, GaveUp};
 
 use child_events::Counted;
@@ -51,6 +51,7 @@ pub fn read_all<R: Read>(alloc: Global, reader: &mut Counted<R>) -> Result<Text,
     requires calls { reader.old.calls ≡ 0 }
     ensures bytes { IfOk result (λ text. IfSome (R.remaining reader.old.device) (λ bytes. text ≡ bytes)) }
     ensures failed { result ≡ Err ReadFault.Failed → GaveUp reader.new.failures reader.new.calls }
+    ensures unfailed { result ≢ Err ReadFault.Failed → reader.new.failures ≡ 0 }
 {
     let mut text = Text::new(alloc);
     let mut buffer = buffer(alloc)?;

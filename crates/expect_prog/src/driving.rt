@@ -1,14 +1,14 @@
 //! Scripts over children, whose record and reports go to any two writers.
 
-ghost use Rattle.std.specs.Prelude.{◌≡◌, ◌<◌, ◌≤◌, length, map, IfErr, Err};
+ghost use Rattle.std.specs.Prelude.{◌≡◌, ◌≢◌, ◌<◌, ◌≤◌, length, map, IfErr, Err};
 ghost use Rattle.child_serve.specs.Whole.{keeping_of};
 ghost use Rattle.expect_prog.specs.Devices.{GaveUp};
 ghost use Rattle.expect_prog.specs.Drive.{Drives, Serves, Puts, IsBefore};
 ghost use Rattle.expect_prog.specs.Written.{AreSpares};
 
 use crate::devices::write_all;
+use crate::form::{Form, Spares, made_spares};
 use crate::reporting::write_reports;
-use crate::texts::{Shown, spare_texts};
 use child_events::{Counted, write_log};
 use child_keeper::{Clock, Gate, Keeper};
 use child_serve::{ServeFault, Served, serve};
@@ -73,25 +73,27 @@ fn served_by<
 /// Writes the text of a record, and then the reports.
 fn write_both<L: Write, O: Write>(
     alloc: Global,
-    shown: Shown,
+    form: &Form,
     record: &Text,
     reports: &[Report],
-    spares: &[Text],
+    spares: Spares,
     log: &mut Counted<L>,
     out: &mut Counted<O>,
 ) -> Result<bool, DriveFault>
-    requires spares { AreSpares shown (length reports.now) spares.now }
+    requires spares { AreSpares form.now (length reports.now) spares }
     requires log_failures { log.old.failures ≡ 0 }
     requires log_calls { log.old.calls ≡ 0 }
     requires out_failures { out.old.failures ≡ 0 }
     requires out_calls { out.old.calls ≡ 0 }
-    ensures answers { Puts record.now shown reports.now (L.contents log.old.device) (L.contents log.new.device) (O.contents out.old.device) (O.contents out.new.device) result }
+    ensures answers { Puts record.now form.now reports.now (L.contents log.old.device) (L.contents log.new.device) (O.contents out.old.device) (O.contents out.new.device) result }
     ensures reports { result ≡ Err DriveFault.WriteLog → out.new ≡ out.old }
     ensures log { result ≡ Err DriveFault.WriteLog → GaveUp log.new.failures log.new.calls }
     ensures out { result ≡ Err DriveFault.Write → GaveUp out.new.failures out.new.calls }
+    ensures log_whole { result ≢ Err DriveFault.WriteLog → log.new.failures ≡ 0 }
+    ensures out_whole { result ≢ Err DriveFault.Write → out.new.failures ≡ 0 }
 {
     match write_all(log, record.as_slice()) {
-        Ok(()) => match write_reports(alloc, shown, reports, spares, out) {
+        Ok(()) => match write_reports(alloc, form, reports, spares, out) {
             Ok(well) => Ok(well),
             Err(_) => Err(DriveFault::Write),
         },
@@ -100,7 +102,7 @@ fn write_both<L: Write, O: Write>(
 }
 
 /// Serves scripts, each with its keeper, by as many workers as there are clocks. Writes the record's log text to `log` and then the reports to
-/// `out`, with what is shown of them. The answer says whether each script ended with status 0.
+/// `out`, in a form. The answer says whether each script ended with status 0.
 ///
 /// The record's text is made before the first byte is written, and reports are written one by one: where memory is refused for one report or its
 /// text, that script's report says `memory`, and the others are whole. After `WriteLog` a front of the record was written and nothing of the
@@ -119,7 +121,7 @@ pub fn drive<
     keepers: Vec<K>,
     clocks: Vec<C>,
     gate: G,
-    shown: Shown,
+    form: &Form,
     log: &mut Counted<L>,
     out: &mut Counted<O>,
 ) -> Result<bool, DriveFault>
@@ -129,16 +131,18 @@ pub fn drive<
     requires log_calls { log.old.calls ≡ 0 }
     requires out_failures { out.old.failures ≡ 0 }
     requires out_calls { out.old.calls ≡ 0 }
-    ensures answers { Drives K.told K.gives (length clocks.items) (map (keeping_of K.named K.made) keepers.items) scripts.items shown
+    ensures answers { Drives K.told K.gives (length clocks.items) (map (keeping_of K.named K.made) keepers.items) scripts.items form.now
         (L.contents log.old.device) (L.contents log.new.device) (O.contents out.old.device) (O.contents out.new.device) result }
     ensures unwritten { IfErr result (λ fault. IsBefore fault → (log.new ≡ log.old) × (out.new ≡ out.old)) }
     ensures reports { result ≡ Err DriveFault.WriteLog → out.new ≡ out.old }
     ensures log { result ≡ Err DriveFault.WriteLog → GaveUp log.new.failures log.new.calls }
     ensures out { result ≡ Err DriveFault.Write → GaveUp out.new.failures out.new.calls }
+    ensures log_whole { result ≢ Err DriveFault.WriteLog → log.new.failures ≡ 0 }
+    ensures out_whole { result ≢ Err DriveFault.Write → out.new.failures ≡ 0 }
 {
-    let spares = spare_texts(alloc, shown, scripts.len())?;
+    let spares = made_spares(alloc, form, scripts.len())?;
     let served = served_by(rt, alloc, scripts, keepers, clocks, gate)?;
     let record = write_log(alloc, served.logged.as_slice())?;
     let reports = served.reports.as_slice();
-    write_both(alloc, shown, &record, reports, spares.as_slice(), log, out)
+    write_both(alloc, form, &record, reports, spares, log, out)
 }

@@ -1,4 +1,7 @@
-//! The files of a replay.
+//! The files of an order.
+
+ghost use Rattle.std.specs.Prelude.{◌≡◌, length, IfOk};
+ghost use Rattle.expect_prog.specs.Given.{script_given, scripts_given, AreOfFiles};
 
 use crate::command_line::{Replay, Scripts};
 use crate::complaint::Complaint;
@@ -7,11 +10,11 @@ use crate::replaying::replay;
 use child_events::Counted;
 use dialogue_sched::Script;
 use session::{Pairs, SOURCE_LIMIT, Settings};
-use std::alloc::Global;
+use std::alloc::{AllocError, Global};
 use std::fs;
 use std::io::{self, ErrorKind, Read};
 use std::rt::Files;
-use tcl_words::Text;
+use tcl_words::{Text, Texts};
 
 /// A file that is opened to be read.
 pub fn opened<'a, R: Files>(rt: &R, path: &'a str) -> Result<R::File, Complaint<'a>> {
@@ -37,24 +40,63 @@ fn source<'a, R: Files>(rt: &R, alloc: Global, path: &'a str) -> Result<Text, Co
     }
 }
 
+/// The bytes of files of sources, read in order; the first that can't be read is complained of.
+fn read_sources<'a, R: Files>(
+    rt: &R,
+    alloc: Global,
+    paths: &[&'a str],
+) -> Result<Texts, Complaint<'a>>
+    ensures { IfOk result (λ texts. length texts ≡ length paths.now) }
+{
+    let mut texts = Texts::new(alloc);
+    for path in paths {
+        texts.push(source(rt, alloc, path)?)?;
+    }
+    Ok(texts)
+}
+
+/// The script of a source, which is given an empty environment.
+fn script_of(alloc: Global, steps: u64, limit_ms: Option<u64>, source: Text) -> Script
+    ensures { result ≡ script_given steps limit_ms source }
+{
+    Script {
+        source,
+        settings: Settings {
+            steps,
+            limit_ms,
+            env: Pairs::new(alloc),
+        },
+    }
+}
+
+/// The scripts of sources, in their order.
+fn scripts_of(
+    alloc: Global,
+    steps: u64,
+    limit_ms: Option<u64>,
+    sources: Texts,
+) -> Result<Vec<Script>, AllocError>
+    ensures { IfOk result (λ ss. ss.items ≡ scripts_given steps limit_ms sources) }
+{
+    let mut scripts = Vec::new(alloc);
+    for source in sources.list {
+        let Ok(()) = scripts.push(script_of(alloc, steps, limit_ms, source)) else {
+            return Err(AllocError);
+        };
+    }
+    Ok(scripts)
+}
+
 /// The scripts of an order: their sources are read in order, and the first that can't be read is complained of.
 pub fn scripts<'a, R: Files>(
     rt: &R,
     alloc: Global,
     order: &Scripts<'a>,
-) -> Result<Vec<Script>, Complaint<'a>> {
-    let mut scripts = Vec::new(alloc);
-    for path in &order.sources {
-        let script = Script {
-            source: source(rt, alloc, path)?,
-            settings: Settings {
-                steps: order.steps,
-                limit_ms: order.limit_ms,
-                env: Pairs::new(alloc),
-            },
-        };
-        scripts.push(script)?;
-    }
+) -> Result<Vec<Script>, Complaint<'a>>
+    ensures { IfOk result (λ ss. AreOfFiles order.now.steps order.now.limit_ms order.now.sources.items ss.items) }
+{
+    let sources = read_sources(rt, alloc, order.sources.as_slice())?;
+    let scripts = scripts_of(alloc, order.steps, order.limit_ms, sources)?;
     Ok(scripts)
 }
 
@@ -70,7 +112,7 @@ pub fn replay_files<'a, R: Files + Print>(
     let scripts = scripts(rt, alloc, &order.scripts)?;
     let mut log = Counted::new(opened(rt, order.log)?);
     let mut out = Counted::new(io::writer(rt));
-    match replay(alloc, &mut log, scripts, order.scripts.shown, &mut out) {
+    match replay(alloc, &mut log, scripts, &order.scripts.form, &mut out) {
         Ok(well) => Ok(well),
         Err(fault) => Err(Complaint::of(fault, order)),
     }

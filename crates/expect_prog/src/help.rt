@@ -72,6 +72,12 @@ transcript. The endings are exit:N, error (its text follows the transcript),
 steplimit, timelimit, memory, and waiting, for an event that the log doesn't
 have.
 
+With --summary a report is its first line alone, with the script's file behind
+it, and the last line has counts: of scripts, of those that ended well, which is
+with exit:0, and of each ending. --format json is for programs: an array with an
+object in a line for each report. --format tap is for prove(1): a test for each
+script, which is passed where it ended well.
+
 Example: cat.exp is
 
     spawn cat
@@ -111,6 +117,9 @@ When a script has ended, the input of its programs ends, and what they still
 write is dropped. exprun ends when their outputs have ended: a program that is
 silent and stays holds it, so `close` it, start it under `timeout 60`, or let it
 end with its input.
+
+--summary, --format json and --format tap print the reports in short, for
+programs, and for prove(1): `exprun replay --help` says how.
 
 Example: cat.exp is
 

@@ -8,10 +8,15 @@ mod devices;
 mod driving;
 mod fault;
 mod files;
+mod form;
 mod help;
+mod json;
+mod line;
 mod replaying;
 mod reporting;
 mod running;
+mod tally;
+mod tap;
 mod texts;
 
 use crate::command_line::{Order, read_words};

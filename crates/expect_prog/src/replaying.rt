@@ -6,8 +6,8 @@ ghost use Rattle.expect_prog.specs.Replay.{Judged, RunOrFault, ReportsOver, Repo
 
 use crate::devices::{ReadFault, read_all};
 use crate::fault::ReplayFault;
+use crate::form::{Form, made_spares};
 use crate::reporting::write_reports;
-use crate::texts::{Shown, spare_texts};
 use child_events::{Counted, LogFault, LogReader};
 use dialogue_sched::{HallFault, Reports, RunFault, Script, run_log};
 use std::alloc::Global;
@@ -59,6 +59,7 @@ fn reports_read<R: Read>(
     requires failures { log.old.failures ≡ 0 }
     requires calls { log.old.calls ≡ 0 }
     ensures read { ReportsRead scripts.items (R.remaining log.old.device) log.new.failures log.new.calls result }
+    ensures read_whole { result ≢ Err ReplayFault.Read → log.new.failures ≡ 0 }
     ensures count { IfOk result (λ rs. length rs ≡ length scripts.items) }
 {
     let bytes = match read_all(alloc, log) {
@@ -69,8 +70,8 @@ fn reports_read<R: Read>(
     reports_over(alloc, scripts, bytes.as_slice())
 }
 
-/// Reads a log, runs the scripts over its events, and writes their reports one by one, with what is
-/// shown of them. The answer says whether each script ended with status 0.
+/// Reads a log, runs the scripts over its events, and writes their reports one by one, in a
+/// form. The answer says whether each script ended with status 0.
 ///
 /// Where memory is refused for one report or its text, that script's report says `memory`, and the others are whole.
 ///
@@ -81,7 +82,7 @@ pub fn replay<R: Read, W: Write>(
     alloc: Global,
     log: &mut Counted<R>,
     scripts: Vec<Script>,
-    shown: Shown,
+    form: &Form,
     out: &mut Counted<W>,
 ) -> Result<bool, ReplayFault>
     requires log_failures { log.old.failures ≡ 0 }
@@ -89,15 +90,17 @@ pub fn replay<R: Read, W: Write>(
     requires out_failures { out.old.failures ≡ 0 }
     requires out_calls { out.old.calls ≡ 0 }
     ensures answers { IfSome (R.remaining log.old.device) (λ bytes.
-        Replays scripts.items shown bytes (W.contents out.old.device) (W.contents out.new.device) result) }
+        Replays scripts.items form.now bytes (W.contents out.old.device) (W.contents out.new.device) result) }
     ensures unwritten { IfErr result (λ fault. fault ≢ ReplayFault.Write → out.new ≡ out.old) }
     ensures read { result ≡ Err ReplayFault.Read → GaveUp log.new.failures log.new.calls }
+    ensures read_whole { result ≢ Err ReplayFault.Read → log.new.failures ≡ 0 }
     ensures write { result ≡ Err ReplayFault.Write → GaveUp out.new.failures out.new.calls }
+    ensures written_whole { result ≢ Err ReplayFault.Write → out.new.failures ≡ 0 }
     ensures memory { IfErr result (λ fault. IsNoWant fault) }
 {
-    let spares = spare_texts(alloc, shown, scripts.len())?;
+    let spares = made_spares(alloc, form, scripts.len())?;
     let reports = reports_read(alloc, log, scripts)?;
-    match write_reports(alloc, shown, reports.as_slice(), spares.as_slice(), out) {
+    match write_reports(alloc, form, reports.as_slice(), spares, out) {
         Ok(well) => Ok(well),
         Err(_) => Err(ReplayFault::Write),
     }

@@ -6,7 +6,7 @@ use crate::command_line::Run;
 use crate::complaint::Complaint;
 use crate::driving::{DriveFault, drive};
 use crate::files::scripts;
-use crate::texts::Shown;
+use crate::form::Form;
 use child_events::Counted;
 use child_pipes::{Free, Orphans, Pipes, Programs, Wall, Watch};
 use dialogue_sched::Script;
@@ -94,7 +94,7 @@ fn run_scripts<
     alloc: Global,
     scripts: Vec<Script>,
     workers_asked: u8,
-    shown: Shown,
+    form: &Form,
     log: L,
     out: O,
 ) -> Result<bool, DriveFault> {
@@ -105,7 +105,7 @@ fn run_scripts<
     let mut log = Counted::new(log);
     let mut out = Counted::new(out);
     let outcome = drive(
-        rt, alloc, scripts, keepers, clocks, Free, shown, &mut log, &mut out,
+        rt, alloc, scripts, keepers, clocks, Free, form, &mut log, &mut out,
     );
     if let Some(watch) = watch {
         watch.stop(&rt);
@@ -119,16 +119,16 @@ pub fn run_files<
     R: Files + Print + Threads + Wait + Clock + Programs + Copy + Send + Drop + 'static,
 >(rt: R, alloc: Global, order: &Run<'a>) -> Result<bool, Complaint<'a>> {
     let scripts = scripts(&rt, alloc, &order.scripts)?;
-    let shown = order.scripts.shown;
+    let form = &order.scripts.form;
     let out = io::writer(&rt);
     let outcome = match order.record {
         Some(path) => {
             let Ok(log) = fs::File::create(&rt, path) else {
                 return Err(Complaint::Unwritten);
             };
-            run_scripts(rt, alloc, scripts, order.workers, shown, log, out)
+            run_scripts(rt, alloc, scripts, order.workers, form, log, out)
         }
-        None => run_scripts(rt, alloc, scripts, order.workers, shown, Nowhere, out),
+        None => run_scripts(rt, alloc, scripts, order.workers, form, Nowhere, out),
     };
     outcome.map_err(|fault| Complaint::of_drive(fault, order))
 }

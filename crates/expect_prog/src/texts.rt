@@ -1,11 +1,9 @@
 //! The texts of reports.
 
 ghost use Rattle.std.specs.Prelude.{◌≡◌, ◌++◌, ◌∷◌, [], sum, Bool, true, IfOk, OnOk};
-ghost use Rattle.session.specs.Spent.{memory_report};
 ghost use Rattle.std.specs.Fmt.{decimal};
 ghost use Rattle.child_events.specs.Log.{hex_text};
-ghost use Rattle.expect_prog.specs.Report.{labelled, ended_text, ending_text, head_line, tail_part, fault_part, var_line, vars_lines, vars_part, report_bytes, is_done as is_done_of};
-ghost use Rattle.expect_prog.specs.Written.{AreSpares};
+ghost use Rattle.expect_prog.specs.Report.{labelled, ended_text, ending_text, head_words, head_line, tail_part, fault_part, var_line, vars_lines, vars_part, report_bytes, is_done as is_done_of};
 
 use crate::asks::push_shown_asks;
 use session::{Ending, Report};
@@ -36,7 +34,7 @@ pub(crate) fn push_labelled(
     text.extend(digits.as_bytes())
 }
 
-fn push_ending(alloc: Global, text: &mut Text, ending: Ending) -> Result<(), AllocError>
+pub(crate) fn push_ending(alloc: Global, text: &mut Text, ending: Ending) -> Result<(), AllocError>
     ensures { OnOk result (text.new ≡ text.old ++ ending_text ending) }
 {
     match ending {
@@ -58,7 +56,7 @@ fn push_ended(alloc: Global, text: &mut Text, ending: Ending) -> Result<(), Allo
 }
 
 /// The sum of counts. Even of the longest slice it is below the greatest `u128`.
-fn total(counts: &[u64]) -> u128
+pub(crate) fn total(counts: &[u64]) -> u128
     ensures { result ≡ sum counts.now }
 {
     let mut total: u128 = 0;
@@ -68,15 +66,15 @@ fn total(counts: &[u64]) -> u128
     total
 }
 
-/// Puts the first line of the report of script `number` behind a text.
-#[tactic(auto, unfolding(crate::specs::Report::head_line))]
-fn push_head(
+/// Puts what the first line of the report of script `number` says behind a text.
+#[tactic(auto, unfolding(crate::specs::Report::head_words))]
+pub(crate) fn push_head(
     alloc: Global,
     text: &mut Text,
     number: usize,
     report: &Report,
 ) -> Result<(), AllocError>
-    ensures { OnOk result (text.new ≡ text.old ++ head_line number report.now) }
+    ensures { OnOk result (text.new ≡ text.old ++ head_words number report.now) }
 {
     push_labelled(alloc, text, b"script ", number as u128)?;
     push_ended(alloc, text, report.ending)?;
@@ -87,8 +85,7 @@ fn push_head(
         text,
         b" transcript=",
         report.transcript.len() as u128,
-    )?;
-    text.push(b'\n')
+    )
 }
 
 /// Puts the text of an error behind a text, with its length before it.
@@ -166,6 +163,7 @@ pub fn head_text(alloc: Global, number: usize, report: &Report) -> Result<Text, 
 {
     let mut text = Text::new(alloc);
     push_head(alloc, &mut text, number, report)?;
+    text.push(b'\n')?;
     Ok(text)
 }
 
@@ -181,26 +179,20 @@ pub fn tail_text(alloc: Global, shown: Shown, report: &Report) -> Result<Text, A
     Ok(text)
 }
 
-/// The text of the report of script `number`, which was refused memory.
-fn memory_text(alloc: Global, shown: Shown, number: usize) -> Result<Text, AllocError>
-    ensures { IfOk result (λ t. t ≡ report_bytes shown number memory_report) }
+/// The text of the report of script `number`, with what is shown of it.
+pub fn report_text(
+    alloc: Global,
+    shown: Shown,
+    number: usize,
+    report: &Report,
+) -> Result<Text, AllocError>
+    ensures { IfOk result (λ t. t ≡ report_bytes shown number report.now) }
 {
-    let report = Report::of_memory(alloc);
-    let mut text = head_text(alloc, number, &report)?;
-    let tail = tail_text(alloc, shown, &report)?;
+    let mut text = head_text(alloc, number, report)?;
+    text.extend(report.transcript.as_slice())?;
+    let tail = tail_text(alloc, shown, report)?;
     text.extend(tail.as_slice())?;
     Ok(text)
-}
-
-/// The texts of the reports of so many scripts, if each were refused memory.
-pub fn spare_texts(alloc: Global, shown: Shown, count: usize) -> Result<Vec<Text>, AllocError>
-    ensures { IfOk result (λ ts. AreSpares shown count ts.items) }
-{
-    let mut texts = Vec::with_capacity(alloc, count)?;
-    for i in 0..count {
-        texts.push_reserved(memory_text(alloc, shown, i + 1)?);
-    }
-    Ok(texts)
 }
 
 /// Whether it is an end with status 0.

@@ -9,4 +9,4 @@ returns-clause-answers g c =
     let served = c.in_ok-served.served in
     let record_is = subst (λ (es : List HallEvent). LogText2 c.in_ok-record.record es) c.as_slice.ensures c.in_ok-record.ensures in
     drives_of _ _ _ _ _ _ served c.in_ok-record.record _ _ _ _ c.write_both.result c.in_ok-served.ensures record_is
-    (puts_as c.in_ok-record.record c.args.shown c.as_slice-reports.result.now served.reports _ _ _ _ c.write_both.result c.as_slice-reports.ensures.value c.write_both.ensures.answers)
+    (puts_as c.in_ok-record.record c.args.form.now c.as_slice-reports.result.now served.reports _ _ _ _ c.write_both.result c.as_slice-reports.ensures.value c.write_both.ensures.answers)

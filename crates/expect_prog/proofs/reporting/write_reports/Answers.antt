@@ -1,23 +1,43 @@
-use Rattle.std.proofs.Common.{◌<◌, ◌++◌, ◌∷◌, [], length, add-one, arith}
-use Rattle.expect_prog.proofs.Telling.{stopped, stands_more, put_more, well_more}
+use Rattle.std.proofs.Common.{◌≡◌, List, length, rules, Ok, Err, ap}
+use Rattle.tcl_eval.specs.declared.ending.Ending.{Ending}
+use Rattle.expect_prog.specs.Form.{opening, closing}
+use Rattle.expect_prog.proofs.Writing.{writes_as}
+use Rattle.expect_prog.proofs.Whole.{not_opened, not_told, not_closed, all_told}
 use Rattle.expect_prog.proofs.reporting.write_reports.Goals as goal
 
 pub returns-in_default : goal.returns-in_default
 returns-in_default g c =
-    let i = c.loop-i.invariant in
-    let within : c.loop-i.i < length c.args.reports.now = grind arith in
-    stopped c.args.shown c.args.reports.now c.loop-i.i c.index-reports-i.result within c.index-reports-i.is i.told i.stand _ _ _ i.put _ _ c.in_default.field-0 c.in_default.field-0 c.in_default.ensures
+    let front = opening c.args.form.now.format (length c.args.reports.now) in
+    let same : c.as_slice.result.now ≡ front = search rules in
+    not_opened c.args.form.now c.args.reports.now _ _ _ _ c.in_default.field-0 c.in_default.field-0
+    (writes_as (Unit {0}) _ _ c.as_slice.result.now front _ _ (Err c.in_default.field-0) same c.in_default.ensures)
 
-pub loop-i-preserved : goal.loop-i-preserved
-loop-i-preserved g c =
-    let i = c.loop-i.invariant in
-    let w = c.in-Ok.ensures in
-    let within : c.loop-i.i < length c.args.reports.now = grind arith in
-    record {
-      told = i.told ++ w.told ∷ [];
-      stand = rw add-one (stands_more c.args.reports.now c.loop-i.i c.index-reports-i.result i.told w.told within c.index-reports-i.is i.stand w.stands);
-      put = put_more c.args.shown c.args.reports.now c.loop-i.i c.index-reports-i.result within c.index-reports-i.is i.told i.stand _ _ _ i.put w.told w.writes.0;
-      done = well_more c.loop-i.well c.in-Ok.done c.both-well.result i.told w.told i.done w.done c.both-well.ensures;
-      failures = w.writes.1;
-      calls = w.writes.2;
-    }
+pub returns-in_default-write_parts : goal.returns-in_default-write_parts
+returns-in_default-write_parts g c =
+    let front = opening c.args.form.now.format (length c.args.reports.now) in
+    let same : c.as_slice.result.now ≡ front = search rules in
+    let opened = writes_as (Unit {0}) _ _ c.as_slice.result.now front _ _ (Ok c.in-Ok.field-0) same c.in-Ok.ensures in
+    not_told c.args.form.now c.args.reports.now _ _ _ opened.0 _ _ _ c.in_default-write_parts.field-0 c.in_default-write_parts.field-0 c.in_default-write_parts.ensures
+
+pub returns-in_default-write_closing : goal.returns-in_default-write_closing
+returns-in_default-write_closing g c =
+    let form = c.args.form.now in
+    let front = opening form.format (length c.args.reports.now) in
+    let same : c.as_slice.result.now ≡ front = search rules in
+    let opened = writes_as (Unit {0}) _ _ c.as_slice.result.now front _ _ (Ok c.in-Ok.field-0) same c.in-Ok.ensures in
+    let es = c.write_parts.new.endings.items in
+    not_closed form c.args.reports.now _ _ _ opened.0 _ _ _ es c.in-Ok-write_parts.well c.in-Ok-write_parts.ensures _ _
+    c.in_default-write_closing.field-0 c.in_default-write_closing.field-0
+    (writes_as (Unit {0}) _ _ (closing form.format c.as_slice-3.result.now) (closing form.format es) _ _ (Err c.in_default-write_closing.field-0)
+    (ap (λ (z : List Ending). closing form.format z) c.as_slice-3.ensures.value) c.in_default-write_closing.ensures)
+
+pub returns : goal.returns
+returns g c =
+    let form = c.args.form.now in
+    let front = opening form.format (length c.args.reports.now) in
+    let same : c.as_slice.result.now ≡ front = search rules in
+    let opened = writes_as (Unit {0}) _ _ c.as_slice.result.now front _ _ (Ok c.in-Ok.field-0) same c.in-Ok.ensures in
+    let es = c.write_parts.new.endings.items in
+    all_told form c.args.reports.now _ _ _ opened.0 _ _ _ es c.in-Ok-write_parts.well c.in-Ok-write_parts.ensures _ _
+    (writes_as (Unit {0}) _ _ (closing form.format c.as_slice-3.result.now) (closing form.format es) _ _ (Ok c.in-Ok-write_closing.field-0)
+    (ap (λ (z : List Ending). closing form.format z) c.as_slice-3.ensures.value) c.in-Ok-write_closing.ensures)

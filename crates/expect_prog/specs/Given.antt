@@ -1,0 +1,45 @@
+-- The scripts that an order's settings and files make.
+use Rattle.std.specs.Prelude.{◌≡◌, ℕ, ◌*◌, List, [], map, length, Option, unwrap_or, option_map, codes, Bool, if◌then◌else◌}
+use Rattle.std.specs.Str.{bytes_eq}
+use Rattle.std.specs.Borrow.{Bor}
+use Rattle.clap.specs.Matches.{found_of, matched_of, raw_values}
+use Rattle.clap.specs.declared.parser.matches.ArgMatches.{ArgMatches}
+use Rattle.expect_prog.specs.declared.form.Format.{Format}
+use Rattle.expect_prog.specs.declared.form.Format.TheVariants.{Text, Summary, Json, Tap}
+use Rattle.expect_core.specs.declared.settings.Settings.{Settings}
+use Rattle.dialogue_sched.specs.declared.script.Script.{Script}
+
+-- as many steps as are asked for, or a million
+abbrev pub steps_given : Option ℕ → ℕ
+steps_given asked = unwrap_or asked 1000000
+
+-- what each script of an order is given: its steps, its last moment in milliseconds, and an empty environment
+abbrev pub settings_given : ℕ → Option ℕ → Settings
+settings_given steps limit = record { steps = steps; limit_ms = limit; env = [] }
+
+abbrev pub script_given : ℕ → Option ℕ → List ℕ → Script
+script_given steps limit source = record { source = source; settings = settings_given steps limit }
+
+-- the scripts of sources, in their order
+abbrev pub scripts_given : ℕ → Option ℕ → List (List ℕ) → List Script
+scripts_given steps limit sources = map (script_given steps limit) sources
+
+-- the scripts of files: each has one, in their order
+pub record AreOfFiles (steps : ℕ) (limit : Option ℕ) (files : List (Bor (List ℕ))) (scripts : List Script) : Type 0 where
+  pub sources : List (List ℕ)
+  pub each : length sources ≡ length files
+  pub given : scripts ≡ scripts_given steps limit sources
+
+abbrev pub names_of : List (Bor (List ℕ)) → List (List ℕ)
+names_of files = map (λ file. file.now) files
+
+-- the words of the command line that name the files of sources, in their order
+abbrev pub files_told : ArgMatches → List (List ℕ)
+files_told matches = unwrap_or (option_map raw_values (matched_of (found_of matches) (codes "sources"))) []
+
+abbrev pub format_named : List ℕ → Format
+format_named name = if bytes_eq name (codes "json") then Json else if bytes_eq name (codes "tap") then Tap else Text
+
+-- a summary where it is asked for, and else the format of a name, or whole reports
+abbrev pub format_given : Bool → Option (List ℕ) → Format
+format_given summary name = if summary then Summary else unwrap_or (option_map format_named name) Text
