@@ -127,20 +127,24 @@ fn session_that_writes_a_list(rt: HostRuntime) -> Result<(), Fail> {
     Ok(())
 }
 
-/// Serves three scripts, and says whether all reports are those of [`CAT`] but for one at most.
+/// Serves three scripts by one worker or by three, and says whether all reports are those of [`CAT`] but for one at most.
 fn serves_three<W: Threads + Wait + std::time::Clock + Copy + Send + Drop + 'static>(
     rt: W,
     alloc: Global,
-    workers: usize,
+    is_shared: bool,
 ) -> Result<bool, Fail> {
     let mut scripts = Vec::new(alloc);
+    scripts.push(script(alloc, CAT)?)?;
+    scripts.push(script(alloc, CAT)?)?;
+    scripts.push(script(alloc, CAT)?)?;
     let mut keepers = Vec::new(alloc);
-    for _ in 0..3u8 {
-        scripts.push(script(alloc, CAT)?)?;
-        keepers.push(Liner::new(None, true))?;
-    }
+    keepers.push(Liner::new(None, true))?;
+    keepers.push(Liner::new(None, true))?;
+    keepers.push(Liner::new(None, true))?;
     let mut clocks = Vec::new(alloc);
-    for _ in 0..workers {
+    clocks.push(Still)?;
+    if is_shared {
+        clocks.push(Still)?;
         clocks.push(Still)?;
     }
     let served = serve(rt, alloc, scripts, keepers, clocks, Open)?;
@@ -154,12 +158,12 @@ fn serves_three<W: Threads + Wait + std::time::Clock + Copy + Send + Drop + 'sta
 
 #[test]
 fn three_by_one_worker(rt: HostRuntime) -> Result<(), Fail> {
-    assert!(rt; serves_three(rt, rt.alloc(), 1)?);
+    assert!(rt; serves_three(rt, rt.alloc(), false)?);
     Ok(())
 }
 
 #[test]
 fn three_by_three_workers(rt: HostRuntime) -> Result<(), Fail> {
-    assert!(rt; serves_three(rt, rt.alloc(), 3)?);
+    assert!(rt; serves_three(rt, rt.alloc(), true)?);
     Ok(())
 }
