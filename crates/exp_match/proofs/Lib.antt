@@ -14,3 +14,4 @@ pub mod Followed
 pub mod Answering
 pub mod Deciding
 pub mod Lasting
+pub mod Unbuilding

@@ -1,8 +1,9 @@
 //! The arguments of `expect`.
 
-ghost use Rattle.std.specs.Prelude.{◌≡◌, Ok};
+ghost use Rattle.std.specs.Prelude.{◌≡◌, ◌≢◌, Ok, IfErr};
 ghost use Rattle.std.specs.Str.{bytes_eq};
 ghost use Rattle.exp_match.specs.Arguments.{Gives, is_dash as is_dash_of, plain_role as plain_role_of, way_role as way_role_of, role_of as role_of_word, no_marks as no_marks_of, with_mark as with_mark_of, want_of as want_of_word, with_entry as with_entry_of, with_id as with_id_of, with_timeout as with_timeout_of, awaits_action, by_role as by_role_of, taken as taken_of, ended as ended_of, nothing_read, patterns_of};
+ghost use Rattle.exp_match.specs.Unbuilt.{IsOfOne, IsOfWord};
 
 use crate::compiled::Compiled;
 use crate::entry::{Entries, Entry, Keyword, Want};
@@ -121,7 +122,8 @@ fn regular(
     at: usize,
     word: &[u8],
 ) -> Result<Want, PatternFault>
-    ensures { Gives result (want_of_word Way.Regular nocase at word.now) }
+    ensures given { Gives result (want_of_word Way.Regular nocase at word.now) }
+    ensures refused { IfErr result (IsOfWord word.now) }
 {
     if let Some(kept) = compiled.find(word, nocase) {
         return Ok(Want::Regular(kept.shared()?));
@@ -145,7 +147,8 @@ fn want_of(
     at: usize,
     word: &[u8],
 ) -> Result<Want, PatternFault>
-    ensures { Gives result (want_of_word way nocase at word.now) }
+    ensures given { Gives result (want_of_word way nocase at word.now) }
+    ensures refused { IfErr result (IsOfWord word.now) }
 {
     match way {
         Way::Exact => {
@@ -168,7 +171,8 @@ fn with_entry(
     want: Want,
     action: &[u8],
 ) -> Result<PatternList, PatternFault>
-    ensures { Gives result (Ok (with_entry_of list marks want action.now)) }
+    ensures given { Gives result (Ok (with_entry_of list marks want action.now)) }
+    ensures refused { IfErr result (λ f. f ≡ PatternFault.Memory) }
 {
     let mut list = list;
     let entry = Entry {
@@ -192,7 +196,8 @@ fn pattern(
     at: usize,
     word: &[u8],
 ) -> Result<Reader, PatternFault>
-    ensures { Gives result (awaits_action list marks (want_of_word way marks.nocase at word.now)) }
+    ensures given { Gives result (awaits_action list marks (want_of_word way marks.nocase at word.now)) }
+    ensures refused { IfErr result (IsOfWord word.now) }
 {
     let want = want_of(alloc, compiled, way, marks.nocase, at, word)?;
     Ok(Reader {
@@ -212,7 +217,8 @@ fn by_role(
     word: &[u8],
     role: Role,
 ) -> Result<Reader, PatternFault>
-    ensures { Gives result (by_role_of list marks at word.now role) }
+    ensures given { Gives result (by_role_of list marks at word.now role) }
+    ensures refused { IfErr result (IsOfWord word.now) }
 {
     match role {
         Role::Mark(mark) => Ok(Reader {
@@ -247,7 +253,8 @@ fn by_role(
 
 /// The list with a process behind the others.
 fn with_id(alloc: Global, list: PatternList, word: &[u8]) -> Result<PatternList, PatternFault>
-    ensures { Gives result (Ok (with_id_of list word.now)) }
+    ensures given { Gives result (Ok (with_id_of list word.now)) }
+    ensures refused { IfErr result (λ f. f ≡ PatternFault.Memory) }
 {
     let mut list = list;
     list.ids.push(Text::from_slice(alloc, word)?)?;
@@ -256,7 +263,8 @@ fn with_id(alloc: Global, list: PatternList, word: &[u8]) -> Result<PatternList,
 
 /// The list with a time in the place of its own.
 fn with_timeout(alloc: Global, list: PatternList, word: &[u8]) -> Result<PatternList, PatternFault>
-    ensures { Gives result (Ok (with_timeout_of list word.now)) }
+    ensures given { Gives result (Ok (with_timeout_of list word.now)) }
+    ensures refused { IfErr result (λ f. f ≡ PatternFault.Memory) }
 {
     let mut list = list;
     list.timeout = Some(Text::from_slice(alloc, word)?);
@@ -271,7 +279,8 @@ fn taken(
     at: usize,
     word: &[u8],
 ) -> Result<Reader, PatternFault>
-    ensures { Gives result (taken_of reader.list reader.marks at word.now reader.pending) }
+    ensures given { Gives result (taken_of reader.list reader.marks at word.now reader.pending) }
+    ensures refused { IfErr result (IsOfWord word.now) }
 {
     let Reader {
         list,
@@ -302,7 +311,8 @@ fn taken(
 
 /// The list, where the arguments may end here.
 fn ended(alloc: Global, reader: Reader) -> Result<PatternList, PatternFault>
-    ensures { Gives result (ended_of reader.list reader.marks reader.pending) }
+    ensures given { Gives result (ended_of reader.list reader.marks reader.pending) }
+    ensures refused { IfErr result (λ f. f ≢ PatternFault.Refused) }
 {
     let Reader {
         list,
@@ -341,7 +351,8 @@ pub(crate) fn read(
     compiled: &mut Compiled,
     args: &[Text],
 ) -> Result<PatternList, PatternFault>
-    ensures { Gives result (patterns_of args.now) }
+    ensures given { Gives result (patterns_of args.now) }
+    ensures refused { IfErr result (IsOfOne args.now) }
 {
     let mut reader = nothing(alloc);
     for (at, word) in args.iter().enumerate() {

@@ -1,7 +1,8 @@
 //! Patterns that were compiled and may come again.
 
-ghost use Rattle.std.specs.Prelude.{◌≡◌, true, IfOk, IfSome};
+ghost use Rattle.std.specs.Prelude.{◌≡◌, true, IfErr, IfOk, IfSome};
 ghost use Rattle.exp_match.specs.Scan.{is_pattern};
+ghost use Rattle.exp_match.specs.Unbuilt.{IsOfText};
 
 use crate::faults::Refusal;
 use crate::regular::Regular;
@@ -64,7 +65,8 @@ impl Compiled {
         nocase: bool,
     ) -> Result<Regular, Refusal>
         requires { is_pattern source.now ≡ true }
-        ensures { IfOk result (λ r. r ≡ record { source = source.now; nocase = nocase }) }
+        ensures built { IfOk result (λ r. r ≡ record { source = source.now; nocase = nocase }) }
+        ensures refused { IfErr result (IsOfText source.now) }
     {
         let regular = Regular::build(alloc, source, nocase)?;
         if let Ok(kept) = regular.shared() {

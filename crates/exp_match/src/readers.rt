@@ -1,9 +1,10 @@
 //! What a list of patterns says, without taking memory.
 
-ghost use Rattle.std.specs.Prelude.{◌≡◌, ◌+◌, ◌-◌, ◌==◌, ◌<◌, ◌≤◌, Some, None, IfSome, position, length, if◌then◌else◌, option_map};
+ghost use Rattle.std.specs.Prelude.{◌≡◌, ◌+◌, ◌-◌, ◌==◌, ◌<◌, ◌≤◌, Some, None, IfErr, IfSome, position, length, if◌then◌else◌, option_map};
 ghost use Rattle.std.specs.List.{slice_get};
 ghost use Rattle.exp_match.specs.Choice.{waits_for_end as waits_for_end_of, waits_for_time as waits_for_time_of, waits_for_full as waits_for_full_of, waits_for_time_alone as waits_for_time_alone_of, first_in, serves as serves_of};
 ghost use Rattle.exp_match.specs.Arguments.{Gives, patterns_of};
+ghost use Rattle.exp_match.specs.Unbuilt.{IsOfOne};
 
 use crate::arguments::read;
 use crate::choose::in_groups;
@@ -59,9 +60,10 @@ fn waits_for_time_alone(want: &Want) -> bool
 impl PatternList {
     /// The list that the arguments of `expect` write.
     ///
-    /// The first bad argument decides, with its place. `Refused` and `Memory` tell nothing of the arguments.
+    /// The first bad argument decides, with its place. `Refused` tells that one of them is a pattern of which `regex` builds no program.
     pub fn build(alloc: Global, args: &[Text]) -> Result<PatternList, PatternFault>
-        ensures { Gives result (patterns_of args.now) }
+        ensures given { Gives result (patterns_of args.now) }
+        ensures refused { IfErr result (IsOfOne args.now) }
     {
         PatternList::build_with(alloc, &mut Compiled::new(alloc), args)
     }
@@ -72,7 +74,8 @@ impl PatternList {
         compiled: &mut Compiled,
         args: &[Text],
     ) -> Result<PatternList, PatternFault>
-        ensures { Gives result (patterns_of args.now) }
+        ensures given { Gives result (patterns_of args.now) }
+        ensures refused { IfErr result (IsOfOne args.now) }
     {
         read(alloc, compiled, args)
     }

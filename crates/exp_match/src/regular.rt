@@ -1,8 +1,9 @@
 //! Regular patterns, compiled.
 
-ghost use Rattle.std.specs.Prelude.{◌≡◌, true, IsTrue, IfOk};
+ghost use Rattle.std.specs.Prelude.{◌≡◌, true, IsTrue, IfErr, IfOk};
 ghost use Rattle.regex.specs.Bytes.{IsReadFromSource, regex_config, regex_source};
 ghost use Rattle.exp_match.specs.Scan.{is_pattern};
+ghost use Rattle.exp_match.specs.Unbuilt.{IsOfText, refusal_of};
 ghost use Rattle.exp_match.specs.Written.{FindsAsWritten, config_of, find_written};
 
 use crate::faults::Refusal;
@@ -35,21 +36,31 @@ impl Model for Regular {
     ghost invariant = { λ r. (regex_config r.regex.value ≡ config_of r.nocase) × IsReadFromSource r.regex.value × (is_pattern (regex_source r.regex.value) ≡ true) };
 }
 
+/// What an error of a build counts as.
+fn refusal_for(error: &Error) -> Refusal
+    ensures { result ≡ refusal_of error.now }
+{
+    match error {
+        Error::CompiledTooBig | Error::Syntax(_) => Refusal::Refused,
+        Error::OutOfMemory | Error::Internal => Refusal::Memory,
+    }
+}
+
 impl Regular {
     /// The pattern that a text of the grammar is. `.` takes a newline too.
     ///
     /// `Refused` where `regex` builds no program of it, as for one that is too big.
     pub(crate) fn build(alloc: Global, source: &str, nocase: bool) -> Result<Regular, Refusal>
         requires { is_pattern source.now ≡ true }
-        ensures { IfOk result (λ r. r ≡ record { source = source.now; nocase = nocase }) }
+        ensures built { IfOk result (λ r. r ≡ record { source = source.now; nocase = nocase }) }
+        ensures refused { IfErr result (IsOfText source.now) }
     {
         let builder = RegexBuilder::new(source)
             .dot_matches_new_line(true)
             .case_insensitive(nocase);
         match builder.build_bytes(alloc) {
             Ok(regex) => Ok(Regular::owned(alloc, regex, nocase)?),
-            Err(Error::OutOfMemory) => Err(Refusal::Memory),
-            Err(_) => Err(Refusal::Refused),
+            Err(error) => Err(refusal_for(&error)),
         }
     }
 

@@ -1,9 +1,9 @@
 -- Up to its deadline a session says the same.
 use Rattle.std.proofs.Common.{◌≡◌, ℕ, Bool, Option, None, refl, ap, subst, ◌∙◌}
-use Rattle.std.specs.Prelude.{IsTrue, if◌then◌else◌}
+use Rattle.std.specs.Prelude.{IsTrue, if◌then◌else◌, is_some}
 use Rattle.tcl_eval.specs.declared.frame.End.{End}
 use Rattle.tcl_eval.specs.declared.frame.Mode.{Mode}
-use Rattle.tcl_eval.specs.declared.frame.Mode.TheVariants.{Ended}
+use Rattle.tcl_eval.specs.Suspended.{end_of}
 use Rattle.expect_core.specs.declared.dialogue.Dialogue.{Dialogue}
 use Rattle.expect_core.specs.Deadlines.{IsWithin, deadline_of}
 use Rattle.session.specs.declared.session.Session.TheInside.{Inside}
@@ -11,15 +11,14 @@ use Rattle.session.specs.Left.{left}
 use Rattle.session.specs.Quiet.{deadline_in, waits_until, QuietUntil}
 use Rattle.session.specs.Sound.{Sound, kept_of}
 
-while_suspended : (mode : Mode) (st : Dialogue) → ((end : End) → mode ≡ Ended end → ⊥) → deadline_in mode st ≡ deadline_of st
-while_suspended (Ended end) st differs = absurd (differs end refl)
-while_suspended _ st differs = refl
+while_suspended : (mode : Mode) (st : Dialogue) → end_of mode ≡ None → deadline_in mode st ≡ deadline_of st
+while_suspended mode st none = ap (λ (end : Option End). if is_some end then None else deadline_of st) none
 
 while_it_lives : (a : Inside) → IsTrue a.lives → waits_until (kept_of a) ≡ deadline_in a.machine.mode a.dialogue
 while_it_lives a lives = ap (λ (b : Bool). let last : Option ℕ = (if b then deadline_in a.machine.mode a.dialogue else None) in last) lives
 
-pub waits_as_long : (a : Inside) → IsTrue a.lives → ((end : End) → a.machine.mode ≡ Ended end → ⊥) → waits_until (kept_of a) ≡ deadline_of a.dialogue
-waits_as_long a lives differs = while_it_lives a lives ∙ while_suspended a.machine.mode a.dialogue differs
+pub waits_as_long : (a : Inside) → IsTrue a.lives → end_of a.machine.mode ≡ None → waits_until (kept_of a) ≡ deadline_of a.dialogue
+waits_as_long a lives none = while_it_lives a lives ∙ while_suspended a.machine.mode a.dialogue none
 
 pub stays_quiet : (a : Inside) (last : Option ℕ) → Sound a → IsTrue a.lives → last ≡ waits_until (kept_of a) → QuietUntil (kept_of a) last
 unfolding left

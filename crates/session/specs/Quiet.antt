@@ -1,10 +1,10 @@
 -- How long a session says the same, where only time passes.
-use Rattle.std.specs.Prelude.{◌≡◌, ℕ, [], ◌∷◌, if◌then◌else◌, Option, None}
+use Rattle.std.specs.Prelude.{◌≡◌, ℕ, [], ◌∷◌, if◌then◌else◌, Option, None, is_some}
 use Rattle.child_events.specs.declared.event.Event.TheVariants.{Tick}
 use Rattle.tcl_eval.specs.declared.engine.Engine.{Engine}
 use Rattle.tcl_eval.specs.declared.frame.Mode.{Mode}
-use Rattle.tcl_eval.specs.declared.frame.Mode.TheVariants.{Ended}
 use Rattle.tcl_eval.specs.Rest.{engine_rest}
+use Rattle.tcl_eval.specs.Suspended.{end_of}
 use Rattle.expect_core.specs.declared.dialogue.Dialogue.{Dialogue}
 use Rattle.expect_core.specs.Lanes.{offered}
 use Rattle.expect_core.specs.Deadlines.{IsWithin, deadline_of}
@@ -13,8 +13,7 @@ use Rattle.session.specs.Left.{Kept, left}
 
 -- a run that is over has no deadline
 abbrev pub deadline_in : Mode → Dialogue → Option ℕ
-deadline_in (Ended end) st = None
-deadline_in _ st = deadline_of st
+deadline_in mode st = if is_some (end_of mode) then None else deadline_of st
 
 -- the moment up to which a session waits, where there is one
 abbrev pub waits_until : Kept → Option ℕ

@@ -1,11 +1,12 @@
 -- What a machine that has paused shows.
-use Rattle.std.specs.Prelude.{◌≡◌, ℕ, ◌-◌, List, [], IsTrue}
+use Rattle.std.specs.Prelude.{◌≡◌, ℕ, ◌-◌, List, [], IsTrue, Option, Some, None}
 use Rattle.child_events.specs.declared.event.Event.{Event}
 use Rattle.tcl_eval.specs.declared.ending.Ending.TheVariants as ending
 use Rattle.tcl_eval.specs.declared.engine.Engine.{Engine}
 use Rattle.tcl_eval.specs.declared.frame.Mode.{Mode}
-use Rattle.tcl_eval.specs.declared.frame.Mode.TheVariants.{Ended}
+use Rattle.tcl_eval.specs.declared.frame.End.{End}
 use Rattle.tcl_eval.specs.Rest.{engine_rest}
+use Rattle.tcl_eval.specs.Suspended.{end_of}
 use Rattle.expect_core.specs.declared.dialogue.Dialogue.{Dialogue}
 use Rattle.expect_core.specs.Lanes.{extended}
 use Rattle.expect_core.specs.Good.{Good}
@@ -13,10 +14,14 @@ use Rattle.session.specs.declared.report.Report.{Report}
 use Rattle.session.specs.Play.{said, over_with, play}
 use Rattle.session.specs.Quiet.{Quiet}
 
+-- the report of a machine that ended so, or waits
+abbrev pub shown_at : Option End → ℕ → Engine → Dialogue → Report
+shown_at (Some e) steps engine st = over_with e steps engine.vars st
+shown_at None steps engine st = said ending.Waiting [] steps engine.vars st
+
 -- the report that a machine shows
 abbrev pub shown : ℕ → Engine → Mode → ℕ → Dialogue → Report
-shown bound engine (Ended e) left st = over_with e (bound - left) engine.vars st
-shown bound engine _ left st = said ending.Waiting [] (bound - left) engine.vars st
+shown bound engine mode left st = shown_at (end_of mode) (bound - left) engine st
 
 -- A run to a pause: the report for whatever comes stays, now the report is what the pause shows, and it stays so up to the deadline.
 pub record Ran (old : Engine) (was : Mode) (had : ℕ) (before : Dialogue) (new : Engine) (is : Mode) (has : ℕ) (after : Dialogue) : Type 0 where

@@ -21,7 +21,7 @@ use expect_core::{Dialogue, Request, Settings};
 use std::alloc::{AllocError, Global};
 use std::collections::VecDeque;
 use std::marker::Model;
-use tcl_eval::{Ending, Machine, Meter, Mode, Pause};
+use tcl_eval::{Ending, Machine, Meter, Pause};
 use tcl_words::Text;
 
 /// Why there is no session.
@@ -52,16 +52,6 @@ fn is_memory(pause: &Pause) -> bool
     ensures { OnFalse result (pause.now ≢ Pause.Memory) }
 {
     matches!(pause, Pause::Memory)
-}
-
-/// Whether nothing more can happen.
-fn is_over(mode: &Mode) -> bool
-    ensures { IsTrue result ↔ IsOver mode.now }
-{
-    match mode {
-        Mode::Ended(_) => true,
-        _ => false,
-    }
 }
 
 /// Runs on to the next pause, and says whether no memory was refused.
@@ -215,7 +205,7 @@ impl Session {
         if !self.lives {
             return;
         }
-        if is_over(&self.machine.mode) {
+        if self.machine.is_over() {
             return;
         }
         self.dialogue.offer(event);
@@ -236,7 +226,7 @@ impl Session {
         if !self.lives {
             return;
         }
-        if is_over(&self.machine.mode) {
+        if self.machine.is_over() {
             return;
         }
         offer_all(&mut self.dialogue, events);
@@ -274,9 +264,9 @@ impl Session {
         if !self.lives {
             return Ending::Memory;
         }
-        match &self.machine.mode {
-            Mode::Ended(end) => ending_of(end),
-            _ => Ending::Waiting,
+        match self.machine.end() {
+            Some(end) => ending_of(end),
+            None => Ending::Waiting,
         }
     }
 
@@ -291,9 +281,9 @@ impl Session {
         if !self.lives {
             return None;
         }
-        match &self.machine.mode {
-            Mode::Ended(_) => None,
-            _ => self.dialogue.deadline(),
+        match self.machine.end() {
+            Some(_) => None,
+            None => self.dialogue.deadline(),
         }
     }
 
@@ -317,8 +307,7 @@ impl Session {
         shown(
             self.alloc,
             self.bound,
-            &self.machine.engine,
-            &self.machine.mode,
+            &self.machine,
             self.meter.left(),
             &self.dialogue,
         )

@@ -8,7 +8,7 @@ ghost use Rattle.session.specs.Shown.{shown as shown_of};
 use crate::report::{Counts, Report};
 use expect_core::{Dialogue, Pairs};
 use std::alloc::{AllocError, Global};
-use tcl_eval::{Code, End, Ending, Engine, Mode};
+use tcl_eval::{Code, End, Ending, Machine};
 use tcl_subst::Vars;
 use tcl_values::Value;
 use tcl_words::Text;
@@ -93,29 +93,28 @@ fn said(
 pub(crate) fn shown(
     alloc: Global,
     bound: u64,
-    engine: &Engine,
-    mode: &Mode,
+    machine: &Machine<Dialogue>,
     left: u64,
     dialogue: &Dialogue,
 ) -> Result<Report, AllocError>
-    ensures { IfOk result (λ r. r ≡ shown_of bound engine.now mode.now left dialogue.now) }
+    ensures { IfOk result (λ r. r ≡ shown_of bound machine.now.engine machine.now.mode left dialogue.now) }
 {
     let steps = bound.saturating_sub(left);
-    match mode {
-        Mode::Ended(end) => said(
+    match machine.end() {
+        Some(end) => said(
             alloc,
             ending_of(end),
             fault_of(alloc, end)?,
             steps,
-            &engine.vars,
+            machine.vars(),
             dialogue,
         ),
-        _ => said(
+        None => said(
             alloc,
             Ending::Waiting,
             Text::new(alloc),
             steps,
-            &engine.vars,
+            machine.vars(),
             dialogue,
         ),
     }

@@ -1,7 +1,8 @@
 -- A machine that is run again.
-use Rattle.std.specs.Prelude.{◌≡◌, List}
+use Rattle.std.specs.Prelude.{◌≡◌, List, Option, Some, None}
 use Rattle.tcl_eval.specs.declared.machine.Pause.{Pause}
 use Rattle.tcl_eval.specs.declared.machine.Pause.TheVariants.{Finished, Waits, Stopped, StepLimit, Memory}
+use Rattle.tcl_eval.specs.declared.frame.End.{End}
 use Rattle.tcl_eval.specs.declared.frame.End.TheVariants.{Finished as FinishedSo, Stopped as StoppedSo, StepLimit as AtLimit, Memory as NoMemory}
 use Rattle.tcl_eval.specs.declared.frame.Mode.{Mode}
 use Rattle.tcl_eval.specs.declared.frame.Mode.TheVariants.{Ended}
@@ -12,6 +13,11 @@ use Rattle.tcl_eval.specs.Asked.{EndsInWait, IsAsking}
 -- the end of the source is the end of the run
 abbrev pub at_the_end : Next
 at_the_end c v st = Over (FinishedSo c v) st
+
+-- how a run ended, where it is over
+abbrev pub end_of : Mode → Option End
+end_of (Ended end) = Some end
+end_of _ = None
 
 abbrev pub IsOver : Mode → Type 0
 IsOver (Ended end) = Unit {0}

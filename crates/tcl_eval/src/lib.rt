@@ -27,8 +27,7 @@ mod values;
 mod words;
 
 pub use ending::Ending;
-pub use engine::Engine;
-pub use frame::{End, Mode};
+pub use frame::End;
 pub use host::{Host, HostStep};
 pub use laws::loops_unroll;
 pub use machine::{Machine, Pause};

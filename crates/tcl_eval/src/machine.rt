@@ -1,11 +1,11 @@
 //! A machine that is run again.
 
-ghost use Rattle.std.specs.Prelude.{◌≡◌, ◌≢◌, ℕ, ◌+◌, List, IfOk, []};
+ghost use Rattle.std.specs.Prelude.{◌≡◌, ◌≢◌, ◌↔◌, ℕ, ◌+◌, List, IfOk, IsTrue, option_map, []};
 ghost use Rattle.tcl_scripts.specs.Commands.{commands};
 ghost use Rattle.tcl_eval.specs.Meaning.{eval};
 ghost use Rattle.tcl_eval.specs.Rest.{engine_rest};
 ghost use Rattle.tcl_eval.specs.Steps.{left_of};
-ghost use Rattle.tcl_eval.specs.Suspended.{IsPauseOf, IsShownBy, IsOver, at_the_end};
+ghost use Rattle.tcl_eval.specs.Suspended.{IsPauseOf, IsShownBy, IsOver, at_the_end, end_of};
 ghost use Rattle.tcl_eval.specs.Tree.{Reply, Leads, left_at};
 
 use crate::ending::Ending;
@@ -44,9 +44,9 @@ pub enum Pause {
 #[derive(Drop)]
 pub struct Machine<H: Host> {
     /// What is kept.
-    pub engine: Engine,
+    engine: Engine,
     /// What is done next.
-    pub mode: Mode,
+    mode: Mode,
     host: PhantomData<H>,
 }
 
@@ -76,6 +76,23 @@ impl<H: Host> Machine<H> {
         ensures { result.now ≡ self.now.engine.vars }
     {
         &self.engine.vars
+    }
+
+    /// How it ended, where it is over.
+    pub fn end(&self) -> Option<&End>
+        ensures { option_map (λ e. e.now) result ≡ end_of self.now.mode }
+    {
+        match &self.mode {
+            Mode::Ended(end) => Some(end),
+            _ => None,
+        }
+    }
+
+    /// Whether it is over.
+    pub fn is_over(&self) -> bool
+        ensures { IsTrue result ↔ IsOver self.now.mode }
+    {
+        matches!(&self.mode, Mode::Ended(_))
     }
 
     /// The pause of a machine that is suspended or over; a refused copy of a text is `Memory`.
@@ -109,7 +126,7 @@ impl<H: Host> Machine<H> {
         ensures bound { meter.new.bound ≡ meter.old.bound }
         ensures counted { result ≢ Pause.Memory → meter.new.count + left_at (engine_rest self.new.engine (left_of meter.new) self.new.mode) ≡ meter.old.count + left_of meter.old }
     {
-        if matches!(&self.mode, Mode::Ended(_)) {
+        if self.is_over() {
             return self.pause();
         }
         let mode = mem::replace(&mut self.mode, Mode::Ended(End::Memory));

@@ -1,0 +1,47 @@
+-- A pattern of the grammar of which `regex` builds no program, and not for want of memory.
+use Rattle.std.specs.Prelude.{◌≡◌, ◌≢◌, ◌⊎◌, ℕ, Bool, true, List, IsSomeAnd}
+use Rattle.std.specs.List.{slice_get}
+use Rattle.regex.specs.Failures.{IsPattern}
+use Rattle.regex.specs.declared.error.Error.{Error}
+use Rattle.regex.specs.declared.error.Error.TheVariants as error
+use Rattle.regex_syntax.specs.Verdict.{Refuses}
+use Rattle.regex_syntax.specs.declared.error.ErrorKind.{ErrorKind}
+use Rattle.regex_syntax.specs.declared.error.ErrorKind.TheVariants.{OutOfMemory}
+use Rattle.exp_match.specs.Scan.{is_pattern}
+use Rattle.exp_match.specs.Written.{config_of}
+use Rattle.exp_match.specs.declared.faults.PatternFault.{PatternFault}
+use Rattle.exp_match.specs.declared.faults.PatternFault.TheVariants as fault
+use Rattle.exp_match.specs.declared.faults.Refusal.{Refusal}
+use Rattle.exp_match.specs.declared.faults.Refusal.TheVariants as refusal
+
+-- the program would be too big, or the text is none that `regex` reads
+abbrev pub IsUnbuilt : List ℕ → Type 0
+IsUnbuilt text =
+    (is_pattern text ≡ true)
+    × (nocase : Bool) × (IsPattern (config_of nocase) text ⊎ ((kind : ErrorKind) × (kind ≢ OutOfMemory) × Refuses (config_of nocase) text kind))
+
+-- what an error of a build counts as; `regex` is proved not to fail within
+abbrev pub refusal_of : Error → Refusal
+refusal_of (error.Syntax e) = refusal.Refused
+refusal_of error.CompiledTooBig = refusal.Refused
+refusal_of error.Internal = refusal.Memory
+refusal_of error.OutOfMemory = refusal.Memory
+
+-- what a build tells of its text
+abbrev pub IsOfText : List ℕ → Refusal → Type 0
+IsOfText text refusal.Refused = IsUnbuilt text
+IsOfText text refusal.Memory = Unit {0}
+
+-- what a word's fault tells of it
+abbrev pub IsOfWord : List ℕ → PatternFault → Type 0
+IsOfWord word (fault.BadFlag at) = Unit {0}
+IsOfWord word (fault.BadRegex at) = Unit {0}
+IsOfWord word fault.Refused = IsUnbuilt word
+IsOfWord word fault.Memory = Unit {0}
+
+-- what a fault tells of the arguments: where a build was refused, it was that of one of them
+abbrev pub IsOfOne : List (List ℕ) → PatternFault → Type 0
+IsOfOne args (fault.BadFlag at) = Unit {0}
+IsOfOne args (fault.BadRegex at) = Unit {0}
+IsOfOne args fault.Refused = (at : ℕ) × IsSomeAnd (slice_get args at) IsUnbuilt
+IsOfOne args fault.Memory = Unit {0}
