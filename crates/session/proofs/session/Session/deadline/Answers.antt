@@ -1,11 +1,13 @@
-use Rattle.std.proofs.Common.{◌≡◌, sym, ◌∙◌}
+use Rattle.std.proofs.Common.{◌≡◌, Option, None, sym, ◌∙◌}
+use Rattle.tcl_eval.specs.Suspended.{end_of}
 use Rattle.session.specs.Quiet.{waits_until}
 use Rattle.session.specs.Sound.{kept_of}
 use Rattle.session.proofs.Quieting.{waits_as_long, stays_quiet}
 use Rattle.session.proofs.session.Session.deadline.Goals as goal
 
-pub returns-in_default : goal.returns-in_default
-returns-in_default c =
+pub returns-in-None : goal.returns-in-None
+returns-in-None c =
+    let none : end_of c.self.inside.machine.mode ≡ None = cc in
     let until : c.deadline.result ≡ waits_until (kept_of c.self.inside) =
-    c.deadline.ensures ∙ sym (waits_as_long c.self.inside c.if-not-self.false c.in_default.not-Ended) in
+    c.deadline.ensures ∙ sym (waits_as_long c.self.inside c.if-not-self.false none) in
     rw (← c.self.view_is) (record { value = until; quiet = λ lives. stays_quiet c.self.inside c.deadline.result c.self.invariant lives until })
