@@ -5,21 +5,44 @@ ghost use Rattle.child_desk.specs.Line.{KeepsAll, HearsNoHand, AllOver};
 ghost use Rattle.child_desk.specs.Heard.{HearsAll};
 
 use child_desk::Desk;
-use child_keeper::{Clock, Keeper};
+use child_keeper::{Audience, Clock, Keeper};
 use crossbeam_utils::Backoff;
+use dialogue_sched::Hall;
 use feed_rings::Bell;
-use std::alloc::AllocError;
+use std::alloc::{AllocError, Global};
 use std::sync::Wait;
 
 /// How many milliseconds a desk rests at most.
 const REST: u64 = 100;
 
-/// Turns a desk until nothing more can come for any script.
+/// Tells an audience what each script has shown since it was told last. The counts are those of the bytes that it was told, by the
+/// script's place.
+fn tell_all<A: Audience>(hall: &Hall, audience: &mut A, told: &mut [usize]) {
+    for place in 0..told.len() {
+        let shown = hall.transcript(place + 1);
+        if told[place] < shown.len() {
+            audience.hear(place, shown.split_at(told[place]).1);
+            told[place] = shown.len();
+        }
+    }
+}
+
+/// A count of nothing for each script of a hall.
+fn nothing_told(alloc: Global, hall: &Hall) -> Result<Vec<usize>, AllocError> {
+    let mut told = Vec::with_capacity(alloc, hall.len())?;
+    for _ in 0..hall.len() {
+        told.push(0)?;
+    }
+    Ok(told)
+}
+
+/// Turns a desk until nothing more can come for any script, and tells what they show as it comes.
 ///
 /// A turn gets the reading that was taken before the last one: what came in time is heard before the tick that would make it late, however
 /// long a script computed meanwhile. There is a turn only where something came or a script may time out.
-pub fn turn_all<K: Keeper, C: Clock, W: Wait + std::time::Clock>(
+pub fn turn_all<K: Keeper, C: Clock + Audience, W: Wait + std::time::Clock>(
     rt: &W,
+    alloc: Global,
     bell: &Bell,
     desk: &mut Desk<K>,
     clock: &mut C,
@@ -29,8 +52,10 @@ pub fn turn_all<K: Keeper, C: Clock, W: Wait + std::time::Clock>(
     ensures over { OnOk result (AllOver desk.new.lines.items) }
     ensures heard { HearsAll desk.old.ends.items desk.old.book.log.items desk.new.ends.items desk.new.book.log.items }
 {
+    let mut told = nothing_told(alloc, &desk.book.hall)?;
     let mut held = clock.now();
     desk.turn(held)?;
+    tell_all(&desk.book.hall, clock, &mut told);
     for _ in rt.forever() {
         if desk.is_done() {
             return Ok(());
@@ -38,6 +63,7 @@ pub fn turn_all<K: Keeper, C: Clock, W: Wait + std::time::Clock>(
         let reading = clock.now();
         if desk.has_come() || desk.is_due(held) {
             desk.turn(held)?;
+            tell_all(&desk.book.hall, clock, &mut told);
         } else if !desk.is_due(reading) {
             rest(rt, bell, desk, reading);
         }

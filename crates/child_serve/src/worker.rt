@@ -13,14 +13,14 @@ use crate::rounds::turn_all;
 use crate::served::{Served, Unsettled};
 use child_desk::{Book, Desk, Ends, Line, Outcome};
 use child_hands::{Fresh, HandEnd, Work};
-use child_keeper::{Clock, Gate, Item, Keeper};
+use child_keeper::{Audience, Clock, Gate, Item, Keeper};
 use dialogue_sched::{Hall, HallFault, Script};
 use feed_rings::{Bell, Finished};
 use std::alloc::{AllocError, AllocFailed, Global};
 use std::sync::{Arc, Wait};
 use std::thread::Threads;
 
-/// What a worker is handed: its scripts, each with its keeper, and its clock.
+/// What a worker is handed: its scripts, each with its keeper, and its clock, which is also told what the scripts show.
 #[derive(Drop)]
 pub struct Team<K: Drop, C: Drop> {
     pub keepers: Vec<K>,
@@ -288,7 +288,7 @@ fn settle_all<K: Keeper, W: Threads>(
 /// Serves the scripts of a worker, to their end.
 pub fn work<
     K: Keeper + Send + Drop + 'static,
-    C: Clock + Drop,
+    C: Clock + Audience + Drop,
     G: Gate + Sync + Send + Drop + 'static,
     W: Threads + Wait + std::time::Clock + Copy + Send + Drop + 'static,
 >(rt: W, alloc: Global, place: Place, team: Team<K, C>, gate: Arc<G>) -> Result<Served, WorkFault>
@@ -315,7 +315,7 @@ pub fn work<
         let_go(&rt, desk, hands);
         return Err(fault);
     }
-    let Ok(()) = turn_all(&rt, &bell, &mut desk, &mut clock) else {
+    let Ok(()) = turn_all(&rt, alloc, &bell, &mut desk, &mut clock) else {
         let_go(&rt, desk, hands);
         return Err(WorkFault::Memory);
     };

@@ -7,7 +7,7 @@ use Rattle.session.specs.declared.report.Report.{Report}
 use Rattle.expect_core.specs.declared.request.Request.{Request}
 use Rattle.expect_core.specs.Lanes.{untaken_of}
 use Rattle.session.specs.Meaning.{meaning}
-use Rattle.session.specs.Left.{Kept, left, HandsOut}
+use Rattle.session.specs.Left.{Kept, left, HandsOut, HasShown}
 use Rattle.session.specs.Spent.{Reports}
 use Rattle.dialogue_sched.specs.declared.script.Script.{Script}
 use Rattle.dialogue_sched.specs.declared.hall.HallFault.{HallFault}
@@ -75,6 +75,10 @@ AllReport ks rs = Paired Reports ks rs
 abbrev pub EndsAt : ℕ → List Kept → Option Ending → Type 0
 EndsAt n ks None = session_at n ks ≡ None
 EndsAt n ks (Some e) = MatchOption (session_at n ks) ⊥ (λ k. Ends k e)
+
+-- what the script of a number has shown; nothing where there is none
+abbrev pub HasShownAt : ℕ → List Kept → List ℕ → Type 0
+HasShownAt n ks bytes = MatchOption (session_at n ks) (bytes ≡ []) (λ k. HasShown k bytes)
 
 -- how many items of a child a script has not taken
 abbrev pub untaken_by : Option Kept → ℕ → ℕ

@@ -147,7 +147,7 @@ ghost use Rattle.dialogue_sched.specs.Shares.{dealt_all, TookAt, AllTookShare};
 ghost use Rattle.dialogue_sched.specs.Took.{AllTook};
 
 impl Hall {
-    ghost use Rattle.dialogue_sched.specs.Hall.{Opens, Stepped, Requested, Reported, EndsAt, session_at, untaken_by};
+    ghost use Rattle.dialogue_sched.specs.Hall.{Opens, Stepped, Requested, Reported, EndsAt, HasShownAt, session_at, untaken_by};
     ghost use Rattle.dialogue_sched.specs.Deadlines.{soonest, AllQuietUntil};
     ghost use Rattle.std.specs.Prelude.{MatchOption, Some, None};
 
@@ -275,6 +275,16 @@ impl Hall {
     {
         let session = self.session(script)?;
         Some(session.ending())
+    }
+
+    /// What a script's operator has seen so far, the bytes of its transcript; nothing where there is no such script. It copies nothing.
+    pub fn transcript(&self, script: usize) -> &[u8]
+        ensures { HasShownAt script self.now result.now }
+    {
+        match self.session(script) {
+            Some(session) => session.transcript(),
+            None => &[],
+        }
     }
 
     /// How many items that came from a script's child no command has taken yet: pieces of its output, its end, a failure to read it. The

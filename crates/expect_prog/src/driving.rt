@@ -10,7 +10,7 @@ use crate::devices::write_all;
 use crate::form::{Form, Spares, made_spares};
 use crate::reporting::write_reports;
 use child_events::{Counted, write_log};
-use child_keeper::{Clock, Gate, Keeper};
+use child_keeper::{Audience, Clock, Gate, Keeper};
 use child_serve::{ServeFault, Served, serve};
 use dialogue_sched::Script;
 use session::Report;
@@ -47,7 +47,7 @@ impl From<AllocError> for DriveFault {
 /// Serves scripts, each with its keeper.
 fn served_by<
     K: Keeper + Send + Drop + 'static,
-    C: Clock + Send + Drop + 'static,
+    C: Clock + Audience + Send + Drop + 'static,
     G: Gate + Sync + Send + Drop + 'static,
     W: Threads + Wait + std::time::Clock + Copy + Send + Drop + 'static,
 >(
@@ -109,7 +109,7 @@ fn write_both<L: Write, O: Write>(
 /// reports, after `Write` the record and a front of the reports, after any other fault nothing. An interrupted write is tried again.
 pub fn drive<
     K: Keeper + Send + Drop + 'static,
-    C: Clock + Send + Drop + 'static,
+    C: Clock + Audience + Send + Drop + 'static,
     G: Gate + Sync + Send + Drop + 'static,
     W: Threads + Wait + std::time::Clock + Copy + Send + Drop + 'static,
     L: Write,

@@ -5,7 +5,7 @@ ghost use Rattle.child_events.specs.Log.{AllFit};
 
 use crate::keeper::Liner;
 use child_events::{read_log, write_log};
-use child_keeper::{Clock, Gate};
+use child_keeper::{Audience, Clock, Gate};
 use child_serve::{Served, serve};
 use dialogue_sched::Script;
 use session::{Ending, Pairs, Report, Settings};
@@ -50,6 +50,8 @@ pub fn is_of_cat(report: &Report) -> bool {
 #[derive(Clone, Copy, Debug)]
 pub struct Still;
 
+impl Audience for Still {}
+
 impl Clock for Still {
     fn now(&mut self) -> u64 {
         0
@@ -72,6 +74,8 @@ struct Gaining {
     moment: u64,
     gain: u64,
 }
+
+impl Audience for Gaining {}
 
 impl Clock for Gaining {
     fn now(&mut self) -> u64 {

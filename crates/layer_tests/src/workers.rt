@@ -2,7 +2,7 @@
 
 use crate::keeper::Liner;
 use crate::served::{CAT, all_of_cat, script};
-use child_keeper::{Clock, Gate};
+use child_keeper::{Audience, Clock, Gate};
 use child_serve::serve;
 use std::alloc::{AllocError, Global};
 use std::sync::Arc;
@@ -74,6 +74,8 @@ struct Meeting {
     mine: usize,
     course: Arc<Course>,
 }
+
+impl Audience for Meeting {}
 
 impl Clock for Meeting {
     fn now(&mut self) -> u64 {

@@ -80,6 +80,17 @@ pub shown_requests : (bound : ℕ) (engine : Engine) (mode : Mode) (steps : ℕ)
 shown_requests bound engine (Ended e) steps d = refl
 shown_requests bound engine _ steps d = refl
 
+-- what is shown is the dialogue's transcript
+pub shown_transcript : (bound : ℕ) (engine : Engine) (mode : Mode) (steps : ℕ) (d : Dialogue) → (shown bound engine mode steps d).transcript ≡ d.own.transcript
+shown_transcript bound engine (Ended e) steps d = refl
+shown_transcript bound engine _ steps d = refl
+
+-- the transcript of a session that lives
+pub has_shown : (a : Inside) → Sound a → IsTrue a.lives → a.dialogue.own.transcript ≡ (left (kept_of a) []).transcript
+unfolding left
+has_shown a sound lives =
+    sym (ap (λ (r : Report). r.transcript) (sound.shows lives) ∙ shown_transcript a.bound a.machine.engine a.machine.mode _ a.dialogue)
+
 first_of : (xs : List Request) (n : ℕ) → slice_get xs n ≡ slice_get (drop n xs) 0
 first_of [] zero = refl
 first_of [] (suc n) = refl

@@ -33,6 +33,11 @@ pub record Fed (old : Kept) (events : List Event) (new : Kept) : Type 0 where
   pub over : IsOver old.mode → new ≡ old
   pub says : IsTrue new.lives → (later : List Event) → left new later ≡ left old (events ++ later)
 
+-- what it has shown: the transcript of the report that it gives for nothing more; nothing where memory was refused
+pub record HasShown (k : Kept) (bytes : List ℕ) : Type 0 where
+  pub lives : IsTrue k.lives → bytes ≡ (left k []).transcript
+  pub spent : k.lives ≡ false → bytes ≡ []
+
 -- the next request is handed out, if there is one, and is counted
 pub record HandsOut (old : Kept) (request : Option Request) (new : Kept) : Type 0 where
   pub lives : new.lives ≡ old.lives

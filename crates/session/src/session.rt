@@ -7,7 +7,7 @@ ghost use Rattle.tcl_eval.specs.Steps.{left_of};
 ghost use Rattle.tcl_eval.specs.Suspended.{IsOver};
 ghost use Rattle.expect_core.specs.Good.{Good};
 ghost use Rattle.expect_core.specs.Lanes.{extended, untaken_of};
-ghost use Rattle.session.specs.Left.{left, Fed, HandsOut};
+ghost use Rattle.session.specs.Left.{left, Fed, HandsOut, HasShown};
 ghost use Rattle.session.specs.Meaning.{meaning, steps_of, tree_of};
 ghost use Rattle.session.specs.Quiet.{QuietUntil, waits_until};
 ghost use Rattle.session.specs.Shown.{Ran};
@@ -267,6 +267,18 @@ impl Session {
         match self.machine.end() {
             Some(end) => ending_of(end),
             None => Ending::Waiting,
+        }
+    }
+
+    /// What an operator has seen of it so far: the bytes of its transcript. It copies nothing. Nothing is to be seen of a session that was
+    /// refused memory.
+    pub fn transcript(&self) -> &[u8]
+        ensures { HasShown self.now result.now }
+    {
+        if self.lives {
+            self.dialogue.transcript()
+        } else {
+            &[]
         }
     }
 
