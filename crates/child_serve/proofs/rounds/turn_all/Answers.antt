@@ -1,8 +1,11 @@
 use Rattle.std.proofs.Common.{◌∙◌}
-use Rattle.child_desk.proofs.Hears.{all_then as hears_then}
+use Rattle.child_desk.proofs.Hears.{all_same as hears_nothing, all_then as hears_then}
 use Rattle.child_desk.proofs.Kept.{all_then, no_hand_then}
 use Rattle.child_serve.proofs.Rounding.{kept_same}
 use Rattle.child_serve.proofs.rounds.turn_all.Goals as goal
+
+pub returns-in_err-told-clause-heard : goal.returns-in_err-told-clause-heard
+returns-in_err-told-clause-heard g c = hears_nothing c.args.desk.now.ends.items c.args.desk.now.book.log.items
 
 pub returns-in_err-turn-2-clause-kept : goal.returns-in_err-turn-2-clause-kept
 returns-in_err-turn-2-clause-kept g c =
