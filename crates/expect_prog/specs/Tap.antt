@@ -16,7 +16,7 @@ name_text (b ∷ bs) = name_byte b ++ name_text bs
 
 -- the version, and the plan of so many tests
 unfoldable pub plan : ℕ → List ℕ
-plan count = codes "TAP version 14\n" ++ labelled (codes "1..") count ++ 10 ∷ []
+plan count = codes "TAP version 13\n" ++ labelled (codes "1..") count ++ 10 ∷ []
 
 -- a test that is passed
 unfoldable pub passed : List ℕ → ℕ → List ℕ

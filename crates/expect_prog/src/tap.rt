@@ -35,7 +35,7 @@ pub fn plan_text(alloc: Global, count: usize) -> Result<Text, AllocError>
     ensures { IfOk result (λ t. t ≡ plan count) }
 {
     let mut text = Text::new(alloc);
-    text.extend(b"TAP version 14\n")?;
+    text.extend(b"TAP version 13\n")?;
     push_labelled(alloc, &mut text, b"1..", count as u128)?;
     text.push(b'\n')?;
     Ok(text)
