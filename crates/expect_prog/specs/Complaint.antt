@@ -16,6 +16,8 @@ use Rattle.expect_prog.specs.declared.driving.DriveFault.{DriveFault}
 use Rattle.expect_prog.specs.declared.driving.DriveFault.TheVariants as drive
 use Rattle.expect_prog.specs.declared.fault.ReplayFault.{ReplayFault}
 use Rattle.expect_prog.specs.declared.fault.ReplayFault.TheVariants as replay
+use Rattle.expect_prog.specs.declared.showing.ShowFault.{ShowFault}
+use Rattle.expect_prog.specs.declared.showing.ShowFault.TheVariants as show
 
 abbrev pub refusal_number : HallRefusal → ℕ
 refusal_number NoSuchScript = 1
@@ -62,6 +64,13 @@ FaultLine log files (replay.Log f) c = LogLine f c
 FaultLine log files (replay.Run f) c = RunLine files f c
 FaultLine log files replay.Write c = c ≡ line.Unwritten
 FaultLine log files replay.Memory c = c ≡ line.Memory
+
+-- the line where a log's file is shown
+abbrev pub ShowLine : Bor (List ℕ) → ShowFault → Complaint → Type 0
+ShowLine log show.Read c = IsUnreadable log c
+ShowLine log (show.Log f) c = LogLine f c
+ShowLine log show.Write c = c ≡ line.Unwritten
+ShowLine log show.Memory c = c ≡ line.Memory
 
 -- the line of a run of the files of scripts
 abbrev pub DriveLine : List (Bor (List ℕ)) → DriveFault → Complaint → Type 0

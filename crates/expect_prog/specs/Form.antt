@@ -6,8 +6,8 @@ use Rattle.session.specs.Spent.{memory_report}
 use Rattle.expect_prog.specs.declared.texts.Shown.{Shown}
 use Rattle.expect_prog.specs.declared.form.Form.{Form}
 use Rattle.expect_prog.specs.declared.form.Format.{Format}
-use Rattle.expect_prog.specs.declared.form.Format.TheVariants.{Text, Summary, Json, Tap}
-use Rattle.expect_prog.specs.Report.{report_bytes}
+use Rattle.expect_prog.specs.declared.form.Format.TheVariants.{Text, Escaped, Summary, Json, Tap}
+use Rattle.expect_prog.specs.Report.{report_bytes, escaped_report}
 use Rattle.expect_prog.specs.Line.{summary_line, counts_line}
 use Rattle.expect_prog.specs.Json.{array_item}
 use Rattle.expect_prog.specs.Tap.{plan, tap_test}
@@ -19,6 +19,7 @@ file_of files n = unwrap_or (slice_get files (n - 1)) []
 -- the part of script n, whose file this is
 abbrev pub part_of : Format → Shown → List ℕ → ℕ → Report → List ℕ
 part_of Text shown file n r = report_bytes shown n r
+part_of Escaped shown file n r = escaped_report shown n r
 part_of Summary shown file n r = summary_line file n r
 part_of Json shown file n r = array_item shown file n r
 part_of Tap shown file n r = tap_test file n r
@@ -34,6 +35,7 @@ parts_bytes form n (r ∷ rs) = part_bytes form n r ++ parts_bytes form (n + 1) 
 -- what of a transcript is told as it is
 abbrev pub middle : Format → List ℕ → List ℕ
 middle Text transcript = transcript
+middle Escaped transcript = []
 middle Summary transcript = []
 middle Json transcript = []
 middle Tap transcript = []
@@ -41,6 +43,7 @@ middle Tap transcript = []
 -- what stands before the parts of so many reports
 abbrev pub opening : Format → ℕ → List ℕ
 opening Text count = []
+opening Escaped count = []
 opening Summary count = []
 opening Json count = codes "["
 opening Tap count = plan count
@@ -48,6 +51,7 @@ opening Tap count = plan count
 -- what stands behind the parts of reports with these endings
 abbrev pub closing : Format → List Ending → List ℕ
 closing Text es = []
+closing Escaped es = []
 closing Summary es = counts_line es
 closing Json es = codes "\n]\n"
 closing Tap es = []

@@ -5,7 +5,7 @@ use Rattle.std.specs.Borrow.{Bor}
 use Rattle.clap.specs.Matches.{found_of, matched_of, raw_values}
 use Rattle.clap.specs.declared.parser.matches.ArgMatches.{ArgMatches}
 use Rattle.expect_prog.specs.declared.form.Format.{Format}
-use Rattle.expect_prog.specs.declared.form.Format.TheVariants.{Text, Summary, Json, Tap}
+use Rattle.expect_prog.specs.declared.form.Format.TheVariants.{Text, Escaped, Summary, Json, Tap}
 use Rattle.expect_core.specs.declared.settings.Settings.{Settings}
 use Rattle.dialogue_sched.specs.declared.script.Script.{Script}
 
@@ -40,6 +40,6 @@ files_told matches = unwrap_or (option_map raw_values (matched_of (found_of matc
 abbrev pub format_named : List ℕ → Format
 format_named name = if bytes_eq name (codes "json") then Json else if bytes_eq name (codes "tap") then Tap else Text
 
--- a summary where it is asked for, and else the format of a name, or whole reports
-abbrev pub format_given : Bool → Option (List ℕ) → Format
-format_given summary name = if summary then Summary else unwrap_or (option_map format_named name) Text
+-- a summary, or what is for terminals, where it is asked for, and else the format of a name, or whole reports
+abbrev pub format_given : Bool → Bool → Option (List ℕ) → Format
+format_given summary escape name = if summary then Summary else if escape then Escaped else unwrap_or (option_map format_named name) Text

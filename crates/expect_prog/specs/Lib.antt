@@ -1,5 +1,6 @@
 pub mod Report
 pub mod Line
+pub mod Escape
 pub mod Tap
 pub mod Json
 pub mod Form
@@ -7,5 +8,6 @@ pub mod Devices
 pub mod Written
 pub mod Replay
 pub mod Drive
+pub mod Show
 pub mod Complaint
 pub mod Given

@@ -9,6 +9,8 @@ use Rattle.expect_core.specs.declared.request.Act.{Act}
 use Rattle.expect_core.specs.declared.request.Act.TheVariants as act
 use Rattle.expect_core.specs.declared.request.Request.{Request}
 use Rattle.expect_prog.specs.declared.texts.Shown.{Shown}
+use Rattle.expect_prog.specs.declared.escape.Place.TheVariants.{Lines}
+use Rattle.expect_prog.specs.Escape.{escaped}
 
 -- a label and a number behind it; closed, so that the text of a line stays in pieces
 unfoldable pub labelled : List ℕ → ℕ → List ℕ
@@ -34,14 +36,14 @@ head_words n r =
 abbrev pub head_line : ℕ → Report → List ℕ
 head_line n r = head_words n r ++ 10 ∷ []
 
--- for an error alone, its text
-abbrev pub fault_part : Ending → List ℕ → List ℕ
-fault_part Error fault = labelled (codes "error ") (length fault) ++ 10 ∷ [] ++ fault ++ 10 ∷ []
-fault_part (Exit n) fault = []
-fault_part StepLimit fault = []
-fault_part TimeLimit fault = []
-fault_part Memory fault = []
-fault_part Waiting fault = []
+-- for an error alone, how many bytes its text has, and the text, told so
+abbrev pub fault_part : Ending → ℕ → List ℕ → List ℕ
+fault_part Error size told = labelled (codes "error ") size ++ 10 ∷ [] ++ told ++ 10 ∷ []
+fault_part (Exit n) size told = []
+fault_part StepLimit size told = []
+fault_part TimeLimit size told = []
+fault_part Memory size told = []
+fault_part Waiting size told = []
 
 -- a name and its value, each in lower-case hexadecimal, or a dash where it is empty
 unfoldable pub var_line : List ℕ × List ℕ → List ℕ
@@ -81,12 +83,16 @@ ask_lines (r ∷ rs) = ask_line r ++ ask_lines rs
 abbrev pub asks_part : Bool → List Request → List ℕ
 asks_part shown requests = if shown then ask_lines requests else []
 
--- what stands behind the transcript
-abbrev pub tail_part : Shown → Report → List ℕ
-tail_part shown r = 10 ∷ [] ++ fault_part r.ending r.fault ++ vars_part shown.vars r.vars ++ asks_part shown.requests r.requests
+-- what stands behind the transcript, where the text of an error is told so
+abbrev pub tail_part : Shown → List ℕ → Report → List ℕ
+tail_part shown told r = 10 ∷ [] ++ fault_part r.ending (length r.fault) told ++ vars_part shown.vars r.vars ++ asks_part shown.requests r.requests
 
 abbrev pub report_bytes : Shown → ℕ → Report → List ℕ
-report_bytes shown n r = head_line n r ++ r.transcript ++ tail_part shown r
+report_bytes shown n r = head_line n r ++ r.transcript ++ tail_part shown r.fault r
+
+-- the same for a terminal
+abbrev pub escaped_report : Shown → ℕ → Report → List ℕ
+escaped_report shown n r = head_line n r ++ escaped Lines r.transcript ++ tail_part shown (escaped Lines r.fault) r
 
 abbrev pub is_done : Ending → Bool
 is_done (Exit n) = n == 0

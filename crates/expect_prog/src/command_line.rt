@@ -22,6 +22,7 @@ const SECONDS_LIMIT: i64 = 9_000_000_000;
 pub enum Order<'a> {
     Replay(Replay<'a>),
     Run(Run<'a>),
+    Show(Show<'a>),
 }
 
 /// Scripts, and what is the same for each of them.
@@ -54,6 +55,14 @@ pub struct Run<'a> {
     pub record: Option<&'a str>,
 }
 
+/// A log's file that is to be shown.
+#[derive(Drop)]
+pub struct Show<'a> {
+    pub log: &'a str,
+    /// The script whose events are shown, where not all are.
+    pub script: Option<u8>,
+}
+
 fn limit<'a>(alloc: Global) -> Arg<'a> {
     Arg::new(alloc, "limit")
         .long("limit")
@@ -66,21 +75,21 @@ fn steps<'a>(alloc: Global) -> Arg<'a> {
     Arg::new(alloc, "steps")
         .long("steps")
         .value_name("N")
-        .help("End a script that begins more steps [default: 1000000]")
+        .help("End a script behind N steps [default: 1000000]")
         .value_parser(value_parser!(u64).range(1..=STEPS_LIMIT as i64))
 }
 
 fn vars<'a>(alloc: Global) -> Arg<'a> {
     Arg::new(alloc, "vars")
         .long("vars")
-        .help("Show the global variables of each script, in hexadecimal")
+        .help("Show each script's global variables, in hexadecimal")
         .action(ArgAction::SetTrue)
 }
 
 fn requests<'a>(alloc: Global) -> Arg<'a> {
     Arg::new(alloc, "requests")
         .long("requests")
-        .help("Show what each script asked of its children, in hexadecimal")
+        .help("Show what each script asked of its children, in hex")
         .action(ArgAction::SetTrue)
 }
 
@@ -91,7 +100,7 @@ fn format<'a>(alloc: Global) -> Arg<'a> {
     Arg::new(alloc, "format")
         .long("format")
         .value_name("F")
-        .help("Print the reports as text, json or tap [default: text]")
+        .help("Print reports as text, json or tap [default: text]")
         .value_parser(FORMATS.as_slice())
         .hide_possible_values(true)
 }
@@ -102,6 +111,15 @@ fn summary<'a>(alloc: Global) -> Result<Arg<'a>, AllocError> {
         .help("Print a line of each report, and one of counts")
         .action(ArgAction::SetTrue)
         .conflicts_with("format")
+}
+
+fn escape<'a>(alloc: Global) -> Result<Arg<'a>, AllocError> {
+    Arg::new(alloc, "escape")
+        .long("escape")
+        .help("Print reports as text that is safe on a terminal")
+        .action(ArgAction::SetTrue)
+        .conflicts_with("format")?
+        .conflicts_with("summary")
 }
 
 fn sources<'a>(alloc: Global) -> Arg<'a> {
@@ -130,6 +148,7 @@ fn replay_command<'a>(alloc: Global) -> Result<Command<'a>, AllocError> {
         .arg(requests(alloc))?
         .arg(format(alloc))?
         .arg(summary(alloc)?)?
+        .arg(escape(alloc)?)?
         .arg(log(alloc))?
         .arg(sources(alloc))
 }
@@ -161,7 +180,24 @@ fn run_command<'a>(alloc: Global) -> Result<Command<'a>, AllocError> {
         .arg(requests(alloc))?
         .arg(format(alloc))?
         .arg(summary(alloc)?)?
+        .arg(escape(alloc)?)?
         .arg(sources(alloc))
+}
+
+fn script<'a>(alloc: Global) -> Arg<'a> {
+    Arg::new(alloc, "script")
+        .long("script")
+        .value_name("N")
+        .help("Show the events of script N alone, and the ticks")
+        .value_parser(value_parser!(u64).range(1..=64))
+}
+
+fn show_command<'a>(alloc: Global) -> Result<Command<'a>, AllocError> {
+    Command::new(alloc, "show")
+        .about("Shows a log of a run, a line for each event")
+        .after_help(help::SHOW)
+        .arg(script(alloc))?
+        .arg(log(alloc))
 }
 
 fn command<'a>(alloc: Global) -> Result<Command<'a>, AllocError> {
@@ -173,7 +209,8 @@ fn command<'a>(alloc: Global) -> Result<Command<'a>, AllocError> {
         .after_help(help::PROGRAM)
         .subcommand_required(true)
         .subcommand(run_command(alloc)?)?
-        .subcommand(replay_command(alloc)?)
+        .subcommand(replay_command(alloc)?)?
+        .subcommand(show_command(alloc)?)
 }
 
 /// Seconds in milliseconds; of more seconds than a limit may have, at most the greatest number.
@@ -223,12 +260,15 @@ fn texts_of(alloc: Global, files: &[&str]) -> Result<Texts, AllocError>
     Ok(texts)
 }
 
-/// The format that is asked for by a name, or a summary.
-fn format_of(summary: bool, name: Option<&str>) -> Format
-    ensures { result ≡ format_given summary (option_map (λ n. n.now) name.entry) }
+/// The format that is asked for by a name, or a summary, or what is for terminals.
+fn format_of(summary: bool, escape: bool, name: Option<&str>) -> Format
+    ensures { result ≡ format_given summary escape (option_map (λ n. n.now) name.entry) }
 {
     if summary {
         return Format::Summary;
+    }
+    if escape {
+        return Format::Escaped;
     }
     match name {
         Some("json") => Format::Json,
@@ -248,7 +288,11 @@ fn scripts_of<'a>(alloc: Global, matches: &ArgMatches<'a>) -> Result<Scripts<'a>
         steps: steps_of(matches.get_one::<u64>("steps")),
         limit_ms: limit_of(matches.get_one::<u64>("limit")),
         form: Form {
-            format: format_of(matches.get_flag("summary"), matches.get_str("format")),
+            format: format_of(
+                matches.get_flag("summary"),
+                matches.get_flag("escape"),
+                matches.get_str("format"),
+            ),
             shown: Shown {
                 vars: matches.get_flag("vars"),
                 requests: matches.get_flag("requests"),
@@ -259,15 +303,17 @@ fn scripts_of<'a>(alloc: Global, matches: &ArgMatches<'a>) -> Result<Scripts<'a>
     })
 }
 
-/// As many workers as a number says, which is from 1 to 64.
-fn workers_of(number: u64) -> u8 {
+/// A number from 1 to 64 as a byte.
+fn byte_of(number: u64) -> u8
+    ensures { number ≤ 64 → result ≡ number }
+{
     u8::try_from(number).unwrap_or(1)
 }
 
 fn run_of<'a>(alloc: Global, matches: &ArgMatches<'a>) -> Result<Order<'a>, AllocError> {
     Ok(Order::Run(Run {
         scripts: scripts_of(alloc, matches)?,
-        workers: matches.get_one::<u64>("workers").map_or(1, workers_of),
+        workers: matches.get_one::<u64>("workers").map_or(1, byte_of),
         record: matches.get_str("record"),
     }))
 }
@@ -279,12 +325,20 @@ fn replay_of<'a>(alloc: Global, matches: &ArgMatches<'a>) -> Result<Order<'a>, A
     }))
 }
 
+fn show_of<'a>(matches: &ArgMatches<'a>) -> Order<'a> {
+    Order::Show(Show {
+        log: matches.get_str("log").unwrap_or(""),
+        script: matches.get_one::<u64>("script").map(byte_of),
+    })
+}
+
 /// What is asked for by the words, the first of which is the program. An error's text is to be shown,
 /// and is a help where that was asked for.
 pub fn read_words<'a>(alloc: Global, words: &'a [String]) -> Result<Order<'a>, Error> {
     let matches = command(alloc)?.try_get_matches_from(words)?;
     match matches.subcommand() {
         Some(("run", run)) => Ok(run_of(alloc, run)?),
+        Some(("show", show)) => Ok(show_of(show)),
         Some((_, replay)) => Ok(replay_of(alloc, replay)?),
         None => Ok(replay_of(alloc, &matches)?),
     }

@@ -1,11 +1,12 @@
 //! Faults as lines on standard error.
 
 ghost use Rattle.std.specs.Prelude.{◌≡◌};
-ghost use Rattle.expect_prog.specs.Complaint.{LogLine, OpeningLine, RunLine, FaultLine, DriveLine, refusal_number as number_of};
+ghost use Rattle.expect_prog.specs.Complaint.{LogLine, OpeningLine, RunLine, FaultLine, DriveLine, ShowLine, refusal_number as number_of};
 
-use crate::command_line::{Replay, Run};
+use crate::command_line::{Replay, Run, Show};
 use crate::driving::DriveFault;
 use crate::fault::ReplayFault;
+use crate::showing::ShowFault;
 use child_events::LogFault;
 use child_serve::ServeFault;
 use dialogue_sched::{HallFault, HallRefusal, RunFault};
@@ -124,6 +125,18 @@ impl<'a> Complaint<'a> {
             ReplayFault::Run(fault) => Complaint::of_run(fault, order),
             ReplayFault::Write => Complaint::Unwritten,
             ReplayFault::Memory => Complaint::Memory,
+        }
+    }
+
+    /// The complaint of a fault where a log is shown.
+    pub fn of_show(fault: ShowFault, order: &Show<'a>) -> Complaint<'a>
+        ensures { ShowLine order.now.log fault result }
+    {
+        match fault {
+            ShowFault::Read => Complaint::Unreadable(order.log),
+            ShowFault::Log(fault) => Complaint::of_log(fault),
+            ShowFault::Write => Complaint::Unwritten,
+            ShowFault::Memory => Complaint::Memory,
         }
     }
 

@@ -3,10 +3,11 @@
 ghost use Rattle.std.specs.Prelude.{◌≡◌, length, IfOk};
 ghost use Rattle.expect_prog.specs.Given.{script_given, scripts_given, AreOfFiles};
 
-use crate::command_line::{Replay, Scripts};
+use crate::command_line::{Replay, Scripts, Show};
 use crate::complaint::Complaint;
 use crate::devices::{ReadFault, read_all};
 use crate::replaying::replay;
+use crate::showing::show_log;
 use child_events::Counted;
 use dialogue_sched::Script;
 use session::{Pairs, SOURCE_LIMIT, Settings};
@@ -115,5 +116,19 @@ pub fn replay_files<'a, R: Files + Print>(
     match replay(alloc, &mut log, scripts, &order.scripts.form, &mut out) {
         Ok(well) => Ok(well),
         Err(fault) => Err(Complaint::of(fault, order)),
+    }
+}
+
+/// Shows the log of an order. The answer is always true, since no script ends.
+pub fn show_file<'a, R: Files + Print>(
+    rt: &R,
+    alloc: Global,
+    order: &Show<'a>,
+) -> Result<bool, Complaint<'a>> {
+    let mut log = Counted::new(opened(rt, order.log)?);
+    let mut out = Counted::new(io::writer(rt));
+    match show_log(alloc, order.script, &mut log, &mut out) {
+        Ok(()) => Ok(true),
+        Err(fault) => Err(Complaint::of_show(fault, order)),
     }
 }

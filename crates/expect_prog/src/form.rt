@@ -8,7 +8,7 @@ ghost use Rattle.expect_prog.specs.Written.{AreParts, AreSpares};
 use crate::json::item_text;
 use crate::line::summary_text;
 use crate::tap::{plan_text, test_text};
-use crate::texts::{Shown, report_text};
+use crate::texts::{Shown, escaped_text, report_text};
 use session::{Ending, Report};
 use std::alloc::{AllocError, Global};
 use tcl_words::{Text, Texts};
@@ -18,6 +18,8 @@ use tcl_words::{Text, Texts};
 pub enum Format {
     /// Whole reports.
     Text,
+    /// The same for terminals: what would do something there, or isn't seen, is escaped.
+    Escaped,
     /// The first line of each report, with its script's file, and a last line of counts.
     Summary,
     /// An array of JSON, with an object in a line for each script.
@@ -53,6 +55,7 @@ impl Form {
     {
         match self.format {
             Format::Text => report_text(alloc, self.shown, number, report),
+            Format::Escaped => escaped_text(alloc, self.shown, number, report),
             Format::Summary => summary_text(alloc, self.file(number), number, report),
             Format::Json => item_text(alloc, self.shown, self.file(number), number, report),
             Format::Tap => test_text(alloc, self.file(number), number, report),
@@ -77,6 +80,7 @@ fn opening_text(alloc: Global, format: Format, count: usize) -> Result<Text, All
 {
     match format {
         Format::Text => Ok(Text::new(alloc)),
+        Format::Escaped => Ok(Text::new(alloc)),
         Format::Summary => Ok(Text::new(alloc)),
         Format::Json => Text::from_slice(alloc, b"["),
         Format::Tap => plan_text(alloc, count),

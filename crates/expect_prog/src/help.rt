@@ -22,13 +22,16 @@ replay starts nothing. It reads such a log in place of the programs, and prints
 the reports of the scripts over it: those of the run again, or, where a script
 was changed since, what it makes of the same events.
 
+show prints such a log to be read, a line for each event.
+
 Up to 64 scripts run side by side; none changes another.
 
 The status is 0 where each script ended with exit:0, 1 where one ended
 otherwise, and 2 at a fault, which is a line on standard error.
 
 `exprun run --help` says how programs are run, `exprun replay --help` what a log
-and a report are, each with an example.";
+and a report are, and `exprun show --help` how a log is shown, each with an
+example.";
 
 /// Behind the help of `replay`.
 pub const REPLAY: &str = "\
@@ -78,6 +81,12 @@ with exit:0, and of each ending. --format json is for programs: an array with an
 object in a line for each report. --format tap is for prove(1): a test for each
 script, which is passed where it ended well.
 
+--escape is for terminals: what a child wrote does nothing there. In transcripts
+and in the texts of errors a control character is written as \\x and two
+hexadecimal digits, a carriage return as \\r, a backslash as two, and a byte that
+isn't UTF-8 as \\x and digits too. A tab stays, and so does the end of a line,
+with its carriage return. The counts are those of the bytes before that.
+
 Example: cat.exp is
 
     spawn cat
@@ -118,8 +127,8 @@ write is dropped. exprun ends when their outputs have ended: a program that is
 silent and stays holds it, so `close` it, start it under `timeout 60`, or let it
 end with its input.
 
---summary, --format json and --format tap print the reports in short, for
-programs, and for prove(1): `exprun replay --help` says how.
+--summary, --format json, --format tap and --escape print the reports in short,
+for programs, for prove(1), and for terminals: `exprun replay --help` says how.
 
 Example: cat.exp is
 
@@ -137,3 +146,45 @@ Then `exprun run cat.exp` prints
 where the terminal showed the first hi when it was sent, and cat wrote the
 second. With `--record log` the run writes what happened, and
 `exprun replay log cat.exp` prints the same report again.";
+
+/// Behind the help of `show`.
+pub const SHOW: &str = "\
+/dev/stdin as LOG is standard input. `exprun replay --help` says what a log is.
+
+A line has an event: its moment in milliseconds, its script, its child (by
+spawns, from 1), and what happened:
+
+    wrote \"..\"            the child wrote these bytes
+    output ended          its output has ended
+    output lost: CAUSE    its output can't be read any more
+    request done          what the script asked of it is done
+    request failed: CAUSE failed: notfound, denied, broken, memory or other
+    ended with status N   it ended with this status
+    ended by a signal     it was ended by a signal
+
+A tick is a moment alone: it is so late now, for all scripts. It has no script,
+and --script N shows it too.
+
+Between the quotes stands UTF-8. There \\\\ is a backslash, \\\" a quote, \\n a
+newline, \\r a carriage return, \\t a tab, and \\x with two hexadecimal digits any
+other byte: of a control character, or of what isn't UTF-8. So a line does
+nothing on a terminal, and the bytes can be read from it.
+
+Where the log has a fault nothing is shown, the status is 2, and the first bad
+line is told, as by replay.
+
+Example: the file log is
+
+    exprun-log 2
+    ok 1 1 5
+    ok 1 1 10
+    out 1 1 20 68690a
+    tick 10031
+    total 4
+
+Then `exprun show log` prints
+
+           5 ms  script 1  child 1  request done
+          10 ms  script 1  child 1  request done
+          20 ms  script 1  child 1  wrote \"hi\\n\"
+       10031 ms  tick";

@@ -1,4 +1,4 @@
-//! Runs scripts over a log of events, and prints their reports.
+//! Runs scripts, or replays them over a log of events, and prints their reports; or shows a log.
 #![tactic(auto)]
 
 mod asks;
@@ -6,6 +6,8 @@ mod command_line;
 mod complaint;
 mod devices;
 mod driving;
+mod escape;
+mod events;
 mod fault;
 mod files;
 mod form;
@@ -15,13 +17,14 @@ mod line;
 mod replaying;
 mod reporting;
 mod running;
+mod showing;
 mod tally;
 mod tap;
 mod texts;
 
 use crate::command_line::{Order, read_words};
 use crate::complaint::Complaint;
-use crate::files::replay_files;
+use crate::files::{replay_files, show_file};
 use crate::running::run_files;
 use std::alloc::Global;
 use std::env;
@@ -75,6 +78,7 @@ fn main(rt: HostRuntime) -> ExitCode {
     let outcome = match &order {
         Order::Replay(replay) => replay_files(&rt, rt.alloc(), replay),
         Order::Run(run) => run_files(rt, rt.alloc(), run),
+        Order::Show(show) => show_file(&rt, rt.alloc(), show),
     };
     match outcome {
         Ok(true) => ExitCode::SUCCESS,

@@ -23,12 +23,13 @@ struct Around {
     tail: Text,
 }
 
-/// The part of a transcript that is written from where it is: in whole reports all of it, else nothing.
+/// The part of a transcript that is written from where it is: in whole reports that aren't for terminals all of it, else nothing.
 fn middle(format: Format, transcript: &[u8]) -> &[u8]
     ensures { result.now ≡ middle_of format transcript.now }
 {
     match format {
         Format::Text => transcript,
+        Format::Escaped => &transcript[..0],
         Format::Summary => &transcript[..0],
         Format::Json => &transcript[..0],
         Format::Tap => &transcript[..0],
@@ -43,9 +44,9 @@ impl Around {
         match form.format {
             Format::Text => Ok(Around {
                 head: head_text(alloc, number, report)?,
-                tail: tail_text(alloc, form.shown, report)?,
+                tail: tail_text(alloc, form.shown, report.fault.as_slice(), report)?,
             }),
-            Format::Summary | Format::Json | Format::Tap => Ok(Around {
+            Format::Escaped | Format::Summary | Format::Json | Format::Tap => Ok(Around {
                 head: form.part(alloc, number, report)?,
                 tail: Text::new(alloc),
             }),
@@ -142,6 +143,7 @@ fn write_closing<W: Write>(
 {
     match format {
         Format::Text => write_all(out, b""),
+        Format::Escaped => write_all(out, b""),
         Format::Summary => write_counts(endings, out),
         Format::Json => write_all(out, b"\n]\n"),
         Format::Tap => write_all(out, b""),

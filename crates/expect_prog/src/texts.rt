@@ -3,9 +3,10 @@
 ghost use Rattle.std.specs.Prelude.{◌≡◌, ◌++◌, ◌∷◌, [], sum, Bool, true, IfOk, OnOk};
 ghost use Rattle.std.specs.Fmt.{decimal};
 ghost use Rattle.child_events.specs.Log.{hex_text};
-ghost use Rattle.expect_prog.specs.Report.{labelled, ended_text, ending_text, head_words, head_line, tail_part, fault_part, var_line, vars_lines, vars_part, report_bytes, is_done as is_done_of};
+ghost use Rattle.expect_prog.specs.Report.{labelled, ended_text, ending_text, head_words, head_line, tail_part, fault_part, var_line, vars_lines, vars_part, report_bytes, escaped_report, is_done as is_done_of};
 
 use crate::asks::push_shown_asks;
+use crate::escape::{Place, push_text};
 use session::{Ending, Report};
 use std::alloc::{AllocError, Global};
 use tcl_words::Text;
@@ -88,20 +89,21 @@ pub(crate) fn push_head(
     )
 }
 
-/// Puts the text of an error behind a text, with its length before it.
+/// Puts the text of an error, which has so many bytes and is told so, behind a text.
 fn push_fault(
     alloc: Global,
     text: &mut Text,
     ending: Ending,
-    fault: &Text,
+    size: usize,
+    told: &[u8],
 ) -> Result<(), AllocError>
-    ensures { OnOk result (text.new ≡ text.old ++ fault_part ending fault.now) }
+    ensures { OnOk result (text.new ≡ text.old ++ fault_part ending size told.now) }
 {
     match ending {
         Ending::Error => {
-            push_labelled(alloc, text, b"error ", fault.len() as u128)?;
+            push_labelled(alloc, text, b"error ", size as u128)?;
             text.push(b'\n')?;
-            text.extend(fault.as_slice())?;
+            text.extend(told)?;
             text.push(b'\n')
         }
         Ending::Exit(_) => Ok(()),
@@ -167,13 +169,18 @@ pub fn head_text(alloc: Global, number: usize, report: &Report) -> Result<Text, 
     Ok(text)
 }
 
-/// The text of a report behind its transcript, with what is shown of it.
-pub fn tail_text(alloc: Global, shown: Shown, report: &Report) -> Result<Text, AllocError>
-    ensures { IfOk result (λ t. t ≡ tail_part shown report.now) }
+/// The text of a report behind its transcript, where the text of an error is told so, with what is shown of it.
+pub fn tail_text(
+    alloc: Global,
+    shown: Shown,
+    told: &[u8],
+    report: &Report,
+) -> Result<Text, AllocError>
+    ensures { IfOk result (λ t. t ≡ tail_part shown told.now report.now) }
 {
     let mut text = Text::new(alloc);
     text.push(b'\n')?;
-    push_fault(alloc, &mut text, report.ending, &report.fault)?;
+    push_fault(alloc, &mut text, report.ending, report.fault.len(), told)?;
     push_shown_vars(alloc, &mut text, shown.vars, report.vars.as_slice())?;
     push_shown_asks(alloc, &mut text, shown.requests, report.requests.as_slice())?;
     Ok(text)
@@ -190,7 +197,25 @@ pub fn report_text(
 {
     let mut text = head_text(alloc, number, report)?;
     text.extend(report.transcript.as_slice())?;
-    let tail = tail_text(alloc, shown, report)?;
+    let tail = tail_text(alloc, shown, report.fault.as_slice(), report)?;
+    text.extend(tail.as_slice())?;
+    Ok(text)
+}
+
+/// The text of the report of script `number` for a terminal, with what is shown of it.
+pub fn escaped_text(
+    alloc: Global,
+    shown: Shown,
+    number: usize,
+    report: &Report,
+) -> Result<Text, AllocError>
+    ensures { IfOk result (λ t. t ≡ escaped_report shown number report.now) }
+{
+    let mut text = head_text(alloc, number, report)?;
+    let mut told = Text::new(alloc);
+    push_text(alloc, &mut text, Place::Lines, report.transcript.as_slice())?;
+    push_text(alloc, &mut told, Place::Lines, report.fault.as_slice())?;
+    let tail = tail_text(alloc, shown, told.as_slice(), report)?;
     text.extend(tail.as_slice())?;
     Ok(text)
 }

@@ -1,0 +1,73 @@
+-- Bytes of any kind as text that does nothing on a terminal, and from which they can be read again.
+use Rattle.std.specs.Prelude.{ℕ, ◌-◌, List, [], ◌∷◌, ◌++◌, codes, Bool, true, false, not, ◌&&◌, ◌||◌, ◌==◌, nat_lt, nat_le, Option, Some, None, if◌then◌else◌}
+use Rattle.std.specs.Char.{is_control}
+use Rattle.hex.specs.Hex.{encode_lower}
+use Rattle.bstr.specs.Utf8.{decoded}
+use Rattle.expect_prog.specs.declared.escape.Place.{Place}
+use Rattle.expect_prog.specs.declared.escape.Place.TheVariants.{Lines, Quotes}
+
+abbrev pub is_within : ℕ → ℕ → ℕ → Bool
+is_within low high c = nat_le low c && nat_le c high
+
+-- a character that ends a line or a paragraph, or turns the direction of what stands behind it
+abbrev pub turns : ℕ → Bool
+turns c = (c == 0x061C) || is_within 0x200E 0x200F c || is_within 0x2028 0x202E c || is_within 0x2066 0x2069 c
+
+-- a character that is seen as itself, and no control character of ASCII or behind it
+abbrev pub is_seen : Option ℕ → Bool
+is_seen None = false
+is_seen (Some c) = not (is_control c || turns c)
+
+-- how many of the first bytes are such a character
+unfoldable pub seen_len : List ℕ → ℕ
+seen_len bytes = if is_seen (decoded bytes).char then (decoded bytes).size else 0
+
+abbrev pub begins_line : List ℕ → Bool
+begins_line [] = false
+begins_line (b ∷ bs) = b == 10
+
+-- a control character that stays before these bytes: in lines of their own a tab, and the end of a line, be it a newline or a carriage return and a newline
+abbrev pub stays : Place → ℕ → List ℕ → Bool
+stays Lines b next = (b == 9) || (b == 10) || ((b == 13) && begins_line next)
+stays Quotes b next = false
+
+-- what would be read as something else: a backslash, and between quotes a quote
+abbrev pub is_mark : Place → ℕ → Bool
+is_mark Lines b = b == 92
+is_mark Quotes b = (b == 92) || (b == 34)
+
+-- how many of the first bytes are written as they are; where it is none, the first is escaped
+unfoldable pub kept_len : Place → List ℕ → ℕ
+kept_len place [] = 0
+kept_len place (b ∷ bs) = if stays place b bs then 1 else if is_mark place b then 0 else seen_len (b ∷ bs)
+
+-- a byte that is escaped
+unfoldable pub escape : ℕ → List ℕ
+escape b =
+    if b == 34 then 92 ∷ 34 ∷ []
+    else if b == 92 then 92 ∷ 92 ∷ []
+    else if b == 9 then codes "\\t"
+    else if b == 10 then codes "\\n"
+    else if b == 13 then codes "\\r"
+    else codes "\\x" ++ encode_lower (b ∷ [])
+
+-- the same where n bytes are still to be written as they are
+abbrev pub still_kept : Place → ℕ → List ℕ → ℕ
+still_kept place n bytes = if n == 0 then kept_len place bytes else n
+
+abbrev pub byte_text : ℕ → ℕ → List ℕ
+byte_text kept b = if kept == 0 then escape b else b ∷ []
+
+abbrev pub text_behind : Place → ℕ → List ℕ → List ℕ
+text_behind place n [] = []
+text_behind place n (b ∷ bs) =
+    let kept = still_kept place n (b ∷ bs) in
+    byte_text kept b ++ text_behind place (kept - 1) bs
+
+-- bytes as text
+abbrev pub escaped : Place → List ℕ → List ℕ
+escaped place bytes = text_behind place 0 bytes
+
+-- bytes between quotes
+unfoldable pub quoted : List ℕ → List ℕ
+quoted bytes = 34 ∷ [] ++ escaped Quotes bytes ++ 34 ∷ []
