@@ -4,4 +4,7 @@
 pub trait Audience {
     /// The script at this place among those of the worker, from 0, has shown these bytes, behind those that it showed before.
     fn hear(&mut self, _place: usize, _bytes: &[u8]) {}
+
+    /// Nothing more is shown by any of them.
+    fn leave(&mut self) {}
 }

@@ -58,6 +58,7 @@ pub fn turn_all<K: Keeper, C: Clock + Audience, W: Wait + std::time::Clock>(
     tell_all(&desk.book.hall, clock, &mut told);
     for _ in rt.forever() {
         if desk.is_done() {
+            clock.leave();
             return Ok(());
         }
         let reading = clock.now();

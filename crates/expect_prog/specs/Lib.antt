@@ -10,4 +10,5 @@ pub mod Replay
 pub mod Drive
 pub mod Show
 pub mod Complaint
+pub mod Follow
 pub mod Given

@@ -53,6 +53,8 @@ pub struct Run<'a> {
     pub workers: u8,
     /// The file that the record is written to.
     pub record: Option<&'a str>,
+    /// Whether what the scripts show is told as it comes.
+    pub follow: bool,
 }
 
 /// A log's file that is to be shown.
@@ -168,6 +170,13 @@ fn record<'a>(alloc: Global) -> Arg<'a> {
         .help("Write a log of what happened, which replay reads")
 }
 
+fn follow<'a>(alloc: Global) -> Arg<'a> {
+    Arg::new(alloc, "follow")
+        .long("follow")
+        .help("Tell on standard error what scripts show, as it comes")
+        .action(ArgAction::SetTrue)
+}
+
 fn run_command<'a>(alloc: Global) -> Result<Command<'a>, AllocError> {
     Command::new(alloc, "run")
         .about("Runs scripts with real programs, and prints their reports")
@@ -176,6 +185,7 @@ fn run_command<'a>(alloc: Global) -> Result<Command<'a>, AllocError> {
         .arg(limit(alloc))?
         .arg(steps(alloc))?
         .arg(record(alloc))?
+        .arg(follow(alloc))?
         .arg(vars(alloc))?
         .arg(requests(alloc))?
         .arg(format(alloc))?
@@ -315,6 +325,7 @@ fn run_of<'a>(alloc: Global, matches: &ArgMatches<'a>) -> Result<Order<'a>, Allo
         scripts: scripts_of(alloc, matches)?,
         workers: matches.get_one::<u64>("workers").map_or(1, byte_of),
         record: matches.get_str("record"),
+        follow: matches.get_flag("follow"),
     }))
 }
 

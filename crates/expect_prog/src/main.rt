@@ -10,6 +10,7 @@ mod escape;
 mod events;
 mod fault;
 mod files;
+mod following;
 mod form;
 mod help;
 mod json;
@@ -77,7 +78,7 @@ fn main(rt: HostRuntime) -> ExitCode {
     };
     let outcome = match &order {
         Order::Replay(replay) => replay_files(&rt, rt.alloc(), replay),
-        Order::Run(run) => run_files(rt, rt.alloc(), run),
+        Order::Run(run) => run_files(rt, rt.alloc(), run, rt.stderr()),
         Order::Show(show) => show_file(&rt, rt.alloc(), show),
     };
     match outcome {

@@ -6,13 +6,14 @@ use crate::command_line::Run;
 use crate::complaint::Complaint;
 use crate::driving::{DriveFault, drive};
 use crate::files::scripts;
+use crate::following::{Follower, Live, Manner, Tale};
 use crate::form::Form;
 use child_events::Counted;
 use child_pipes::{Free, Orphans, Pipes, Programs, Wall, Watch};
 use dialogue_sched::Script;
 use std::alloc::{AllocError, Global};
 use std::fs;
-use std::io::{self, Write};
+use std::io::{self, IsTerminal, Write};
 use std::rt::Files;
 use std::sync::Wait;
 use std::thread::Threads;
@@ -51,18 +52,59 @@ fn keepers<R: Programs + Wait + Copy + Drop>(
     Ok(keepers)
 }
 
-/// So many clocks that tell the same moments, from 0 on.
-fn clocks<R: Clock + Copy + Drop>(
+/// How the script of a number among so many is told where it is followed.
+fn manner_of(is_alone: bool, is_terminal: bool, number: u8) -> Manner {
+    if !is_alone {
+        return Manner::Numbered(number);
+    }
+    if is_terminal {
+        return Manner::Plain;
+    }
+    Manner::Escaped
+}
+
+/// The scripts of one of so many workers, as they are followed.
+fn tales_of(
+    alloc: Global,
+    scripts: usize,
+    workers: u8,
+    worker: u8,
+    is_terminal: bool,
+) -> Result<Vec<Tale>, AllocError> {
+    let mut tales = Vec::new(alloc);
+    for number in 1..=64 {
+        if usize::from(number) <= scripts && (number - 1) % workers.max(1) == worker {
+            let tale = Tale::new(alloc, manner_of(scripts == 1, is_terminal, number));
+            let Ok(()) = tales.push(tale) else {
+                return Err(AllocError);
+            };
+        }
+    }
+    Ok(tales)
+}
+
+/// A clock of so many workers each, which tell the same moments, from 0 on. Where there is something to tell to, each tells it what its
+/// worker's scripts show.
+fn clocks<R: Clock + Copy + Drop, E: Write + IsTerminal + Copy + Drop>(
     rt: R,
     alloc: Global,
     count: u8,
-) -> Result<Vec<Wall<R>>, AllocError>
+    scripts: usize,
+    told: Option<E>,
+) -> Result<Vec<Follower<R, E>>, AllocError>
     ensures { IfOk result (λ cs. length cs.items ≡ count) }
 {
     let wall = Wall::new(rt);
     let mut clocks = Vec::new(alloc);
-    for _ in 0..count {
-        let Ok(()) = clocks.push(wall.again()) else {
+    for worker in 0..count {
+        let live = match told {
+            Some(to) => {
+                let tales = tales_of(alloc, scripts, count, worker, to.is_terminal())?;
+                Some(Live::new(alloc, to, tales))
+            }
+            None => None,
+        };
+        let Ok(()) = clocks.push(Follower::new(wall.again(), live)) else {
             return Err(AllocError);
         };
     }
@@ -84,9 +126,10 @@ fn workers(asked: u8) -> u8
     asked
 }
 
-/// Runs scripts over processes. The record goes to `log`, and the reports go to `out`.
+/// Runs scripts over processes. The record goes to `log`, and the reports go to `out`; what scripts show is told, where that is asked for.
 fn run_scripts<
     R: Threads + Wait + Clock + Programs + Copy + Send + Drop + 'static,
+    E: Write + IsTerminal + Copy + Send + Drop + 'static,
     L: Write + Drop,
     O: Write + Drop,
 >(
@@ -94,13 +137,14 @@ fn run_scripts<
     alloc: Global,
     scripts: Vec<Script>,
     workers_asked: u8,
+    told: Option<E>,
     form: &Form,
     log: L,
     out: O,
 ) -> Result<bool, DriveFault> {
     let orphans = Orphans::new(alloc)?;
     let keepers = keepers(rt, alloc, scripts.len(), &orphans)?;
-    let clocks = clocks(rt, alloc, workers(workers_asked))?;
+    let clocks = clocks(rt, alloc, workers(workers_asked), scripts.len(), told)?;
     let watch = Watch::start(rt, alloc, orphans)?;
     let mut log = Counted::new(log);
     let mut out = Counted::new(out);
@@ -117,18 +161,20 @@ fn run_scripts<
 pub fn run_files<
     'a,
     R: Files + Print + Threads + Wait + Clock + Programs + Copy + Send + Drop + 'static,
->(rt: R, alloc: Global, order: &Run<'a>) -> Result<bool, Complaint<'a>> {
+    E: Write + IsTerminal + Copy + Send + Drop + 'static,
+>(rt: R, alloc: Global, order: &Run<'a>, errors: E) -> Result<bool, Complaint<'a>> {
     let scripts = scripts(&rt, alloc, &order.scripts)?;
     let form = &order.scripts.form;
     let out = io::writer(&rt);
+    let told = if order.follow { Some(errors) } else { None };
     let outcome = match order.record {
         Some(path) => {
             let Ok(log) = fs::File::create(&rt, path) else {
                 return Err(Complaint::Unwritten);
             };
-            run_scripts(rt, alloc, scripts, order.workers, form, log, out)
+            run_scripts(rt, alloc, scripts, order.workers, told, form, log, out)
         }
-        None => run_scripts(rt, alloc, scripts, order.workers, form, Nowhere, out),
+        None => run_scripts(rt, alloc, scripts, order.workers, told, form, Nowhere, out),
     };
     outcome.map_err(|fault| Complaint::of_drive(fault, order))
 }
