@@ -121,6 +121,14 @@ fn told_len(manner: Manner, bytes: &[u8]) -> usize
     }
 }
 
+/// Ends the last line of a text, so that what another script shows begins its own.
+fn end_line(text: &mut Text) -> Result<(), AllocError> {
+    match text.as_slice() {
+        [] | [.., b'\n'] => Ok(()),
+        _ => text.push(b'\n'),
+    }
+}
+
 /// A script that is followed: how it is told, and what it has shown and is not told yet.
 #[derive(Drop)]
 pub struct Tale {
@@ -144,6 +152,9 @@ impl Tale {
         let (front, rest) = self.held.as_slice().split_at(count);
         let mut text = Text::new(alloc);
         push_told(alloc, &mut text, self.manner, front)?;
+        if matches!(self.manner, Manner::Numbered(_)) {
+            end_line(&mut text)?;
+        }
         self.held = Text::from_slice(alloc, rest)?;
         Ok(text)
     }

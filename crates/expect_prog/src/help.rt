@@ -127,6 +127,11 @@ write is dropped. exprun ends when their outputs have ended: a program that is
 silent and stays holds it, so `close` it, start it under `timeout 60`, or let it
 end with its input.
 
+With --follow what the scripts show is also told on standard error, as it comes:
+of one script on a terminal as it is, else so that it does nothing there; of
+several scripts by lines, behind each script's number. The reports stay as they
+are.
+
 --summary, --format json, --format tap and --escape print the reports in short,
 for programs, for prove(1), and for terminals: `exprun replay --help` says how.
 
