@@ -1,0 +1,34 @@
+use Rattle.std.proofs.Common.{◌≡◌, ◌++◌, ◌+◌, ◌*◌, length}
+use Rattle.std.specs.List.{flat_map}
+use Rattle.script_check.specs.Sights.{reading_sights, sights}
+use Rattle.script_check.proofs.sights.+see.Given as goal
+
+abbrev pub decreases-see_all : goal.decreases-see_all
+decreases-see_all l = 6 * l.depth + 1
+
+abbrev pub decreases-see_command : goal.decreases-see_command
+decreases-see_command l = 6 * l.depth + 2
+
+abbrev pub decreases-see_spread : goal.decreases-see_spread
+decreases-see_spread l = 6 * l.depth + 3
+
+abbrev pub decreases-see_reading : goal.decreases-see_reading
+decreases-see_reading l = 6 * l.depth + 4
+
+abbrev pub decreases-see_readings : goal.decreases-see_readings
+decreases-see_readings l = 6 * l.depth + 5
+
+abbrev pub decreases-sights : goal.decreases-sights
+decreases-sights l = 6 * l.depth
+
+abbrev pub invariant-see_all-loop-rest : goal.invariant-see_all-loop-rest
+invariant-see_all-loop-rest l = l.out.items ++ flat_map (sights l.depth l.source) l.rest ≡ l.fn.out.items ++ flat_map (sights l.depth l.source) l.spans
+
+abbrev pub decreases-see_all-loop-rest : goal.decreases-see_all-loop-rest
+decreases-see_all-loop-rest l = length l.rest
+
+abbrev pub invariant-see_readings-loop-rest : goal.invariant-see_readings-loop-rest
+invariant-see_readings-loop-rest l = l.out.items ++ flat_map (reading_sights (sights l.depth l.source) l.source) l.rest ≡ l.fn.out.items ++ flat_map (reading_sights (sights l.depth l.source) l.source) l.readings
+
+abbrev pub decreases-see_readings-loop-rest : goal.decreases-see_readings-loop-rest
+decreases-see_readings-loop-rest l = length l.rest

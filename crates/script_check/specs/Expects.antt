@@ -1,0 +1,78 @@
+-- The arguments of `expect`.
+use Rattle.std.specs.Prelude.{ℕ, Bool, true, false, not, ◌==◌, ◌&&◌, List, [], ◌∷◌, ◌++◌, take, codes, slice_index_or, Option, Some, None, option_map, Result, Ok, Err, bytes_eq, if◌then◌else◌}
+use Rattle.exp_match.specs.declared.faults.PatternFault.{PatternFault}
+use Rattle.exp_match.specs.declared.faults.PatternFault.TheVariants as fault
+use Rattle.exp_match.specs.declared.list.PatternList.{PatternList}
+use Rattle.exp_match.specs.Arguments.{patterns_of}
+use Rattle.tcl_words.specs.Lists.{is_white}
+use Rattle.script_check.specs.declared.span.Span.{Span}
+use Rattle.script_check.specs.declared.placed.Placed.{Placed}
+use Rattle.script_check.specs.declared.problem.Finding.{Finding}
+use Rattle.script_check.specs.declared.problem.Problem.{Problem}
+use Rattle.script_check.specs.declared.problem.Problem.TheVariants.{Malformed as Broken, BadExpectFlag, BadRegular}
+use Rattle.script_check.specs.declared.readings.Reading.{Reading}
+use Rattle.script_check.specs.declared.readings.Reading.TheVariants.{Command, Malformed}
+use Rattle.script_check.specs.Stretches.{part, inside, begins_with}
+use Rattle.script_check.specs.Readings.{readings_in}
+
+abbrev pub and_texts : Option (List ℕ) → Option (List (List ℕ)) → Option (List (List ℕ))
+and_texts None more = None
+and_texts (Some text) more = option_map (λ texts. text ∷ texts) more
+
+-- the words, where all are written plainly
+abbrev pub plain_texts : List Placed → Option (List (List ℕ))
+plain_texts [] = Some []
+plain_texts (w ∷ ws) = and_texts w.value (plain_texts ws)
+
+abbrev pub by_patterns : List (List ℕ) → Result PatternList PatternFault → Option Problem
+by_patterns texts (Ok list) = None
+by_patterns texts (Err (fault.BadFlag at)) = Some (BadExpectFlag (slice_index_or texts at []))
+by_patterns texts (Err (fault.BadRegex at)) = Some (BadRegular (slice_index_or texts at []))
+by_patterns texts (Err fault.Refused) = None
+by_patterns texts (Err fault.Memory) = None
+
+abbrev pub by_texts : Option (List (List ℕ)) → Option Problem
+by_texts None = None
+by_texts (Some texts) = by_patterns texts (patterns_of texts)
+
+-- the first argument that exp_match reads as no flag, pattern or keyword, where all are written plainly
+abbrev pub expect_fault : List Placed → Option Problem
+expect_fault args = by_texts (plain_texts args)
+
+-- An argument that is the list of all others, with the stretch of the words in it. Only one in braces stands in the source as it is.
+
+abbrev pub is_braced : List ℕ → Placed → Bool
+is_braced source w = not w.expand && begins_with 123 (part source w.span)
+
+abbrev pub list_span : List ℕ → Placed → Span
+list_span source w = if is_braced source w then inside w.span else record { from = 0; to = 0 }
+
+abbrev pub is_expect : Option (List ℕ) → Bool
+is_expect None = false
+is_expect (Some w) = bytes_eq w (codes "expect")
+
+-- an argument with a newline before the first byte that is no white space
+abbrev pub is_list : List ℕ → Bool
+is_list [] = false
+is_list (b ∷ bs) = if b == 10 then true else if is_white b then is_list bs else false
+
+abbrev pub is_listing : Option (List ℕ) → Bool
+is_listing None = false
+is_listing (Some w) = is_list w
+
+abbrev pub list_of : List ℕ → List Placed → Option Span
+list_of source [] = None
+list_of source (name ∷ []) = None
+list_of source (name ∷ w ∷ []) = if is_expect name.value && is_listing w.value then Some (list_span source w) else None
+list_of source (name ∷ w ∷ other ∷ more) = None
+
+-- the words of all commands, up to a malformed one, which is found
+abbrev pub gathered : List Reading → List Placed × Option Finding
+gathered [] = ([], None)
+gathered (Malformed at f ∷ rs) = ([], Some (record { at = at; what = Broken f }))
+gathered (Command at words ∷ rs) = (words ++ (gathered rs).0, (gathered rs).1)
+
+-- a command's words, with those of such a list in its place
+abbrev pub spread_by : List ℕ → List Placed → Option Span → Option (List Placed × Option Finding)
+spread_by source words None = None
+spread_by source words (Some s) = Some (take 1 words ++ (gathered (readings_in source s)).0, (gathered (readings_in source s)).1)

@@ -1,0 +1,33 @@
+-- The findings of a source: what is wrong with its commands and with those of the scripts in their words.
+use Rattle.std.specs.Prelude.{ℕ, Bool, true, false, List, [], ◌∷◌, length, is_some, if◌then◌else◌}
+use Rattle.tcl_subst.specs.Entries.{Entries, find, with_entry}
+use Rattle.script_check.specs.declared.problem.Finding.{Finding}
+use Rattle.script_check.specs.declared.problem.Problem.{Problem}
+use Rattle.script_check.specs.declared.problem.Problem.TheVariants.{NoCommand}
+use Rattle.script_check.specs.declared.sights.Sight.{Sight}
+use Rattle.script_check.specs.declared.sights.Sight.TheVariants.{Defines, Finds}
+use Rattle.script_check.specs.Sights.{sights}
+
+-- the names of the procedures that are defined anywhere, in byte order
+abbrev pub names_of : Entries Bool → List Sight → Entries Bool
+names_of names [] = names
+names_of names (Defines name ∷ ss) = names_of (with_entry name true names) ss
+names_of names (Finds f ∷ ss) = names_of names ss
+
+-- a word that names no command may name a procedure
+abbrev pub is_defined : Entries Bool → Problem → Bool
+is_defined names (NoCommand name) = is_some (find name names)
+is_defined names other = false
+
+-- what is wrong of what is seen
+abbrev pub reported : Entries Bool → List Sight → List Finding
+reported names [] = []
+reported names (Defines name ∷ ss) = reported names ss
+reported names (Finds f ∷ ss) = if is_defined names f.what then reported names ss else f ∷ reported names ss
+
+abbrev pub all_of : List Sight → List Finding
+all_of ss = reported (names_of [] ss) ss
+
+-- at most 200 scripts stand in one another, as in a run
+unfoldable pub findings : List ℕ → List Finding
+findings source = all_of (sights 200 source (record { from = 0; to = length source }))

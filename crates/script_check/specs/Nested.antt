@@ -1,0 +1,73 @@
+-- The scripts that stand in the words of a command: those that its arguments are, and those in brackets.
+use Rattle.std.specs.Prelude.{ℕ, Bool, false, ◌&&◌, ◌||◌, List, [], ◌∷◌, ◌++◌, length, Option, Some, None, bytes_eq, if◌then◌else◌}
+use Rattle.script_check.specs.declared.span.Span.{Span}
+use Rattle.script_check.specs.declared.placed.Placed.{Placed}
+use Rattle.script_check.specs.declared.commands.Known.{Known}
+use Rattle.script_check.specs.declared.stages.Kind.{Kind}
+use Rattle.script_check.specs.declared.stages.Kind.TheVariants.{Text, Script, Expression}
+use Rattle.script_check.specs.declared.stages.Stage.{Stage}
+use Rattle.script_check.specs.declared.stages.Stage.TheVariants.{Texts}
+use Rattle.script_check.specs.Stretches.{part, inside, begins_with}
+use Rattle.script_check.specs.Brackets.{brackets, operands}
+use Rattle.script_check.specs.Commands.{known_of}
+use Rattle.script_check.specs.Expects.{is_braced}
+use Rattle.script_check.specs.Stages.{step, stage_of}
+
+abbrev pub brackets_in : List ℕ → Span → List Span
+brackets_in source s = brackets s.to (part source s)
+
+abbrev pub all_brackets : List ℕ → List Span → List Span
+all_brackets source [] = []
+all_brackets source (s ∷ ss) = brackets_in source s ++ all_brackets source ss
+
+-- the brackets of an expression stand in its operands, and not in those in braces
+abbrev pub formula_brackets : List ℕ → Span → List Span
+formula_brackets source s = all_brackets source (operands s.to (part source s))
+
+-- a script that isn't in braces, where the source has it as it is read
+abbrev pub written_at : List ℕ → Span → List ℕ → Option Span
+written_at source s text =
+    if bytes_eq (part source s) text then Some s
+    else if begins_with 34 (part source s) && bytes_eq (part source (inside s)) text then Some (inside s)
+    else None
+
+abbrev pub as_written : List ℕ → Span → Option (List ℕ) → Option Span
+as_written source s None = None
+as_written source s (Some text) = written_at source s text
+
+-- the stretch of the script that a word is
+abbrev pub script_at : List ℕ → Placed → Option Span
+script_at source w = if is_braced source w then Some (inside w.span) else as_written source w.span w.value
+
+abbrev pub script_or_brackets : List ℕ → Span → Option Span → List Span
+script_or_brackets source s None = brackets_in source s
+script_or_brackets source s (Some script) = script ∷ []
+
+-- the scripts in a word, by what it is read as
+abbrev pub word_scripts : List ℕ → Placed → Kind → List Span
+word_scripts source w Script = script_or_brackets source w.span (script_at source w)
+word_scripts source w Text = if is_braced source w then [] else brackets_in source w.span
+word_scripts source w Expression = if is_braced source w then formula_brackets source (inside w.span) else brackets_in source w.span
+
+-- the scripts in arguments
+abbrev pub nested : List ℕ → Stage → List Placed → List Span
+nested source s [] = []
+nested source s (w ∷ ws) = word_scripts source w (step s w).0 ++ nested source (step s w).1 ws
+
+-- behind `{*}` stand nobody knows how many words
+abbrev pub any_expanded : List Placed → Bool
+any_expanded [] = false
+any_expanded (w ∷ ws) = w.expand || any_expanded ws
+
+abbrev pub stage_by : List Placed → Option Known → Stage
+stage_by args None = Texts
+stage_by args (Some k) = if any_expanded args then Texts else stage_of k (length args)
+
+abbrev pub stage_for : Option (List ℕ) → List Placed → Stage
+stage_for None args = Texts
+stage_for (Some name) args = stage_by args (known_of name)
+
+-- the scripts in the words of a command, in order
+abbrev pub scripts_of : List ℕ → List Placed → List Span
+scripts_of source [] = []
+scripts_of source (name ∷ args) = word_scripts source name Text ++ nested source (stage_for name.value args) args

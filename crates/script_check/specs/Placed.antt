@@ -1,0 +1,85 @@
+-- The words of a command, where they stand in the source.
+use Rattle.std.specs.Prelude.{ℕ, ◌-◌, ◌==◌, Bool, false, ◌&&◌, ◌||◌, if◌then◌else◌, List, [], ◌∷◌, drop, Option, Some, None, Ok, Err}
+use Rattle.tcl_words.specs.Commands.{is_blank, ends_command, is_continued, is_gap}
+use Rattle.tcl_words.specs.Course.{reading}
+use Rattle.tcl_words.specs.Operands.{Operand, operand}
+use Rattle.tcl_words.specs.Pieces.{Piece, literal, variable, member, script, Pieces, no_pieces, piece, Spelled}
+use Rattle.script_check.specs.declared.placed.Lead.{Lead as Leads}
+use Rattle.script_check.specs.declared.placed.Lead.TheVariants as lead
+use Rattle.script_check.specs.declared.placed.Placed.{Placed}
+use Rattle.script_check.specs.Stretches.{begins_with, from_to}
+
+-- what goes on behind a byte before a word, or nothing where the word begins with it; `first`: it is a command's first word
+abbrev pub next_lead : Bool → Leads → ℕ → List ℕ → Option Leads
+next_lead first lead.Continued b bytes = Some lead.White
+next_lead first lead.Quoted b bytes = Some lead.Comment
+next_lead first lead.Comment b bytes =
+    if b == 10 then Some lead.White
+    else if b == 92 then Some lead.Quoted
+    else Some lead.Comment
+next_lead first lead.White b bytes =
+    if is_blank b || ends_command b then Some lead.White
+    else if is_continued b bytes then Some lead.Continued
+    else if b == 35 && first then Some lead.Comment
+    else None
+
+abbrev pub or_here : List ℕ → (Leads → List ℕ) → Option Leads → List ℕ
+or_here text on None = text
+or_here text on (Some l) = on l
+
+-- what is left behind what stands before a word
+abbrev pub behind_gap : Bool → Leads → List ℕ → List ℕ
+behind_gap first l [] = []
+behind_gap first l (b ∷ bytes) = or_here (b ∷ bytes) (λ next. behind_gap first next bytes) (next_lead first l b bytes)
+
+-- how many bytes the operand at the front of a text takes: `$..`, `[..]`, `".."` or `{..}`; 1 where there is none
+abbrev pub taken : Operand → ℕ
+taken (Ok (Some p)) = p.1
+taken (Ok None) = 1
+taken (Err f) = 1
+
+-- how many bytes behind the first one of a text belong to what stands there
+abbrev pub owned : ℕ → List ℕ → ℕ
+owned b text = if b == 92 then 1 else if b == 36 || b == 91 then taken (operand text) - 1 else 0
+
+abbrev pub bare_step : (ℕ → List ℕ) → ℕ → List ℕ → List ℕ
+bare_step on b bytes = if is_gap b bytes then b ∷ bytes else on (owned b (b ∷ bytes))
+
+-- what is left behind a word without quotes or braces
+unfoldable pub behind_bare : List ℕ → List ℕ
+behind_bare = reading [] bare_step
+
+abbrev pub behind_plain : List ℕ → List ℕ
+behind_plain text = if begins_with 34 text || begins_with 123 text then drop (taken (operand text)) text else behind_bare text
+
+-- what is left behind a word; `expand`: it stands behind `{*}`
+abbrev pub behind_word : Bool → List ℕ → List ℕ
+behind_word expand text = if expand then behind_plain (drop 3 text) else behind_plain text
+
+-- what a part is, where it is a literal
+abbrev pub literal_alone : Piece → Option (List ℕ)
+literal_alone (literal text) = Some text
+literal_alone (variable name) = None
+literal_alone (member name index) = None
+literal_alone (script text) = None
+
+-- a word of one literal, or of nothing
+abbrev pub plain_pieces : Pieces → Option (List ℕ)
+plain_pieces no_pieces = Some []
+plain_pieces (piece p no_pieces) = literal_alone p
+plain_pieces (piece p (piece q ps)) = None
+
+-- what a word is, where it is written plainly
+abbrev pub plain_value : Spelled → Option (List ℕ)
+plain_value w = if w.expand then None else plain_pieces w.pieces
+
+-- a word that begins with a text, and what is left behind it
+abbrev pub placed_word : ℕ → Spelled → List ℕ → Placed
+placed_word end w text = record { span = from_to end text (behind_word w.expand text); expand = w.expand; value = plain_value w }
+
+-- the words of a command that a text begins with, which ends at a place of the source
+abbrev pub placed : ℕ → List Spelled → List ℕ → List Placed
+placed end [] text = []
+placed end (w ∷ ws) text =
+    let begin = behind_gap false lead.White text in
+    placed_word end w begin ∷ placed end ws (behind_word w.expand begin)

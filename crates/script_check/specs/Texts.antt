@@ -1,0 +1,36 @@
+-- The texts of findings: those of the errors that a run would end with.
+use Rattle.std.specs.Prelude.{ℕ, List, [], ◌∷◌, ◌++◌, codes}
+use Rattle.tcl_expr.specs.declared.faults.ExprFault.TheVariants as expr
+use Rattle.tcl_commands.specs.Texts.{quoted, wrong_args, bad_option, too_deep, word_fault, expr_fault}
+use Rattle.script_check.specs.declared.problem.Problem.{Problem}
+use Rattle.script_check.specs.declared.problem.Problem.TheVariants.{Malformed, NoCommand, WrongArgs, BadOption, BadFlag, BadExpectFlag, BadRegular, BadExpression, DeepExpression, TooDeep}
+use Rattle.script_check.specs.Instead.{instead}
+
+-- what to use in place of a command stands behind the text of its error
+abbrev pub instead_text : List ℕ → List ℕ → List ℕ
+instead_text text [] = text
+instead_text text (b ∷ bytes) = (text ++ codes ": ") ++ b ∷ bytes
+
+abbrev pub bad_flag : List ℕ → List ℕ
+bad_flag word = quoted (codes "bad flag ") word
+
+abbrev pub bad_expect_flag : List ℕ → List ℕ
+bad_expect_flag word = quoted (codes "bad expect flag ") word
+
+abbrev pub bad_regular : List ℕ → List ℕ
+bad_regular pattern = quoted (codes "bad regular expression ") pattern
+
+abbrev pub no_command : List ℕ → List ℕ
+no_command name = instead_text (quoted (codes "invalid command name ") name) (instead name)
+
+abbrev pub text_of : Problem → List ℕ
+text_of (Malformed fault) = word_fault fault
+text_of (NoCommand name) = no_command name
+text_of (WrongArgs name) = wrong_args name
+text_of (BadOption word) = bad_option word
+text_of (BadFlag word) = bad_flag word
+text_of (BadExpectFlag word) = bad_expect_flag word
+text_of (BadRegular word) = bad_regular word
+text_of (BadExpression text) = expr_fault text expr.Syntax
+text_of DeepExpression = expr_fault [] expr.TooDeep
+text_of TooDeep = too_deep

@@ -1,0 +1,202 @@
+//! The arguments of `expect`.
+
+ghost use Rattle.std.specs.Prelude.{◌≡◌, ◌++◌, [], IfOk, OnOk, slice_index_or, take};
+ghost use Rattle.exp_match.specs.Arguments.{Gives, patterns_of};
+ghost use Rattle.script_check.specs.Expects.{plain_texts, by_patterns, expect_fault, is_braced, is_list, list_span, is_expect, is_listing, list_of, gathered, spread_by};
+
+use crate::placed::{Placed, Words};
+use crate::problem::{Finding, Problem};
+use crate::readings::{Reading, readings_in};
+use crate::span::Span;
+use crate::stretch::{begins_with, inside, is, part};
+use exp_match::{PatternFault, PatternList};
+use std::alloc::{AllocError, Global};
+use tcl_words::{Text, Texts, is_white};
+
+/// The words, where all are written plainly.
+fn plain_texts(alloc: Global, words: &[Placed]) -> Result<Option<Texts>, AllocError>
+    ensures { IfOk result (λ t. t ≡ plain_texts words.now) }
+{
+    let mut texts = Texts::new(alloc);
+    let mut rest = words;
+    while let [word, more @ ..] = rest {
+        let Some(text) = &word.value else {
+            return Ok(None);
+        };
+        texts.push(text.copied(alloc)?)?;
+        rest = more;
+    }
+    Ok(Some(texts))
+}
+
+/// The text at an index.
+fn text_at(alloc: Global, texts: &[Text], at: usize) -> Result<Text, AllocError>
+    ensures { IfOk result (λ t. t ≡ slice_index_or texts.now at []) }
+{
+    match texts.get(at) {
+        None => Ok(Text::new(alloc)),
+        Some(text) => text.copied(alloc),
+    }
+}
+
+/// What is wrong with arguments that are all written plainly.
+fn patterns_fault(alloc: Global, texts: &[Text]) -> Result<Option<Problem>, AllocError>
+    ensures { IfOk result (λ p. p ≡ by_patterns texts.now (patterns_of texts.now)) }
+{
+    match PatternList::build(alloc, texts) {
+        Ok(_) => Ok(None),
+        Err(PatternFault::BadFlag(at)) => {
+            Ok(Some(Problem::BadExpectFlag(text_at(alloc, texts, at)?)))
+        }
+        Err(PatternFault::BadRegex(at)) => {
+            Ok(Some(Problem::BadRegular(text_at(alloc, texts, at)?)))
+        }
+        Err(PatternFault::Refused) => Err(AllocError),
+        Err(PatternFault::Memory) => Err(AllocError),
+    }
+}
+
+/// What is wrong with the arguments of an `expect`. They are judged where all are written plainly.
+pub(crate) fn expect_fault(alloc: Global, args: &[Placed]) -> Result<Option<Problem>, AllocError>
+    ensures { IfOk result (λ p. p ≡ expect_fault args.now) }
+{
+    match plain_texts(alloc, args)? {
+        None => Ok(None),
+        Some(texts) => patterns_fault(alloc, texts.as_slice()),
+    }
+}
+
+/// Whether a newline stands before the first byte that is no white space.
+fn is_list(text: &[u8]) -> bool
+    ensures { result ≡ is_list text.now }
+{
+    let mut rest = text;
+    while let [b, more @ ..] = rest {
+        if *b == b'\n' {
+            return true;
+        }
+        if !is_white(*b) {
+            return false;
+        }
+        rest = more;
+    }
+    false
+}
+
+/// Whether a word stands in braces.
+pub(crate) fn is_braced(source: &[u8], word: &Placed) -> bool
+    ensures { result ≡ is_braced source.now word.now }
+{
+    !word.expand && begins_with(b'{', part(source, word.span))
+}
+
+/// The stretch of an argument that is the list of all others. Only one in braces stands in the source as it is.
+fn list_span(source: &[u8], word: &Placed) -> Span
+    ensures { result ≡ list_span source.now word.now }
+{
+    if is_braced(source, word) {
+        inside(word.span)
+    } else {
+        Span { from: 0, to: 0 }
+    }
+}
+
+/// Whether a word is written plainly and is `expect`.
+fn is_expect(word: &Placed) -> bool
+    ensures { result ≡ is_expect word.now.value }
+{
+    match &word.value {
+        None => false,
+        Some(text) => is(text.as_slice(), b"expect"),
+    }
+}
+
+/// Whether a word is written plainly and is a list of arguments.
+fn is_listing(word: &Placed) -> bool
+    ensures { result ≡ is_listing word.now.value }
+{
+    match &word.value {
+        None => false,
+        Some(text) => is_list(text.as_slice()),
+    }
+}
+
+/// The stretch of the list of all arguments of an `expect`, where the command is one with such an argument.
+fn list_of(source: &[u8], words: &[Placed]) -> Option<Span>
+    ensures { result ≡ list_of source.now words.now }
+{
+    match words {
+        [name, word] => {
+            if is_expect(name) && is_listing(word) {
+                Some(list_span(source, word))
+            } else {
+                None
+            }
+        }
+        _ => None,
+    }
+}
+
+/// Puts equal words behind others.
+fn push_words(alloc: Global, words: &[Placed], out: &mut Vec<Placed>) -> Result<(), AllocError>
+    ensures { OnOk result (out.new.items ≡ out.old.items ++ words.now) }
+{
+    let mut rest = words;
+    while let [word, more @ ..] = rest {
+        out.push(word.copied(alloc)?)?;
+        rest = more;
+    }
+    Ok(())
+}
+
+/// Puts the words of all commands behind others, up to a malformed one, which is what is found.
+fn gather(
+    alloc: Global,
+    readings: &[Reading],
+    out: &mut Vec<Placed>,
+) -> Result<Option<Finding>, AllocError>
+    ensures { IfOk result (λ f. (out.new.items ≡ out.old.items ++ (gathered readings.now).0) × (f ≡ (gathered readings.now).1)) }
+{
+    let mut rest = readings;
+    while let [reading, more @ ..] = rest {
+        match reading {
+            Reading::Malformed(at, fault) => {
+                return Ok(Some(Finding {
+                    at: *at,
+                    what: Problem::Malformed(*fault),
+                }));
+            }
+            Reading::Command(_, words) => push_words(alloc, words.as_slice(), out)?,
+        }
+        rest = more;
+    }
+    Ok(None)
+}
+
+/// The words of a command, where those of a list of all arguments of an `expect` stand in its place, and what is found where the list ends early.
+pub(crate) fn spread(
+    alloc: Global,
+    source: &[u8],
+    words: &Words,
+) -> Result<Option<(Words, Option<Finding>)>, AllocError>
+    ensures { IfOk result (λ r. r ≡ spread_by source.now words.now (list_of source.now words.now)) }
+{
+    let Some(span) = list_of(source, words.as_slice()) else {
+        return Ok(None);
+    };
+    let readings = readings_in(alloc, source, span)?;
+    let mut list = Vec::new(alloc);
+    push_words(alloc, front(words.as_slice()), &mut list)?;
+    let found = gather(alloc, readings.as_slice(), &mut list)?;
+    Ok(Some((Words { list }, found)))
+}
+
+/// The first word.
+fn front(words: &[Placed]) -> &[Placed]
+    ensures { result.now ≡ take 1 words.now }
+{
+    match words {
+        [] => words,
+        [_, ..] => words.split_at(1).0,
+    }
+}

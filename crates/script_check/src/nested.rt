@@ -1,0 +1,194 @@
+//! The scripts that stand in the words of a command.
+
+ghost use Rattle.std.specs.Prelude.{◌≡◌, ◌++◌, IfOk, OnOk};
+ghost use Rattle.script_check.specs.Nested.{brackets_in, all_brackets, written_at, as_written, script_at, word_scripts, nested, any_expanded, stage_for, scripts_of};
+
+use crate::brackets::{brackets, operands};
+use crate::commands::known_of;
+use crate::expects::is_braced;
+use crate::placed::Placed;
+use crate::span::Span;
+use crate::stages::{Kind, Stage, stage_of, step};
+use crate::stretch::{begins_with, inside, is, part};
+use std::alloc::{AllocError, Global};
+
+/// Puts the scripts in brackets of a stretch behind others.
+fn brackets_in(
+    alloc: Global,
+    source: &[u8],
+    span: Span,
+    out: &mut Vec<Span>,
+) -> Result<(), AllocError>
+    ensures { OnOk result (out.new.items ≡ out.old.items ++ brackets_in source.now span) }
+{
+    brackets(alloc, span.to, part(source, span), out)
+}
+
+/// Puts the scripts in brackets of several stretches behind others.
+fn all_brackets(
+    alloc: Global,
+    source: &[u8],
+    spans: &[Span],
+    out: &mut Vec<Span>,
+) -> Result<(), AllocError>
+    ensures { OnOk result (out.new.items ≡ out.old.items ++ all_brackets source.now spans.now) }
+{
+    let mut rest = spans;
+    while let [span, more @ ..] = rest {
+        brackets_in(alloc, source, *span, out)?;
+        rest = more;
+    }
+    Ok(())
+}
+
+/// The stretch of a script that isn't in braces, where the source has it as it is read.
+fn as_written(source: &[u8], word: &Placed) -> Option<Span>
+    ensures { result ≡ as_written source.now word.now.span word.now.value }
+{
+    match &word.value {
+        None => None,
+        Some(text) => written_at(source, word.span, text.as_slice()),
+    }
+}
+
+fn written_at(source: &[u8], span: Span, text: &[u8]) -> Option<Span>
+    ensures { result ≡ written_at source.now span text.now }
+{
+    if is(part(source, span), text) {
+        return Some(span);
+    }
+    if begins_with(b'"', part(source, span)) && is(part(source, inside(span)), text) {
+        return Some(inside(span));
+    }
+    None
+}
+
+/// The stretch of the script that a word is.
+fn script_at(source: &[u8], word: &Placed) -> Option<Span>
+    ensures { result ≡ script_at source.now word.now }
+{
+    if is_braced(source, word) {
+        return Some(inside(word.span));
+    }
+    as_written(source, word)
+}
+
+/// Puts the script that a word is behind others, or those in its brackets.
+fn push_script(
+    alloc: Global,
+    source: &[u8],
+    word: &Placed,
+    out: &mut Vec<Span>,
+) -> Result<(), AllocError>
+    ensures { OnOk result (out.new.items ≡ out.old.items ++ word_scripts source.now word.now Kind.Script) }
+{
+    match script_at(source, word) {
+        None => brackets_in(alloc, source, word.span, out),
+        Some(span) => {
+            out.push(span)?;
+            Ok(())
+        }
+    }
+}
+
+/// Puts the scripts in a word behind others, by what it is read as.
+fn word_scripts(
+    alloc: Global,
+    source: &[u8],
+    word: &Placed,
+    kind: Kind,
+    out: &mut Vec<Span>,
+) -> Result<(), AllocError>
+    ensures { OnOk result (out.new.items ≡ out.old.items ++ word_scripts source.now word.now kind) }
+{
+    match kind {
+        Kind::Script => push_script(alloc, source, word, out),
+        Kind::Text => {
+            if is_braced(source, word) {
+                return Ok(());
+            }
+            brackets_in(alloc, source, word.span, out)
+        }
+        Kind::Expression => {
+            if is_braced(source, word) {
+                let span = inside(word.span);
+                let found = operands(alloc, span.to, part(source, span))?;
+                return all_brackets(alloc, source, found.as_slice(), out);
+            }
+            brackets_in(alloc, source, word.span, out)
+        }
+    }
+}
+
+/// Puts the scripts in arguments behind others.
+fn nested(
+    alloc: Global,
+    source: &[u8],
+    stage: Stage,
+    args: &[Placed],
+    out: &mut Vec<Span>,
+) -> Result<(), AllocError>
+    ensures { OnOk result (out.new.items ≡ out.old.items ++ nested source.now stage args.now) }
+{
+    let mut stage = stage;
+    let mut rest = args;
+    while let [word, more @ ..] = rest {
+        let (kind, next) = step(stage, word);
+        word_scripts(alloc, source, word, kind, out)?;
+        stage = next;
+        rest = more;
+    }
+    Ok(())
+}
+
+/// Whether any of the words stands behind `{*}`, so that nobody knows how many there are.
+pub(crate) fn any_expanded(words: &[Placed]) -> bool
+    ensures { result ≡ any_expanded words.now }
+{
+    let mut rest = words;
+    while let [word, more @ ..] = rest {
+        if word.expand {
+            return true;
+        }
+        rest = more;
+    }
+    false
+}
+
+/// What may stand first among the arguments of a command.
+fn stage_for(name: &Placed, args: &[Placed]) -> Stage
+    ensures { result ≡ stage_for name.now.value args.now }
+{
+    match &name.value {
+        None => Stage::Texts,
+        Some(text) => match known_of(text.as_slice()) {
+            None => Stage::Texts,
+            Some(known) => {
+                if any_expanded(args) {
+                    Stage::Texts
+                } else {
+                    stage_of(known, args.len())
+                }
+            }
+        },
+    }
+}
+
+/// The scripts that stand in the words of a command, in order.
+pub(crate) fn scripts_of(
+    alloc: Global,
+    source: &[u8],
+    words: &[Placed],
+) -> Result<Vec<Span>, AllocError>
+    ensures { IfOk result (λ v. v.items ≡ scripts_of source.now words.now) }
+{
+    let mut list = Vec::new(alloc);
+    match words {
+        [] => Ok(list),
+        [name, args @ ..] => {
+            word_scripts(alloc, source, name, Kind::Text, &mut list)?;
+            nested(alloc, source, stage_for(name, args), args, &mut list)?;
+            Ok(list)
+        }
+    }
+}

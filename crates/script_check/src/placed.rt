@@ -1,0 +1,251 @@
+//! The words of a command, where they stand in the source.
+
+ghost use Rattle.std.specs.Prelude.{◌≡◌, IfOk};
+ghost use Rattle.tcl_words.specs.Commands.{is_gap};
+ghost use Rattle.tcl_words.specs.Operands.{operand};
+ghost use Rattle.tcl_words.specs.Pieces.{part_view, word_view, words_view};
+ghost use Rattle.script_check.specs.Placed.{next_lead, behind_gap, taken, owned, behind_bare, behind_plain, behind_word, literal_alone, plain_value, placed};
+
+use crate::span::Span;
+use crate::stretch::{begins_with, behind, place};
+use std::alloc::{AllocError, Global};
+use std::marker::Model;
+use tcl_words::{Part, Text, Word, WordFault, ends_command, is_blank, is_continued, operand};
+
+/// A word of a command as it stands in the source.
+#[derive(Drop)]
+pub struct Placed {
+    /// Where it stands, with what encloses it.
+    pub span: Span,
+    /// Whether it stands behind `{*}`.
+    pub expand: bool,
+    /// What it is, where that is written plainly: without substitutions and not behind `{*}`.
+    pub value: Option<Text>,
+}
+
+/// The words of a command, in order. A contract sees the list of them.
+#[derive(Drop)]
+pub struct Words {
+    pub(crate) list: Vec<Placed>,
+}
+
+impl Model for Words {
+    ghost use Rattle.std.specs.Prelude.{List};
+    ghost use Rattle.script_check.specs.declared.placed.Placed.{Placed};
+
+    ghost Value = { List Placed };
+
+    ghost view = { λ w. w.list.items };
+}
+
+impl Placed {
+    /// An equal word.
+    pub(crate) fn copied(&self, alloc: Global) -> Result<Placed, AllocError>
+        ensures { IfOk result (λ w. w ≡ self.now) }
+    {
+        let value = match &self.value {
+            None => None,
+            Some(text) => Some(text.copied(alloc)?),
+        };
+        Ok(Placed {
+            span: self.span,
+            expand: self.expand,
+            value,
+        })
+    }
+}
+
+impl Words {
+    /// The words, in order.
+    pub(crate) fn as_slice(&self) -> &[Placed]
+        ensures { result.now ≡ self.now }
+    {
+        self.list.as_slice()
+    }
+}
+
+/// What stands before a word.
+#[derive(Clone, Copy, Debug, PartialEq, Eq)]
+pub enum Lead {
+    /// White space and ends of commands.
+    White,
+    /// A backslash, which the newline behind it belongs to.
+    Continued,
+    /// A comment.
+    Comment,
+    /// A backslash in a comment, which the byte behind it belongs to.
+    Quoted,
+}
+
+/// What goes on behind a byte before a word, or nothing where the word begins with it. A comment begins only where a command may.
+fn next_lead(first: bool, lead: Lead, b: u8, rest: &[u8]) -> Option<Lead>
+    ensures { result ≡ next_lead first lead b rest.now }
+{
+    match lead {
+        Lead::Continued => Some(Lead::White),
+        Lead::Quoted => Some(Lead::Comment),
+        Lead::Comment => {
+            if b == b'\n' {
+                Some(Lead::White)
+            } else if b == b'\\' {
+                Some(Lead::Quoted)
+            } else {
+                Some(Lead::Comment)
+            }
+        }
+        Lead::White => {
+            if is_blank(b) || ends_command(b) {
+                Some(Lead::White)
+            } else if is_continued(b, rest) {
+                Some(Lead::Continued)
+            } else if b == b'#' && first {
+                Some(Lead::Comment)
+            } else {
+                None
+            }
+        }
+    }
+}
+
+/// What is left behind white space, and before a command's first word behind ends of commands and comments.
+pub(crate) fn behind_gap(first: bool, bytes: &[u8]) -> &[u8]
+    ensures { result.now ≡ behind_gap first Lead.White bytes.now }
+{
+    let mut lead = Lead::White;
+    let mut rest = bytes;
+    while let [b, more @ ..] = rest {
+        let Some(next) = next_lead(first, lead, *b, more) else {
+            return rest;
+        };
+        lead = next;
+        rest = more;
+    }
+    rest
+}
+
+/// How many bytes the operand at the front of a text takes; 1 where there is none.
+pub(crate) fn taken(alloc: Global, text: &[u8]) -> Result<usize, AllocError>
+    ensures { IfOk result (λ n. n ≡ taken (operand text.now)) }
+{
+    match operand(alloc, text) {
+        Ok(Some((_, n))) => Ok(n),
+        Ok(None) => Ok(1),
+        Err(WordFault::Memory) => Err(AllocError),
+        Err(WordFault::MissingBrace) => Ok(1),
+        Err(WordFault::MissingBracket) => Ok(1),
+        Err(WordFault::MissingQuote) => Ok(1),
+        Err(WordFault::ExtraAfterQuote) => Ok(1),
+        Err(WordFault::ExtraAfterBrace) => Ok(1),
+        Err(WordFault::TooDeep) => Ok(1),
+        Err(WordFault::MissingParen) => Ok(1),
+    }
+}
+
+/// How many bytes behind the first one of a text belong to what stands there.
+fn owned(alloc: Global, b: u8, text: &[u8]) -> Result<usize, AllocError>
+    ensures { IfOk result (λ n. n ≡ owned b text.now) }
+{
+    if b == b'\\' {
+        return Ok(1);
+    }
+    if b == b'$' || b == b'[' {
+        return Ok(taken(alloc, text)?.saturating_sub(1));
+    }
+    Ok(0)
+}
+
+/// Whether a word without quotes or braces ends before a byte.
+fn ends_word(b: u8, rest: &[u8]) -> bool
+    ensures { result ≡ is_gap b rest.now }
+{
+    is_blank(b) || ends_command(b) || is_continued(b, rest)
+}
+
+/// What is left behind a word without quotes or braces.
+fn behind_bare(alloc: Global, bytes: &[u8]) -> Result<&[u8], AllocError>
+    ensures { IfOk result (λ rest. rest.now ≡ behind_bare bytes.now) }
+{
+    let mut rest = bytes;
+    while let [b, ..] = rest {
+        let more = behind(rest, 1);
+        if ends_word(*b, more) {
+            return Ok(rest);
+        }
+        rest = behind(more, owned(alloc, *b, rest)?);
+    }
+    Ok(rest)
+}
+
+/// What is left behind a word, but for `{*}` before it.
+fn behind_plain(alloc: Global, text: &[u8]) -> Result<&[u8], AllocError>
+    ensures { IfOk result (λ rest. rest.now ≡ behind_plain text.now) }
+{
+    if begins_with(b'"', text) || begins_with(b'{', text) {
+        return Ok(behind(text, taken(alloc, text)?));
+    }
+    behind_bare(alloc, text)
+}
+
+/// What is left behind a word.
+fn behind_word(alloc: Global, expand: bool, text: &[u8]) -> Result<&[u8], AllocError>
+    ensures { IfOk result (λ rest. rest.now ≡ behind_word expand text.now) }
+{
+    if expand {
+        return behind_plain(alloc, behind(text, 3));
+    }
+    behind_plain(alloc, text)
+}
+
+/// What a part is, where it is a literal.
+fn literal(alloc: Global, part: &Part) -> Result<Option<Text>, AllocError>
+    ensures { IfOk result (λ v. v ≡ literal_alone (part_view part.now)) }
+{
+    match part {
+        Part::Lit(text) => Ok(Some(text.copied(alloc)?)),
+        Part::Var(_, None) => Ok(None),
+        Part::Var(_, Some(_)) => Ok(None),
+        Part::Script(_) => Ok(None),
+    }
+}
+
+/// What a word is, where it is written plainly.
+fn plain_value(alloc: Global, word: &Word) -> Result<Option<Text>, AllocError>
+    ensures { IfOk result (λ v. v ≡ plain_value (word_view word.now)) }
+{
+    if word.expand {
+        return Ok(None);
+    }
+    match word.parts.as_slice() {
+        [] => Ok(Some(Text::new(alloc))),
+        [part] => literal(alloc, part),
+        [_, _, ..] => Ok(None),
+    }
+}
+
+/// The words of a command that a text begins with, which ends at a place of the source.
+pub(crate) fn placed_words(
+    alloc: Global,
+    end: usize,
+    words: &[Word],
+    text: &[u8],
+) -> Result<Words, AllocError>
+    ensures { IfOk result (λ w. w ≡ placed end (words_view words.now) text.now) }
+{
+    let mut list = Vec::new(alloc);
+    let mut left = words;
+    let mut rest = text;
+    while let [word, more @ ..] = left {
+        let begin = behind_gap(false, rest);
+        rest = behind_word(alloc, word.expand, begin)?;
+        list.push(Placed {
+            span: Span {
+                from: place(end, begin),
+                to: place(end, rest),
+            },
+            expand: word.expand,
+            value: plain_value(alloc, word)?,
+        })?;
+        left = more;
+    }
+    Ok(Words { list })
+}

@@ -1,0 +1,74 @@
+//! The bytes of a stretch, and what stands where.
+
+ghost use Rattle.std.specs.Prelude.{◌≡◌, ◌-◌, drop, take, length};
+ghost use Rattle.std.specs.Str.{bytes_eq};
+ghost use Rattle.script_check.specs.Stretches.{begins_with, part, inside};
+
+use crate::span::Span;
+
+/// The bytes from a place on, none where there are no more.
+pub(crate) fn behind(bytes: &[u8], n: usize) -> &[u8]
+    ensures { result.now ≡ drop n bytes.now }
+{
+    if n < bytes.len() {
+        bytes.split_at(n).1
+    } else {
+        &[]
+    }
+}
+
+/// The bytes before a place.
+fn before(bytes: &[u8], n: usize) -> &[u8]
+    ensures { result.now ≡ take n bytes.now }
+{
+    if n < bytes.len() {
+        bytes.split_at(n).0
+    } else {
+        bytes
+    }
+}
+
+/// The bytes of a stretch.
+pub(crate) fn part(source: &[u8], span: Span) -> &[u8]
+    ensures { result.now ≡ part source.now span }
+{
+    before(behind(source, span.from), span.to.saturating_sub(span.from))
+}
+
+/// A stretch without its first and its last byte.
+pub(crate) fn inside(span: Span) -> Span
+    ensures { result ≡ inside span }
+{
+    if span.from < span.to {
+        Span {
+            from: span.from + 1,
+            to: span.to - 1,
+        }
+    } else {
+        span
+    }
+}
+
+/// Where a text begins that ends at a place.
+pub(crate) fn place(end: usize, text: &[u8]) -> usize
+    ensures { result ≡ end - length text.now }
+{
+    end.saturating_sub(text.len())
+}
+
+/// Whether a text begins with a byte.
+pub(crate) fn begins_with(b: u8, bytes: &[u8]) -> bool
+    ensures { result ≡ begins_with b bytes.now }
+{
+    match bytes {
+        [] => false,
+        [first, ..] => *first == b,
+    }
+}
+
+/// Whether a word is this name.
+pub(crate) fn is(word: &[u8], name: &[u8]) -> bool
+    ensures { result ≡ bytes_eq word.now name.now }
+{
+    word == name
+}
