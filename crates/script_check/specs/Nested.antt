@@ -1,5 +1,8 @@
 -- The scripts that stand in the words of a command: those that its arguments are, and those in brackets.
-use Rattle.std.specs.Prelude.{ℕ, Bool, false, ◌&&◌, ◌||◌, List, [], ◌∷◌, ◌++◌, length, Option, Some, None, bytes_eq, if◌then◌else◌}
+use Rattle.std.specs.Prelude.{ℕ, Bool, false, ◌&&◌, ◌||◌, List, [], ◌∷◌, ◌++◌, length, drop, Option, Some, None, Result, Ok, Err, bytes_eq, if◌then◌else◌}
+use Rattle.tcl_expr.specs.declared.faults.ExprFault.{ExprFault}
+use Rattle.tcl_expr.specs.Tree.{Tree}
+use Rattle.tcl_expr.specs.Grammar.{parsed}
 use Rattle.script_check.specs.declared.span.Span.{Span}
 use Rattle.script_check.specs.declared.placed.Placed.{Placed}
 use Rattle.script_check.specs.declared.commands.Known.{Known}
@@ -20,9 +23,18 @@ abbrev pub all_brackets : List ℕ → List Span → List Span
 all_brackets source [] = []
 all_brackets source (s ∷ ss) = brackets_in source s ++ all_brackets source ss
 
--- the brackets of an expression stand in its operands, and not in those in braces
-abbrev pub formula_brackets : List ℕ → Span → List Span
-formula_brackets source s = all_brackets source (operands s.to (part source s))
+-- The brackets of an expression stand in its operands, and not in those in braces. One that doesn't parse isn't looked into.
+abbrev pub formula_brackets : List ℕ → Span → Result Tree ExprFault → List Span
+formula_brackets source s (Err fault) = []
+formula_brackets source s (Ok tree) = all_brackets source (operands s.to (part source s))
+
+abbrev pub formula_scripts : List ℕ → Span → Option (List ℕ) → List Span
+formula_scripts source s None = []
+formula_scripts source s (Some text) = formula_brackets source s (parsed text)
+
+-- in braces nothing is replaced, be they behind `{*}` or not
+abbrev pub is_enclosed : List ℕ → Placed → Bool
+is_enclosed source w = if w.expand then begins_with 123 (drop 3 (part source w.span)) else begins_with 123 (part source w.span)
 
 -- a script that isn't in braces, where the source has it as it is read
 abbrev pub written_at : List ℕ → Span → List ℕ → Option Span
@@ -46,8 +58,8 @@ script_or_brackets source s (Some script) = script ∷ []
 -- the scripts in a word, by what it is read as
 abbrev pub word_scripts : List ℕ → Placed → Kind → List Span
 word_scripts source w Script = script_or_brackets source w.span (script_at source w)
-word_scripts source w Text = if is_braced source w then [] else brackets_in source w.span
-word_scripts source w Expression = if is_braced source w then formula_brackets source (inside w.span) else brackets_in source w.span
+word_scripts source w Text = if is_enclosed source w then [] else brackets_in source w.span
+word_scripts source w Expression = if is_braced source w then formula_scripts source (inside w.span) w.value else brackets_in source w.span
 
 -- the scripts in arguments
 abbrev pub nested : List ℕ → Stage → List Placed → List Span

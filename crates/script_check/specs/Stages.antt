@@ -24,13 +24,14 @@ behind_body (Some w) =
     else if bytes_eq w (codes "else") then (Text, Else)
     else (Script, Done)
 
--- where a flag or a pattern of an `expect` may stand
+-- where a flag or a pattern of an `expect` may stand; behind a flag that it doesn't have the others aren't judged
 abbrev pub expect_word : List ℕ → Stage
 expect_word w =
     if bytes_eq w (codes "-i") || bytes_eq w (codes "-timeout") then Operand
     else if bytes_eq w (codes "-re") || bytes_eq w (codes "-ex") || bytes_eq w (codes "-gl") then Written
     else if bytes_eq w (codes "-regexp") || bytes_eq w (codes "-exact") || bytes_eq w (codes "-glob") then Written
-    else if begins_with 45 w then Pattern
+    else if bytes_eq w (codes "-nocase") || bytes_eq w (codes "-indices") || bytes_eq w (codes "-notransfer") then Pattern
+    else if begins_with 45 w || bytes_eq w (codes "null") then Texts
     else Action
 
 -- a word that isn't written plainly is a pattern

@@ -1,7 +1,9 @@
 //! The scripts that stand in the words of a command.
 
 ghost use Rattle.std.specs.Prelude.{◌≡◌, ◌++◌, IfOk, OnOk};
-ghost use Rattle.script_check.specs.Nested.{brackets_in, all_brackets, written_at, as_written, script_at, word_scripts, nested, any_expanded, stage_for, scripts_of};
+ghost use Rattle.tcl_expr.specs.Grammar.{parsed};
+ghost use Rattle.script_check.specs.Stretches.{inside};
+ghost use Rattle.script_check.specs.Nested.{brackets_in, all_brackets, formula_brackets, formula_scripts, is_enclosed, written_at, as_written, script_at, word_scripts, nested, any_expanded, stage_for, scripts_of};
 
 use crate::brackets::{brackets, operands};
 use crate::commands::known_of;
@@ -9,8 +11,9 @@ use crate::expects::is_braced;
 use crate::placed::Placed;
 use crate::span::Span;
 use crate::stages::{Kind, Stage, stage_of, step};
-use crate::stretch::{begins_with, inside, is, part};
+use crate::stretch::{begins_with, behind, inside, is, part};
 use std::alloc::{AllocError, Global};
+use tcl_expr::{ExprFault, parse};
 
 /// Puts the scripts in brackets of a stretch behind others.
 fn brackets_in(
@@ -91,6 +94,53 @@ fn push_script(
     }
 }
 
+/// Puts the scripts in brackets of an expression in braces behind others.
+fn push_formula(
+    alloc: Global,
+    source: &[u8],
+    word: &Placed,
+    out: &mut Vec<Span>,
+) -> Result<(), AllocError>
+    ensures { OnOk result (out.new.items ≡ out.old.items ++ formula_scripts source.now (inside word.now.span) word.now.value) }
+{
+    match &word.value {
+        None => Ok(()),
+        Some(text) => push_parsed(alloc, source, inside(word.span), text.as_slice(), out),
+    }
+}
+
+/// The same for one of this text. One that doesn't parse has none.
+fn push_parsed(
+    alloc: Global,
+    source: &[u8],
+    span: Span,
+    text: &[u8],
+    out: &mut Vec<Span>,
+) -> Result<(), AllocError>
+    ensures { OnOk result (out.new.items ≡ out.old.items ++ formula_brackets source.now span (parsed text.now)) }
+{
+    match parse(alloc, text) {
+        Ok(_) => {
+            let found = operands(alloc, span.to, part(source, span))?;
+            all_brackets(alloc, source, found.as_slice(), out)
+        }
+        Err(ExprFault::Memory) => Err(AllocError),
+        Err(_) => Ok(()),
+    }
+}
+
+/// Whether a word stands in braces, `{*}` before them or not, so that nothing in it is replaced.
+fn is_enclosed(source: &[u8], word: &Placed) -> bool
+    ensures { result ≡ is_enclosed source.now word.now }
+{
+    let text = part(source, word.span);
+    if word.expand {
+        begins_with(b'{', behind(text, 3))
+    } else {
+        begins_with(b'{', text)
+    }
+}
+
 /// Puts the scripts in a word behind others, by what it is read as.
 fn word_scripts(
     alloc: Global,
@@ -104,16 +154,14 @@ fn word_scripts(
     match kind {
         Kind::Script => push_script(alloc, source, word, out),
         Kind::Text => {
-            if is_braced(source, word) {
+            if is_enclosed(source, word) {
                 return Ok(());
             }
             brackets_in(alloc, source, word.span, out)
         }
         Kind::Expression => {
             if is_braced(source, word) {
-                let span = inside(word.span);
-                let found = operands(alloc, span.to, part(source, span))?;
-                return all_brackets(alloc, source, found.as_slice(), out);
+                return push_formula(alloc, source, word, out);
             }
             brackets_in(alloc, source, word.span, out)
         }
