@@ -11,4 +11,5 @@ pub mod Drive
 pub mod Show
 pub mod Complaint
 pub mod Follow
+pub mod Check
 pub mod Given

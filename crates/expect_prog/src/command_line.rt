@@ -23,6 +23,7 @@ pub enum Order<'a> {
     Replay(Replay<'a>),
     Run(Run<'a>),
     Show(Show<'a>),
+    Check(Check<'a>),
 }
 
 /// Scripts, and what is the same for each of them.
@@ -63,6 +64,12 @@ pub struct Show<'a> {
     pub log: &'a str,
     /// The script whose events are shown, where not all are.
     pub script: Option<u8>,
+}
+
+/// Files of scripts that are to be checked.
+#[derive(Drop)]
+pub struct Check<'a> {
+    pub sources: Vec<&'a str>,
 }
 
 fn limit<'a>(alloc: Global) -> Arg<'a> {
@@ -210,6 +217,13 @@ fn show_command<'a>(alloc: Global) -> Result<Command<'a>, AllocError> {
         .arg(log(alloc))
 }
 
+fn check_command<'a>(alloc: Global) -> Result<Command<'a>, AllocError> {
+    Command::new(alloc, "check")
+        .about("Says what is wrong with scripts, and runs nothing")
+        .after_help(help::CHECK)
+        .arg(sources(alloc))
+}
+
 fn command<'a>(alloc: Global) -> Result<Command<'a>, AllocError> {
     Command::new(alloc, "exprun")
         .bin_name("exprun")?
@@ -220,7 +234,8 @@ fn command<'a>(alloc: Global) -> Result<Command<'a>, AllocError> {
         .subcommand_required(true)
         .subcommand(run_command(alloc)?)?
         .subcommand(replay_command(alloc)?)?
-        .subcommand(show_command(alloc)?)
+        .subcommand(show_command(alloc)?)?
+        .subcommand(check_command(alloc)?)
 }
 
 /// Seconds in milliseconds; of more seconds than a limit may have, at most the greatest number.
@@ -343,6 +358,12 @@ fn show_of<'a>(matches: &ArgMatches<'a>) -> Order<'a> {
     })
 }
 
+fn check_of<'a>(alloc: Global, matches: &ArgMatches<'a>) -> Result<Order<'a>, AllocError> {
+    Ok(Order::Check(Check {
+        sources: files_of(alloc, matches)?,
+    }))
+}
+
 /// What is asked for by the words, the first of which is the program. An error's text is to be shown,
 /// and is a help where that was asked for.
 pub fn read_words<'a>(alloc: Global, words: &'a [String]) -> Result<Order<'a>, Error> {
@@ -350,6 +371,7 @@ pub fn read_words<'a>(alloc: Global, words: &'a [String]) -> Result<Order<'a>, E
     match matches.subcommand() {
         Some(("run", run)) => Ok(run_of(alloc, run)?),
         Some(("show", show)) => Ok(show_of(show)),
+        Some(("check", check)) => Ok(check_of(alloc, check)?),
         Some((_, replay)) => Ok(replay_of(alloc, replay)?),
         None => Ok(replay_of(alloc, &matches)?),
     }

@@ -1,9 +1,10 @@
 //! The files of an order.
 
-ghost use Rattle.std.specs.Prelude.{◌≡◌, length, IfOk};
+ghost use Rattle.std.specs.Prelude.{◌≡◌, ◌≤◌, length, IfOk, OnOk};
 ghost use Rattle.expect_prog.specs.Given.{script_given, scripts_given, AreOfFiles};
 
-use crate::command_line::{Replay, Scripts, Show};
+use crate::checking::{CheckFault, check_source};
+use crate::command_line::{Check, Replay, Scripts, Show};
 use crate::complaint::Complaint;
 use crate::devices::{ReadFault, read_all};
 use crate::replaying::replay;
@@ -13,7 +14,7 @@ use dialogue_sched::Script;
 use session::{Pairs, SOURCE_LIMIT, Settings};
 use std::alloc::{AllocError, Global};
 use std::fs;
-use std::io::{self, ErrorKind, Read};
+use std::io::{self, ErrorKind, Read, Write};
 use std::rt::Files;
 use tcl_words::{Text, Texts};
 
@@ -131,4 +132,42 @@ pub fn show_file<'a, R: Files + Print>(
         Ok(()) => Ok(true),
         Err(fault) => Err(Complaint::of_show(fault, order)),
     }
+}
+
+/// Writes what is wrong with the source of a file. The answer says whether there is nothing.
+fn check_file<'a, R: Files, W: Write>(
+    rt: &R,
+    alloc: Global,
+    path: &'a str,
+    out: &mut Counted<W>,
+) -> Result<bool, Complaint<'a>>
+    requires failures { out.old.failures ≡ 0 }
+    requires calls { out.old.calls ≤ 1099511627776 }
+    ensures { OnOk result ((out.new.failures ≡ 0) × (out.new.calls ≤ 1099511627776)) }
+{
+    let source = source(rt, alloc, path)?;
+    if source.len() > SOURCE_LIMIT {
+        return Err(Complaint::SourceTooLong(path));
+    }
+    match check_source(alloc, path.as_bytes(), source.as_slice(), out) {
+        Ok(well) => Ok(well),
+        Err(CheckFault::Write) => Err(Complaint::Unwritten),
+        Err(CheckFault::Memory) => Err(Complaint::Memory),
+    }
+}
+
+/// Checks the files of an order, one after another. The answer says whether nothing is wrong with any of them.
+///
+/// The first that can't be read is complained of; what was found in those before it is written.
+pub fn check_files<'a, R: Files + Print>(
+    rt: &R,
+    alloc: Global,
+    order: &Check<'a>,
+) -> Result<bool, Complaint<'a>> {
+    let mut out = Counted::new(io::writer(rt));
+    let mut well = true;
+    for path in &order.sources {
+        well &= check_file(rt, alloc, path, &mut out)?;
+    }
+    Ok(well)
 }

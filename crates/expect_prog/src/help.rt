@@ -24,14 +24,16 @@ was changed since, what it makes of the same events.
 
 show prints such a log to be read, a line for each event.
 
+check runs nothing. It says what is wrong with scripts, a line for each finding.
+
 Up to 64 scripts run side by side; none changes another.
 
-The status is 0 where each script ended with exit:0, 1 where one ended
-otherwise, and 2 at a fault, which is a line on standard error.
+The status is 0 where each script ended with exit:0, or nothing is wrong with
+any, 1 where it isn't so, and 2 at a fault, which is a line on standard error.
 
 `exprun run --help` says how programs are run, `exprun replay --help` what a log
-and a report are, and `exprun show --help` how a log is shown, each with an
-example.";
+and a report are, `exprun show --help` how a log is shown, and `exprun check
+--help` what is found, each with an example.";
 
 /// Behind the help of `replay`.
 pub const REPLAY: &str = "\
@@ -193,3 +195,36 @@ Then `exprun show log` prints
           10 ms  script 1  child 1  request done
           20 ms  script 1  child 1  wrote \"hi\\n\"
        10031 ms  tick";
+
+/// Behind the help of `check`.
+pub const CHECK: &str = "\
+Each script is read whole, with the scripts in its words, and none is run. What
+is wrong is printed, a line for each finding:
+
+    FILE:LINE: TEXT
+
+LINE, from 1, is the one on which the command begins, and TEXT is the error that
+a run would end with. Found are
+
+    commands that are malformed
+    words that name no command and no procedure of the file, and what to use in
+        their place, where that is known
+    numbers of arguments that a command doesn't take
+    flags and options that it doesn't have
+    regular patterns and expressions that are none
+
+where the words are written plainly. What a word with $ or [ in it comes to is
+known when the script runs, and so are the words behind {*}.
+
+The status is 0 where nothing is found, 1 where something is, and 2 at a fault.
+
+Example: bad.exp is
+
+    spawn cat
+    expct hi
+    while {1} {incr}
+
+Then `exprun check bad.exp` prints
+
+    bad.exp:2: invalid command name \"expct\"
+    bad.exp:3: wrong # args for \"incr\"";

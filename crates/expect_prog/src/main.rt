@@ -1,7 +1,8 @@
-//! Runs scripts, or replays them over a log of events, and prints their reports; or shows a log.
+//! Runs scripts, or replays them over a log of events, and prints their reports; or shows a log, or checks scripts.
 #![tactic(auto)]
 
 mod asks;
+mod checking;
 mod command_line;
 mod complaint;
 mod devices;
@@ -25,7 +26,7 @@ mod texts;
 
 use crate::command_line::{Order, read_words};
 use crate::complaint::Complaint;
-use crate::files::{replay_files, show_file};
+use crate::files::{check_files, replay_files, show_file};
 use crate::running::run_files;
 use std::alloc::Global;
 use std::env;
@@ -80,6 +81,7 @@ fn main(rt: HostRuntime) -> ExitCode {
         Order::Replay(replay) => replay_files(&rt, rt.alloc(), replay),
         Order::Run(run) => run_files(rt, rt.alloc(), run, rt.stderr()),
         Order::Show(show) => show_file(&rt, rt.alloc(), show),
+        Order::Check(check) => check_files(&rt, rt.alloc(), check),
     };
     match outcome {
         Ok(true) => ExitCode::SUCCESS,

@@ -1,0 +1,98 @@
+//! What is wrong with sources, a line for each finding.
+
+ghost use Rattle.std.specs.Prelude.{◌≡◌, ◌≤◌, ◌++◌, IfOk, OnOk};
+ghost use Rattle.expect_prog.specs.Check.{finding_line, finding_lines, checked as checked_text, is_nothing as is_nothing_of, Checks};
+
+use crate::devices::write_all;
+use crate::line::push_line;
+use crate::texts::push_labelled;
+use child_events::Counted;
+use script_check::{Finding, check, line_of};
+use std::alloc::{AllocError, Global};
+use std::io::Write;
+use tcl_words::Text;
+
+/// Why not all findings were told.
+#[derive(Clone, Copy, Debug, PartialEq, Eq)]
+pub enum CheckFault {
+    /// A write failed, or the most writes that are made were not enough.
+    Write,
+    /// Memory was refused.
+    Memory,
+}
+
+/// Puts the line of a finding behind a text.
+#[tactic(auto, unfolding(crate::specs::Check::finding_line))]
+fn push_finding(
+    alloc: Global,
+    text: &mut Text,
+    file: &[u8],
+    source: &[u8],
+    finding: &Finding,
+) -> Result<(), AllocError>
+    ensures { OnOk result (text.new ≡ text.old ++ finding_line file.now source.now finding.now) }
+{
+    push_line(alloc, text, file)?;
+    push_labelled(alloc, text, b":", line_of(source, finding.at) as u128)?;
+    text.extend(b": ")?;
+    let what = finding.what.text(alloc)?;
+    push_line(alloc, text, what.as_slice())?;
+    text.push(b'\n')
+}
+
+/// Puts the lines of findings behind a text.
+fn push_findings(
+    alloc: Global,
+    text: &mut Text,
+    file: &[u8],
+    source: &[u8],
+    findings: &[Finding],
+) -> Result<(), AllocError>
+    ensures { OnOk result (text.new ≡ text.old ++ finding_lines file.now source.now findings.now) }
+{
+    for finding in findings {
+        push_finding(alloc, text, file, source, finding)?;
+    }
+    Ok(())
+}
+
+/// The lines of all that is found in the source of a file.
+fn checked(alloc: Global, file: &[u8], source: &[u8]) -> Result<Text, AllocError>
+    ensures { IfOk result (λ t. t ≡ checked_text file.now source.now) }
+{
+    let findings = check(alloc, source)?;
+    let mut text = Text::new(alloc);
+    push_findings(alloc, &mut text, file, source, findings.as_slice())?;
+    Ok(text)
+}
+
+fn is_nothing(text: &[u8]) -> bool
+    ensures { result ≡ is_nothing_of text.now }
+{
+    match text {
+        [] => true,
+        [_, ..] => false,
+    }
+}
+
+/// Writes a line for each finding in the source of a file. The answer says whether there is none.
+///
+/// After `Write` a front of the lines was written, after `Memory` nothing. An interrupted write is tried again.
+pub fn check_source<W: Write>(
+    alloc: Global,
+    file: &[u8],
+    source: &[u8],
+    out: &mut Counted<W>,
+) -> Result<bool, CheckFault>
+    requires failures { out.old.failures ≡ 0 }
+    requires calls { out.old.calls ≤ 1099511627776 }
+    ensures { Checks file.now source.now (W.contents out.old.device) (W.contents out.new.device) out.new.failures out.new.calls result }
+{
+    let Ok(text) = checked(alloc, file, source) else {
+        return Err(CheckFault::Memory);
+    };
+    let Ok(()) = write_all(out, text.as_slice()) else {
+        return Err(CheckFault::Write);
+    };
+    Ok(is_nothing(text.as_slice()))
+}
