@@ -1,6 +1,6 @@
 //! The system's clock.
 
-use child_keeper::{Audience, Clock};
+use child_keeper::Clock;
 use std::time::{Clock as SystemClock, Instant};
 
 /// Counts the milliseconds since it was made. Where the system's clock can't be read, it stands still.
@@ -41,5 +41,3 @@ impl<R: SystemClock + Drop> Clock for Wall<R> {
         self.last
     }
 }
-
-impl<R: SystemClock + Drop> Audience for Wall<R> {}
