@@ -16,6 +16,7 @@ use Rattle.expect_prog.specs.Report.{all_done}
 use Rattle.expect_prog.specs.Form.{told_bytes}
 use Rattle.expect_prog.specs.Devices.{WasPut}
 use Rattle.expect_prog.specs.Written.{AllStandFor}
+use Rattle.expect_prog.specs.Shelf.{Keeps, transcripts_of}
 use Rattle.expect_prog.specs.declared.form.Form.{Form}
 
 module _ (told : ℕ → ℕ → Request → Answer → Type 0) (gives : ℕ → ℕ → Option (List ℕ) → Type 0) (workers : ℕ) (keepers : List Keeping) (scripts : List Script) where
@@ -24,37 +25,44 @@ module _ (told : ℕ → ℕ → Request → Answer → Type 0) (gives : ℕ →
     pub serves : IsServing told gives workers keepers scripts (Ok served)
     pub log : LogText2 text served.logged
 
-  -- What is written is the log text of the record, and the text of the reports that stand with it.
-  pub record Driven (form : Form) (well : Bool) (log log' out out' : Option (List ℕ)) : Type 0 where
+  -- The transcripts of the reports are kept, and what is written is the log text of the record, and the text of what stands for the reports.
+  pub record Driven (form : Form) (well : Bool) (kept kept' : Option (List (List ℕ))) (log log' out out' : Option (List ℕ)) : Type 0 where
     pub served : Served
     pub text : List ℕ
+    pub printed : List Report
     pub was : WasServed served text
+    pub keeps : Keeps kept kept' (transcripts_of served.reports)
     pub logged : Appends log log' text
-    pub written : Appends out out' (told_bytes form served.reports)
-    pub done : well ≡ all_done served.reports
+    pub stand : AllStandFor served.reports printed
+    pub written : Appends out out' (told_bytes form printed)
+    pub done : well ≡ all_done printed
 
-  -- A front of the record's text is written.
-  pub record PartLogged (log log' : Option (List ℕ)) : Type 0 where
+  -- The transcripts are kept, and a front of the record's text is written.
+  pub record PartLogged (kept kept' : Option (List (List ℕ))) (log log' : Option (List ℕ)) : Type 0 where
     pub served : Served
     pub text : List ℕ
     pub was : WasServed served text
+    pub keeps : Keeps kept kept' (transcripts_of served.reports)
     pub logged : WasPut log log' text
 
-  -- The record is written, and a front of the reports.
-  pub record PartDriven (form : Form) (log log' out out' : Option (List ℕ)) : Type 0 where
+  -- The transcripts are kept, and the record is written, and a front of the reports.
+  pub record PartDriven (form : Form) (kept kept' : Option (List (List ℕ))) (log log' out out' : Option (List ℕ)) : Type 0 where
     pub served : Served
     pub text : List ℕ
+    pub printed : List Report
     pub was : WasServed served text
+    pub keeps : Keeps kept kept' (transcripts_of served.reports)
     pub logged : Appends log log' text
-    pub written : WasPut out out' (told_bytes form served.reports)
+    pub stand : AllStandFor served.reports printed
+    pub written : WasPut out out' (told_bytes form printed)
 
-  -- what a run answers, and what it puts behind what was written before
-  abbrev pub Drives : Form → Option (List ℕ) → Option (List ℕ) → Option (List ℕ) → Option (List ℕ) → Result Bool DriveFault → Type 0
-  Drives form log log' out out' (Ok well) = Driven form well log log' out out'
-  Drives form log log' out out' (Err (Serve f)) = (f ≢ serve.Memory) × IsServing told gives workers keepers scripts (Err f)
-  Drives form log log' out out' (Err WriteLog) = PartLogged log log'
-  Drives form log log' out out' (Err Write) = PartDriven form log log' out out'
-  Drives form log log' out out' (Err Memory) = Unit {0}
+  -- what a run answers, what it keeps, and what it puts behind what was written before
+  abbrev pub Drives : Form → Option (List (List ℕ)) → Option (List (List ℕ)) → Option (List ℕ) → Option (List ℕ) → Option (List ℕ) → Option (List ℕ) → Result Bool DriveFault → Type 0
+  Drives form kept kept' log log' out out' (Ok well) = Driven form well kept kept' log log' out out'
+  Drives form kept kept' log log' out out' (Err (Serve f)) = (f ≢ serve.Memory) × IsServing told gives workers keepers scripts (Err f)
+  Drives form kept kept' log log' out out' (Err WriteLog) = PartLogged kept kept' log log'
+  Drives form kept kept' log log' out out' (Err Write) = PartDriven form kept kept' log log' out out'
+  Drives form kept kept' log log' out out' (Err Memory) = Unit {0}
 
   -- what serving the scripts answers here
   abbrev pub Serves : Result Served DriveFault → Type 0

@@ -13,7 +13,7 @@ is_within low high c = nat_le low c && nat_le c high
 abbrev pub turns : ℕ → Bool
 turns c = (c == 0x061C) || is_within 0x200E 0x200F c || is_within 0x2028 0x202E c || is_within 0x2066 0x2069 c
 
--- a character that is seen as itself, and no control character of ASCII or behind it
+-- a character that is seen as itself: it does neither that, nor controls anything, as those below a space and those from DEL to U+009F
 abbrev pub is_seen : Option ℕ → Bool
 is_seen None = false
 is_seen (Some c) = not (is_control c || turns c)
@@ -26,7 +26,7 @@ abbrev pub begins_line : List ℕ → Bool
 begins_line [] = false
 begins_line (b ∷ bs) = b == 10
 
--- a control character that stays before these bytes: in lines of their own a tab, and the end of a line, be it a newline or a carriage return and a newline
+-- a control character that stays before these bytes: in lines of their own a tab, a newline, and a carriage return before one
 abbrev pub stays : Place → ℕ → List ℕ → Bool
 stays Lines b next = (b == 9) || (b == 10) || ((b == 13) && begins_line next)
 stays Quotes b next = false
@@ -51,13 +51,14 @@ escape b =
     else if b == 13 then codes "\\r"
     else codes "\\x" ++ encode_lower (b ∷ [])
 
--- the same where n bytes are still to be written as they are
+-- the same where n of them still are, as the rest of a character
 abbrev pub still_kept : Place → ℕ → List ℕ → ℕ
 still_kept place n bytes = if n == 0 then kept_len place bytes else n
 
 abbrev pub byte_text : ℕ → ℕ → List ℕ
 byte_text kept b = if kept == 0 then escape b else b ∷ []
 
+-- bytes as text, of which the first n are written as they are
 abbrev pub text_behind : Place → ℕ → List ℕ → List ℕ
 text_behind place n [] = []
 text_behind place n (b ∷ bs) =

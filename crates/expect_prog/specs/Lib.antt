@@ -6,6 +6,7 @@ pub mod Json
 pub mod Form
 pub mod Devices
 pub mod Written
+pub mod Shelf
 pub mod Replay
 pub mod Drive
 pub mod Show

@@ -16,6 +16,8 @@ use Rattle.expect_prog.specs.declared.fault.ReplayFault.TheVariants.{Read, Log, 
 use Rattle.expect_prog.specs.Report.{all_done}
 use Rattle.expect_prog.specs.Form.{told_bytes}
 use Rattle.expect_prog.specs.Devices.{WasPut, GaveUp}
+use Rattle.expect_prog.specs.Written.{AllStandFor}
+use Rattle.expect_prog.specs.Shelf.{Keeps, transcripts_of}
 use Rattle.expect_prog.specs.declared.form.Form.{Form}
 
 -- The bytes are the log text of some events, and the run of the scripts over these answers so.
@@ -24,27 +26,33 @@ pub record RunOver (scripts : List Script) (bytes : List ℕ) (answer : Result (
   pub log : LogText bytes events
   pub runs : Runs scripts events answer
 
--- What is written is the text of the run's reports, and nothing else.
-pub record Replayed (scripts : List Script) (form : Form) (bytes : List ℕ) (well : Bool) (old new : Option (List ℕ)) : Type 0 where
+-- The transcripts of the run's reports are kept, and what is written is the text of what stands for the reports, and nothing else.
+pub record Replayed (scripts : List Script) (form : Form) (bytes : List ℕ) (well : Bool) (kept kept' : Option (List (List ℕ))) (old new : Option (List ℕ)) : Type 0 where
   pub reports : List Report
+  pub printed : List Report
   pub run : RunOver scripts bytes (Ok reports)
-  pub done : well ≡ all_done reports
-  pub written : Appends old new (told_bytes form reports)
+  pub keeps : Keeps kept kept' (transcripts_of reports)
+  pub stand : AllStandFor reports printed
+  pub done : well ≡ all_done printed
+  pub written : Appends old new (told_bytes form printed)
 
 -- A front of that text is written, and nothing else.
-pub record PartReplayed (scripts : List Script) (form : Form) (bytes : List ℕ) (old new : Option (List ℕ)) : Type 0 where
+pub record PartReplayed (scripts : List Script) (form : Form) (bytes : List ℕ) (kept kept' : Option (List (List ℕ))) (old new : Option (List ℕ)) : Type 0 where
   pub reports : List Report
+  pub printed : List Report
   pub run : RunOver scripts bytes (Ok reports)
-  pub written : WasPut old new (told_bytes form reports)
+  pub keeps : Keeps kept kept' (transcripts_of reports)
+  pub stand : AllStandFor reports printed
+  pub written : WasPut old new (told_bytes form printed)
 
--- what a replay of bytes answers, and what it puts behind what was written before
-abbrev pub Replays : List Script → Form → List ℕ → Option (List ℕ) → Option (List ℕ) → Result Bool ReplayFault → Type 0
-Replays scripts form bytes old new (Ok well) = Replayed scripts form bytes well old new
-Replays scripts form bytes old new (Err Read) = Unit {0}
-Replays scripts form bytes old new (Err (Log f)) = Refused bytes f
-Replays scripts form bytes old new (Err (Run f)) = RunOver scripts bytes (Err f)
-Replays scripts form bytes old new (Err Write) = PartReplayed scripts form bytes old new
-Replays scripts form bytes old new (Err Memory) = Unit {0}
+-- what a replay of bytes answers, what it keeps, and what it puts behind what was written before
+abbrev pub Replays : List Script → Form → List ℕ → Option (List (List ℕ)) → Option (List (List ℕ)) → Option (List ℕ) → Option (List ℕ) → Result Bool ReplayFault → Type 0
+Replays scripts form bytes kept kept' old new (Ok well) = Replayed scripts form bytes well kept kept' old new
+Replays scripts form bytes kept kept' old new (Err Read) = Unit {0}
+Replays scripts form bytes kept kept' old new (Err (Log f)) = Refused bytes f
+Replays scripts form bytes kept kept' old new (Err (Run f)) = RunOver scripts bytes (Err f)
+Replays scripts form bytes kept kept' old new (Err Write) = PartReplayed scripts form bytes kept kept' old new
+Replays scripts form bytes kept kept' old new (Err Memory) = Unit {0}
 
 -- a fault of the log or the run is no want of memory
 abbrev pub IsNoWant : ReplayFault → Type 0

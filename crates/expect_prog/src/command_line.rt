@@ -35,6 +35,8 @@ pub struct Scripts<'a> {
     pub limit_ms: Option<u64>,
     /// The form that their reports are told in.
     pub form: Form,
+    /// The folder that their transcripts are written to.
+    pub transcripts: Option<&'a str>,
     /// The files of their sources.
     pub sources: Vec<&'a str>,
 }
@@ -131,6 +133,13 @@ fn escape<'a>(alloc: Global) -> Result<Arg<'a>, AllocError> {
         .conflicts_with("summary")
 }
 
+fn transcripts<'a>(alloc: Global) -> Arg<'a> {
+    Arg::new(alloc, "transcripts")
+        .long("transcripts")
+        .value_name("DIR")
+        .help("Write each transcript to a file in the folder DIR")
+}
+
 fn sources<'a>(alloc: Global) -> Arg<'a> {
     Arg::new(alloc, "sources")
         .value_name("FILE")
@@ -158,6 +167,7 @@ fn replay_command<'a>(alloc: Global) -> Result<Command<'a>, AllocError> {
         .arg(format(alloc))?
         .arg(summary(alloc)?)?
         .arg(escape(alloc)?)?
+        .arg(transcripts(alloc))?
         .arg(log(alloc))?
         .arg(sources(alloc))
 }
@@ -198,6 +208,7 @@ fn run_command<'a>(alloc: Global) -> Result<Command<'a>, AllocError> {
         .arg(format(alloc))?
         .arg(summary(alloc)?)?
         .arg(escape(alloc)?)?
+        .arg(transcripts(alloc))?
         .arg(sources(alloc))
 }
 
@@ -324,6 +335,7 @@ fn scripts_of<'a>(alloc: Global, matches: &ArgMatches<'a>) -> Result<Scripts<'a>
             },
             files: names,
         },
+        transcripts: matches.get_str("transcripts"),
         sources: files,
     })
 }

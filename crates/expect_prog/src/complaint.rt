@@ -30,6 +30,8 @@ pub enum Complaint<'a> {
     SourceTooLong(&'a str),
     #[error("cannot write")]
     Unwritten,
+    #[error("cannot write {0}")]
+    NotWritten(&'a str),
     #[error("cannot start a thread")]
     NoThread,
     #[error("out of memory")]
@@ -56,6 +58,11 @@ impl<T: Drop> From<AllocFailed<T>> for Complaint<'_> {
     fn from(_e: AllocFailed<T>) -> Self {
         Complaint::Memory
     }
+}
+
+/// Writes a complaint's line on standard error.
+pub fn tell(rt: &impl Eprint, complaint: &Complaint<'_>) {
+    let _ = eprintln!(rt; "exprun: {complaint}");
 }
 
 /// The number of a refusal.

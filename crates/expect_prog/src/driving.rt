@@ -9,6 +9,7 @@ ghost use Rattle.expect_prog.specs.Written.{AreSpares};
 use crate::devices::write_all;
 use crate::form::{Form, Spares, made_spares};
 use crate::reporting::write_reports;
+use crate::shelf::{Shelf, keep_all};
 use child_events::{Counted, write_log};
 use child_keeper::{Audience, Clock, Gate, Keeper};
 use child_serve::{ServeFault, Served, serve};
@@ -101,17 +102,19 @@ fn write_both<L: Write, O: Write>(
     }
 }
 
-/// Serves scripts, each with its keeper, by as many workers as there are clocks. Writes the record's log text to `log` and then the reports to
-/// `out`, in a form. The answer says whether each script ended with status 0.
+/// Serves scripts, each with its keeper, by as many workers as there are clocks. Hands their transcripts to a shelf, writes the record's log text
+/// to `log` and then the reports to `out`, in a form. The answer says whether each script ended with status 0.
 ///
-/// The record's text is made before the first byte is written, and reports are written one by one: where memory is refused for one report or its
-/// text, that script's report says `memory`, and the others are whole. After `WriteLog` a front of the record was written and nothing of the
-/// reports, after `Write` the record and a front of the reports, after any other fault nothing. An interrupted write is tried again.
+/// The record's text is made before the first transcript is kept, and reports are written one by one: where memory is refused for one report or
+/// its text, that script's report says `memory`, and the others are whole. After `WriteLog` a front of the record was written and nothing of the
+/// reports, after `Write` the record and a front of the reports, after any other fault nothing, and nothing was kept. An interrupted write is
+/// tried again.
 pub fn drive<
     K: Keeper + Send + Drop + 'static,
     C: Clock + Audience + Send + Drop + 'static,
     G: Gate + Sync + Send + Drop + 'static,
     W: Threads + Wait + std::time::Clock + Copy + Send + Drop + 'static,
+    S: Shelf,
     L: Write,
     O: Write,
 >(
@@ -122,6 +125,7 @@ pub fn drive<
     clocks: Vec<C>,
     gate: G,
     form: &Form,
+    shelf: &mut S,
     log: &mut Counted<L>,
     out: &mut Counted<O>,
 ) -> Result<bool, DriveFault>
@@ -132,8 +136,8 @@ pub fn drive<
     requires out_failures { out.old.failures ≡ 0 }
     requires out_calls { out.old.calls ≡ 0 }
     ensures answers { Drives K.told K.gives (length clocks.items) (map (keeping_of K.named K.made) keepers.items) scripts.items form.now
-        (L.contents log.old.device) (L.contents log.new.device) (O.contents out.old.device) (O.contents out.new.device) result }
-    ensures unwritten { IfErr result (λ fault. IsBefore fault → (log.new ≡ log.old) × (out.new ≡ out.old)) }
+        (S.handed shelf.old) (S.handed shelf.new) (L.contents log.old.device) (L.contents log.new.device) (O.contents out.old.device) (O.contents out.new.device) result }
+    ensures unwritten { IfErr result (λ fault. IsBefore fault → (shelf.new ≡ shelf.old) × (log.new ≡ log.old) × (out.new ≡ out.old)) }
     ensures reports { result ≡ Err DriveFault.WriteLog → out.new ≡ out.old }
     ensures log { result ≡ Err DriveFault.WriteLog → GaveUp log.new.failures log.new.calls }
     ensures out { result ≡ Err DriveFault.Write → GaveUp out.new.failures out.new.calls }
@@ -144,5 +148,6 @@ pub fn drive<
     let served = served_by(rt, alloc, scripts, keepers, clocks, gate)?;
     let record = write_log(alloc, served.logged.as_slice())?;
     let reports = served.reports.as_slice();
+    keep_all(reports, shelf);
     write_both(alloc, form, &record, reports, spares, log, out)
 }

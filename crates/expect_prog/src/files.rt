@@ -7,7 +7,10 @@ use crate::checking::{CheckFault, check_source};
 use crate::command_line::{Check, Replay, Scripts, Show};
 use crate::complaint::Complaint;
 use crate::devices::{ReadFault, read_all};
+use crate::folder::Folder;
+use crate::outcome::Outcome;
 use crate::replaying::replay;
+use crate::shelf::{NoShelf, Shelf};
 use crate::showing::show_log;
 use child_events::Counted;
 use dialogue_sched::Script;
@@ -102,34 +105,60 @@ pub fn scripts<'a, R: Files>(
     Ok(scripts)
 }
 
-/// Replays the files of an order, and prints the reports. The answer says whether each script ended with
-/// status 0.
-///
-/// The sources are read in order, and then the log; the first that can't be read is complained of.
-pub fn replay_files<'a, R: Files + Print>(
+/// Replays an order's scripts over its log, hands their transcripts to a shelf, and prints the reports. The answer says whether each script
+/// ended with status 0.
+fn replay_order<'a, R: Files + Print, L: Read + Drop, S: Shelf>(
     rt: &R,
     alloc: Global,
     order: &Replay<'a>,
+    scripts: Vec<Script>,
+    log: L,
+    shelf: &mut S,
 ) -> Result<bool, Complaint<'a>> {
-    let scripts = scripts(rt, alloc, &order.scripts)?;
-    let mut log = Counted::new(opened(rt, order.log)?);
+    let mut log = Counted::new(log);
     let mut out = Counted::new(io::writer(rt));
-    match replay(alloc, &mut log, scripts, &order.scripts.form, &mut out) {
+    match replay(
+        alloc,
+        &mut log,
+        scripts,
+        &order.scripts.form,
+        shelf,
+        &mut out,
+    ) {
         Ok(well) => Ok(well),
         Err(fault) => Err(Complaint::of(fault, order)),
     }
 }
 
-/// Shows the log of an order. The answer is always true, since no script ends.
+/// Replays the files of an order, keeps their transcripts where that is asked for, and prints the reports.
+///
+/// The sources are read in order, and then the log; the first that can't be read is complained of.
+pub fn replay_files<'a, R: Files + Print + Eprint>(
+    rt: &R,
+    alloc: Global,
+    order: &Replay<'a>,
+) -> Result<Outcome, Complaint<'a>> {
+    let scripts = scripts(rt, alloc, &order.scripts)?;
+    let log = opened(rt, order.log)?;
+    let Some(path) = order.scripts.transcripts else {
+        let well = replay_order(rt, alloc, order, scripts, log, &mut NoShelf)?;
+        return Ok(Outcome::of(well, true));
+    };
+    let mut folder = Folder::new(rt, alloc, path, order.scripts.sources.as_slice())?;
+    let well = replay_order(rt, alloc, order, scripts, log, &mut folder)?;
+    Ok(Outcome::of(well, folder.is_whole()))
+}
+
+/// Shows the log of an order.
 pub fn show_file<'a, R: Files + Print>(
     rt: &R,
     alloc: Global,
     order: &Show<'a>,
-) -> Result<bool, Complaint<'a>> {
+) -> Result<Outcome, Complaint<'a>> {
     let mut log = Counted::new(opened(rt, order.log)?);
     let mut out = Counted::new(io::writer(rt));
     match show_log(alloc, order.script, &mut log, &mut out) {
-        Ok(()) => Ok(true),
+        Ok(()) => Ok(Outcome::Well),
         Err(fault) => Err(Complaint::of_show(fault, order)),
     }
 }
@@ -156,18 +185,18 @@ fn check_file<'a, R: Files, W: Write>(
     }
 }
 
-/// Checks the files of an order, one after another. The answer says whether nothing is wrong with any of them.
+/// Checks the files of an order, one after another. It ends well where nothing is wrong with any of them.
 ///
 /// The first that can't be read is complained of; what was found in those before it is written.
 pub fn check_files<'a, R: Files + Print>(
     rt: &R,
     alloc: Global,
     order: &Check<'a>,
-) -> Result<bool, Complaint<'a>> {
+) -> Result<Outcome, Complaint<'a>> {
     let mut out = Counted::new(io::writer(rt));
     let mut well = true;
     for path in &order.sources {
         well &= check_file(rt, alloc, path, &mut out)?;
     }
-    Ok(well)
+    Ok(Outcome::of(well, true))
 }

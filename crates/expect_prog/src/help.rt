@@ -89,6 +89,11 @@ hexadecimal digits, a carriage return as \\r, a backslash as two, and a byte tha
 isn't UTF-8 as \\x and digits too. A tab stays, and so does the end of a line,
 with its carriage return. The counts are those of the bytes before that.
 
+--transcripts writes each transcript, as it is, to a file DIR/N-NAME too: N is
+the script's number, NAME the last part of its file's name. DIR is made where it
+isn't there. A file that can't be written is told, and the status is 2, but the
+others and the reports are written all the same.
+
 Example: cat.exp is
 
     spawn cat
@@ -135,7 +140,8 @@ several scripts by lines, behind each script's number. The reports stay as they
 are.
 
 --summary, --format json, --format tap and --escape print the reports in short,
-for programs, for prove(1), and for terminals: `exprun replay --help` says how.
+for programs, for prove(1), and for terminals, and --transcripts writes files:
+`exprun replay --help` says how.
 
 Example: cat.exp is
 

@@ -11,22 +11,26 @@ mod escape;
 mod events;
 mod fault;
 mod files;
+mod folder;
 mod following;
 mod form;
 mod help;
 mod json;
 mod line;
+mod outcome;
 mod replaying;
 mod reporting;
 mod running;
+mod shelf;
 mod showing;
 mod tally;
 mod tap;
 mod texts;
 
 use crate::command_line::{Order, read_words};
-use crate::complaint::Complaint;
+use crate::complaint::{Complaint, tell};
 use crate::files::{check_files, replay_files, show_file};
+use crate::outcome::Outcome;
 use crate::running::run_files;
 use std::alloc::Global;
 use std::env;
@@ -41,7 +45,7 @@ const ENDED_OTHERWISE: u8 = 1;
 const FAULT: u8 = 2;
 
 fn complain(rt: &impl Eprint, complaint: &Complaint<'_>) -> ExitCode {
-    let _ = eprintln!(rt; "exprun: {complaint}");
+    tell(rt, complaint);
     ExitCode::from(FAULT)
 }
 
@@ -84,8 +88,9 @@ fn main(rt: HostRuntime) -> ExitCode {
         Order::Check(check) => check_files(&rt, rt.alloc(), check),
     };
     match outcome {
-        Ok(true) => ExitCode::SUCCESS,
-        Ok(false) => ExitCode::from(ENDED_OTHERWISE),
+        Ok(Outcome::Well) => ExitCode::SUCCESS,
+        Ok(Outcome::Otherwise) => ExitCode::from(ENDED_OTHERWISE),
+        Ok(Outcome::Lost) => ExitCode::from(FAULT),
         Err(complaint) => complain(&rt, &complaint),
     }
 }

@@ -8,6 +8,7 @@ use crate::devices::{ReadFault, read_all};
 use crate::fault::ReplayFault;
 use crate::form::{Form, made_spares};
 use crate::reporting::write_reports;
+use crate::shelf::{Shelf, keep_all};
 use child_events::{Counted, LogFault, LogReader};
 use dialogue_sched::{HallFault, Reports, RunFault, Script, run_log};
 use std::alloc::Global;
@@ -70,19 +71,20 @@ fn reports_read<R: Read>(
     reports_over(alloc, scripts, bytes.as_slice())
 }
 
-/// Reads a log, runs the scripts over its events, and writes their reports one by one, in a
+/// Reads a log, runs the scripts over its events, hands their transcripts to a shelf, and writes their reports one by one, in a
 /// form. The answer says whether each script ended with status 0.
 ///
 /// Where memory is refused for one report or its text, that script's report says `memory`, and the others are whole.
 ///
 /// Faults come in the order of `ReplayFault`'s variants, but for want of memory, which may come in place
-/// of any of them before the first byte is written. After `Write` a front of the reports' text was written, after any other
-/// fault nothing. An interrupted read or write is tried again.
-pub fn replay<R: Read, W: Write>(
+/// of any of them before the first transcript is kept. After `Write` a front of the reports' text was written, after any other
+/// fault nothing, and nothing was kept. An interrupted read or write is tried again.
+pub fn replay<R: Read, S: Shelf, W: Write>(
     alloc: Global,
     log: &mut Counted<R>,
     scripts: Vec<Script>,
     form: &Form,
+    shelf: &mut S,
     out: &mut Counted<W>,
 ) -> Result<bool, ReplayFault>
     requires log_failures { log.old.failures ≡ 0 }
@@ -90,8 +92,8 @@ pub fn replay<R: Read, W: Write>(
     requires out_failures { out.old.failures ≡ 0 }
     requires out_calls { out.old.calls ≡ 0 }
     ensures answers { IfSome (R.remaining log.old.device) (λ bytes.
-        Replays scripts.items form.now bytes (W.contents out.old.device) (W.contents out.new.device) result) }
-    ensures unwritten { IfErr result (λ fault. fault ≢ ReplayFault.Write → out.new ≡ out.old) }
+        Replays scripts.items form.now bytes (S.handed shelf.old) (S.handed shelf.new) (W.contents out.old.device) (W.contents out.new.device) result) }
+    ensures unwritten { IfErr result (λ fault. fault ≢ ReplayFault.Write → (shelf.new ≡ shelf.old) × (out.new ≡ out.old)) }
     ensures read { result ≡ Err ReplayFault.Read → GaveUp log.new.failures log.new.calls }
     ensures read_whole { result ≢ Err ReplayFault.Read → log.new.failures ≡ 0 }
     ensures write { result ≡ Err ReplayFault.Write → GaveUp out.new.failures out.new.calls }
@@ -100,6 +102,7 @@ pub fn replay<R: Read, W: Write>(
 {
     let spares = made_spares(alloc, form, scripts.len())?;
     let reports = reports_read(alloc, log, scripts)?;
+    keep_all(reports.as_slice(), shelf);
     match write_reports(alloc, form, reports.as_slice(), spares, out) {
         Ok(well) => Ok(well),
         Err(_) => Err(ReplayFault::Write),

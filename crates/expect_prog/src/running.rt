@@ -6,8 +6,11 @@ use crate::command_line::Run;
 use crate::complaint::Complaint;
 use crate::driving::{DriveFault, drive};
 use crate::files::scripts;
+use crate::folder::Folder;
 use crate::following::{Follower, Live, Manner, Tale};
 use crate::form::Form;
+use crate::outcome::Outcome;
+use crate::shelf::{NoShelf, Shelf};
 use child_events::Counted;
 use child_pipes::{Free, Orphans, Pipes, Programs, Wall, Watch};
 use dialogue_sched::Script;
@@ -126,10 +129,12 @@ fn workers(asked: u8) -> u8
     asked
 }
 
-/// Runs scripts over processes. The record goes to `log`, and the reports go to `out`; what scripts show is told, where that is asked for.
+/// Runs scripts over processes. Transcripts go to `shelf`, the record goes to `log`, and the reports go to `out`; what scripts show is told,
+/// where that is asked for.
 fn run_scripts<
     R: Threads + Wait + Clock + Programs + Copy + Send + Drop + 'static,
     E: Write + IsTerminal + Copy + Send + Drop + 'static,
+    S: Shelf,
     L: Write + Drop,
     O: Write + Drop,
 >(
@@ -139,6 +144,7 @@ fn run_scripts<
     workers_asked: u8,
     told: Option<E>,
     form: &Form,
+    shelf: &mut S,
     log: L,
     out: O,
 ) -> Result<bool, DriveFault> {
@@ -149,7 +155,7 @@ fn run_scripts<
     let mut log = Counted::new(log);
     let mut out = Counted::new(out);
     let outcome = drive(
-        rt, alloc, scripts, keepers, clocks, Free, form, &mut log, &mut out,
+        rt, alloc, scripts, keepers, clocks, Free, form, shelf, &mut log, &mut out,
     );
     if let Some(watch) = watch {
         watch.stop(&rt);
@@ -157,13 +163,21 @@ fn run_scripts<
     outcome
 }
 
-/// Runs the files of an order over real children, and prints the reports. The answer says whether each script ended with status 0.
-pub fn run_files<
+/// Runs an order's scripts over real children, hands their transcripts to a shelf, and prints the reports. The answer says whether each
+/// script ended with status 0.
+fn run_order<
     'a,
     R: Files + Print + Threads + Wait + Clock + Programs + Copy + Send + Drop + 'static,
     E: Write + IsTerminal + Copy + Send + Drop + 'static,
->(rt: R, alloc: Global, order: &Run<'a>, errors: E) -> Result<bool, Complaint<'a>> {
-    let scripts = scripts(&rt, alloc, &order.scripts)?;
+    S: Shelf,
+>(
+    rt: R,
+    alloc: Global,
+    order: &Run<'a>,
+    errors: E,
+    scripts: Vec<Script>,
+    shelf: &mut S,
+) -> Result<bool, Complaint<'a>> {
     let form = &order.scripts.form;
     let out = io::writer(&rt);
     let told = if order.follow { Some(errors) } else { None };
@@ -172,9 +186,46 @@ pub fn run_files<
             let Ok(log) = fs::File::create(&rt, path) else {
                 return Err(Complaint::Unwritten);
             };
-            run_scripts(rt, alloc, scripts, order.workers, told, form, log, out)
+            run_scripts(
+                rt,
+                alloc,
+                scripts,
+                order.workers,
+                told,
+                form,
+                shelf,
+                log,
+                out,
+            )
         }
-        None => run_scripts(rt, alloc, scripts, order.workers, told, form, Nowhere, out),
+        None => run_scripts(
+            rt,
+            alloc,
+            scripts,
+            order.workers,
+            told,
+            form,
+            shelf,
+            Nowhere,
+            out,
+        ),
     };
     outcome.map_err(|fault| Complaint::of_drive(fault, order))
+}
+
+/// Runs the files of an order over real children, keeps their transcripts where that is asked for, and prints the reports. What the scripts
+/// show is told on `errors`, where that is asked for.
+pub fn run_files<
+    'a,
+    R: Files + Print + Eprint + Threads + Wait + Clock + Programs + Copy + Send + Drop + 'static,
+    E: Write + IsTerminal + Copy + Send + Drop + 'static,
+>(rt: R, alloc: Global, order: &Run<'a>, errors: E) -> Result<Outcome, Complaint<'a>> {
+    let scripts = scripts(&rt, alloc, &order.scripts)?;
+    let Some(path) = order.scripts.transcripts else {
+        let well = run_order(rt, alloc, order, errors, scripts, &mut NoShelf)?;
+        return Ok(Outcome::of(well, true));
+    };
+    let mut folder = Folder::new(&rt, alloc, path, order.scripts.sources.as_slice())?;
+    let well = run_order(rt, alloc, order, errors, scripts, &mut folder)?;
+    Ok(Outcome::of(well, folder.is_whole()))
 }
