@@ -173,7 +173,8 @@ fn gather(
     Ok(None)
 }
 
-/// The words of a command, where those of a list of all arguments of an `expect` stand in its place, and what is found where the list ends early.
+/// The words of an `expect` whose arguments stand in a list of them: its name and the words of the list, and what is found where the list
+/// ends early. `None` for any other command.
 pub(crate) fn spread(
     alloc: Global,
     source: &[u8],

@@ -44,7 +44,7 @@ pub struct Finding {
 }
 
 /// What to use in place of a command, behind the text of its error.
-fn instead_text(alloc: Global, text: Text, advice: &[u8]) -> Result<Text, AllocError>
+fn instead_text(text: Text, advice: &[u8]) -> Result<Text, AllocError>
     ensures { IfOk result (λ t. t ≡ instead_text text advice.now) }
 {
     if advice.is_empty() {
@@ -61,7 +61,7 @@ fn no_command(alloc: Global, name: &[u8]) -> Result<Text, AllocError>
     ensures { IfOk result (λ t. t ≡ no_command name.now) }
 {
     let text = quoted(alloc, b"invalid command name ", name)?;
-    instead_text(alloc, text, instead(name))
+    instead_text(text, instead(name))
 }
 
 impl Problem {
