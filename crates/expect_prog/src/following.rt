@@ -162,12 +162,14 @@ impl Tale {
     /// What is told where a script shows these bytes.
     fn heard(&mut self, alloc: Global, bytes: &[u8]) -> Result<Text, AllocError> {
         self.held.extend(bytes)?;
-        self.told(alloc, told_len(self.manner, self.held.as_slice()))
+        let count = told_len(self.manner, self.held.as_slice());
+        self.told(alloc, count)
     }
 
     /// What is told at the end.
     fn left(&mut self, alloc: Global) -> Result<Text, AllocError> {
-        self.told(alloc, self.held.len())
+        let count = self.held.len();
+        self.told(alloc, count)
     }
 }
 

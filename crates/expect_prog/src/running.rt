@@ -86,6 +86,21 @@ fn tales_of(
     Ok(tales)
 }
 
+/// Where one of so many workers tells what its scripts show, if there is something to tell it to.
+fn live_of<E: Write + IsTerminal + Copy + Drop>(
+    alloc: Global,
+    scripts: usize,
+    workers: u8,
+    worker: u8,
+    told: Option<E>,
+) -> Result<Option<Live<E>>, AllocError> {
+    let Some(to) = told else {
+        return Ok(None);
+    };
+    let tales = tales_of(alloc, scripts, workers, worker, to.is_terminal())?;
+    Ok(Some(Live::new(alloc, to, tales)))
+}
+
 /// A clock of so many workers each, which tell the same moments, from 0 on. Where there is something to tell to, each tells it what its
 /// worker's scripts show.
 fn clocks<R: Clock + Copy + Drop, E: Write + IsTerminal + Copy + Drop>(
@@ -100,13 +115,7 @@ fn clocks<R: Clock + Copy + Drop, E: Write + IsTerminal + Copy + Drop>(
     let wall = Wall::new(rt);
     let mut clocks = Vec::new(alloc);
     for worker in 0..count {
-        let live = match told {
-            Some(to) => {
-                let tales = tales_of(alloc, scripts, count, worker, to.is_terminal())?;
-                Some(Live::new(alloc, to, tales))
-            }
-            None => None,
-        };
+        let live = live_of(alloc, scripts, count, worker, told)?;
         let Ok(()) = clocks.push(Follower::new(wall.again(), live)) else {
             return Err(AllocError);
         };

@@ -1,13 +1,13 @@
 //! Three scripts of one child each, of which one fails at one call.
 
-ghost use Rattle.std.specs.Prelude.{◌≡◌, ◌+◌, ◌^◌, ◌<◌, ◌≤◌, ⊤, OnOk, OnErr};
+ghost use Rattle.std.specs.Prelude.{◌≡◌, ◌+◌, ◌^◌, ◌<◌, ◌≤◌, ⊤, length, IfOk, OnOk, OnErr};
 
-use crate::served::{Open, Still, script};
+use crate::served::{Open, scripts, stopped};
 use child_events::{Answer, Cause};
 use child_keeper::Keeper;
 use child_serve::{Served, serve};
 use session::{Ending, Report};
-use std::alloc::Global;
+use std::alloc::{AllocError, Global};
 use std::io;
 use std::io::{ErrorKind, Read};
 use std::sync::Wait;
@@ -196,32 +196,38 @@ fn of_script(number: usize, unlucky: usize, failing: Failing) -> Failing {
     }
 }
 
-fn keeper(number: usize, unlucky: usize, failing: Failing) -> Unlucky {
-    Unlucky::new(of_script(number, unlucky, failing))
+/// A keeper for each of so many scripts, of which one's child fails.
+fn keepers(
+    alloc: Global,
+    count: usize,
+    unlucky: usize,
+    failing: Failing,
+) -> Result<Vec<Unlucky>, AllocError>
+    ensures { IfOk result (λ keepers. length keepers.items ≡ count) }
+{
+    let mut keepers = Vec::new(alloc);
+    for number in 0..count {
+        let keeper = Unlucky::new(of_script(number, unlucky, failing));
+        let Ok(()) = keepers.push(keeper) else {
+            return Err(AllocError);
+        };
+    }
+    Ok(keepers)
 }
 
-/// Three scripts, of which one's child fails so, served by one worker or by three.
+/// Three scripts, of which one's child fails so, served by so many workers.
 fn served<W: Threads + Wait + std::time::Clock + Copy + Send + Drop + 'static>(
     rt: W,
     alloc: Global,
     unlucky: usize,
     failing: Failing,
-    is_shared: bool,
-) -> Result<Served, Fail> {
-    let mut scripts = Vec::new(alloc);
-    scripts.push(script(alloc, SOURCE)?)?;
-    scripts.push(script(alloc, SOURCE)?)?;
-    scripts.push(script(alloc, SOURCE)?)?;
-    let mut keepers = Vec::new(alloc);
-    keepers.push(keeper(0, unlucky, failing))?;
-    keepers.push(keeper(1, unlucky, failing))?;
-    keepers.push(keeper(2, unlucky, failing))?;
-    let mut clocks = Vec::new(alloc);
-    clocks.push(Still)?;
-    if is_shared {
-        clocks.push(Still)?;
-        clocks.push(Still)?;
-    }
+    workers: usize,
+) -> Result<Served, Fail>
+    requires { (0 < workers) × (workers ≤ 64) }
+{
+    let scripts = scripts(alloc, SOURCE, SCRIPTS)?;
+    let keepers = keepers(alloc, SCRIPTS, unlucky, failing)?;
+    let clocks = stopped(alloc, workers)?;
     match serve(rt, alloc, scripts, keepers, clocks, Open) {
         Ok(served) => Ok(served),
         Err(_) => Err(Fail::from("not served")),
@@ -235,21 +241,24 @@ fn all_said(reports: &[Report], unlucky: usize, failing: Failing) -> bool {
         && numbered.all(|(number, report)| is_said(report, of_script(number, unlucky, failing)))
 }
 
+/// Whether all reports are as they should be, and nothing was unsettled or forced.
+fn is_alone(served: &Served, unlucky: usize, failing: Failing) -> bool {
+    all_said(served.reports.as_slice(), unlucky, failing)
+        && served.unsettled.is_empty()
+        && served.forced == 0
+}
+
 /// On one worker and on three, for each of the scripts: the one whose child fails has the report of that, and each other one that of nothing.
 fn fails_alone<W: Threads + Wait + std::time::Clock + Copy + Send + Drop + 'static>(
     rt: W,
     alloc: Global,
     failing: Failing,
 ) -> Result<(), Fail> {
-    for is_shared in [false, true] {
-        for unlucky in 0..SCRIPTS {
-            let served = served(rt, alloc, unlucky, failing, is_shared)?;
-            if !all_said(served.reports.as_slice(), unlucky, failing) {
-                return Err(Fail::from("another report"));
-            }
-            if !served.unsettled.is_empty() || served.forced != 0 {
-                return Err(Fail::from("unsettled or forced"));
-            }
+    for unlucky in 0..SCRIPTS {
+        let one = served(rt, alloc, unlucky, failing, 1)?;
+        let three = served(rt, alloc, unlucky, failing, 3)?;
+        if !(is_alone(&one, unlucky, failing) && is_alone(&three, unlucky, failing)) {
+            return Err(Fail::from("another report, or one unsettled or forced"));
         }
     }
     Ok(())

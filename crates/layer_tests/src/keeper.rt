@@ -1,9 +1,10 @@
 //! A keeper whose children write a line, and a gate that refuses.
 
-ghost use Rattle.std.specs.Prelude.{◌≡◌, ◌+◌, ◌^◌, ◌<◌, ◌≤◌, ⊤};
+ghost use Rattle.std.specs.Prelude.{◌≡◌, ◌+◌, ◌^◌, ◌<◌, ◌≤◌, ⊤, length, IfOk};
 
 use child_events::{Answer, Cause};
 use child_keeper::{Gate, Keeper};
+use std::alloc::{AllocError, Global};
 use std::io::Read;
 use std::sync::atomic::{AtomicU64, Ordering};
 use std::time::Duration;
@@ -49,6 +50,19 @@ pub struct Liner {
     calls: u64,
     failures: u64,
     ghost fewer: { failures ≤ calls },
+}
+
+/// So many keepers whose children take what is written.
+pub fn liners(alloc: Global, count: usize) -> Result<Vec<Liner>, AllocError>
+    ensures { IfOk result (λ keepers. length keepers.items ≡ count) }
+{
+    let mut keepers = Vec::new(alloc);
+    for _ in 0..count {
+        let Ok(()) = keepers.push(Liner::new(None, true)) else {
+            return Err(AllocError);
+        };
+    }
+    Ok(keepers)
 }
 
 impl Liner {

@@ -1,10 +1,12 @@
 //! Runs of which tests/refuse refuses each growth in turn. What comes of one is what should, or memory was refused: to the call, as its fault says,
 //! or to one script, as its report says, and then the others have their own.
 
-use crate::keeper::Liner;
-use crate::served::{CAT, Open, Still, is_of_cat, script};
-use child_events::{own_event, read_log};
-use child_serve::serve;
+ghost use Rattle.std.specs.Prelude.{◌<◌, ◌≤◌};
+
+use crate::keeper::liners;
+use crate::served::{CAT, Open, is_of_cat, script, scripts, stopped};
+use child_events::{HallEvent, own_event, read_log};
+use child_serve::{Served, serve};
 use dialogue_sched::{Script, run_all};
 use session::{Ending, Report, Session};
 use std::alloc::Global;
@@ -34,18 +36,32 @@ fn is_of_broken(report: &Report) -> bool {
 #[test]
 fn run_of_two(rt: HostRuntime) -> Result<(), Fail> {
     let alloc = rt.alloc();
-    let mut scripts = Vec::new(alloc);
-    scripts.push(script(alloc, CAT)?)?;
-    scripts.push(script(alloc, CAT)?)?;
+    let scripts = scripts(alloc, CAT, 2)?;
     let events = read_log(alloc, BROKEN)?;
     let reports = run_all(alloc, scripts, events.as_slice())?;
-    let [first, second] = reports.as_slice() else {
+    judged(reports.as_slice())
+}
+
+/// What comes of two reports, of which the first is of a script that couldn't write, unless one of them was refused memory.
+fn judged(reports: &[Report]) -> Result<(), Fail> {
+    let [first, second] = reports else {
         return Err(Fail::from("not two reports"));
     };
-    assert!(rt; is_of_broken(first) || is_refused(first) && is_of_cat(second));
-    assert!(rt; is_of_cat(second) || is_refused(second));
-    if is_refused(first) || is_refused(second) {
+    if is_of_broken(first) && is_of_cat(second) {
+        return Ok(());
+    }
+    if is_refused(first) && is_of_cat(second) || is_of_broken(first) && is_refused(second) {
         return Err(Fail::from(REFUSED));
+    }
+    Err(Fail::from("another report"))
+}
+
+/// Feeds a session its events, one by one.
+fn feed_all(alloc: Global, session: &mut Session, events: &[HallEvent]) -> Result<(), Fail> {
+    for event in events {
+        if let Some(event) = own_event(alloc, 1, event)? {
+            session.feed(event);
+        }
     }
     Ok(())
 }
@@ -55,11 +71,7 @@ fn ends_with(alloc: Global, source: &[u8], log: &[u8], transcript: &[u8]) -> Res
     let Script { source, settings } = script(alloc, source)?;
     let events = read_log(alloc, log)?;
     let mut session = Session::new(alloc, source, settings)?;
-    for event in events.as_slice() {
-        if let Some(event) = own_event(alloc, 1, event)? {
-            session.feed(event);
-        }
-    }
+    feed_all(alloc, &mut session, events.as_slice())?;
     let report = session.report_or_memory();
     if is_refused(&report) {
         return Err(Fail::from(REFUSED));
@@ -127,27 +139,23 @@ fn session_that_writes_a_list(rt: HostRuntime) -> Result<(), Fail> {
     Ok(())
 }
 
-/// Serves three scripts by one worker or by three, and says whether all reports are those of [`CAT`] but for one at most.
+/// Serves three scripts by so many workers, and says whether all reports are those of [`CAT`] but for one at most.
 fn serves_three<W: Threads + Wait + std::time::Clock + Copy + Send + Drop + 'static>(
     rt: W,
     alloc: Global,
-    is_shared: bool,
-) -> Result<bool, Fail> {
-    let mut scripts = Vec::new(alloc);
-    scripts.push(script(alloc, CAT)?)?;
-    scripts.push(script(alloc, CAT)?)?;
-    scripts.push(script(alloc, CAT)?)?;
-    let mut keepers = Vec::new(alloc);
-    keepers.push(Liner::new(None, true))?;
-    keepers.push(Liner::new(None, true))?;
-    keepers.push(Liner::new(None, true))?;
-    let mut clocks = Vec::new(alloc);
-    clocks.push(Still)?;
-    if is_shared {
-        clocks.push(Still)?;
-        clocks.push(Still)?;
-    }
+    workers: usize,
+) -> Result<bool, Fail>
+    requires { (0 < workers) × (workers ≤ 64) }
+{
+    let scripts = scripts(alloc, CAT, 3)?;
+    let keepers = liners(alloc, 3)?;
+    let clocks = stopped(alloc, workers)?;
     let served = serve(rt, alloc, scripts, keepers, clocks, Open)?;
+    are_of_cat(&served)
+}
+
+/// Whether three reports are those of [`CAT`]; where one of them alone isn't, memory was refused.
+fn are_of_cat(served: &Served) -> Result<bool, Fail> {
     let reports = served.reports.as_slice();
     let others = reports.iter().filter(|report| !is_of_cat(report)).count();
     if reports.len() == 3 && others == 1 {
@@ -158,12 +166,12 @@ fn serves_three<W: Threads + Wait + std::time::Clock + Copy + Send + Drop + 'sta
 
 #[test]
 fn three_by_one_worker(rt: HostRuntime) -> Result<(), Fail> {
-    assert!(rt; serves_three(rt, rt.alloc(), false)?);
+    assert!(rt; serves_three(rt, rt.alloc(), 1)?);
     Ok(())
 }
 
 #[test]
 fn three_by_three_workers(rt: HostRuntime) -> Result<(), Fail> {
-    assert!(rt; serves_three(rt, rt.alloc(), true)?);
+    assert!(rt; serves_three(rt, rt.alloc(), 3)?);
     Ok(())
 }

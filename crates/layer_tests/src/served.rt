@@ -1,6 +1,6 @@
 //! Scripts that are served, over keepers in memory.
 
-ghost use Rattle.std.specs.Prelude.{IfOk};
+ghost use Rattle.std.specs.Prelude.{◌≡◌, length, IfOk};
 ghost use Rattle.child_events.specs.Log.{AllFit};
 
 use crate::keeper::Liner;
@@ -30,6 +30,32 @@ pub fn script(alloc: Global, source: &[u8]) -> Result<Script, AllocError> {
             env: Pairs::new(alloc),
         },
     })
+}
+
+/// So many scripts of one source, each without a limit of time.
+pub fn scripts(alloc: Global, source: &[u8], count: usize) -> Result<Vec<Script>, AllocError>
+    ensures { IfOk result (λ scripts. length scripts.items ≡ count) }
+{
+    let mut scripts = Vec::new(alloc);
+    for _ in 0..count {
+        let Ok(()) = scripts.push(script(alloc, source)?) else {
+            return Err(AllocError);
+        };
+    }
+    Ok(scripts)
+}
+
+/// So many clocks that stand still.
+pub fn stopped(alloc: Global, count: usize) -> Result<Vec<Still>, AllocError>
+    ensures { IfOk result (λ clocks. length clocks.items ≡ count) }
+{
+    let mut clocks = Vec::new(alloc);
+    for _ in 0..count {
+        let Ok(()) = clocks.push(Still) else {
+            return Err(AllocError);
+        };
+    }
+    Ok(clocks)
 }
 
 /// Whether so many scripts were served, each with the report of [`CAT`] over a child that writes the line that it was sent.

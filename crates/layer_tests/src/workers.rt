@@ -1,7 +1,7 @@
 //! Two workers, whose gate and clocks wait for one another.
 
-use crate::keeper::Liner;
-use crate::served::{CAT, all_of_cat, script};
+use crate::keeper::liners;
+use crate::served::{CAT, all_of_cat, scripts};
 use child_keeper::{Audience, Clock, Gate};
 use child_serve::serve;
 use std::alloc::{AllocError, Global};
@@ -111,12 +111,8 @@ fn clock_of(rt: HostRuntime, mine: usize, course: &Arc<Course>) -> Result<Meetin
 fn workers_wait_for_one_another(rt: HostRuntime) -> Result<(), Fail> {
     let alloc: Global = rt.alloc();
     let course = Arc::new(alloc, Course::new())?;
-    let mut scripts = Vec::new(alloc);
-    scripts.push(script(alloc, CAT)?)?;
-    scripts.push(script(alloc, CAT)?)?;
-    let mut keepers = Vec::new(alloc);
-    keepers.push(Liner::new(None, true))?;
-    keepers.push(Liner::new(None, true))?;
+    let scripts = scripts(alloc, CAT, 2)?;
+    let keepers = liners(alloc, 2)?;
     let mut clocks = Vec::new(alloc);
     clocks.push(clock_of(rt, 0, &course)?)?;
     clocks.push(clock_of(rt, 1, &course)?)?;
