@@ -5,7 +5,6 @@ ghost use Rattle.expect_prog.specs.Follow.{mark_of, marked_byte, marked, told_so
 
 use crate::escape::{Place, push_text};
 use crate::texts::push_labelled;
-use bstr::decode_utf8;
 use child_keeper::{Audience, Clock};
 use child_pipes::Wall;
 use std::alloc::{AllocError, Global};
@@ -85,11 +84,25 @@ fn whole_lines(bytes: &[u8]) -> usize
     }
 }
 
+/// Whether a byte may begin a character of UTF-8 of several bytes, and is at least this one.
+fn begins_character(byte: u8, least: u8) -> bool {
+    least <= byte && byte <= 0xF4
+}
+
+/// Whether a byte may stand in a character of UTF-8 behind its first one.
+fn goes_on(byte: u8) -> bool {
+    0x80 <= byte && byte <= 0xBF
+}
+
 /// Whether bytes may be the front of a character, or of the end of a line.
 fn may_go_on(bytes: &[u8]) -> bool {
     match bytes {
-        [] => false,
-        [first, ..] => { *first == b'\r' || (*first >= 0xC2 && decode_utf8(bytes).0.is_none()) }
+        [first] => *first == b'\r' || begins_character(*first, 0xC2),
+        [first, second] => begins_character(*first, 0xE0) && goes_on(*second),
+        [first, second, third] => {
+            begins_character(*first, 0xF0) && goes_on(*second) && goes_on(*third)
+        }
+        _ => false,
     }
 }
 
