@@ -1,5 +1,6 @@
 -- A log that is judged first, and read afterwards.
 use Rattle.std.specs.Prelude.{◌≡◌, ℕ, zero, suc, ◌+◌, ◌<◌, ◌^◌, List, [], ◌∷◌, IsOk, Result, Ok, Err, ⊤}
+use Rattle.tcl_words.specs.Bytes as ascii
 use Rattle.child_events.specs.declared.event.What.TheVariants as what
 use Rattle.child_events.specs.declared.event.HallEvent.{HallEvent}
 use Rattle.child_events.specs.declared.faults.LogFault.{LogFault}
@@ -34,7 +35,7 @@ events_in (Err f) = []
 
 -- so many lines are left, from line n on, and each is an event
 pub record AreJudged (n k : ℕ) (rest : List ℕ) : Type 0 where
-  pub events : IsOk (lines_read n k (parts 10 rest))
+  pub events : IsOk (lines_read n k (parts ascii.newline rest))
   pub few : n + k < 2 ^ 64
 
 -- the first so many lines are the log's events; or this is its first fault

@@ -3,6 +3,7 @@
 use Rattle.std.specs.Prelude.{◌≡◌, ◌⊎◌, ℕ, ◌<◌, ◌^◌, nat_le, List, [], ◌∷◌, ◌++◌, length, codes, Bool, ◌&&◌, IsTrue}
 use Rattle.std.specs.List.{flat_map, AllByRecursion}
 use Rattle.std.specs.Fmt.{decimal}
+use Rattle.tcl_words.specs.Bytes as ascii
 use Rattle.hex.specs.Hex.{encode_lower, IsBytes}
 use Rattle.child_events.specs.declared.event.Cause.{Cause}
 use Rattle.child_events.specs.declared.event.Cause.TheVariants as cause
@@ -55,19 +56,19 @@ joined sep (w ∷ ws) = w ++ flat_map (λ v. sep ∷ v) ws
 
 -- the words have one space between
 abbrev pub line_of : HallEvent → List ℕ
-line_of e = joined 32 (fields_of e)
+line_of e = joined ascii.space (fields_of e)
 
 -- the lines of a list of events
 abbrev pub lines_text : List HallEvent → List ℕ
-lines_text es = flat_map (λ e. line_of e ++ 10 ∷ []) es
+lines_text es = flat_map (λ e. line_of e ++ ascii.newline ∷ []) es
 
 -- the first line of version 2, with its newline
 abbrev pub heading : List ℕ
-heading = codes "exprun-log 2" ++ 10 ∷ []
+heading = codes "exprun-log 2" ++ ascii.newline ∷ []
 
 -- the last line of version 2, with its newline, where n events stand before it
 abbrev pub total_line : ℕ → List ℕ
-total_line n = joined 32 (codes "total" ∷ decimal n ∷ []) ++ 10 ∷ []
+total_line n = joined ascii.space (codes "total" ∷ decimal n ∷ []) ++ ascii.newline ∷ []
 
 -- the text of a list of events in version 2
 abbrev pub counted_text : List HallEvent → List ℕ

@@ -5,6 +5,7 @@ use Rattle.std.specs.Prelude.{◌≡◌, ◌≢◌, ◌<◌, ℕ, ◌+◌, ◌-�
 use Rattle.std.specs.Borrow.{Bor}
 use Rattle.std.specs.Str.{bytes_eq, all_ascii_digits}
 use Rattle.std.specs.Str.Parse.{digits_value}
+use Rattle.tcl_words.specs.Bytes as ascii
 use Rattle.hex.specs.Hex.{decode_of}
 use Rattle.hex.specs.declared.error.FromHexError.{FromHexError}
 use Rattle.child_events.specs.declared.event.Cause.{Cause}
@@ -45,7 +46,7 @@ parts sep (b ∷ bs) = if b == sep then [] ∷ parts sep bs else in_front b (par
 abbrev pub starts_number : List ℕ → Bool
 starts_number [] = false
 starts_number (d ∷ []) = true
-starts_number (d ∷ e ∷ ds) = not (d == 48)
+starts_number (d ∷ e ∷ ds) = not (d == ascii.digit_0)
 
 abbrev pub digits_number : List ℕ → Option ℕ
 digits_number w = if all_ascii_digits w then Some (digits_value 10 w) else None
@@ -61,7 +62,7 @@ number_within n w low high outside = do
   if nat_le low k && nat_le k high then Ok k else Err outside
 
 abbrev pub is_lower_hex_digit : ℕ → Bool
-is_lower_hex_digit d = (nat_le 48 d && nat_le d 57) || (nat_le 97 d && nat_le d 102)
+is_lower_hex_digit d = (nat_le ascii.digit_0 d && nat_le d ascii.digit_9) || (nat_le ascii.letter_a d && nat_le d ascii.letter_f)
 
 abbrev pub all_lower_hex : List ℕ → Bool
 all_lower_hex [] = true
@@ -153,7 +154,7 @@ abbrev pub fields_event : ℕ → List (List ℕ) → Result HallEvent LogFault
 fields_event n fields = if any_empty fields then Err (fault.Shape n) else event_of n fields
 
 abbrev pub line_event : ℕ → List ℕ → Result HallEvent LogFault
-line_event n line = if nat_lt 8219 (length line) then Err (fault.TooLong n) else fields_event n (parts 32 line)
+line_event n line = if nat_lt 8219 (length line) then Err (fault.TooLong n) else fields_event n (parts ascii.space line)
 
 -- What only version 2 has: a first line that names it, and a last line with the number of events.
 
@@ -164,7 +165,7 @@ first_word (w ∷ ws) = w
 -- the version that a first line names, or version 1 where it names none
 abbrev pub version_of : List ℕ → Result Version LogFault
 version_of line =
-    if nat_lt 8219 (length line) || not (bytes_eq (first_word (parts 32 line)) (codes "exprun-log")) then Ok First
+    if nat_lt 8219 (length line) || not (bytes_eq (first_word (parts ascii.space line)) (codes "exprun-log")) then Ok First
     else if bytes_eq line (codes "exprun-log 2") then Ok Second
     else Err (fault.Version 1)
 
@@ -183,13 +184,13 @@ total_of n f (k ∷ m ∷ x ∷ more) = Err f
 -- a line that is too long is no total, and version 1 has none
 abbrev pub line_total : Version → ℕ → LogFault → List ℕ → Result ℕ LogFault
 line_total First n f line = Err f
-line_total Second n f line = if nat_lt 8219 (length line) then Err f else total_of n f (parts 32 line)
+line_total Second n f line = if nat_lt 8219 (length line) then Err f else total_of n f (parts ascii.space line)
 
 -- Line n says how many events there were, and nothing stands behind it.
 abbrev pub closed : ℕ → ℕ → ℕ → List (List ℕ) → Result ⊤ LogFault
 closed n seen total behind =
     if not (total == seen) then Err (fault.Total n)
-    else if not (length (joined 10 behind) == 0) then Err (fault.Total (n + 1))
+    else if not (length (joined ascii.newline behind) == 0) then Err (fault.Total (n + 1))
     else Ok tt
 
 -- where line n would stand, version 1 may end, and version 2 lacks its total
@@ -230,7 +231,7 @@ parts_events (w ∷ []) = lines_events First 1 (w ∷ [])
 parts_events (w ∷ x ∷ ws) = version_of w >>= version_events w (x ∷ ws)
 
 abbrev pub log_events : List ℕ → Result (List HallEvent) LogFault
-log_events bytes = parts_events (parts 10 bytes)
+log_events bytes = parts_events (parts ascii.newline bytes)
 
 abbrev pub fault_in : {A : Type 0} → Result A LogFault → Option LogFault
 fault_in (Ok x) = None

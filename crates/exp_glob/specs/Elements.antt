@@ -1,6 +1,7 @@
 -- How a glob pattern is read, as `string match` of Tcl(n) reads it, with the `^` and `$` of expect(1).
 -- A `[` without a `]` behind it and a backslash at the end stand for themselves; a class ends at its first `]`.
 use Rattle.std.specs.Prelude.{ℕ, zero, suc, ◌+◌, true, false, ◌==◌, if◌then◌else◌, List, [], ◌∷◌, take, Option, Some, None, position}
+use Rattle.tcl_words.specs.Bytes as ascii
 use Rattle.exp_glob.specs.declared.element.Element.{Element}
 use Rattle.exp_glob.specs.declared.element.Element.TheVariants.{Star, One, End}
 use Rattle.exp_glob.specs.declared.element.Single.TheVariants.{Any, Byte, Class}
@@ -9,26 +10,26 @@ use Rattle.exp_glob.specs.declared.pattern.Glob.{Glob}
 -- what a `[` is with these bytes behind it, of which the first `]` stands at the place that is given
 abbrev pub class_or_bracket : List ℕ → Option ℕ → Element × ℕ
 class_or_bracket rest (Some n) = (One (Class (take n rest)), n + 1)
-class_or_bracket rest None = (One (Byte 91), 0)
+class_or_bracket rest None = (One (Byte ascii.open_bracket), 0)
 
 -- what a backslash is
 abbrev pub escaped : List ℕ → Element × ℕ
-escaped [] = (One (Byte 92), 0)
+escaped [] = (One (Byte ascii.backslash), 0)
 escaped (b ∷ rest) = (One (Byte b), 1)
 
 -- what a `$` is
 abbrev pub dollar : List ℕ → Element × ℕ
 dollar [] = (End, 0)
-dollar (b ∷ rest) = (One (Byte 36), 0)
+dollar (b ∷ rest) = (One (Byte ascii.dollar), 0)
 
 -- the element that begins with a byte, and how many bytes behind it belong to it
 unfoldable pub element_at : ℕ → List ℕ → Element × ℕ
 element_at b rest =
-    if b == 42 then (Star, 0)
-    else (if b == 63 then (One Any, 0)
-    else (if b == 91 then class_or_bracket rest (position (λ c. c == 93) rest)
-    else (if b == 92 then escaped rest
-    else (if b == 36 then dollar rest
+    if b == ascii.star then (Star, 0)
+    else (if b == ascii.question then (One Any, 0)
+    else (if b == ascii.open_bracket then class_or_bracket rest (position (λ c. c == ascii.close_bracket) rest)
+    else (if b == ascii.backslash then escaped rest
+    else (if b == ascii.dollar then dollar rest
     else (One (Byte b), 0)))))
 
 -- the elements that begin k bytes in or later
@@ -44,5 +45,5 @@ elements_of bytes = elements_from bytes 0
 abbrev pub glob_of : List ℕ → Glob
 glob_of [] = record { anchored = false; elements = [] }
 glob_of (b ∷ bytes) =
-    if b == 94 then record { anchored = true; elements = elements_of bytes }
+    if b == ascii.caret then record { anchored = true; elements = elements_of bytes }
     else record { anchored = false; elements = elements_of (b ∷ bytes) }

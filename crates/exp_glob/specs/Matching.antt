@@ -1,6 +1,7 @@
 -- What the elements of a pattern match.
 use Rattle.std.specs.Prelude.{◌≡◌, ℕ, zero, suc, ◌+◌, ◌<◌, ◌≤◌, nat_le, Bool, true, false, ◌&&◌, ◌||◌, ◌==◌, if◌then◌else◌, List, [], ◌∷◌, length, slice_index}
 use Rattle.std.specs.Char.{to_ascii_lowercase, to_ascii_uppercase}
+use Rattle.tcl_words.specs.Bytes as ascii
 use Rattle.exp_glob.specs.declared.element.Element.{Element}
 use Rattle.exp_glob.specs.declared.element.Element.TheVariants.{Star, One, End}
 use Rattle.exp_glob.specs.declared.element.Single.{Single}
@@ -15,7 +16,7 @@ in_range one other c = (nat_le one c && nat_le c other) || (nat_le other c && na
 abbrev pub range_after : ℕ → List ℕ → ℕ × ℕ
 range_after member [] = (member, 0)
 range_after member (dash ∷ []) = (member, 0)
-range_after member (dash ∷ end ∷ rest) = if dash == 45 then (end, 2) else (member, 0)
+range_after member (dash ∷ end ∷ rest) = if dash == ascii.minus then (end, 2) else (member, 0)
 
 -- a byte is in one of the ranges that begin k bytes in or later
 abbrev pub has_from : List ℕ → ℕ → ℕ → Bool

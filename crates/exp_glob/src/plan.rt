@@ -50,7 +50,7 @@ impl Plan {
     }
 
     /// The elements, in order.
-    pub(crate) fn as_slice(&self) -> &[Element]
+    pub fn as_slice(&self) -> &[Element]
         ensures { result.now ≡ self.now }
     {
         self.elements.as_slice()

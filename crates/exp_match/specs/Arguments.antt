@@ -1,6 +1,7 @@
 -- How the arguments of `expect` are read, one after another, as expect(1) has it: flags, and patterns or keywords with their actions.
 use Rattle.std.specs.Prelude.{◌≡◌, ℕ, ◌+◌, Bool, true, false, ◌||◌, ◌==◌, if◌then◌else◌, List, [], ◌∷◌, ◌++◌, length, Some, None, Result, Ok, Err, codes}
 use Rattle.std.specs.Str.{bytes_eq}
+use Rattle.tcl_words.specs.Bytes as ascii
 use Rattle.exp_glob.specs.Elements.{glob_of}
 use Rattle.exp_match.specs.Scan.{is_pattern}
 use Rattle.exp_match.specs.declared.faults.PatternFault.{PatternFault}
@@ -35,7 +36,7 @@ Gives (Err f) meant = IsOfArguments f → meant ≡ Err f
 -- what a word is, where a pattern may stand
 abbrev pub is_dash : List ℕ → Bool
 is_dash [] = false
-is_dash (b ∷ bytes) = b == 45
+is_dash (b ∷ bytes) = b == ascii.minus
 
 -- a word that is no flag with a meaning
 abbrev pub plain_role : List ℕ → Role

@@ -1,18 +1,19 @@
 -- The grammar of regular patterns, rule by rule. `X s t` says that an X stands at the front of the characters s and that t is left behind it.
 use Rattle.std.specs.Prelude.{◌≡◌, ℕ, suc, ◌+◌, ◌*◌, ◌<◌, ◌≤◌, true, false, List, [], ◌∷◌, length, Some, chars}
 use Rattle.std.specs.Str.{IsUtf8}
+use Rattle.tcl_words.specs.Bytes as ascii
 use Rattle.exp_match.specs.Scan.{is_special, quoted, is_set, is_class_char}
 
 -- an item of a class stands for the character v
 pub data Item : ℕ → List ℕ → List ℕ → Type 0 where
   plain : (c : ℕ) (s : List ℕ) → is_class_char c ≡ true → Item c (c ∷ s) s
-  quote : (c v : ℕ) (s : List ℕ) → quoted c ≡ Some v → Item v (92 ∷ c ∷ s) s
+  quote : (c v : ℕ) (s : List ℕ) → quoted c ≡ Some v → Item v (ascii.backslash ∷ c ∷ s) s
 
 -- an item, a range from a character to one that isn't below it, or a set such as \d
 pub data Member : List ℕ → List ℕ → Type 0 where
   one : (v : ℕ) (s t : List ℕ) → Item v s t → Member s t
-  range : (v w : ℕ) (s t u : List ℕ) → Item v s (45 ∷ t) → Item w t u → v ≤ w → Member s u
-  set : (c : ℕ) (s : List ℕ) → is_set c ≡ true → Member (92 ∷ c ∷ s) s
+  range : (v w : ℕ) (s t u : List ℕ) → Item v s (ascii.minus ∷ t) → Item w t u → v ≤ w → Member s u
+  set : (c : ℕ) (s : List ℕ) → is_set c ≡ true → Member (ascii.backslash ∷ c ∷ s) s
 
 -- one member or more
 pub data Members : List ℕ → List ℕ → Type 0 where
@@ -21,50 +22,50 @@ pub data Members : List ℕ → List ℕ → Type 0 where
 
 -- What stands behind `[` or `[^`, with the `]`. A `-` that no backslash quotes is a member first or last, beside others, and not both.
 pub data Class : List ℕ → List ℕ → Type 0 where
-  dashless : (s t : List ℕ) → Members s (93 ∷ t) → Class s t
-  dash_first : (s t : List ℕ) → Members s (93 ∷ t) → Class (45 ∷ s) t
-  dash_last : (s t : List ℕ) → Members s (45 ∷ 93 ∷ t) → Class s t
+  dashless : (s t : List ℕ) → Members s (ascii.close_bracket ∷ t) → Class s t
+  dash_first : (s t : List ℕ) → Members s (ascii.close_bracket ∷ t) → Class (ascii.minus ∷ s) t
+  dash_last : (s t : List ℕ) → Members s (ascii.minus ∷ ascii.close_bracket ∷ t) → Class s t
 
 -- a number of at most 255, without a needless zero
 pub data Number : ℕ → List ℕ → List ℕ → Type 0 where
-  one_digit : (a : ℕ) (s : List ℕ) → a < 10 → Number a ((48 + a) ∷ s) s
-  two_digits : (a b : ℕ) (s : List ℕ) → 0 < a → a < 10 → b < 10 → Number (10 * a + b) ((48 + a) ∷ (48 + b) ∷ s) s
+  one_digit : (a : ℕ) (s : List ℕ) → a < 10 → Number a ((ascii.digit_0 + a) ∷ s) s
+  two_digits : (a b : ℕ) (s : List ℕ) → 0 < a → a < 10 → b < 10 → Number (10 * a + b) ((ascii.digit_0 + a) ∷ (ascii.digit_0 + b) ∷ s) s
   three_digits : (a b c : ℕ) (s : List ℕ) → 0 < a → a < 10 → b < 10 → c < 10 → 100 * a + 10 * b + c ≤ 255
-      → Number (100 * a + 10 * b + c) ((48 + a) ∷ (48 + b) ∷ (48 + c) ∷ s) s
+      → Number (100 * a + 10 * b + c) ((ascii.digit_0 + a) ∷ (ascii.digit_0 + b) ∷ (ascii.digit_0 + c) ∷ s) s
 
 -- * + ? {m} {m,} {m,n}
 pub data Repeat : List ℕ → List ℕ → Type 0 where
-  star : (s : List ℕ) → Repeat (42 ∷ s) s
-  plus : (s : List ℕ) → Repeat (43 ∷ s) s
-  optional : (s : List ℕ) → Repeat (63 ∷ s) s
-  exactly : (m : ℕ) (s t : List ℕ) → Number m s (125 ∷ t) → Repeat (123 ∷ s) t
-  at_least : (m : ℕ) (s t : List ℕ) → Number m s (44 ∷ 125 ∷ t) → Repeat (123 ∷ s) t
-  between : (m n : ℕ) (s t u : List ℕ) → Number m s (44 ∷ t) → Number n t (125 ∷ u) → m ≤ n → Repeat (123 ∷ s) u
+  star : (s : List ℕ) → Repeat (ascii.star ∷ s) s
+  plus : (s : List ℕ) → Repeat (ascii.plus ∷ s) s
+  optional : (s : List ℕ) → Repeat (ascii.question ∷ s) s
+  exactly : (m : ℕ) (s t : List ℕ) → Number m s (ascii.close_brace ∷ t) → Repeat (ascii.open_brace ∷ s) t
+  at_least : (m : ℕ) (s t : List ℕ) → Number m s (ascii.comma ∷ ascii.close_brace ∷ t) → Repeat (ascii.open_brace ∷ s) t
+  between : (m n : ℕ) (s t u : List ℕ) → Number m s (ascii.comma ∷ t) → Number n t (ascii.close_brace ∷ u) → m ≤ n → Repeat (ascii.open_brace ∷ s) u
 
 -- Groups nest at most d deep in each of these: alternatives of sequences of pieces, a piece being ^, $ or an atom that may be repeated.
 mutual
   pub data Re : ℕ → List ℕ → List ℕ → Type 0 where
     alone : (d : ℕ) (s t : List ℕ) → Seq d s t → Re d s t
-    either : (d : ℕ) (s t u : List ℕ) → Seq d s (124 ∷ t) → Re d t u → Re d s u
+    either : (d : ℕ) (s t u : List ℕ) → Seq d s (ascii.bar ∷ t) → Re d t u → Re d s u
 
   pub data Seq : ℕ → List ℕ → List ℕ → Type 0 where
     empty : (d : ℕ) (s : List ℕ) → Seq d s s
     next : (d : ℕ) (s t u : List ℕ) → Piece d s t → Seq d t u → Seq d s u
 
   pub data Piece : ℕ → List ℕ → List ℕ → Type 0 where
-    start : (d : ℕ) (s : List ℕ) → Piece d (94 ∷ s) s
-    end : (d : ℕ) (s : List ℕ) → Piece d (36 ∷ s) s
+    start : (d : ℕ) (s : List ℕ) → Piece d (ascii.caret ∷ s) s
+    end : (d : ℕ) (s : List ℕ) → Piece d (ascii.dollar ∷ s) s
     once : (d : ℕ) (s t : List ℕ) → Atom d s t → Piece d s t
     repeated : (d : ℕ) (s t u : List ℕ) → Atom d s t → Repeat t u → Piece d s u
 
   pub data Atom : ℕ → List ℕ → List ℕ → Type 0 where
-    any : (d : ℕ) (s : List ℕ) → Atom d (46 ∷ s) s
-    group : (d : ℕ) (s t : List ℕ) → Re d s (41 ∷ t) → Atom (suc d) (40 ∷ s) t
-    plain_group : (d : ℕ) (s t : List ℕ) → Re d s (41 ∷ t) → Atom (suc d) (40 ∷ 63 ∷ 58 ∷ s) t
-    class : (d : ℕ) (s t : List ℕ) → Class s t → Atom d (91 ∷ s) t
-    class_without : (d : ℕ) (s t : List ℕ) → Class s t → Atom d (91 ∷ 94 ∷ s) t
-    character : (d c v : ℕ) (s : List ℕ) → quoted c ≡ Some v → Atom d (92 ∷ c ∷ s) s
-    set : (d c : ℕ) (s : List ℕ) → is_set c ≡ true → Atom d (92 ∷ c ∷ s) s
+    any : (d : ℕ) (s : List ℕ) → Atom d (ascii.dot ∷ s) s
+    group : (d : ℕ) (s t : List ℕ) → Re d s (ascii.close_paren ∷ t) → Atom (suc d) (ascii.open_paren ∷ s) t
+    plain_group : (d : ℕ) (s t : List ℕ) → Re d s (ascii.close_paren ∷ t) → Atom (suc d) (ascii.open_paren ∷ ascii.question ∷ ascii.colon ∷ s) t
+    class : (d : ℕ) (s t : List ℕ) → Class s t → Atom d (ascii.open_bracket ∷ s) t
+    class_without : (d : ℕ) (s t : List ℕ) → Class s t → Atom d (ascii.open_bracket ∷ ascii.caret ∷ s) t
+    character : (d c v : ℕ) (s : List ℕ) → quoted c ≡ Some v → Atom d (ascii.backslash ∷ c ∷ s) s
+    set : (d c : ℕ) (s : List ℕ) → is_set c ≡ true → Atom d (ascii.backslash ∷ c ∷ s) s
     literal : (d c : ℕ) (s : List ℕ) → is_special c ≡ false → Atom d (c ∷ s) s
 
 -- UTF-8 of at most 4,096 bytes whose characters are a pattern as a whole, with groups nested at most 50 deep

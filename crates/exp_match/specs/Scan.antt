@@ -2,6 +2,7 @@
 -- What is accepted is `Re` of `Grammar`: `pattern_rules` is the law.
 use Rattle.std.specs.Prelude.{ℕ, ◌+◌, ◌-◌, ◌*◌, nat_le, Bool, true, false, not, ◌&&◌, ◌||◌, ◌==◌, if◌then◌else◌, List, [], ◌∷◌, length, drop, slice_index, Option, Some, None, option_map, chars}
 use Rattle.std.specs.Str.{is_utf8}
+use Rattle.tcl_words.specs.Bytes as ascii
 use Rattle.tcl_words.specs.Course.{reading}
 use Rattle.tcl_words.specs.Lists.{plus}
 use Rattle.exp_match.specs.declared.token.Token.{Token}
@@ -11,24 +12,24 @@ use Rattle.exp_match.specs.declared.token.Nesting.{Nesting}
 -- \ . + * ? ( ) | [ ] { } ^ $
 abbrev pub is_special : ℕ → Bool
 is_special c =
-    c == 92 || c == 46 || c == 43 || c == 42 || c == 63 || c == 40 || c == 41
-    || c == 124 || c == 91 || c == 93 || c == 123 || c == 125 || c == 94 || c == 36
+    c == ascii.backslash || c == ascii.dot || c == ascii.plus || c == ascii.star || c == ascii.question || c == ascii.open_paren || c == ascii.close_paren
+    || c == ascii.bar || c == ascii.open_bracket || c == ascii.close_bracket || c == ascii.open_brace || c == ascii.close_brace || c == ascii.caret || c == ascii.dollar
 
 -- what a character behind a backslash stands for: n r t for a control character, a special one and # & - ~ for itself
 abbrev pub quoted : ℕ → Option ℕ
 quoted c =
-    if c == 110 then Some 10
-    else (if c == 114 then Some 13
-    else (if c == 116 then Some 9
-    else (if is_special c || c == 35 || c == 38 || c == 45 || c == 126 then Some c else None)))
+    if c == ascii.letter_n then Some ascii.newline
+    else (if c == ascii.letter_r then Some ascii.carriage_return
+    else (if c == ascii.letter_t then Some ascii.tab
+    else (if is_special c || c == ascii.hash || c == ascii.ampersand || c == ascii.minus || c == ascii.tilde then Some c else None)))
 
 -- d s w D S W
 abbrev pub is_set : ℕ → Bool
-is_set c = c == 100 || c == 115 || c == 119 || c == 68 || c == 83 || c == 87
+is_set c = c == ascii.letter_d || c == ascii.letter_s || c == ascii.letter_w || c == ascii.capital_d || c == ascii.capital_s || c == ascii.capital_w
 
 -- all but \ [ ] ^ & ~ -
 abbrev pub is_class_char : ℕ → Bool
-is_class_char c = not (c == 92 || c == 91 || c == 93 || c == 94 || c == 38 || c == 126 || c == 45)
+is_class_char c = not (c == ascii.backslash || c == ascii.open_bracket || c == ascii.close_bracket || c == ascii.caret || c == ascii.ampersand || c == ascii.tilde || c == ascii.minus)
 
 -- classes
 
@@ -40,11 +41,11 @@ quoted_item (c ∷ s) = option_map (λ v. (v, 2)) (quoted c)
 -- the character that the item at the front stands for, and how many it is written with
 abbrev pub item : List ℕ → Option (ℕ × ℕ)
 item [] = None
-item (c ∷ s) = if c == 92 then quoted_item s else (if is_class_char c then Some (c, 1) else None)
+item (c ∷ s) = if c == ascii.backslash then quoted_item s else (if is_class_char c then Some (c, 1) else None)
 
 -- a `-` that doesn't stand before the class's end
 abbrev pub makes_range : List ℕ → Bool
-makes_range s = slice_index s 0 == 45 && not (slice_index s 1 == 93)
+makes_range s = slice_index s 0 == ascii.minus && not (slice_index s 1 == ascii.close_bracket)
 
 -- a range from v, whose item has k characters, to an item
 abbrev pub range_to : ℕ → ℕ → Option (ℕ × ℕ) → Option ℕ
@@ -56,7 +57,7 @@ member_from s None = None
 member_from s (Some p) = if makes_range (drop p.1 s) then range_to p.0 p.1 (item (drop (p.1 + 1) s)) else Some p.1
 
 abbrev pub begins_set : List ℕ → Bool
-begins_set s = slice_index s 0 == 92 && is_set (slice_index s 1)
+begins_set s = slice_index s 0 == ascii.backslash && is_set (slice_index s 1)
 
 -- how many characters the member at the front has
 unfoldable pub member : List ℕ → Option ℕ
@@ -69,14 +70,14 @@ behind_member on (Some k) = plus k (on (k - 1) true)
 
 -- ] -
 abbrev pub may_end : ℕ → Bool
-may_end c = c == 93 || c == 45
+may_end c = c == ascii.close_bracket || c == ascii.minus
 
 -- A class's end: `]`, or a last `-` before it, which can't be where a `-` stands first. A member has to stand before either.
 abbrev pub ending : Bool → Bool → ℕ → List ℕ → Option ℕ
 ending first some c s =
     if not some then None
-    else (if c == 93 then Some 1
-    else (if not first && slice_index s 0 == 93 then Some 2 else None))
+    else (if c == ascii.close_bracket then Some 1
+    else (if not first && slice_index s 0 == ascii.close_bracket then Some 2 else None))
 
 -- `first`: a `-` stands first in the class; `some`: a member stands before
 abbrev pub members_step : Bool → (ℕ → Bool → Option ℕ) → ℕ → List ℕ → Bool → Option ℕ
@@ -88,16 +89,16 @@ members first = reading (λ some. None) (members_step first)
 
 -- how many characters a class has behind its `[` or `[^`, with its `]`
 abbrev pub plain_class : List ℕ → Option ℕ
-plain_class s = if slice_index s 0 == 45 then plus 1 (members true (drop 1 s) false) else members false s false
+plain_class s = if slice_index s 0 == ascii.minus then plus 1 (members true (drop 1 s) false) else members false s false
 
 -- the same behind the `[`
 unfoldable pub class : List ℕ → Option ℕ
-class s = if slice_index s 0 == 94 then plus 1 (plain_class (drop 1 s)) else plain_class s
+class s = if slice_index s 0 == ascii.caret then plus 1 (plain_class (drop 1 s)) else plain_class s
 
 -- counts
 
 abbrev pub is_digit : ℕ → Bool
-is_digit c = nat_le 48 c && nat_le c 57
+is_digit c = nat_le ascii.digit_0 c && nat_le c ascii.digit_9
 
 -- three digits, up to 255
 abbrev pub three_digits : ℕ → Option (ℕ × ℕ)
@@ -107,23 +108,23 @@ three_digits n = if nat_le n 255 then Some (n, 3) else None
 unfoldable pub number : List ℕ → Option (ℕ × ℕ)
 number s =
     if not (is_digit (slice_index s 0)) then None
-    else (if slice_index s 0 == 48 || not (is_digit (slice_index s 1)) then Some (slice_index s 0 - 48, 1)
-    else (if not (is_digit (slice_index s 2)) then Some (10 * (slice_index s 0 - 48) + (slice_index s 1 - 48), 2)
-    else three_digits (100 * (slice_index s 0 - 48) + 10 * (slice_index s 1 - 48) + (slice_index s 2 - 48))))
+    else (if slice_index s 0 == ascii.digit_0 || not (is_digit (slice_index s 1)) then Some (slice_index s 0 - ascii.digit_0, 1)
+    else (if not (is_digit (slice_index s 2)) then Some (10 * (slice_index s 0 - ascii.digit_0) + (slice_index s 1 - ascii.digit_0), 2)
+    else three_digits (100 * (slice_index s 0 - ascii.digit_0) + 10 * (slice_index s 1 - ascii.digit_0) + (slice_index s 2 - ascii.digit_0))))
 
 -- behind `{m,`: the greater number, and how many characters with the `}`
 abbrev pub count_to : ℕ → List ℕ → Option (ℕ × ℕ) → Option ℕ
 count_to m s None = None
-count_to m s (Some q) = if slice_index s q.1 == 125 && nat_le m q.0 then Some (q.1 + 1) else None
+count_to m s (Some q) = if slice_index s q.1 == ascii.close_brace && nat_le m q.0 then Some (q.1 + 1) else None
 
 abbrev pub count_on : ℕ → List ℕ → Option ℕ
-count_on m s = if slice_index s 0 == 125 then Some 1 else count_to m s (number s)
+count_on m s = if slice_index s 0 == ascii.close_brace then Some 1 else count_to m s (number s)
 
 abbrev pub count_from : List ℕ → Option (ℕ × ℕ) → Option ℕ
 count_from s None = None
 count_from s (Some p) =
-    if slice_index s p.1 == 125 then Some (p.1 + 1)
-    else (if slice_index s p.1 == 44 then plus (p.1 + 1) (count_on p.0 (drop (p.1 + 1) s))
+    if slice_index s p.1 == ascii.close_brace then Some (p.1 + 1)
+    else (if slice_index s p.1 == ascii.comma then plus (p.1 + 1) (count_on p.0 (drop (p.1 + 1) s))
     else None)
 
 -- how many characters a count has behind its `{`, with its `}`
@@ -135,7 +136,7 @@ count s = count_from s (number s)
 -- a group opens; `?` stands behind `(` in `(?:` alone
 abbrev pub opening : List ℕ → Option (Token × ℕ)
 opening s =
-    if slice_index s 0 == 63 then (if slice_index s 1 == 58 then Some (token.Open, 2) else None)
+    if slice_index s 0 == ascii.question then (if slice_index s 1 == ascii.colon then Some (token.Open, 2) else None)
     else Some (token.Open, 0)
 
 -- a backslash and a character
@@ -146,14 +147,14 @@ escape (c ∷ s) = if is_set c then Some (token.Atom, 1) else option_map (λ v. 
 -- what begins with a character, and how many characters behind it belong to it
 unfoldable pub token_at : ℕ → List ℕ → Option (Token × ℕ)
 token_at c s =
-    if c == 124 || c == 94 || c == 36 then Some (token.Bound, 0)
-    else (if c == 42 || c == 43 || c == 63 then Some (token.Repeat, 0)
-    else (if c == 123 then option_map (λ n. (token.Repeat, n)) (count s)
-    else (if c == 40 then opening s
-    else (if c == 41 then Some (token.Close, 0)
-    else (if c == 91 then option_map (λ n. (token.Atom, n)) (class s)
-    else (if c == 92 then escape s
-    else (if c == 93 || c == 125 then None
+    if c == ascii.bar || c == ascii.caret || c == ascii.dollar then Some (token.Bound, 0)
+    else (if c == ascii.star || c == ascii.plus || c == ascii.question then Some (token.Repeat, 0)
+    else (if c == ascii.open_brace then option_map (λ n. (token.Repeat, n)) (count s)
+    else (if c == ascii.open_paren then opening s
+    else (if c == ascii.close_paren then Some (token.Close, 0)
+    else (if c == ascii.open_bracket then option_map (λ n. (token.Atom, n)) (class s)
+    else (if c == ascii.backslash then escape s
+    else (if c == ascii.close_bracket || c == ascii.close_brace then None
     else Some (token.Atom, 0))))))))
 
 -- the nesting behind a token, where the token may stand

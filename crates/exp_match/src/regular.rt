@@ -87,11 +87,18 @@ impl Regular {
         })
     }
 
+    /// Its text.
+    pub fn source(&self) -> &[u8]
+        ensures { result.now ≡ self.now.source }
+    {
+        self.regex.as_str().as_bytes()
+    }
+
     /// Whether it has this text and case. Such a text is one of the grammar.
     pub(crate) fn is(&self, text: &[u8], nocase: bool) -> bool
         ensures { IsTrue result → (is_pattern text.now ≡ true) × (self.now ≡ record { source = text.now; nocase = nocase }) }
     {
-        self.nocase == nocase && self.regex.as_str().as_bytes() == text
+        self.nocase == nocase && self.source() == text
     }
 
     /// The compiled pattern.
@@ -104,7 +111,7 @@ impl Regular {
     }
 
     /// Whether letters match in either case.
-    pub(crate) fn nocase(&self) -> bool
+    pub fn nocase(&self) -> bool
         ensures { result ≡ self.now.nocase }
     {
         self.nocase

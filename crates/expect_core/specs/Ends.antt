@@ -1,6 +1,7 @@
 -- A child is let go, and its end is asked for.
 use Rattle.std.specs.Prelude.{ℕ, ◌+◌, List, [], ◌∷◌, ◌++◌, codes, true, false, if◌then◌else◌, Option, Some, None, Ok, Err}
 use Rattle.std.specs.Fmt.{decimal}
+use Rattle.tcl_words.specs.Bytes as ascii
 use Rattle.child_events.specs.declared.event.Answer.{Answer}
 use Rattle.child_events.specs.declared.event.Answer.TheVariants as answer
 use Rattle.child_events.specs.declared.event.Cause.{Cause}
@@ -48,7 +49,7 @@ end_text (answer.Fail c) = failed_by c
 end_text answer.Ok = failed_by cause.Other
 
 abbrev pub waited : ℕ → Variables → Answer → Dialogue → Outcome
-waited i vars a st = done (decimal (i + 1) ++ 32 ∷ (child_of i st.own).id ++ 32 ∷ end_text a) vars st
+waited i vars a st = done (decimal (i + 1) ++ ascii.space ∷ (child_of i st.own).id ++ ascii.space ∷ end_text a) vars st
 
 -- each child is waited for once
 abbrev pub if_unwaited : ℕ → Own → Said ℕ

@@ -11,6 +11,7 @@ use Rattle.exp_match.specs.declared.entry.Keyword.TheVariants as keyword
 use Rattle.exp_match.specs.declared.entry.Want.TheVariants as want
 use Rattle.exp_match.specs.Arguments.{patterns_of}
 use Rattle.exp_match.specs.Choice.{Found, waits_for_end, waits_for_full, waits_for_time, first_in}
+use Rattle.tcl_words.specs.Bytes as ascii
 use Rattle.tcl_words.specs.Lists.{is_white}
 use Rattle.tcl_subst.specs.Variables.{Variables}
 use Rattle.tcl_commands.specs.declared.code.Code.{Code}
@@ -41,7 +42,7 @@ use Rattle.expect_core.specs.Answered.{Outcome, done, failed, over_limit, waits,
 -- an argument with a newline before the first byte that is no white space
 abbrev pub is_list : List ℕ → Bool
 is_list [] = false
-is_list (b ∷ bs) = if b == 10 then true else if is_white b then is_list bs else false
+is_list (b ∷ bs) = if b == ascii.newline then true else if is_white b then is_list bs else false
 
 -- the argument that is the list of all others, where it stands alone
 abbrev pub listed : List (List ℕ) → Option (List ℕ)

@@ -1,6 +1,7 @@
 -- The flags of a command: words that begin with a minus and stand before its arguments.
 use Rattle.std.specs.Prelude.{ℕ, ◌==◌, List, [], ◌∷◌, codes, Bool, true, false, not, ◌&&◌, if◌then◌else◌, Option, Some, None, Ok, Err, ⊤}
 use Rattle.std.specs.Str.{bytes_eq}
+use Rattle.tcl_words.specs.Bytes as ascii
 use Rattle.tcl_commands.specs.Said.{Said}
 use Rattle.tcl_commands.specs.Texts.{quoted, wrong_args}
 use Rattle.expect_core.specs.declared.flags.Switch.{Switch}
@@ -10,7 +11,7 @@ use Rattle.expect_core.specs.declared.flags.Flags.{Flags}
 
 abbrev pub begins_with_minus : List ℕ → Bool
 begins_with_minus [] = false
-begins_with_minus (b ∷ bs) = b == 45
+begins_with_minus (b ∷ bs) = b == ascii.minus
 
 abbrev pub bad_flag : List ℕ → List ℕ
 bad_flag word = quoted (codes "bad flag ") word

@@ -14,6 +14,7 @@ pub mod Sought
 pub mod Sides
 pub mod Waits
 pub mod Answered
+pub mod Awaited
 pub mod Spawning
 pub mod Sending
 pub mod Expecting

@@ -2,6 +2,7 @@
 use Rattle.std.specs.Prelude.{ℕ, ◌+◌, List, [], ◌∷◌, ◌++◌, codes, Bool, if◌then◌else◌}
 use Rattle.std.specs.List.{flat_map}
 use Rattle.std.specs.Fmt.{decimal}
+use Rattle.tcl_words.specs.Bytes as ascii
 use Rattle.child_events.specs.declared.event.Cause.{Cause}
 use Rattle.child_events.specs.declared.event.Cause.TheVariants as cause
 use Rattle.child_events.specs.Log.{cause_text}
@@ -13,7 +14,7 @@ id_at i = codes "exp" ++ decimal (i + 1)
 
 -- what a spawn writes to the transcript
 abbrev pub spawn_line : List (List ℕ) → List ℕ
-spawn_line words = codes "spawn" ++ flat_map (λ w. 32 ∷ w) words ++ 13 ∷ 10 ∷ []
+spawn_line words = codes "spawn" ++ flat_map (λ w. ascii.space ∷ w) words ++ ascii.carriage_return ∷ ascii.newline ∷ []
 
 -- a text with a cause behind it
 abbrev pub with_cause : List ℕ → Cause → List ℕ

@@ -1,6 +1,7 @@
 -- The commands that write to the transcript, and the one that says whether children's output is seen there.
 use Rattle.std.specs.Prelude.{ℕ, ◌+◌, List, [], ◌∷◌, ◌++◌, codes, Bool, true, false, if◌then◌else◌, None, Ok, Err}
 use Rattle.std.specs.Str.{bytes_eq}
+use Rattle.tcl_words.specs.Bytes as ascii
 use Rattle.tcl_subst.specs.Variables.{Variables}
 use Rattle.tcl_commands.specs.Said.{Said, ◌>>=◌}
 use Rattle.tcl_commands.specs.Texts.{wrong_args, bad_option}
@@ -16,12 +17,12 @@ abbrev pub no_channel : List ℕ → List ℕ
 no_channel w = if begins_with_minus w then bad_flag w else bad_option w
 
 abbrev pub puts_to : Bool → List ℕ → List ℕ → Said (List ℕ)
-puts_to line w text = if bytes_eq w (codes "stdout") then Ok (if line then text ++ 10 ∷ [] else text) else Err (no_channel w)
+puts_to line w text = if bytes_eq w (codes "stdout") then Ok (if line then text ++ ascii.newline ∷ [] else text) else Err (no_channel w)
 
 -- what is written
 abbrev pub put_of : List ℕ → List (List ℕ) → Said (List ℕ)
 put_of name [] = Err (wrong_args name)
-put_of name (text ∷ []) = Ok (text ++ 10 ∷ [])
+put_of name (text ∷ []) = Ok (text ++ ascii.newline ∷ [])
 put_of name (w ∷ text ∷ []) = if bytes_eq w (codes "-nonewline") then Ok text else puts_to true w text
 put_of name (w ∷ channel ∷ text ∷ []) = if bytes_eq w (codes "-nonewline") then puts_to false channel text else Err (wrong_args name)
 put_of name (w ∷ channel ∷ text ∷ other ∷ more) = Err (wrong_args name)

@@ -6,10 +6,12 @@ ghost use Rattle.exp_match.specs.Choice.{HasNone, LeavesNone};
 ghost use Rattle.exp_match.specs.Decide.{decide};
 ghost use Rattle.tty_input.specs.Sends.{handed_by, line_after, echo_of};
 ghost use Rattle.tty_output.specs.Output.{convert};
+ghost use Rattle.expect_core.specs.Awaited.{buffer_of};
 ghost use Rattle.expect_core.specs.Ids.{is_born, is_open as is_open_of, has_id};
 ghost use Rattle.expect_core.specs.Owned.{child_as, child_in};
 
 use crate::kept::Kept;
+use crate::lanes::place;
 use crate::place::Place;
 use exp_match::{Chosen, Matchers, PatternList};
 use std::alloc::{AllocError, Global};
@@ -166,6 +168,17 @@ impl Children {
             Some(at) if at < count => Place::new(at),
             _ => None,
         }
+    }
+
+    /// A copy of the bytes of a child, by its number from 1, that no expect has taken; none where there is no such child.
+    pub(crate) fn buffer_copied(&self, alloc: Global, child: u8) -> Result<Text, AllocError>
+        ensures { IfOk result (λ t. t ≡ buffer_of child self.now) }
+    {
+        let at = place(child);
+        if at < self.list.len() {
+            return self.list[at].kept.copied(alloc);
+        }
+        Ok(Text::new(alloc))
     }
 
     /// Whether a child was started, or let go.

@@ -14,7 +14,7 @@ use crate::plan::Groups;
 const LAST_MOMENT: u128 = 18_446_744_073_709_551_615;
 
 /// A deadline as a moment; behind the last moment of 64 bits it counts as that.
-fn as_moment(deadline: Option<u128>) -> Option<u64>
+pub(crate) fn as_moment(deadline: Option<u128>) -> Option<u64>
     ensures { result ≡ as_moment_of deadline }
 {
     match deadline {

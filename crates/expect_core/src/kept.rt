@@ -71,6 +71,16 @@ impl Kept {
         self.buffer.ring().len()
     }
 
+    /// A copy of the bytes.
+    pub(crate) fn copied(&self, alloc: Global) -> Result<Text, AllocError>
+        ensures { IfOk result (λ t. t ≡ self.now.bytes) }
+    {
+        let (front, back) = self.buffer.ring().as_slices();
+        let mut text = Text::from_slice(alloc, front)?;
+        text.extend(back)?;
+        Ok(text)
+    }
+
     /// Whether no more bytes are there than are kept.
     pub(crate) fn fits(&self) -> bool
         ensures { result ≡ nat_le (length self.now.bytes) self.now.size }

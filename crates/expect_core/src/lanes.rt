@@ -80,7 +80,7 @@ impl Model for Lanes {
 }
 
 /// The place of a child with this number, which counts from 1.
-fn place(child: u8) -> usize
+pub(crate) fn place(child: u8) -> usize
     ensures { result ≡ place_of child }
 {
     if child == 0 {

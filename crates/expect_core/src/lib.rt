@@ -3,6 +3,7 @@
 
 mod again;
 mod answers;
+mod awaited;
 mod child;
 mod deadline;
 mod dialogue;
@@ -38,5 +39,7 @@ mod transcript;
 pub use deadline::sooner;
 pub use dialogue::Dialogue;
 pub use laws::{children_apart, dialogue_laws};
+pub use place::Place;
+pub use plan::{Groups, Plan, Sides};
 pub use request::{Act, Request, Requests};
 pub use settings::{Pairs, Settings};

@@ -45,7 +45,7 @@ impl Place {
     }
 
     /// The number of the child there, from 1 to 16.
-    pub(crate) fn number(self) -> u8
+    pub fn number(self) -> u8
         ensures { result ≡ self + 1 }
     {
         self.at + 1

@@ -41,6 +41,13 @@ impl Groups {
         list.push(group)?;
         Ok(Groups { list })
     }
+
+    /// Their numbers: 0 is that before the first `-i`.
+    pub fn as_slice(&self) -> &[usize]
+        ensures { result.now ≡ self.now }
+    {
+        self.list.as_slice()
+    }
 }
 
 /// The places of children, in some order. A contract sees a list of numbers.
@@ -99,6 +106,13 @@ impl Sides {
         Sides {
             list: Vec::new(alloc),
         }
+    }
+
+    /// Each child with its groups, in order of their places.
+    pub fn as_slice(&self) -> &[(Place, Groups)]
+        ensures { result.now ≡ self.now }
+    {
+        self.list.as_slice()
     }
 
     /// The groups of the child at a place.

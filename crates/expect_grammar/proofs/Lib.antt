@@ -3,3 +3,10 @@ pub mod Written
 pub mod Faulted
 pub mod Derived
 pub mod Modes
+pub mod Flagged
+pub mod Quotes
+pub mod Texts
+pub mod TextClasses
+pub mod TextCounts
+pub mod TextAtoms
+pub mod TextPieces

@@ -1,6 +1,7 @@
 -- The arguments of `expect`, as the manual page expect(1) has them, rule by rule.
 -- `X args v rest` says that an X whose value is v stands at the front of the arguments, and that the rest is left behind it.
 use Rattle.std.specs.Prelude.{◌≡◌, ◌≢◌, ℕ, ◌+◌, ◌-◌, Bool, true, false, List, [], ◌∷◌, length, Option, Some, None, codes}
+use Rattle.tcl_words.specs.Bytes.{minus}
 use Rattle.tcl_words.specs.Lists.{begins_with}
 use Rattle.exp_glob.specs.Elements.{glob_of}
 use Rattle.exp_match.specs.Grammar.{RePattern}
@@ -15,9 +16,6 @@ use Rattle.exp_match.specs.declared.list.PatternList.{PatternList}
 use Rattle.exp_match.specs.declared.pending.Marks.{Marks}
 use Rattle.exp_match.specs.declared.pending.Way.{Way}
 use Rattle.exp_match.specs.declared.pending.Way.TheVariants as way
-
-abbrev pub dash : ℕ
-dash = 45
 
 -- ---- Words with a meaning of their own
 
@@ -67,13 +65,13 @@ pub data IsFlag : List ℕ → Type 0 where
 -- a word that may not stand where a pattern may
 pub data IsUnknown : List ℕ → Type 0 where
   -- it begins with `-` and is no flag
-  no_flag : (word : List ℕ) → begins_with dash word ≡ true → ¬ IsFlag word → IsUnknown word
+  no_flag : (word : List ℕ) → begins_with minus word ≡ true → ¬ IsFlag word → IsUnknown word
   -- this pattern isn't supported
   null : IsUnknown (codes "null")
 
 -- a pattern without a flag
 abbrev pub IsPlain : List ℕ → Type 0
-IsPlain word = (begins_with dash word ≡ false) × (word ≢ codes "null") × ((k : Keyword) → ¬ IsKeyword word k)
+IsPlain word = (begins_with minus word ≡ false) × (word ≢ codes "null") × ((k : Keyword) → ¬ IsKeyword word k)
 
 -- ---- Patterns and actions
 

@@ -1,2 +1,4 @@
 pub mod ArgumentRules
+pub mod FlagRules
 pub mod ModeRules
+pub mod PatternTexts

@@ -1,10 +1,8 @@
 -- The words of `stty_init`, as the manual page stty(1) has them, rule by rule.
 use Rattle.std.specs.Prelude.{◌≡◌, ℕ, ◌-◌, Bool, true, false, not, List, [], ◌∷◌, length, Some, None, ℤ, codes}
+use Rattle.tcl_words.specs.Bytes.{minus}
 use Rattle.tcl_expr.specs.Number.{number_of}
 use Rattle.tty_output.specs.declared.modes.Modes.{Modes}
-
-abbrev pub minus : ℕ
-minus = 45
 
 -- all modes on, as a terminal begins
 abbrev pub all_on : Modes

@@ -1,14 +1,27 @@
 //! The laws of the rules. Their functions do nothing: their contracts are the laws.
 
-ghost use Rattle.std.specs.Prelude.{◌≡◌, ◌↔◌, ℕ, List, Ok, Err};
+ghost use Rattle.std.specs.Prelude.{◌≡◌, ◌↔◌, ◌⊎◌, ℕ, Bool, true, List, Ok, Err};
+ghost use Rattle.regex.specs.Failures.{IsPattern};
+ghost use Rattle.regex_syntax.specs.Verdict.{Refuses};
+ghost use Rattle.regex_syntax.specs.declared.error.ErrorKind.{ErrorKind};
+ghost use Rattle.regex_syntax.specs.declared.error.ErrorKind.TheVariants.{OutOfMemory};
 ghost use Rattle.exp_match.specs.Arguments.{patterns_of};
+ghost use Rattle.exp_match.specs.Grammar.{RePattern};
+ghost use Rattle.exp_match.specs.Scan.{is_pattern};
+ghost use Rattle.exp_match.specs.Unbuilt.{IsUnbuilt};
+ghost use Rattle.exp_match.specs.Written.{config_of};
 ghost use Rattle.exp_match.specs.declared.faults.PatternFault.{PatternFault};
 ghost use Rattle.exp_match.specs.declared.list.PatternList.{PatternList};
 ghost use Rattle.tty_output.specs.Modes.{read};
 ghost use Rattle.tty_output.specs.declared.modes.BadMode.{BadMode};
 ghost use Rattle.tty_output.specs.declared.modes.Modes.{Modes};
+ghost use Rattle.expect_core.specs.Flags.{flags_of};
+ghost use Rattle.expect_core.specs.declared.flags.Flags.{Flags};
+ghost use Rattle.expect_core.specs.declared.flags.Takes.{Takes};
 ghost use Rattle.expect_grammar.specs.ArgumentRules.{Write, AreBad};
+ghost use Rattle.expect_grammar.specs.FlagRules.{Say, Fail};
 ghost use Rattle.expect_grammar.specs.ModeRules.{SetModes, FirstBad};
+ghost use Rattle.expect_grammar.specs.PatternTexts.{IsRead};
 
 /// The law of `expect`'s arguments: they are read as a list of patterns just where the rules give them that one, and a fault is told just where the rules
 /// find that first bad argument. So the rules give one list or one bad argument, and never both.
@@ -28,4 +41,25 @@ pub fn mode_rules()
     ensures one { (words : List (List ℕ)) (m n : Modes) → SetModes words m → SetModes words n → m ≡ n }
     ensures one_bad { (words : List (List ℕ)) (i j : ℕ) → FirstBad words i → FirstBad words j → i ≡ j }
     ensures never_both { (words : List (List ℕ)) (m : Modes) (at : ℕ) → SetModes words m → ¬ FirstBad words at }
+{}
+
+/// The law of the flags of commands other than `expect`: they are read, and words are left behind them, just where the rules say that they say this and leave
+/// these, and a command fails with a text just where the rules find that first wrong thing. So of any words the rules find one thing that the flags say and
+/// one rest, or one text, and never both.
+pub fn flag_rules()
+    ensures flags { (name : List ℕ) (takes : Takes) (words : List (List ℕ)) (f : Flags) (rest : List (List ℕ)) → (flags_of name takes words ≡ Ok (f, rest)) ↔ Say takes words f rest }
+    ensures fault { (name : List ℕ) (takes : Takes) (words : List (List ℕ)) (text : List ℕ) → (flags_of name takes words ≡ Err text) ↔ Fail name takes words text }
+    ensures one { (takes : Takes) (words : List (List ℕ)) (f g : Flags) (rest behind : List (List ℕ)) → Say takes words f rest → Say takes words g behind → (f ≡ g) × (rest ≡ behind) }
+    ensures one_fault { (name : List ℕ) (takes : Takes) (words : List (List ℕ)) (v w : List ℕ) → Fail name takes words v → Fail name takes words w → v ≡ w }
+    ensures never_both { (name : List ℕ) (takes : Takes) (words : List (List ℕ)) (f : Flags) (rest : List (List ℕ)) (text : List ℕ) → Say takes words f rest → ¬ Fail name takes words text }
+    ensures always { (name : List ℕ) (takes : Takes) (words : List (List ℕ)) → ((f : Flags) × (rest : List (List ℕ)) × Say takes words f rest) ⊎ ((text : List ℕ) × Fail name takes words text) }
+{}
+
+/// The law of regular patterns: `regex` reads the text of each, whether or not case counts, and the text nests no deeper than `regex` allows. So it refuses
+/// none but for want of memory, and a build that was refused otherwise was refused for the size of its program alone.
+pub fn patterns_are_read()
+    ensures rules { (text : List ℕ) (nocase : Bool) → RePattern text → IsRead nocase text }
+    ensures read { (text : List ℕ) (nocase : Bool) → is_pattern text ≡ true → IsRead nocase text }
+    ensures memory { (text : List ℕ) (nocase : Bool) (kind : ErrorKind) → is_pattern text ≡ true → Refuses (config_of nocase) text kind → kind ≡ OutOfMemory }
+    ensures refused { (text : List ℕ) → IsUnbuilt text → (nocase : Bool) × IsPattern (config_of nocase) text }
 {}

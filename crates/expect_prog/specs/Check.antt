@@ -1,6 +1,7 @@
 -- The lines that tell what is wrong with a source, and what telling them answers and writes.
 use Rattle.std.specs.Prelude.{◌≡◌, ◌≤◌, ℕ, Bool, true, false, List, [], ◌∷◌, ◌++◌, codes, Option, Result, Ok, Err}
 use Rattle.std.specs.Io.KnownBytes.{Appends}
+use Rattle.tcl_words.specs.Bytes as ascii
 use Rattle.script_check.specs.declared.problem.Finding.{Finding}
 use Rattle.script_check.specs.Findings.{findings}
 use Rattle.script_check.specs.Lines.{line_of}
@@ -13,7 +14,7 @@ use Rattle.expect_prog.specs.Devices.{WasPut, GaveUp}
 
 -- the line of a finding: the file, the line of it on which the command begins, and what is wrong
 unfoldable pub finding_line : List ℕ → List ℕ → Finding → List ℕ
-finding_line file source f = line_text file ++ labelled (codes ":") (line_of source f.at) ++ codes ": " ++ line_text (text_of f.what) ++ 10 ∷ []
+finding_line file source f = line_text file ++ labelled (codes ":") (line_of source f.at) ++ codes ": " ++ line_text (text_of f.what) ++ ascii.newline ∷ []
 
 abbrev pub finding_lines : List ℕ → List ℕ → List Finding → List ℕ
 finding_lines file source [] = []

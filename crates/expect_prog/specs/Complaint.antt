@@ -3,6 +3,9 @@ use Rattle.std.specs.Prelude.{◌≡◌, ℕ, ◌+◌, ◌-◌, List, slice_get,
 use Rattle.std.specs.Borrow.{Bor}
 use Rattle.child_events.specs.declared.faults.LogFault.{LogFault}
 use Rattle.child_events.specs.declared.faults.LogFault.TheVariants as logs
+use Rattle.child_timeline.specs.declared.fault.TimelineFault.{TimelineFault}
+use Rattle.child_timeline.specs.declared.fault.TimelineFault.TheVariants as lines
+use Rattle.log_plan.specs.declared.fault.PlanFault.TheVariants as plans
 use Rattle.dialogue_sched.specs.declared.hall.HallFault.{HallFault}
 use Rattle.dialogue_sched.specs.declared.hall.HallFault.TheVariants as halls
 use Rattle.dialogue_sched.specs.declared.refusal.HallRefusal.{HallRefusal}
@@ -12,10 +15,16 @@ use Rattle.dialogue_sched.specs.declared.run.RunFault.TheVariants as run
 use Rattle.child_serve.specs.declared.serving.ServeFault.TheVariants as serve
 use Rattle.expect_prog.specs.declared.complaint.Complaint.{Complaint}
 use Rattle.expect_prog.specs.declared.complaint.Complaint.TheVariants as line
+use Rattle.expect_prog.specs.declared.complaint.Wrong.{Wrong}
+use Rattle.expect_prog.specs.declared.complaint.Wrong.TheVariants as wrong
 use Rattle.expect_prog.specs.declared.driving.DriveFault.{DriveFault}
 use Rattle.expect_prog.specs.declared.driving.DriveFault.TheVariants as drive
+use Rattle.expect_prog.specs.declared.explaining.ExplainFault.{ExplainFault}
+use Rattle.expect_prog.specs.declared.explaining.ExplainFault.TheVariants as explain
 use Rattle.expect_prog.specs.declared.fault.ReplayFault.{ReplayFault}
 use Rattle.expect_prog.specs.declared.fault.ReplayFault.TheVariants as replay
+use Rattle.expect_prog.specs.declared.planning.PlanLogFault.{PlanLogFault}
+use Rattle.expect_prog.specs.declared.planning.PlanLogFault.TheVariants as plan
 use Rattle.expect_prog.specs.declared.showing.ShowFault.{ShowFault}
 use Rattle.expect_prog.specs.declared.showing.ShowFault.TheVariants as show
 
@@ -71,6 +80,50 @@ ShowLine log show.Read c = IsUnreadable log c
 ShowLine log (show.Log f) c = LogLine f c
 ShowLine log show.Write c = c ≡ line.Unwritten
 ShowLine log show.Memory c = c ≡ line.Memory
+
+-- the line where the courses of the files of scripts over a log's file are told
+abbrev pub ExplainLine : Bor (List ℕ) → List (Bor (List ℕ)) → ExplainFault → Complaint → Type 0
+ExplainLine log files explain.Read c = IsUnreadable log c
+ExplainLine log files (explain.Log f) c = LogLine f c
+ExplainLine log files explain.TooManyScripts c = c ≡ line.TooManyScripts
+ExplainLine log files (explain.SourceTooLong n) c = IsTooLong files n c
+ExplainLine log files explain.Write c = c ≡ line.Unwritten
+ExplainLine log files explain.Memory c = c ≡ line.Memory
+
+-- a line that names a line of a file, and what is wrong there
+abbrev pub BadLine : Bor (List ℕ) → ℕ → Wrong → Complaint → Type 0
+BadLine file n what (line.Timeline path number told) = (path ≡ file) × (number ≡ n) × (told ≡ what)
+BadLine file n what c = ⊥
+
+abbrev pub TimelineLine : Bor (List ℕ) → TimelineFault → Complaint → Type 0
+TimelineLine file (lines.Shape n) c = BadLine file n wrong.Shape c
+TimelineLine file (lines.Moment n) c = BadLine file n wrong.Moment c
+TimelineLine file (lines.Back n) c = BadLine file n wrong.Back c
+TimelineLine file (lines.Child n) c = BadLine file n wrong.Child c
+TimelineLine file (lines.Cause n) c = BadLine file n wrong.Cause c
+TimelineLine file (lines.Text n) c = BadLine file n wrong.Text c
+TimelineLine file (lines.Status n) c = BadLine file n wrong.Status c
+TimelineLine file (lines.Again n) c = BadLine file n wrong.Again c
+TimelineLine file lines.Memory c = c ≡ line.Memory
+
+-- a script that asks on and on is named by its file, with the moment
+abbrev pub IsUnending : Bor (List ℕ) → ℕ → Complaint → Type 0
+IsUnending file m (line.Unending path moment) = (path ≡ file) × (moment ≡ m)
+IsUnending file m c = ⊥
+
+abbrev pub IsLongSource : Bor (List ℕ) → Complaint → Type 0
+IsLongSource file (line.SourceTooLong path) = path ≡ file
+IsLongSource file c = ⊥
+
+-- the line where a log is planned, of a script's file over a timeline's
+abbrev pub PlanLine : Bor (List ℕ) → Bor (List ℕ) → PlanLogFault → Complaint → Type 0
+PlanLine script timeline plan.Read c = IsUnreadable timeline c
+PlanLine script timeline (plan.Timeline f) c = TimelineLine timeline f c
+PlanLine script timeline (plan.Plan plans.SourceTooLong) c = IsLongSource script c
+PlanLine script timeline (plan.Plan (plans.Unending m)) c = IsUnending script m c
+PlanLine script timeline (plan.Plan plans.Memory) c = c ≡ line.Memory
+PlanLine script timeline plan.Write c = c ≡ line.Unwritten
+PlanLine script timeline plan.Memory c = c ≡ line.Memory
 
 -- the line of a run of the files of scripts
 abbrev pub DriveLine : List (Bor (List ℕ)) → DriveFault → Complaint → Type 0

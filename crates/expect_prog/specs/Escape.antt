@@ -1,6 +1,7 @@
 -- Bytes of any kind as text that does nothing on a terminal, and from which they can be read again.
 use Rattle.std.specs.Prelude.{ℕ, ◌-◌, List, [], ◌∷◌, ◌++◌, codes, Bool, true, false, not, ◌&&◌, ◌||◌, ◌==◌, nat_lt, nat_le, Option, Some, None, if◌then◌else◌}
 use Rattle.std.specs.Char.{is_control}
+use Rattle.tcl_words.specs.Bytes as ascii
 use Rattle.hex.specs.Hex.{encode_lower}
 use Rattle.bstr.specs.Utf8.{decoded}
 use Rattle.expect_prog.specs.declared.escape.Place.{Place}
@@ -24,17 +25,17 @@ seen_len bytes = if is_seen (decoded bytes).char then (decoded bytes).size else 
 
 abbrev pub begins_line : List ℕ → Bool
 begins_line [] = false
-begins_line (b ∷ bs) = b == 10
+begins_line (b ∷ bs) = b == ascii.newline
 
 -- a control character that stays before these bytes: in lines of their own a tab, a newline, and a carriage return before one
 abbrev pub stays : Place → ℕ → List ℕ → Bool
-stays Lines b next = (b == 9) || (b == 10) || ((b == 13) && begins_line next)
+stays Lines b next = (b == ascii.tab) || (b == ascii.newline) || ((b == ascii.carriage_return) && begins_line next)
 stays Quotes b next = false
 
 -- what would be read as something else: a backslash, and between quotes a quote
 abbrev pub is_mark : Place → ℕ → Bool
-is_mark Lines b = b == 92
-is_mark Quotes b = (b == 92) || (b == 34)
+is_mark Lines b = b == ascii.backslash
+is_mark Quotes b = (b == ascii.backslash) || (b == ascii.quote)
 
 -- how many of the first bytes are written as they are; where it is none, the first is escaped
 unfoldable pub kept_len : Place → List ℕ → ℕ
@@ -44,11 +45,11 @@ kept_len place (b ∷ bs) = if stays place b bs then 1 else if is_mark place b t
 -- a byte that is escaped
 unfoldable pub escape : ℕ → List ℕ
 escape b =
-    if b == 34 then 92 ∷ 34 ∷ []
-    else if b == 92 then 92 ∷ 92 ∷ []
-    else if b == 9 then codes "\\t"
-    else if b == 10 then codes "\\n"
-    else if b == 13 then codes "\\r"
+    if b == ascii.quote then ascii.backslash ∷ ascii.quote ∷ []
+    else if b == ascii.backslash then ascii.backslash ∷ ascii.backslash ∷ []
+    else if b == ascii.tab then codes "\\t"
+    else if b == ascii.newline then codes "\\n"
+    else if b == ascii.carriage_return then codes "\\r"
     else codes "\\x" ++ encode_lower (b ∷ [])
 
 -- the same where n of them still are, as the rest of a character
@@ -71,4 +72,4 @@ escaped place bytes = text_behind place 0 bytes
 
 -- bytes between quotes
 unfoldable pub quoted : List ℕ → List ℕ
-quoted bytes = 34 ∷ [] ++ escaped Quotes bytes ++ 34 ∷ []
+quoted bytes = ascii.quote ∷ [] ++ escaped Quotes bytes ++ ascii.quote ∷ []

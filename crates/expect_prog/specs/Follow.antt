@@ -1,5 +1,6 @@
 -- What is told of a script's output while it runs.
 use Rattle.std.specs.Prelude.{◌≡◌, ℕ, Bool, true, ◌==◌, if◌then◌else◌, List, [], ◌∷◌, ◌++◌, codes}
+use Rattle.tcl_words.specs.Bytes as ascii
 use Rattle.expect_prog.specs.declared.escape.Place.TheVariants.{Lines}
 use Rattle.expect_prog.specs.declared.following.Manner.{Manner}
 use Rattle.expect_prog.specs.declared.following.Manner.TheVariants.{Plain, Escaped, Numbered}
@@ -17,7 +18,7 @@ marked_byte mark begins b = if begins then mark ++ b ∷ [] else b ∷ []
 -- a text of which each line stands behind a mark; whether it begins a line
 abbrev pub marked : List ℕ → Bool → List ℕ → List ℕ
 marked mark begins [] = []
-marked mark begins (b ∷ bs) = marked_byte mark begins b ++ marked mark (b == 10) bs
+marked mark begins (b ∷ bs) = marked_byte mark begins b ++ marked mark (b == ascii.newline) bs
 
 -- bytes as they are told
 unfoldable pub told_so : Manner → List ℕ → List ℕ

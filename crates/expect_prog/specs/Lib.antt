@@ -10,6 +10,10 @@ pub mod Shelf
 pub mod Replay
 pub mod Drive
 pub mod Show
+pub mod Patterns
+pub mod Waits
+pub mod Explain
+pub mod Planning
 pub mod Complaint
 pub mod Follow
 pub mod Check

@@ -1,5 +1,6 @@
 -- Names and faults as part of a line, and the lines that tell of a report in short.
 use Rattle.std.specs.Prelude.{ℕ, ◌+◌, List, [], ◌∷◌, ◌++◌, length, codes, Bool, true, false, ◌||◌, ◌==◌, nat_lt, if◌then◌else◌}
+use Rattle.tcl_words.specs.Bytes as ascii
 use Rattle.hex.specs.Hex.{encode_lower}
 use Rattle.tcl_eval.specs.declared.ending.Ending.{Ending}
 use Rattle.tcl_eval.specs.declared.ending.Ending.TheVariants.{Exit, Error, StepLimit, TimeLimit, Memory, Waiting}
@@ -10,12 +11,12 @@ use Rattle.expect_prog.specs.Report.{labelled, ending_text, head_words, is_done}
 
 -- a byte that would end a line or be no text: a control character of ASCII
 abbrev pub is_control : ℕ → Bool
-is_control b = nat_lt b 32 || (b == 127)
+is_control b = nat_lt b ascii.space || (b == ascii.delete)
 
 -- a byte within a line: a backslash is doubled, and a control character is written as two hexadecimal digits
 abbrev pub line_byte : ℕ → List ℕ
 line_byte b =
-    if b == 92 then 92 ∷ 92 ∷ []
+    if b == ascii.backslash then ascii.backslash ∷ ascii.backslash ∷ []
     else if is_control b then codes "\\x" ++ encode_lower (b ∷ [])
     else b ∷ []
 
@@ -25,7 +26,7 @@ line_text (b ∷ bs) = line_byte b ++ line_text bs
 
 -- the line of the report of script n in a summary: the first one of its report, and its file
 unfoldable pub summary_line : List ℕ → ℕ → Report → List ℕ
-summary_line file n r = head_words n r ++ codes " file=" ++ line_text file ++ 10 ∷ []
+summary_line file n r = head_words n r ++ codes " file=" ++ line_text file ++ ascii.newline ∷ []
 
 -- the endings that a kind counts
 abbrev pub is_of : Kind → Ending → Bool
@@ -66,4 +67,4 @@ all_kinds = kind.Well ∷ kind.Exit ∷ kind.Error ∷ kind.StepLimit ∷ kind.T
 
 -- the last line of a summary: how many scripts there are, how many of them ended with status 0, and how many by each ending
 abbrev pub counts_line : List Ending → List ℕ
-counts_line es = labelled (codes "scripts=") (length es) ++ (kinds_text all_kinds es ++ 10 ∷ [])
+counts_line es = labelled (codes "scripts=") (length es) ++ (kinds_text all_kinds es ++ ascii.newline ∷ [])

@@ -1,6 +1,7 @@
 -- The text of reports.
 use Rattle.std.specs.Prelude.{ℕ, ◌+◌, List, [], ◌∷◌, ◌++◌, length, sum, codes, Bool, true, false, ◌&&◌, ◌==◌, if◌then◌else◌}
 use Rattle.std.specs.Fmt.{decimal}
+use Rattle.tcl_words.specs.Bytes as ascii
 use Rattle.child_events.specs.Log.{hex_text}
 use Rattle.tcl_eval.specs.declared.ending.Ending.{Ending}
 use Rattle.tcl_eval.specs.declared.ending.Ending.TheVariants.{Exit, Error, StepLimit, TimeLimit, Memory, Waiting}
@@ -34,11 +35,11 @@ head_words n r =
     ++ labelled (codes " sent=") (sum r.sent) ++ labelled (codes " transcript=") (length r.transcript)
 
 abbrev pub head_line : ℕ → Report → List ℕ
-head_line n r = head_words n r ++ 10 ∷ []
+head_line n r = head_words n r ++ ascii.newline ∷ []
 
 -- for an error alone, how many bytes its text has, and the text, told so
 abbrev pub fault_part : Ending → ℕ → List ℕ → List ℕ
-fault_part Error size told = labelled (codes "error ") size ++ 10 ∷ [] ++ told ++ 10 ∷ []
+fault_part Error size told = labelled (codes "error ") size ++ ascii.newline ∷ [] ++ told ++ ascii.newline ∷ []
 fault_part (Exit n) size told = []
 fault_part StepLimit size told = []
 fault_part TimeLimit size told = []
@@ -47,7 +48,7 @@ fault_part Waiting size told = []
 
 -- a name and its value, each in lower-case hexadecimal, or a dash where it is empty
 unfoldable pub var_line : List ℕ × List ℕ → List ℕ
-var_line (name, value) = codes "var " ++ hex_text name ++ 32 ∷ [] ++ hex_text value ++ 10 ∷ []
+var_line (name, value) = codes "var " ++ hex_text name ++ ascii.space ∷ [] ++ hex_text value ++ ascii.newline ∷ []
 
 abbrev pub vars_lines : List (List ℕ × List ℕ) → List ℕ
 vars_lines [] = []
@@ -59,7 +60,7 @@ vars_part shown vars = if shown then vars_lines vars else []
 -- each word in lower-case hexadecimal, or a dash where it is empty, behind a space
 abbrev pub words_part : List (List ℕ) → List ℕ
 words_part [] = []
-words_part (w ∷ ws) = (32 ∷ [] ++ hex_text w) ++ words_part ws
+words_part (w ∷ ws) = (ascii.space ∷ [] ++ hex_text w) ++ words_part ws
 
 -- the program and its arguments, or the bytes, in hexadecimal
 abbrev pub act_text : Act → List ℕ
@@ -71,10 +72,10 @@ act_text act.Wait = codes "wait"
 
 -- what is asked of which child
 unfoldable pub ask_words : Request → List ℕ
-ask_words r = labelled (codes "ask ") r.child ++ 32 ∷ [] ++ act_text r.act
+ask_words r = labelled (codes "ask ") r.child ++ ascii.space ∷ [] ++ act_text r.act
 
 abbrev pub ask_line : Request → List ℕ
-ask_line r = ask_words r ++ 10 ∷ []
+ask_line r = ask_words r ++ ascii.newline ∷ []
 
 abbrev pub ask_lines : List Request → List ℕ
 ask_lines [] = []
@@ -85,7 +86,7 @@ asks_part shown requests = if shown then ask_lines requests else []
 
 -- what stands behind the transcript, where the text of an error is told so
 abbrev pub tail_part : Shown → List ℕ → Report → List ℕ
-tail_part shown told r = 10 ∷ [] ++ fault_part r.ending (length r.fault) told ++ vars_part shown.vars r.vars ++ asks_part shown.requests r.requests
+tail_part shown told r = ascii.newline ∷ [] ++ fault_part r.ending (length r.fault) told ++ vars_part shown.vars r.vars ++ asks_part shown.requests r.requests
 
 abbrev pub report_bytes : Shown → ℕ → Report → List ℕ
 report_bytes shown n r = head_line n r ++ r.transcript ++ tail_part shown r.fault r

@@ -2,6 +2,7 @@
 use Rattle.std.specs.Prelude.{◌≡◌, ◌≢◌, ◌≤◌, ◌⊎◌, ℕ, List, [], ◌∷◌, ◌++◌, length, drop, codes, Bool, true, ◌==◌, if◌then◌else◌, Option, Some, None, Result, Ok, Err}
 use Rattle.std.specs.Fmt.{decimal}
 use Rattle.std.specs.Io.KnownBytes.{Appends}
+use Rattle.tcl_words.specs.Bytes as ascii
 use Rattle.child_events.specs.declared.event.Answer.{Answer}
 use Rattle.child_events.specs.declared.event.Answer.TheVariants as answer
 use Rattle.child_events.specs.declared.event.What.{What}
@@ -40,8 +41,8 @@ what_text (what.Answer a) = answer_text a
 
 -- the line of an event: its moment, whom it is of, and what happened
 unfoldable pub event_line : HallEvent → List ℕ
-event_line (hall.Child s c m w) = moment_text m ++ labelled (codes "  script ") s ++ labelled (codes "  child ") c ++ codes "  " ++ what_text w ++ 10 ∷ []
-event_line (hall.Tick m) = moment_text m ++ codes "  tick" ++ 10 ∷ []
+event_line (hall.Child s c m w) = moment_text m ++ labelled (codes "  script ") s ++ labelled (codes "  child ") c ++ codes "  " ++ what_text w ++ ascii.newline ∷ []
+event_line (hall.Tick m) = moment_text m ++ codes "  tick" ++ ascii.newline ∷ []
 
 -- whether an event is of a script; each is where none is named, and a tick is of all
 abbrev pub is_of : Option ℕ → HallEvent → Bool

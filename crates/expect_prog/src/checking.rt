@@ -1,13 +1,14 @@
 //! What is wrong with sources, a line for each finding.
 
-ghost use Rattle.std.specs.Prelude.{◌≡◌, ◌≤◌, ◌++◌, IfOk, OnOk};
+ghost use Rattle.std.specs.Prelude.{◌≡◌, ◌≤◌, ◌++◌, ℕ, List, IfOk, OnOk};
+ghost use Rattle.script_check.specs.Lines.{line_of as line_at};
 ghost use Rattle.expect_prog.specs.Check.{finding_line, finding_lines, checked as checked_text, is_nothing as is_nothing_of, Checks};
 
 use crate::devices::write_all;
 use crate::line::push_line;
 use crate::texts::push_labelled;
 use child_events::Counted;
-use script_check::{Finding, check, line_of};
+use script_check::{Finding, Span, check, line_of, newlines};
 use std::alloc::{AllocError, Global};
 use std::io::Write;
 use tcl_words::Text;
@@ -21,19 +22,36 @@ pub enum CheckFault {
     Memory,
 }
 
-/// Puts the line of a finding behind a text.
+/// The line of a place, where that of another place is known: no more is read than what stands between them, unless the place is before it.
+fn line_from(source: &[u8], known: usize, line: usize, at: usize) -> usize
+    requires { line ≡ line_at source.now known }
+    ensures { result ≡ line_at source.now at }
+{
+    if at < known {
+        return line_of(source, at);
+    }
+    line + newlines(
+        source,
+        Span {
+            from: known,
+            to: at,
+        },
+    )
+}
+
+/// Puts the line of a finding, which stands on this line of the source, behind a text.
 #[tactic(auto, unfolding(crate::specs::Check::finding_line))]
 fn push_finding(
     alloc: Global,
     text: &mut Text,
     file: &[u8],
-    source: &[u8],
+    line: usize,
     finding: &Finding,
 ) -> Result<(), AllocError>
-    ensures { OnOk result (text.new ≡ text.old ++ finding_line file.now source.now finding.now) }
+    ensures { (source : List ℕ) → line ≡ line_at source finding.now.at → OnOk result (text.new ≡ text.old ++ finding_line file.now source finding.now) }
 {
     push_line(alloc, text, file)?;
-    push_labelled(alloc, text, b":", line_of(source, finding.at) as u128)?;
+    push_labelled(alloc, text, b":", line as u128)?;
     text.extend(b": ")?;
     let what = finding.what.text(alloc)?;
     push_line(alloc, text, what.as_slice())?;
@@ -50,8 +68,12 @@ fn push_findings(
 ) -> Result<(), AllocError>
     ensures { OnOk result (text.new ≡ text.old ++ finding_lines file.now source.now findings.now) }
 {
+    let mut known: usize = 0;
+    let mut line: usize = 1;
     for finding in findings {
-        push_finding(alloc, text, file, source, finding)?;
+        line = line_from(source, known, line, finding.at);
+        known = finding.at;
+        push_finding(alloc, text, file, line, finding)?;
     }
     Ok(())
 }

@@ -23,7 +23,9 @@ pub enum Order<'a> {
     Replay(Replay<'a>),
     Run(Run<'a>),
     Show(Show<'a>),
+    Plan(Plan<'a>),
     Check(Check<'a>),
+    Explain(Explain<'a>),
 }
 
 /// Scripts, and what is the same for each of them.
@@ -66,6 +68,28 @@ pub struct Show<'a> {
     pub log: &'a str,
     /// The script whose events are shown, where not all are.
     pub script: Option<u8>,
+}
+
+/// Scripts whose courses over a log are to be told.
+#[derive(Drop)]
+pub struct Explain<'a> {
+    pub scripts: Scripts<'a>,
+    pub log: &'a str,
+    /// The script whose course is told, where not all are.
+    pub only: Option<u8>,
+}
+
+/// A log that is to be planned, of a script over a timeline.
+#[derive(Drop)]
+pub struct Plan<'a> {
+    /// How many steps the script may begin.
+    pub steps: u64,
+    /// Its last moment, in milliseconds.
+    pub limit_ms: Option<u64>,
+    /// The file of its source.
+    pub source: &'a str,
+    /// The file of the timeline.
+    pub timeline: &'a str,
 }
 
 /// Files of scripts that are to be checked.
@@ -212,11 +236,11 @@ fn run_command<'a>(alloc: Global) -> Result<Command<'a>, AllocError> {
         .arg(sources(alloc))
 }
 
-fn script<'a>(alloc: Global) -> Arg<'a> {
+fn script<'a>(alloc: Global, help: &'static str) -> Arg<'a> {
     Arg::new(alloc, "script")
         .long("script")
         .value_name("N")
-        .help("Show the events of script N alone, and the ticks")
+        .help(help)
         .value_parser(value_parser!(u64).range(1..=64))
 }
 
@@ -224,8 +248,43 @@ fn show_command<'a>(alloc: Global) -> Result<Command<'a>, AllocError> {
     Command::new(alloc, "show")
         .about("Shows a log of a run, a line for each event")
         .after_help(help::SHOW)
-        .arg(script(alloc))?
+        .arg(script(alloc, "Show the events of script N alone, and the ticks"))?
         .arg(log(alloc))
+}
+
+fn explain_command<'a>(alloc: Global) -> Result<Command<'a>, AllocError> {
+    Command::new(alloc, "explain")
+        .about("Tells what scripts did over a log, and what they waited for")
+        .after_help(help::EXPLAIN)
+        .arg(script(alloc, "Tell the course of script N alone"))?
+        .arg(limit(alloc))?
+        .arg(steps(alloc))?
+        .arg(log(alloc))?
+        .arg(sources(alloc))
+}
+
+fn source<'a>(alloc: Global) -> Arg<'a> {
+    Arg::new(alloc, "source")
+        .value_name("FILE")
+        .help("The file of the script")
+        .required(true)
+}
+
+fn timeline<'a>(alloc: Global) -> Arg<'a> {
+    Arg::new(alloc, "timeline")
+        .value_name("TIMELINE")
+        .help("The file of what its children say, or /dev/stdin")
+        .required(true)
+}
+
+fn plan_command<'a>(alloc: Global) -> Result<Command<'a>, AllocError> {
+    Command::new(alloc, "plan")
+        .about("Plans a log for replay, of a script and what its children say")
+        .after_help(help::PLAN)
+        .arg(limit(alloc))?
+        .arg(steps(alloc))?
+        .arg(source(alloc))?
+        .arg(timeline(alloc))
 }
 
 fn check_command<'a>(alloc: Global) -> Result<Command<'a>, AllocError> {
@@ -246,6 +305,8 @@ fn command<'a>(alloc: Global) -> Result<Command<'a>, AllocError> {
         .subcommand(run_command(alloc)?)?
         .subcommand(replay_command(alloc)?)?
         .subcommand(show_command(alloc)?)?
+        .subcommand(explain_command(alloc)?)?
+        .subcommand(plan_command(alloc)?)?
         .subcommand(check_command(alloc)?)
 }
 
@@ -370,6 +431,23 @@ fn show_of<'a>(matches: &ArgMatches<'a>) -> Order<'a> {
     })
 }
 
+fn explain_of<'a>(alloc: Global, matches: &ArgMatches<'a>) -> Result<Order<'a>, AllocError> {
+    Ok(Order::Explain(Explain {
+        scripts: scripts_of(alloc, matches)?,
+        log: matches.get_str("log").unwrap_or(""),
+        only: matches.get_one::<u64>("script").map(byte_of),
+    }))
+}
+
+fn plan_of<'a>(matches: &ArgMatches<'a>) -> Order<'a> {
+    Order::Plan(Plan {
+        steps: steps_of(matches.get_one::<u64>("steps")),
+        limit_ms: limit_of(matches.get_one::<u64>("limit")),
+        source: matches.get_str("source").unwrap_or(""),
+        timeline: matches.get_str("timeline").unwrap_or(""),
+    })
+}
+
 fn check_of<'a>(alloc: Global, matches: &ArgMatches<'a>) -> Result<Order<'a>, AllocError> {
     Ok(Order::Check(Check {
         sources: files_of(alloc, matches)?,
@@ -383,7 +461,9 @@ pub fn read_words<'a>(alloc: Global, words: &'a [String]) -> Result<Order<'a>, E
     match matches.subcommand() {
         Some(("run", run)) => Ok(run_of(alloc, run)?),
         Some(("show", show)) => Ok(show_of(show)),
+        Some(("plan", plan)) => Ok(plan_of(plan)),
         Some(("check", check)) => Ok(check_of(alloc, check)?),
+        Some(("explain", explain)) => Ok(explain_of(alloc, explain)?),
         Some((_, replay)) => Ok(replay_of(alloc, replay)?),
         None => Ok(replay_of(alloc, &matches)?),
     }

@@ -1,17 +1,42 @@
 //! Faults as lines on standard error.
 
 ghost use Rattle.std.specs.Prelude.{◌≡◌};
-ghost use Rattle.expect_prog.specs.Complaint.{LogLine, OpeningLine, RunLine, FaultLine, DriveLine, ShowLine, refusal_number as number_of};
+ghost use Rattle.expect_prog.specs.Complaint.{LogLine, OpeningLine, RunLine, FaultLine, DriveLine, ShowLine, ExplainLine, PlanLine, TimelineLine, BadLine, refusal_number as number_of};
 
-use crate::command_line::{Replay, Run, Show};
+use crate::command_line::{Explain, Plan, Replay, Run, Show};
 use crate::driving::DriveFault;
+use crate::explaining::ExplainFault;
 use crate::fault::ReplayFault;
+use crate::planning::PlanLogFault;
 use crate::showing::ShowFault;
 use child_events::LogFault;
 use child_serve::ServeFault;
+use child_timeline::TimelineFault;
 use dialogue_sched::{HallFault, HallRefusal, RunFault};
+use log_plan::PlanFault;
 use std::alloc::{AllocError, AllocFailed};
 use thiserror::Error;
+
+/// What is wrong with a line of a timeline.
+#[derive(Clone, Copy, Debug, Error)]
+pub enum Wrong {
+    #[error("no line of a timeline")]
+    Shape,
+    #[error("no moment")]
+    Moment,
+    #[error("a moment before the last one")]
+    Back,
+    #[error("no child: they are 1 to 16")]
+    Child,
+    #[error("no cause")]
+    Cause,
+    #[error("no text between quotes")]
+    Text,
+    #[error("no status")]
+    Status,
+    #[error("the child's exit again")]
+    Again,
+}
 
 /// Why the reports of an order are not all printed.
 #[derive(Debug, Drop, Error)]
@@ -21,9 +46,26 @@ pub enum Complaint<'a> {
     #[error("cannot read {0}")]
     Unreadable(&'a str),
     #[error("log fault {number} at line {line}")]
-    Log { number: u8, line: usize },
+    Log {
+        number: u8,
+        line: usize,
+    },
     #[error("event {event} refused {number}")]
-    Event { event: u128, number: u8 },
+    Event {
+        event: u128,
+        number: u8,
+    },
+    #[error("plan: {path}:{line}: {what}")]
+    Timeline {
+        path: &'a str,
+        line: usize,
+        what: Wrong,
+    },
+    #[error("plan: {path} asks on and on at {moment} ms")]
+    Unending {
+        path: &'a str,
+        moment: u64,
+    },
     #[error("too many scripts")]
     TooManyScripts,
     #[error("source too long: {0}")]
@@ -144,6 +186,64 @@ impl<'a> Complaint<'a> {
             ShowFault::Log(fault) => Complaint::of_log(fault),
             ShowFault::Write => Complaint::Unwritten,
             ShowFault::Memory => Complaint::Memory,
+        }
+    }
+
+    /// The complaint of a fault where courses over a log are told.
+    pub fn of_explain(fault: ExplainFault, order: &Explain<'a>) -> Complaint<'a>
+        ensures { ExplainLine order.now.log order.now.scripts.sources.items fault result }
+    {
+        match fault {
+            ExplainFault::Read => Complaint::Unreadable(order.log),
+            ExplainFault::Log(fault) => Complaint::of_log(fault),
+            ExplainFault::TooManyScripts => Complaint::TooManyScripts,
+            ExplainFault::SourceTooLong(script) => Complaint::of_opening(
+                HallFault::SourceTooLong(script),
+                order.scripts.sources.as_slice(),
+            ),
+            ExplainFault::Write => Complaint::Unwritten,
+            ExplainFault::Memory => Complaint::Memory,
+        }
+    }
+
+    /// A bad line of a timeline's file.
+    fn bad(path: &'a str, line: usize, what: Wrong) -> Complaint<'a>
+        ensures { BadLine path.entry line what result }
+    {
+        Complaint::Timeline { path, line, what }
+    }
+
+    fn of_timeline(fault: TimelineFault, path: &'a str) -> Complaint<'a>
+        ensures { TimelineLine path.entry fault result }
+    {
+        match fault {
+            TimelineFault::Shape(line) => Complaint::bad(path, line, Wrong::Shape),
+            TimelineFault::Moment(line) => Complaint::bad(path, line, Wrong::Moment),
+            TimelineFault::Back(line) => Complaint::bad(path, line, Wrong::Back),
+            TimelineFault::Child(line) => Complaint::bad(path, line, Wrong::Child),
+            TimelineFault::Cause(line) => Complaint::bad(path, line, Wrong::Cause),
+            TimelineFault::Text(line) => Complaint::bad(path, line, Wrong::Text),
+            TimelineFault::Status(line) => Complaint::bad(path, line, Wrong::Status),
+            TimelineFault::Again(line) => Complaint::bad(path, line, Wrong::Again),
+            TimelineFault::Memory => Complaint::Memory,
+        }
+    }
+
+    /// The complaint of a fault where a log is planned.
+    pub fn of_plan(fault: PlanLogFault, order: &Plan<'a>) -> Complaint<'a>
+        ensures { PlanLine order.now.source order.now.timeline fault result }
+    {
+        match fault {
+            PlanLogFault::Read => Complaint::Unreadable(order.timeline),
+            PlanLogFault::Timeline(fault) => Complaint::of_timeline(fault, order.timeline),
+            PlanLogFault::Plan(PlanFault::SourceTooLong) => Complaint::SourceTooLong(order.source),
+            PlanLogFault::Plan(PlanFault::Unending(moment)) => Complaint::Unending {
+                path: order.source,
+                moment,
+            },
+            PlanLogFault::Plan(PlanFault::Memory) => Complaint::Memory,
+            PlanLogFault::Write => Complaint::Unwritten,
+            PlanLogFault::Memory => Complaint::Memory,
         }
     }
 

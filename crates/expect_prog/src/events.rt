@@ -71,7 +71,7 @@ fn push_what(alloc: Global, text: &mut Text, what: &What) -> Result<(), AllocErr
 
 /// Puts the line of an event behind a text.
 #[tactic(auto, unfolding(crate::specs::Show::event_line))]
-fn push_line(alloc: Global, text: &mut Text, event: &HallEvent) -> Result<(), AllocError>
+pub(crate) fn push_line(alloc: Global, text: &mut Text, event: &HallEvent) -> Result<(), AllocError>
     ensures { OnOk result (text.new ≡ text.old ++ event_line event.now) }
 {
     match event {

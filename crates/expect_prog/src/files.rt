@@ -4,11 +4,13 @@ ghost use Rattle.std.specs.Prelude.{◌≡◌, ◌≤◌, length, IfOk, OnOk};
 ghost use Rattle.expect_prog.specs.Given.{script_given, scripts_given, AreOfFiles};
 
 use crate::checking::{CheckFault, check_source};
-use crate::command_line::{Check, Replay, Scripts, Show};
+use crate::command_line::{Check, Explain, Plan, Replay, Scripts, Show};
 use crate::complaint::Complaint;
 use crate::devices::{ReadFault, read_all};
+use crate::explaining::explain;
 use crate::folder::Folder;
 use crate::outcome::Outcome;
+use crate::planning::plan_log;
 use crate::replaying::replay;
 use crate::shelf::{NoShelf, Shelf};
 use crate::showing::show_log;
@@ -160,6 +162,39 @@ pub fn show_file<'a, R: Files + Print>(
     match show_log(alloc, order.script, &mut log, &mut out) {
         Ok(()) => Ok(Outcome::Well),
         Err(fault) => Err(Complaint::of_show(fault, order)),
+    }
+}
+
+/// Tells the courses of an order's scripts over its log.
+///
+/// The sources are read in order, and then the log; the first that can't be read is complained of.
+pub fn explain_files<'a, R: Files + Print>(
+    rt: &R,
+    alloc: Global,
+    order: &Explain<'a>,
+) -> Result<Outcome, Complaint<'a>> {
+    let scripts = scripts(rt, alloc, &order.scripts)?;
+    let mut log = Counted::new(opened(rt, order.log)?);
+    let mut out = Counted::new(io::writer(rt));
+    match explain(alloc, order.only, &mut log, scripts, &mut out) {
+        Ok(()) => Ok(Outcome::Well),
+        Err(fault) => Err(Complaint::of_explain(fault, order)),
+    }
+}
+
+/// Plans the log of an order: its script is read first, and then the timeline.
+pub fn plan_file<'a, R: Files + Print>(
+    rt: &R,
+    alloc: Global,
+    order: &Plan<'a>,
+) -> Result<Outcome, Complaint<'a>> {
+    let source = source(rt, alloc, order.source)?;
+    let script = script_of(alloc, order.steps, order.limit_ms, source);
+    let mut timeline = Counted::new(opened(rt, order.timeline)?);
+    let mut out = Counted::new(io::writer(rt));
+    match plan_log(alloc, script, &mut timeline, &mut out) {
+        Ok(()) => Ok(Outcome::Well),
+        Err(fault) => Err(Complaint::of_plan(fault, order)),
     }
 }
 

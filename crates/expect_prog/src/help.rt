@@ -24,6 +24,12 @@ was changed since, what it makes of the same events.
 
 show prints such a log to be read, a line for each event.
 
+explain prints what scripts did at each event of a log, and what they waited for
+then: why an expect went on waiting.
+
+plan writes such a log for one script, from a timeline of what its programs say:
+each answer is put in where the script asks for it.
+
 check runs nothing. It says what is wrong with scripts, a line for each finding.
 
 Up to 64 scripts run side by side; none changes another.
@@ -32,8 +38,9 @@ The status is 0 where each script ended with exit:0, or nothing is wrong with
 any, 1 where it isn't so, and 2 at a fault, which is a line on standard error.
 
 `exprun run --help` says how programs are run, `exprun replay --help` what a log
-and a report are, `exprun show --help` how a log is shown, and `exprun check
---help` what is found, each with an example.";
+and a report are, `exprun show --help` how a log is shown, `exprun explain
+--help` what is told of scripts, `exprun plan --help` what a timeline is, and
+`exprun check --help` what is found, each with an example.";
 
 /// Behind the help of `replay`.
 pub const REPLAY: &str = "\
@@ -201,6 +208,105 @@ Then `exprun show log` prints
           10 ms  script 1  child 1  request done
           20 ms  script 1  child 1  wrote \"hi\\n\"
        10031 ms  tick";
+
+/// Behind the help of `explain`.
+pub const EXPLAIN: &str = "\
+LOG comes before FILE. /dev/stdin as LOG is standard input. `exprun replay
+--help` says what a log is, and `exprun show --help` how its events are shown.
+
+For each script its events are told in order, and behind each
+
+    asks child C: ..      what it asked of a child: spawn, write, end, close, wait
+    waits for the answer of child C
+                          it goes on once that has come
+    waits for output until M ms
+                          an expect waits, to that moment at the latest
+    child C has N bytes, the last are ..
+                          output of the child that no pattern has taken
+    -ex, -gl, -re ..  no  a pattern of it, which doesn't match there
+
+A pattern is told as it can be written, so that one that was made from variables
+is seen as it came out. Behind a tick nothing is told of a script that it did
+not concern. At the end stands how the script ended, with the text of its error.
+
+--script N tells the course of script N alone. The status is 0, also where a
+script ended otherwise, and 2 at a fault, which is a line on standard error.
+
+Example: ask.exp is
+
+    spawn cat
+    expect -ex {name: }
+    send bob\\r
+
+and the file log is
+
+    exprun-log 2
+    ok 1 1 5
+    out 1 1 20 4e616d653a20
+    total 2
+
+Then `exprun explain log ask.exp` prints
+
+    script 1
+                 asks child 1: spawn \"cat\"
+                 waits for the answer of child 1
+           5 ms  script 1  child 1  request done
+                 waits for output until 10005 ms
+                   child 1 has 0 bytes, the last are \"\"
+                     -ex \"name: \"  no
+          20 ms  script 1  child 1  wrote \"Name: \"
+                 waits for output until 10005 ms
+                   child 1 has 6 bytes, the last are \"Name: \"
+                     -ex \"name: \"  no
+    script 1 end=waiting steps=2 sent=0 transcript=17";
+
+/// Behind the help of `plan`.
+pub const PLAN: &str = "\
+FILE comes before TIMELINE. The log is written to standard output, for replay as
+script 1. The script is run over the timeline, and whatever it asks of a child
+is answered at once: a start, a write and a close are done, and a wait is told
+how the child ends.
+
+A line of a timeline is one of these, with blanks between its words:
+
+    MOMENT \"TEXT\"         the child writes this
+    MOMENT end            its output ends
+    MOMENT fail CAUSE     its output is lost: notfound, denied, broken, memory
+                          or other
+    MOMENT tick           the time alone goes on, as for a timeout behind the
+                          last of the other lines
+    exit STATUS           what a wait for the child is told: its status, or
+                          killed; 0 where it isn't said
+
+MOMENT is in milliseconds, and never falls. +N is N behind the line before. Of
+another child than the first say `child N` (by spawns, from 1) behind MOMENT,
+and in front of exit. A line that is empty or begins with # says nothing.
+
+In TEXT \\\\ is a backslash, \\\" a quote, \\n a newline, \\r a carriage return, \\t a
+tab, and \\x with two hexadecimal digits any byte, as show prints them.
+
+Where a line is bad nothing is written, the status is 2, and the first one is
+told, as `exprun: plan: TIMELINE:3: no moment`. So is a script that asks more
+than 100,000 times while the timeline stands still.
+
+Example: cat.exp is
+
+    spawn cat
+    send \"hi\\r\"
+    expect \"hi\\r\\nhi\\r\\n\"
+
+and the file timeline is
+
+    # cat writes what it reads
+    20 \"hi\\n\"
+
+Then `exprun plan cat.exp timeline` prints
+
+    exprun-log 2
+    ok 1 1 0
+    ok 1 1 0
+    out 1 1 20 68690a
+    total 3";
 
 /// Behind the help of `check`.
 pub const CHECK: &str = "\

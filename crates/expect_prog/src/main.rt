@@ -1,4 +1,4 @@
-//! Runs scripts, or replays them over a log of events, and prints their reports; or shows a log, or checks scripts.
+//! Runs scripts, or replays them over a log of events, and prints their reports; or shows a log, explains one, plans one, or checks scripts.
 #![tactic(auto)]
 
 mod asks;
@@ -9,6 +9,7 @@ mod devices;
 mod driving;
 mod escape;
 mod events;
+mod explaining;
 mod fault;
 mod files;
 mod folder;
@@ -18,6 +19,8 @@ mod help;
 mod json;
 mod line;
 mod outcome;
+mod patterns;
+mod planning;
 mod replaying;
 mod reporting;
 mod running;
@@ -26,10 +29,11 @@ mod showing;
 mod tally;
 mod tap;
 mod texts;
+mod waits;
 
 use crate::command_line::{Order, read_words};
 use crate::complaint::{Complaint, tell};
-use crate::files::{check_files, replay_files, show_file};
+use crate::files::{check_files, explain_files, plan_file, replay_files, show_file};
 use crate::outcome::Outcome;
 use crate::running::run_files;
 use std::alloc::Global;
@@ -85,7 +89,9 @@ fn main(rt: HostRuntime) -> ExitCode {
         Order::Replay(replay) => replay_files(&rt, rt.alloc(), replay),
         Order::Run(run) => run_files(rt, rt.alloc(), run, rt.stderr()),
         Order::Show(show) => show_file(&rt, rt.alloc(), show),
+        Order::Plan(plan) => plan_file(&rt, rt.alloc(), plan),
         Order::Check(check) => check_files(&rt, rt.alloc(), check),
+        Order::Explain(explain) => explain_files(&rt, rt.alloc(), explain),
     };
     match outcome {
         Ok(Outcome::Well) => ExitCode::SUCCESS,

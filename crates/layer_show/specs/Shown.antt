@@ -1,6 +1,7 @@
 -- How a list that was read is shown.
 use Rattle.std.specs.Prelude.{ℕ, List, [], ◌∷◌, ◌++◌, codes}
 use Rattle.hex.specs.Hex.{encode_lower}
+use Rattle.tcl_words.specs.Bytes as ascii
 use Rattle.tcl_words.specs.Lists.{written}
 
 -- bytes in lower-case hexadecimal, or a dash for none
@@ -9,7 +10,7 @@ hex_text [] = codes "-"
 hex_text (b ∷ bs) = encode_lower (b ∷ bs)
 
 abbrev pub hex_line : List ℕ → List ℕ
-hex_line bytes = hex_text bytes ++ 10 ∷ []
+hex_line bytes = hex_text bytes ++ ascii.newline ∷ []
 
 abbrev pub hex_lines : List (List ℕ) → List ℕ
 hex_lines [] = []
@@ -20,4 +21,4 @@ abbrev pub list_shown : List (List ℕ) → List ℕ
 list_shown l = hex_lines l ++ hex_line (written l)
 
 abbrev pub bad_list : List ℕ
-bad_list = codes "bad list" ++ 10 ∷ []
+bad_list = codes "bad list" ++ ascii.newline ∷ []

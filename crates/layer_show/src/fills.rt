@@ -53,8 +53,8 @@ fn give_text(alloc: Global, filler: &mut Filler, number: usize) -> Result<(), Al
 }
 
 /// Goes on with the scripts' texts. A script is a step, and is asked for once.
-fn filled_by(alloc: Global, mut filler: Filler, vars: &Vars) -> Result<Filling, Complaint>
-    ensures { IfOk result (λ f. Fills f (spoken (rest filler vars.now) vars.now)) }
+fn filled_by(alloc: Global, mut filler: Filler, vars: &mut Vars) -> Result<Filling, Complaint>
+    ensures { IfOk result (λ f. Fills f (spoken (rest filler vars.old) vars.old)) }
 {
     filling_is_fill();
     let most = filler.recipe().steps.len();
@@ -78,8 +78,8 @@ fn filler_of(alloc: Global, word: &Word) -> Result<Filler, AllocError>
 }
 
 /// Fills a word; each script in it comes to its own text.
-fn filled_word(alloc: Global, vars: &Vars, word: &Word) -> Result<Filling, Complaint>
-    ensures { IfOk result (λ f. Fills f (spoken (fill (word_view word.now).pieces vars.now) vars.now)) }
+fn filled_word(alloc: Global, vars: &mut Vars, word: &Word) -> Result<Filling, Complaint>
+    ensures { IfOk result (λ f. Fills f (spoken (fill (word_view word.now).pieces vars.old) vars.old)) }
 {
     filling_is_fill();
     let filler = filler_of(alloc, word)?;
@@ -87,7 +87,7 @@ fn filled_word(alloc: Global, vars: &Vars, word: &Word) -> Result<Filling, Compl
 }
 
 /// Fills the only word of a command.
-fn filled_command(alloc: Global, vars: &Vars, command: &Command) -> Result<Filling, Complaint> {
+fn filled_command(alloc: Global, vars: &mut Vars, command: &Command) -> Result<Filling, Complaint> {
     match command.words.as_slice() {
         [word] => filled_word(alloc, vars, word),
         _ => Err(Complaint::Call),
@@ -95,7 +95,7 @@ fn filled_command(alloc: Global, vars: &Vars, command: &Command) -> Result<Filli
 }
 
 /// Fills a text that is a command of one word.
-pub fn filled(alloc: Global, vars: &Vars, src: &[u8]) -> Result<Filling, Complaint> {
+pub fn filled(alloc: Global, vars: &mut Vars, src: &[u8]) -> Result<Filling, Complaint> {
     match next_command(alloc, src, 0) {
         Ok(Some((command, _))) => filled_command(alloc, vars, &command),
         Ok(None) => Err(Complaint::Call),

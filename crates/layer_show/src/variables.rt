@@ -33,6 +33,14 @@ fn push_value(
     }
 }
 
+/// `yes` where the value's bytes were read as a list that it doesn't have at hand, else `no`; or the fault.
+fn push_read(text: &mut Text, read: Result<Value, SubstFault>) -> Result<(), Complaint> {
+    match read {
+        Ok(value) => Ok(text.extend(if value.was_read() { b"yes" } else { b"no" })?),
+        Err(fault) => push_refusal(text, fault),
+    }
+}
+
 /// The element of a list at an index, `none` where there is none, or the fault.
 fn push_element(
     alloc: Global,
@@ -95,6 +103,7 @@ fn on_name(
         b"unset" => push_done(text, vars.unset(name)),
         b"link" => push_done(text, vars.link_global(name)),
         b"list" => push_done(text, vars.listed(name)),
+        b"read" => push_read(text, vars.get(name)),
         b"fill" => push_filled(alloc, text, &filled(alloc, vars, name)?),
         _ => Err(Complaint::Call),
     }
@@ -217,7 +226,7 @@ fn times(call: &Vec<Text>) -> Result<Option<u64>, Complaint> {
     }
 }
 
-/// `push`, `pop` or `globals`; `get`, `global`, `exists`, `unset`, `link` or `list` and a name; `fill` and a text; `set` or
+/// `push`, `pop` or `globals`; `get`, `global`, `exists`, `unset`, `link`, `list` or `read` and a name; `fill` and a text; `set` or
 /// `append`, a name and bytes; `assign`, a name and a text; `member`, an array and an index; `element`, a name and a place;
 /// `lappend`, a name and elements. A line says what each call gave. With `times` and a number all that follows is first
 /// performed so many times without a line.

@@ -1,5 +1,6 @@
 -- The scripts in brackets of a text, and the operands of an expression's text, which ends at a place of the source.
 use Rattle.std.specs.Prelude.{ℕ, ◌-◌, ◌==◌, ◌&&◌, ◌||◌, if◌then◌else◌, List, [], ◌∷◌, ◌++◌, drop, Option, Some, None}
+use Rattle.tcl_words.specs.Bytes as ascii
 use Rattle.tcl_words.specs.Course.{reading}
 use Rattle.tcl_words.specs.Operands.{operand}
 use Rattle.script_check.specs.declared.span.Span.{Span}
@@ -17,9 +18,9 @@ and_behind on found = listed found.0 ++ on found.1
 -- the script of a bracket at the front of a text, and how many bytes behind the first one belong to what stands there
 abbrev pub bracket_at : ℕ → ℕ → List ℕ → Option Span × ℕ
 bracket_at end b text =
-    if b == 91 then (Some (from_to end (drop 1 text) (drop (taken (operand text) - 2) (drop 1 text))), taken (operand text) - 1)
-    else if b == 92 then (None, 1)
-    else if b == 36 && begins_with 123 (drop 1 text) then (None, taken (operand text) - 1)
+    if b == ascii.open_bracket then (Some (from_to end (drop 1 text) (drop (taken (operand text) - 2) (drop 1 text))), taken (operand text) - 1)
+    else if b == ascii.backslash then (None, 1)
+    else if b == ascii.dollar && begins_with ascii.open_brace (drop 1 text) then (None, taken (operand text) - 1)
     else (None, 0)
 
 abbrev pub bracket_step : ℕ → (ℕ → List Span) → ℕ → List ℕ → List Span
@@ -31,8 +32,8 @@ brackets end = reading [] (bracket_step end)
 -- an operand that isn't in braces, and how many bytes behind the first one belong to what stands there
 abbrev pub operand_at : ℕ → ℕ → List ℕ → Option Span × ℕ
 operand_at end b text =
-    if b == 123 then (None, taken (operand text) - 1)
-    else if b == 34 || b == 36 || b == 91 then (Some (from_to end text (drop (taken (operand text)) text)), taken (operand text) - 1)
+    if b == ascii.open_brace then (None, taken (operand text) - 1)
+    else if b == ascii.quote || b == ascii.dollar || b == ascii.open_bracket then (Some (from_to end text (drop (taken (operand text)) text)), taken (operand text) - 1)
     else (None, 0)
 
 abbrev pub operand_step : ℕ → (ℕ → List Span) → ℕ → List ℕ → List Span

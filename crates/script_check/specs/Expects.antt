@@ -4,6 +4,7 @@ use Rattle.exp_match.specs.declared.faults.PatternFault.{PatternFault}
 use Rattle.exp_match.specs.declared.faults.PatternFault.TheVariants as fault
 use Rattle.exp_match.specs.declared.list.PatternList.{PatternList}
 use Rattle.exp_match.specs.Arguments.{patterns_of}
+use Rattle.tcl_words.specs.Bytes as ascii
 use Rattle.tcl_words.specs.Lists.{is_white}
 use Rattle.script_check.specs.declared.span.Span.{Span}
 use Rattle.script_check.specs.declared.placed.Placed.{Placed}
@@ -42,7 +43,7 @@ expect_fault args = by_texts (plain_texts args)
 -- An argument that is the list of all others, with the stretch of the words in it. Only one in braces stands in the source as it is.
 
 abbrev pub is_braced : List ℕ → Placed → Bool
-is_braced source w = not w.expand && begins_with 123 (part source w.span)
+is_braced source w = not w.expand && begins_with ascii.open_brace (part source w.span)
 
 abbrev pub list_span : List ℕ → Placed → Span
 list_span source w = if is_braced source w then inside w.span else record { from = 0; to = 0 }
@@ -54,7 +55,7 @@ is_expect (Some w) = bytes_eq w (codes "expect")
 -- an argument with a newline before the first byte that is no white space
 abbrev pub is_list : List ℕ → Bool
 is_list [] = false
-is_list (b ∷ bs) = if b == 10 then true else if is_white b then is_list bs else false
+is_list (b ∷ bs) = if b == ascii.newline then true else if is_white b then is_list bs else false
 
 abbrev pub is_listing : Option (List ℕ) → Bool
 is_listing None = false

@@ -1,5 +1,6 @@
 -- What is wrong with the arguments of a command, where they are written plainly. A word that isn't, `None`, may be any word.
 use Rattle.std.specs.Prelude.{ℕ, false, ◌||◌, List, [], ◌∷◌, length, codes, Option, Some, None, bytes_eq, if◌then◌else◌}
+use Rattle.tcl_words.specs.Bytes as ascii
 use Rattle.tcl_commands.specs.declared.verbs.Plain.TheVariants as kind
 use Rattle.tcl_commands.specs.declared.verbs.Verb.{Verb}
 use Rattle.tcl_commands.specs.declared.verbs.Verb.TheVariants.{Plain, If}
@@ -55,7 +56,7 @@ language_fault verb name args = counted name (count_of verb) (length args)
 abbrev pub to_channel : List ℕ → Option Problem
 to_channel w =
     if bytes_eq w (codes "stdout") then None
-    else if begins_with 45 w then Some (BadFlag w)
+    else if begins_with ascii.minus w then Some (BadFlag w)
     else Some (BadOption w)
 
 abbrev pub before_text : Option (List ℕ) → Option Problem

@@ -1,5 +1,6 @@
 -- The flags of Expect's commands, and how many words stand behind them: `flags_of` of expect_core, where words may not be written plainly.
 use Rattle.std.specs.Prelude.{ℕ, suc, Bool, true, false, not, ◌&&◌, List, [], ◌∷◌, length, codes, Option, Some, None, bytes_eq, if◌then◌else◌}
+use Rattle.tcl_words.specs.Bytes as ascii
 use Rattle.script_check.specs.declared.commands.Order.{Order}
 use Rattle.script_check.specs.declared.commands.Order.TheVariants as order
 use Rattle.script_check.specs.declared.counts.Count.{Count}
@@ -44,7 +45,7 @@ takes_of order.Puts = takes own.None false false (at_least 0)
 -- what a word is where a flag may stand
 abbrev pub flag_role : Takes → List ℕ → Role
 flag_role t w =
-    if not (begins_with 45 w) then role.Word
+    if not (begins_with ascii.minus w) then role.Word
     else if t.end && bytes_eq w (codes "--") then role.End
     else if bytes_eq w (own_word t.own) then role.Alone
     else if t.id && bytes_eq w (codes "-i") then role.Id

@@ -1,10 +1,11 @@
 -- Lines of a source.
 use Rattle.std.specs.Prelude.{ℕ, ◌+◌, ◌==◌, List, count_by}
+use Rattle.tcl_words.specs.Bytes as ascii
 use Rattle.script_check.specs.declared.span.Span.{Span}
 use Rattle.script_check.specs.Stretches.{part}
 
 abbrev pub newlines : List ℕ → Span → ℕ
-newlines source s = count_by (λ b. b == 10) (part source s)
+newlines source s = count_by (λ b. b == ascii.newline) (part source s)
 
 -- the line of a place, counted from 1
 abbrev pub line_of : List ℕ → ℕ → ℕ

@@ -1,5 +1,6 @@
 -- The scripts that stand in the words of a command: those that its arguments are, and those in brackets.
 use Rattle.std.specs.Prelude.{ℕ, Bool, false, ◌&&◌, ◌||◌, List, [], ◌∷◌, ◌++◌, length, drop, Option, Some, None, Result, Ok, Err, bytes_eq, if◌then◌else◌}
+use Rattle.tcl_words.specs.Bytes as ascii
 use Rattle.tcl_expr.specs.declared.faults.ExprFault.{ExprFault}
 use Rattle.tcl_expr.specs.Tree.{Tree}
 use Rattle.tcl_expr.specs.Grammar.{parsed}
@@ -34,13 +35,13 @@ formula_scripts source s (Some text) = formula_brackets source s (parsed text)
 
 -- in braces nothing is replaced, be they behind `{*}` or not
 abbrev pub is_enclosed : List ℕ → Placed → Bool
-is_enclosed source w = if w.expand then begins_with 123 (drop 3 (part source w.span)) else begins_with 123 (part source w.span)
+is_enclosed source w = if w.expand then begins_with ascii.open_brace (drop 3 (part source w.span)) else begins_with ascii.open_brace (part source w.span)
 
 -- a script that isn't in braces, where the source has it as it is read
 abbrev pub written_at : List ℕ → Span → List ℕ → Option Span
 written_at source s text =
     if bytes_eq (part source s) text then Some s
-    else if begins_with 34 (part source s) && bytes_eq (part source (inside s)) text then Some (inside s)
+    else if begins_with ascii.quote (part source s) && bytes_eq (part source (inside s)) text then Some (inside s)
     else None
 
 abbrev pub as_written : List ℕ → Span → Option (List ℕ) → Option Span

@@ -1,5 +1,6 @@
 -- The words of a command, where they stand in the source.
 use Rattle.std.specs.Prelude.{ℕ, ◌-◌, ◌==◌, Bool, false, ◌&&◌, ◌||◌, if◌then◌else◌, List, [], ◌∷◌, drop, Option, Some, None, Ok, Err}
+use Rattle.tcl_words.specs.Bytes as ascii
 use Rattle.tcl_words.specs.Commands.{is_blank, ends_command, is_continued, is_gap}
 use Rattle.tcl_words.specs.Course.{reading}
 use Rattle.tcl_words.specs.Operands.{Operand, operand}
@@ -14,13 +15,13 @@ abbrev pub next_lead : Bool → Leads → ℕ → List ℕ → Option Leads
 next_lead first lead.Continued b bytes = Some lead.White
 next_lead first lead.Quoted b bytes = Some lead.Comment
 next_lead first lead.Comment b bytes =
-    if b == 10 then Some lead.White
-    else if b == 92 then Some lead.Quoted
+    if b == ascii.newline then Some lead.White
+    else if b == ascii.backslash then Some lead.Quoted
     else Some lead.Comment
 next_lead first lead.White b bytes =
     if is_blank b || ends_command b then Some lead.White
     else if is_continued b bytes then Some lead.Continued
-    else if b == 35 && first then Some lead.Comment
+    else if b == ascii.hash && first then Some lead.Comment
     else None
 
 abbrev pub or_here : List ℕ → (Leads → List ℕ) → Option Leads → List ℕ
@@ -40,7 +41,7 @@ taken (Err f) = 1
 
 -- how many bytes behind the first one of a text belong to what stands there
 abbrev pub owned : ℕ → List ℕ → ℕ
-owned b text = if b == 92 then 1 else if b == 36 || b == 91 then taken (operand text) - 1 else 0
+owned b text = if b == ascii.backslash then 1 else if b == ascii.dollar || b == ascii.open_bracket then taken (operand text) - 1 else 0
 
 abbrev pub bare_step : (ℕ → List ℕ) → ℕ → List ℕ → List ℕ
 bare_step on b bytes = if is_gap b bytes then b ∷ bytes else on (owned b (b ∷ bytes))
@@ -50,7 +51,7 @@ unfoldable pub behind_bare : List ℕ → List ℕ
 behind_bare = reading [] bare_step
 
 abbrev pub behind_plain : List ℕ → List ℕ
-behind_plain text = if begins_with 34 text || begins_with 123 text then drop (taken (operand text)) text else behind_bare text
+behind_plain text = if begins_with ascii.quote text || begins_with ascii.open_brace text then drop (taken (operand text)) text else behind_bare text
 
 -- what is left behind a word; `expand`: it stands behind `{*}`
 abbrev pub behind_word : Bool → List ℕ → List ℕ

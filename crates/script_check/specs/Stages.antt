@@ -1,5 +1,6 @@
 -- As what each argument of a command is read: as a text, a script or an expression. Each argument leads from one stage to the next.
 use Rattle.std.specs.Prelude.{ℕ, ◌==◌, Bool, true, false, ◌||◌, List, [], ◌∷◌, codes, Option, Some, None, bytes_eq, if◌then◌else◌}
+use Rattle.tcl_words.specs.Bytes as ascii
 use Rattle.tcl_commands.specs.declared.verbs.Verb.TheVariants as verb
 use Rattle.script_check.specs.declared.commands.Order.{Order}
 use Rattle.script_check.specs.declared.commands.Order.TheVariants as order
@@ -31,7 +32,7 @@ expect_word w =
     else if bytes_eq w (codes "-re") || bytes_eq w (codes "-ex") || bytes_eq w (codes "-gl") then Written
     else if bytes_eq w (codes "-regexp") || bytes_eq w (codes "-exact") || bytes_eq w (codes "-glob") then Written
     else if bytes_eq w (codes "-nocase") || bytes_eq w (codes "-indices") || bytes_eq w (codes "-notransfer") then Pattern
-    else if begins_with 45 w || bytes_eq w (codes "null") then Texts
+    else if begins_with ascii.minus w || bytes_eq w (codes "null") then Texts
     else Action
 
 -- a word that isn't written plainly is a pattern

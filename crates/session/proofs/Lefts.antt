@@ -1,6 +1,6 @@
 -- What a session says, before and behind events.
 use Rattle.std.proofs.Common.{◌≡◌, ℕ, zero, suc, ◌+◌, Bool, false, List, [], ◌∷◌, ◌++◌, length, drop, Some, None, refl, sym, ap, ◌∙◌, arith}
-use Rattle.std.specs.Prelude.{IsTrue, ◌↔◌, map, slice_get, ◌≤◌}
+use Rattle.std.specs.Prelude.{IsTrue, ◌↔◌, map, slice_get, ◌≤◌, ◌-◌}
 use Rattle.std.proofs.lemmas.List.{drop-drop}
 use Rattle.child_events.specs.declared.event.Event.{Event}
 use Rattle.tcl_subst.specs.Report.{values_of}
@@ -10,6 +10,7 @@ use Rattle.tcl_eval.specs.declared.engine.Engine.{Engine}
 use Rattle.tcl_eval.specs.declared.frame.Mode.{Mode}
 use Rattle.tcl_eval.specs.declared.frame.Mode.TheVariants.{Ended}
 use Rattle.tcl_eval.specs.Rest.{engine_rest}
+use Rattle.tcl_eval.specs.Steps.{left_of}
 use Rattle.tcl_eval.specs.Suspended.{IsOver}
 use Rattle.expect_core.specs.declared.own.Own.{Own}
 use Rattle.expect_core.specs.declared.request.Request.{Request}
@@ -90,6 +91,23 @@ pub has_shown : (a : Inside) → Sound a → IsTrue a.lives → a.dialogue.own.t
 unfolding left
 has_shown a sound lives =
     sym (ap (λ (r : Report). r.transcript) (sound.shows lives) ∙ shown_transcript a.bound a.machine.engine a.machine.mode _ a.dialogue)
+
+-- the requests of a session that lives
+pub has_asked : (a : Inside) → Sound a → IsTrue a.lives → a.dialogue.own.requests ≡ (left (kept_of a) []).requests
+unfolding left
+has_asked a sound lives =
+    sym (ap (λ (r : Report). r.requests) (sound.shows lives) ∙ shown_requests a.bound a.machine.engine a.machine.mode _ a.dialogue)
+
+-- what is shown is how many steps are gone
+shown_steps : (bound : ℕ) (engine : Engine) (mode : Mode) (steps : ℕ) (d : Dialogue) → (shown bound engine mode steps d).steps ≡ bound - steps
+shown_steps bound engine (Ended e) steps d = refl
+shown_steps bound engine _ steps d = refl
+
+-- the steps of a session that lives
+pub has_begun : (a : Inside) → Sound a → IsTrue a.lives → a.bound - left_of a.meter ≡ (left (kept_of a) []).steps
+unfolding left
+has_begun a sound lives =
+    sym (ap (λ (r : Report). r.steps) (sound.shows lives) ∙ shown_steps a.bound a.machine.engine a.machine.mode _ a.dialogue)
 
 first_of : (xs : List Request) (n : ℕ) → slice_get xs n ≡ slice_get (drop n xs) 0
 first_of [] zero = refl

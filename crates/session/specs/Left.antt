@@ -38,6 +38,16 @@ pub record HasShown (k : Kept) (bytes : List ℕ) : Type 0 where
   pub lives : IsTrue k.lives → bytes ≡ (left k []).transcript
   pub spent : k.lives ≡ false → bytes ≡ []
 
+-- what it has asked for: the requests of that report
+pub record HasAsked (k : Kept) (requests : List Request) : Type 0 where
+  pub lives : IsTrue k.lives → requests ≡ (left k []).requests
+  pub spent : k.lives ≡ false → requests ≡ []
+
+-- how many steps it has begun: those of that report
+pub record HasBegun (k : Kept) (steps : ℕ) : Type 0 where
+  pub lives : IsTrue k.lives → steps ≡ (left k []).steps
+  pub spent : k.lives ≡ false → steps ≡ 0
+
 -- the next request is handed out, if there is one, and is counted
 pub record HandsOut (old : Kept) (request : Option Request) (new : Kept) : Type 0 where
   pub lives : new.lives ≡ old.lives

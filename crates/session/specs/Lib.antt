@@ -6,5 +6,6 @@ pub mod Requests
 pub mod Left
 pub mod Spent
 pub mod Quiet
+pub mod Awaited
 pub mod Shown
 pub mod Sound

@@ -1,13 +1,15 @@
 //! A script that is fed its events one by one.
 
-ghost use Rattle.std.specs.Prelude.{◌≡◌, ◌<◌, ◌≤◌, ◌↔◌, ◌≢◌, ◌++◌, [], ◌∷◌, List, length, drop, IfOk, OnOk, IsTrue, IsErrOf, Ok, false};
+ghost use Rattle.std.specs.Prelude.{◌≡◌, ◌<◌, ◌≤◌, ◌↔◌, ◌≢◌, ◌++◌, [], ◌∷◌, List, length, drop, IfOk, OnOk, MatchOption, IsTrue, IsErrOf, None, Some, Ok, false};
 ghost use Rattle.std.specs.Bool.{OnFalse};
 ghost use Rattle.child_events.specs.declared.event.Event.{Event};
 ghost use Rattle.tcl_eval.specs.Steps.{left_of};
 ghost use Rattle.tcl_eval.specs.Suspended.{IsOver};
+ghost use Rattle.expect_core.specs.Awaited.{buffer_of};
 ghost use Rattle.expect_core.specs.Good.{Good};
 ghost use Rattle.expect_core.specs.Lanes.{extended, untaken_of};
-ghost use Rattle.session.specs.Left.{left, Fed, HandsOut, HasShown};
+ghost use Rattle.session.specs.Awaited.{goes_on, answering, expecting};
+ghost use Rattle.session.specs.Left.{left, Fed, HandsOut, HasShown, HasAsked, HasBegun};
 ghost use Rattle.session.specs.Meaning.{meaning, steps_of, tree_of};
 ghost use Rattle.session.specs.Quiet.{QuietUntil, waits_until};
 ghost use Rattle.session.specs.Shown.{Ran};
@@ -17,7 +19,7 @@ use crate::first::first_variables;
 use crate::report::Report;
 use crate::show::{ending_of, shown};
 use child_events::Event;
-use expect_core::{Dialogue, Request, Settings};
+use expect_core::{Dialogue, Plan, Request, Settings};
 use std::alloc::{AllocError, Global};
 use std::collections::VecDeque;
 use std::marker::Model;
@@ -297,6 +299,67 @@ impl Session {
             Some(_) => None,
             None => self.dialogue.deadline(),
         }
+    }
+
+    /// What it has asked of its children so far, in order. It copies nothing. Nothing was asked by a session that was refused memory.
+    pub fn requests(&self) -> &[Request]
+        ensures { HasAsked self.now result.now }
+    {
+        if self.lives {
+            self.dialogue.requests()
+        } else {
+            &[]
+        }
+    }
+
+    /// How many steps it has begun; none where memory was refused to it.
+    pub fn steps(&self) -> u64
+        ensures { HasBegun self.now result }
+    {
+        if self.lives {
+            self.bound.saturating_sub(self.meter.left())
+        } else {
+            0
+        }
+    }
+
+    /// Whether it goes on with what comes: it isn't over, and no memory was refused to it.
+    fn goes_on(&self) -> bool
+        ensures { result ≡ goes_on self.now }
+    {
+        match self.machine.end() {
+            Some(_) => false,
+            None => self.lives,
+        }
+    }
+
+    /// The number of the child, from 1, whose answer it awaits; None where it awaits none, or doesn't go on.
+    pub fn answering(&self) -> Option<u8>
+        ensures { result ≡ answering self.now }
+    {
+        if self.goes_on() {
+            self.dialogue.answering()
+        } else {
+            None
+        }
+    }
+
+    /// The expect that waits for an item of one of its children; None where none waits, or it doesn't go on.
+    pub fn expecting(&self) -> Option<&Plan>
+        ensures { MatchOption result (expecting self.now ≡ None) (λ p. expecting self.now ≡ Some p.now) }
+    {
+        if self.goes_on() {
+            self.dialogue.expecting()
+        } else {
+            None
+        }
+    }
+
+    /// A copy of the bytes of a child that no expect has taken, on which its patterns are tried; none where there is no such child.
+    pub fn buffer_copied(&self, alloc: Global, child: u8) -> Result<Text, AllocError>
+        ensures { IfOk result (λ t. t ≡ buffer_of child self.now.dialogue.own.children) }
+    {
+        self.dialogue.buffer_copied(alloc, child)
     }
 
     /// How many items that came from a child no command has taken yet: pieces of its output, its end, a failure to read it. The echo of what

@@ -4,4 +4,3 @@ pub mod Grouped
 pub mod Places
 pub mod Scopes
 pub mod Fits
-pub mod Emptied

@@ -1,12 +1,13 @@
 -- Words joined to one text (expr(n), eval(n), concat(n)).
 use Rattle.std.specs.Prelude.{ℕ, Bool, ◌&&◌, nat_lt, List, [], ◌∷◌, ◌++◌, length, take, ◌+◌, ◌-◌, ◌==◌, slice_index, Err, if◌then◌else◌}
+use Rattle.tcl_words.specs.Bytes as ascii
 use Rattle.tcl_words.specs.Lists.{is_empty}
 use Rattle.tcl_commands.specs.Texts.{wrong_args}
 use Rattle.tcl_commands.specs.Said.{Said, limited}
 use Rattle.tcl_commands.specs.Strings.{trimmed_front, trimmed_end}
 
 abbrev pub spaced : List ℕ → List ℕ → List ℕ
-spaced text word = text ++ 32 ∷ word
+spaced text word = text ++ ascii.space ∷ word
 
 -- words behind a text, each behind a space
 abbrev pub joined_to : List ℕ → List (List ℕ) → List ℕ
@@ -23,7 +24,7 @@ expr_text command [] = Err (wrong_args command)
 expr_text command (w ∷ ws) = limited (joined (w ∷ ws))
 
 abbrev pub ends_with_backslash : List ℕ → Bool
-ends_with_backslash text = nat_lt 0 (length text) && slice_index text (length text - 1) == 92
+ends_with_backslash text = nat_lt 0 (length text) && slice_index text (length text - 1) == ascii.backslash
 
 -- where the end was dropped behind a backslash, the first byte of it stays
 abbrev pub kept_end : List ℕ → List ℕ → List ℕ

@@ -1,6 +1,7 @@
 -- Commands that read and change variables and texts alone, by their arguments (Tcl(n), each in its own page).
 use Rattle.std.specs.Prelude.{ℕ, List, [], ◌∷◌, length, codes, Result, Ok, Err, ℤ, ◌+ℤ◌, bytes_eq, if◌then◌else◌}
 use Rattle.std.specs.List.{flat_map}
+use Rattle.tcl_words.specs.Bytes as ascii
 use Rattle.tcl_words.specs.Lists.{written}
 use Rattle.tcl_expr.specs.Number.{number_text}
 use Rattle.tcl_expr.specs.Value.{is_within}
@@ -46,7 +47,7 @@ global (name ∷ names) vars = on_changed vars (not_set name) (linked name vars)
 -- a missing variable counts as 0
 abbrev pub or_zero : List ℕ → Result (List ℕ) SubstFault → Said (List ℕ)
 or_zero name (Ok value) = Ok value
-or_zero name (Err f) = if is_missing f then Ok (48 ∷ []) else Err (not_read name f)
+or_zero name (Err f) = if is_missing f then Ok (ascii.digit_0 ∷ []) else Err (not_read name f)
 
 abbrev pub sum : ℤ → ℤ → Said (List ℕ)
 sum a b = if is_within (a +ℤ b) then Ok (number_text (a +ℤ b)) else Err (codes "integer overflow")
@@ -65,7 +66,7 @@ set_if_said name (Ok value) vars = on_changed vars (not_set name) (with_value (s
 
 abbrev pub incr : List ℕ → List (List ℕ) → Variables → Outcome
 incr command [] vars = told (Err (wrong_args command)) vars
-incr command (name ∷ []) vars = set_if_said name (incremented name (49 ∷ []) vars) vars
+incr command (name ∷ []) vars = set_if_said name (incremented name (ascii.digit_1 ∷ []) vars) vars
 incr command (name ∷ by ∷ []) vars = set_if_said name (incremented name by vars) vars
 incr command (name ∷ by ∷ other ∷ more) vars = told (Err (wrong_args command)) vars
 

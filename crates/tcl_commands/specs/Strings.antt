@@ -6,6 +6,7 @@ use Rattle.std.specs.Char.{to_ascii_lowercase, to_ascii_uppercase}
 use Rattle.std.specs.Cmp.Lexicographic.{slice_cmp}
 use Rattle.std.specs.declared.cmp.Ordering.{Ordering}
 use Rattle.std.specs.declared.cmp.Ordering.TheVariants as order
+use Rattle.tcl_words.specs.Bytes as ascii
 use Rattle.tcl_words.specs.Lists.{is_white}
 use Rattle.tcl_expr.specs.Number.{number_text}
 use Rattle.tcl_commands.specs.declared.verbs.StringOption.{StringOption}
@@ -18,13 +19,13 @@ abbrev pub count_text : ℕ → List ℕ
 count_text n = number_text (pos n)
 
 abbrev pub bit_text : Bool → List ℕ
-bit_text true = 49 ∷ []
-bit_text false = 48 ∷ []
+bit_text true = ascii.digit_1 ∷ []
+bit_text false = ascii.digit_0 ∷ []
 
 abbrev pub order_text : Ordering → List ℕ
-order_text order.Less = 45 ∷ 49 ∷ []
-order_text order.Equal = 48 ∷ []
-order_text order.Greater = 49 ∷ []
+order_text order.Less = ascii.minus ∷ ascii.digit_1 ∷ []
+order_text order.Equal = ascii.digit_0 ∷ []
+order_text order.Greater = ascii.digit_1 ∷ []
 
 -- whether a text begins with another
 abbrev pub begins_with : List ℕ → List ℕ → Bool
@@ -36,7 +37,7 @@ first_place text [] = if begins_with [] text then Some 0 else None
 first_place text (b ∷ bytes) = if begins_with (b ∷ bytes) text then Some 0 else option_map suc (first_place text bytes)
 
 abbrev pub place_text : Option ℕ → List ℕ
-place_text None = 45 ∷ 49 ∷ []
+place_text None = ascii.minus ∷ ascii.digit_1 ∷ []
 place_text (Some n) = count_text n
 
 -- without the white space at its front

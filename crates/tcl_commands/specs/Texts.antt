@@ -1,5 +1,6 @@
 -- Texts of errors: Tcl's own words where Tcl has them. Of a word that is quoted at most 200 bytes are shown.
 use Rattle.std.specs.Prelude.{ℕ, Bool, true, false, List, [], ◌∷◌, ◌++◌, take, codes, if◌then◌else◌}
+use Rattle.tcl_words.specs.Bytes as ascii
 use Rattle.tcl_words.specs.declared.faults.WordFault.{WordFault}
 use Rattle.tcl_words.specs.declared.faults.WordFault.TheVariants as word
 use Rattle.tcl_expr.specs.declared.faults.ExprFault.{ExprFault}
@@ -9,7 +10,7 @@ use Rattle.tcl_subst.specs.declared.faults.SubstFault.TheVariants.{NoVariable, I
 
 -- a text, and a word in quotes behind it
 abbrev pub quoted : List ℕ → List ℕ → List ℕ
-quoted front word = front ++ 34 ∷ take 200 word ++ 34 ∷ []
+quoted front word = front ++ ascii.quote ∷ take 200 word ++ ascii.quote ∷ []
 
 -- a command's word, where it has too few or too many arguments
 abbrev pub wrong_args : List ℕ → List ℕ
@@ -67,7 +68,7 @@ not_unset name f = if is_missing f then variable_fault (codes "can't unset ") na
 abbrev pub word_fault : WordFault → List ℕ
 word_fault word.MissingBrace = codes "missing close-brace"
 word_fault word.MissingBracket = codes "missing close-bracket"
-word_fault word.MissingQuote = codes "missing " ++ 34 ∷ []
+word_fault word.MissingQuote = codes "missing " ++ ascii.quote ∷ []
 word_fault word.ExtraAfterQuote = codes "extra characters after close-quote"
 word_fault word.ExtraAfterBrace = codes "extra characters after close-brace"
 word_fault word.TooDeep = codes "nesting too deep"

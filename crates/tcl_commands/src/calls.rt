@@ -95,8 +95,7 @@ fn value_of(alloc: Global, formal: &Formal, args: &[Value]) -> Result<Value, All
 fn list_of(alloc: Global, values: &[Value]) -> Result<Value, AllocError>
     ensures { IfOk result (λ v. v ≡ written values.now) }
 {
-    let texts = texts_of(alloc, values)?;
-    listed(alloc, texts.as_slice())
+    listed(alloc, texts_of(alloc, values)?)
 }
 
 /// Sets the names of formal arguments in a scope of their own, in turn, where there are neither too few nor too many arguments.

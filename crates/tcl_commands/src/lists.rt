@@ -11,11 +11,11 @@ use crate::texts::wrong;
 use crate::values::{count_text, limited, list_of, listed, texts_of};
 use std::alloc::Global;
 use tcl_values::Value;
-use tcl_words::Text;
+use tcl_words::{Texts, copied_texts};
 
 /// The list of texts, where it isn't too long.
-fn list_text(alloc: Global, texts: &[Text]) -> Result<Value, Complaint>
-    ensures { Says result (limited (written texts.now)) }
+fn list_text(alloc: Global, texts: Texts) -> Result<Value, Complaint>
+    ensures { Says result (limited (written texts)) }
 {
     limited(alloc, listed(alloc, texts)?)
 }
@@ -24,8 +24,7 @@ fn list_text(alloc: Global, texts: &[Text]) -> Result<Value, Complaint>
 pub(crate) fn list(alloc: Global, args: &[Value]) -> Result<Value, Complaint>
     ensures { Says result (limited (written args.now)) }
 {
-    let texts = texts_of(alloc, args)?;
-    list_text(alloc, texts.as_slice())
+    list_text(alloc, texts_of(alloc, args)?)
 }
 
 /// `llength list`
@@ -85,5 +84,6 @@ fn list_range(alloc: Global, list: &Value, from: &[u8], to: &[u8]) -> Result<Val
     let elements = list_of(alloc, list)?;
     let from = index_of(alloc, elements.len(), from)?;
     let to = index_of(alloc, elements.len(), to)?;
-    list_text(alloc, between(from, to, elements.as_slice()))
+    let texts = copied_texts(alloc, between(from, to, elements.as_slice()))?;
+    list_text(alloc, texts)
 }

@@ -65,14 +65,11 @@ pub fn texts_of(alloc: Global, values: &[Value]) -> Result<Texts, AllocError>
 }
 
 /// The list of texts, with its elements kept.
-pub(crate) fn listed(alloc: Global, texts: &[Text]) -> Result<Value, AllocError>
-    ensures { IfOk result (λ v. v ≡ written texts.now) }
+pub(crate) fn listed(alloc: Global, texts: Texts) -> Result<Value, AllocError>
+    ensures { IfOk result (λ v. v ≡ written texts) }
 {
-    let mut value = Value::new(alloc);
-    match value.append_elements(alloc, texts, usize::MAX) {
-        Ok(()) => Ok(value),
-        Err(_) => Err(AllocError),
-    }
+    let Texts { list } = texts;
+    Value::written(alloc, list)
 }
 
 /// The text of a count.

@@ -1,5 +1,6 @@
 -- The meaning of scripts (Tcl(n)). A construct is handed what follows it; a stop follows nothing.
 use Rattle.std.specs.Prelude.{ℕ, zero, suc, Bool, true, false, Option, Some, None, List, [], ◌∷◌, ◌++◌, drop, codes, Result, Ok as Fine, Err, ℤ, if◌then◌else◌}
+use Rattle.tcl_words.specs.Bytes as ascii
 use Rattle.tcl_words.specs.declared.faults.WordFault.{WordFault}
 use Rattle.tcl_words.specs.Pieces.{Spelled}
 use Rattle.tcl_expr.specs.declared.faults.ExprFault.{ExprFault}
@@ -221,13 +222,13 @@ each ev names (es ∷ left) body k st =
 -- ---- catch (catch(n))
 
 abbrev pub digit : Code → List ℕ
-digit Ok = 48 ∷ []
-digit Error = 49 ∷ []
-digit Return = 50 ∷ []
-digit Break = 51 ∷ []
-digit Continue = 52 ∷ []
-digit Again = 53 ∷ []
-digit AgainLater = 54 ∷ []
+digit Ok = ascii.digit_0 ∷ []
+digit Error = ascii.digit_1 ∷ []
+digit Return = ascii.digit_2 ∷ []
+digit Break = ascii.digit_3 ∷ []
+digit Continue = ascii.digit_4 ∷ []
+digit Again = ascii.digit_5 ∷ []
+digit AgainLater = ascii.digit_6 ∷ []
 
 module _ {A : Type 0} where
   -- the code is the result, and a variable gets the value

@@ -113,7 +113,7 @@ impl Engine {
         ensures potential { IfOk result (λ mode. potential self.new (left_of meter.new) mode ≤ 8 * left_of meter.old + bodies self.old.stack) }
         ensures bound { meter.new.bound ≡ meter.old.bound }
     {
-        let step = resumed(self.alloc, value, &mut filler, &self.vars)?;
+        let step = resumed(self.alloc, value, &mut filler, &mut self.vars)?;
         self.operand_to(meter, step, evaluation, filler, goal, depth)
     }
 

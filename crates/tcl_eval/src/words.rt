@@ -108,7 +108,7 @@ impl Engine {
         ensures potential { IfOk result (λ mode. potential self.new (left_of meter.new) mode ≤ 8 * left_of meter.old + bodies self.old.stack + then_weight then) }
         ensures bound { meter.new.bound ≡ meter.old.bound }
     {
-        let step = resumed(self.alloc, value, &mut filler, &self.vars)?;
+        let step = resumed(self.alloc, value, &mut filler, &mut self.vars)?;
         self.fill_to(meter, step, words, next, expand, filler, done, then, depth)
     }
 
@@ -216,9 +216,10 @@ pub(crate) fn resumed(
     alloc: Global,
     value: Value,
     filler: &mut Filler,
-    vars: &Vars,
+    vars: &mut Vars,
 ) -> Result<FillStep, AllocError>
-    ensures { IfOk result (λ s. told (s, filler.new) ≡ rest (given value filler.old) vars.now) }
+    ensures told { IfOk result (λ s. told (s, filler.new) ≡ rest (given value filler.old) vars.old) }
+    ensures same { vars.new ≡ vars.old }
 {
     filler.give(alloc, value)?;
     let step = advanced(alloc, filler, vars)?;
@@ -226,8 +227,9 @@ pub(crate) fn resumed(
 }
 
 /// The next step of a filler.
-fn advanced(alloc: Global, filler: &mut Filler, vars: &Vars) -> Result<FillStep, AllocError>
-    ensures { IfOk result (λ s. told (s, filler.new) ≡ rest filler.old vars.now) }
+fn advanced(alloc: Global, filler: &mut Filler, vars: &mut Vars) -> Result<FillStep, AllocError>
+    ensures told { IfOk result (λ s. told (s, filler.new) ≡ rest filler.old vars.old) }
+    ensures same { vars.new ≡ vars.old }
 {
     filling_is_fill();
     match filler.advance(alloc, vars) {

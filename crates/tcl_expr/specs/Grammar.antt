@@ -8,6 +8,7 @@
 -- A reading takes bytes that begin with no white space, and the white space behind what it reads. Nesting that is too deep is a fault where
 -- it opens.
 use Rattle.std.specs.Prelude.{ℕ, zero, suc, ◌+◌, List, [], ◌∷◌, length, drop, Option, Some, None, Result, Ok, Err, ◌==◌, if◌then◌else◌}
+use Rattle.tcl_words.specs.Bytes as ascii
 use Rattle.tcl_words.specs.Course.{reading}
 use Rattle.tcl_words.specs.Lists.{begins_with}
 use Rattle.tcl_expr.specs.declared.faults.ExprFault.{ExprFault}
@@ -33,7 +34,7 @@ pub record Inside : Type 0 where
 -- an expression that was read at the place n, with the `)` behind it
 abbrev pub in_parens : List ℕ → ℕ → Read → Read
 in_parens text n (Err e) = Err e
-in_parens text n (Ok p) = if begins_with 41 (drop (n + p.1) text) then spaced text p.0 (n + p.1 + 1) else Err Syntax
+in_parens text n (Ok p) = if begins_with ascii.close_paren (drop (n + p.1) text) then spaced text p.0 (n + p.1 + 1) else Err Syntax
 
 abbrev pub prefixed : Inside → List ℕ → Option Prefix → Read
 prefixed inside text None = leaf text
@@ -41,7 +42,7 @@ prefixed inside text (Some op) = behind (gap text 1) (unary op) (inside.term (dr
 
 abbrev pub term_at : Inside → ℕ → List ℕ → Read
 term_at inside b bytes =
-    if b == 40 then in_parens (b ∷ bytes) (gap (b ∷ bytes) 1) (inside.whole (drop (gap (b ∷ bytes) 1) (b ∷ bytes)))
+    if b == ascii.open_paren then in_parens (b ∷ bytes) (gap (b ∷ bytes) 1) (inside.whole (drop (gap (b ∷ bytes) 1) (b ∷ bytes)))
     else (if is_lowest b bytes then spaced (b ∷ bytes) (number lowest) (1 + digits_len bytes)
     else prefixed inside (b ∷ bytes) (prefix_at b))
 
@@ -85,7 +86,7 @@ otherwise c a n r = behind n (choice c a) r
 abbrev pub colon : Inside → List ℕ → Tree → ℕ → Read → Read
 colon inside text c n (Err e) = Err e
 colon inside text c n (Ok p) =
-    if begins_with 58 (drop (n + p.1) text)
+    if begins_with ascii.colon (drop (n + p.1) text)
     then otherwise c p.0 (gap text (n + p.1 + 1)) (inside.whole (drop (gap text (n + p.1 + 1)) text))
     else Err Syntax
 
@@ -93,7 +94,7 @@ colon inside text c n (Ok p) =
 abbrev pub question : Inside → List ℕ → Read → Read
 question inside text (Err e) = Err e
 question inside text (Ok p) =
-    if begins_with 63 (drop p.1 text)
+    if begins_with ascii.question (drop p.1 text)
     then colon inside text p.0 (gap text (p.1 + 1)) (inside.whole (drop (gap text (p.1 + 1)) text))
     else Ok p
 

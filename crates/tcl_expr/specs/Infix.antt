@@ -1,5 +1,6 @@
 -- The operators of expressions and their precedence, as the manual page expr(n) has them. No shifts, `**`, `in` or `ni`.
 use Rattle.std.specs.Prelude.{ℕ, Bool, false, not, ◌&&◌, ◌||◌, nat_le, List, [], ◌∷◌, drop, Option, Some, None, ◌==◌, if◌then◌else◌}
+use Rattle.tcl_words.specs.Bytes as ascii
 use Rattle.tcl_words.specs.Lists.{begins_with}
 use Rattle.tcl_expr.specs.declared.operators.Prefix.{Prefix}
 use Rattle.tcl_expr.specs.declared.operators.Prefix.TheVariants.{Minus, Plus, Complement, Not}
@@ -15,7 +16,7 @@ use Rattle.tcl_expr.specs.declared.operators.Infix.{Infix}
 use Rattle.tcl_expr.specs.declared.operators.Infix.TheVariants as between
 
 abbrev pub is_letter : ℕ → Bool
-is_letter b = nat_le 97 b && nat_le b 122 || nat_le 65 b && nat_le b 90
+is_letter b = nat_le ascii.letter_a b && nat_le b ascii.letter_z || nat_le ascii.capital_a b && nat_le b ascii.capital_z
 
 abbrev pub begins_letter : List ℕ → Bool
 begins_letter [] = false
@@ -34,7 +35,7 @@ alone (Some op) = Some (op, 0)
 
 -- an operator that may stand alone or, as another one, before `=`
 abbrev pub with_equals : Option Infix → Comparison → List ℕ → Option (Infix × ℕ)
-with_equals short longer bytes = if begins_with 61 bytes then Some (comparison longer, 1) else alone short
+with_equals short longer bytes = if begins_with ascii.equals bytes then Some (comparison longer, 1) else alone short
 
 -- an operator of one byte that is another one where it stands twice
 abbrev pub doubled : ℕ → Arithmetic → Lazy → List ℕ → Option (Infix × ℕ)
@@ -50,20 +51,20 @@ word_operator second op bytes =
 -- the operator between two operands that begins with a byte, and how many bytes behind it belong to it
 unfoldable pub infix_at : ℕ → List ℕ → Option (Infix × ℕ)
 infix_at b bytes =
-    if b == 42 then Some (arithmetic Multiply, 0)
-    else (if b == 47 then Some (arithmetic Divide, 0)
-    else (if b == 37 then Some (arithmetic Remainder, 0)
-    else (if b == 43 then Some (arithmetic Add, 0)
-    else (if b == 45 then Some (arithmetic Subtract, 0)
-    else (if b == 94 then Some (arithmetic BitXor, 0)
-    else (if b == 60 then with_equals (Some (comparison Less)) AtMost bytes
-    else (if b == 62 then with_equals (Some (comparison Greater)) AtLeast bytes
-    else (if b == 61 then with_equals None Equal bytes
-    else (if b == 33 then with_equals None Unequal bytes
-    else (if b == 38 then doubled 38 BitAnd And bytes
-    else (if b == 124 then doubled 124 BitOr Or bytes
-    else (if b == 101 then word_operator 113 eager.Same bytes
-    else (if b == 110 then word_operator 101 eager.Differs bytes
+    if b == ascii.star then Some (arithmetic Multiply, 0)
+    else (if b == ascii.slash then Some (arithmetic Divide, 0)
+    else (if b == ascii.percent then Some (arithmetic Remainder, 0)
+    else (if b == ascii.plus then Some (arithmetic Add, 0)
+    else (if b == ascii.minus then Some (arithmetic Subtract, 0)
+    else (if b == ascii.caret then Some (arithmetic BitXor, 0)
+    else (if b == ascii.less then with_equals (Some (comparison Less)) AtMost bytes
+    else (if b == ascii.greater then with_equals (Some (comparison Greater)) AtLeast bytes
+    else (if b == ascii.equals then with_equals None Equal bytes
+    else (if b == ascii.exclamation then with_equals None Unequal bytes
+    else (if b == ascii.ampersand then doubled ascii.ampersand BitAnd And bytes
+    else (if b == ascii.bar then doubled ascii.bar BitOr Or bytes
+    else (if b == ascii.letter_e then word_operator ascii.letter_q eager.Same bytes
+    else (if b == ascii.letter_n then word_operator ascii.letter_e eager.Differs bytes
     else None)))))))))))))
 
 abbrev pub arithmetic_level : Arithmetic → ℕ
@@ -96,8 +97,8 @@ level_of (between.Lazy Or) = 10
 -- the operator before an operand that a byte is
 abbrev pub prefix_at : ℕ → Option Prefix
 prefix_at b =
-    if b == 45 then Some Minus
-    else (if b == 43 then Some Plus
-    else (if b == 126 then Some Complement
-    else (if b == 33 then Some Not
+    if b == ascii.minus then Some Minus
+    else (if b == ascii.plus then Some Plus
+    else (if b == ascii.tilde then Some Complement
+    else (if b == ascii.exclamation then Some Not
     else None)))

@@ -2,6 +2,7 @@
 -- says, and the six words, are this language's own.
 use Rattle.std.specs.Prelude.{ℕ, Bool, false, ◌&&◌, List, [], ◌∷◌, take, Option, Some, None, Result, Ok, Err, ℤ, pos, negsuc, ◌==◌, if◌then◌else◌}
 use Rattle.std.specs.List.{prefix_len}
+use Rattle.tcl_words.specs.Bytes as ascii
 use Rattle.tcl_words.specs.Operands.{Operand, operand as operand_read}
 use Rattle.tcl_expr.specs.declared.faults.ExprFault.{ExprFault}
 use Rattle.tcl_expr.specs.declared.faults.ExprFault.TheVariants.{Syntax}
@@ -62,7 +63,7 @@ is_lowest_magnitude (Some n) = n == 9223372036854775808
 
 -- `-9223372036854775808`: the `-` is read with the number, and is no operator
 unfoldable pub is_lowest : ℕ → List ℕ → Bool
-is_lowest b bytes = b == 45 && is_lowest_magnitude (numeral 9223372036854775808 (take (digits_len bytes) bytes))
+is_lowest b bytes = b == ascii.minus && is_lowest_magnitude (numeral 9223372036854775808 (take (digits_len bytes) bytes))
 
 abbrev pub lowest : ℤ
 lowest = negsuc 9223372036854775807

@@ -2,18 +2,19 @@
 use Rattle.std.specs.Prelude.{ℕ, ◌+◌, ◌*◌, ◌-◌, nat_le, nat_lt, ◌==◌, List, [], ◌∷◌, length, Bool, false, not, ◌&&◌, ◌||◌, if◌then◌else◌, Option, Some, None, ℤ, pos, negsuc}
 use Rattle.std.specs.List.{list_all}
 use Rattle.std.specs.Fmt.{signed_decimal}
+use Rattle.tcl_words.specs.Bytes as ascii
 
 abbrev pub is_digit : ℕ → Bool
-is_digit b = nat_le 48 b && nat_le b 57
+is_digit b = nat_le ascii.digit_0 b && nat_le b ascii.digit_9
 
 -- the number that a value and the digits behind it are
 abbrev pub value_from : ℕ → List ℕ → ℕ
 value_from n [] = n
-value_from n (b ∷ bs) = value_from (n * 10 + (b - 48)) bs
+value_from n (b ∷ bs) = value_from (n * 10 + (b - ascii.digit_0)) bs
 
 abbrev pub begins_with_zero : List ℕ → Bool
 begins_with_zero [] = false
-begins_with_zero (b ∷ bs) = b == 48
+begins_with_zero (b ∷ bs) = b == ascii.digit_0
 
 -- 1 to 19 digits, of which the first is no needless zero
 abbrev pub is_numeral : List ℕ → Bool
@@ -36,7 +37,7 @@ positive (Some n) = Some (pos n)
 unfoldable pub number_of : List ℕ → Option ℤ
 number_of [] = None
 number_of (b ∷ bs) =
-    if b == 45 then negative (numeral 9223372036854775808 bs)
+    if b == ascii.minus then negative (numeral 9223372036854775808 bs)
     else positive (numeral 9223372036854775807 (b ∷ bs))
 
 -- the text of a number: decimal digits, behind a minus where it is below 0

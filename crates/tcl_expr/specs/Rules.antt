@@ -1,6 +1,7 @@
 -- The grammar of expressions, as the manual page expr(n) has it, rule by rule. Its tokens are white space (`White`), what has no part that is an
 -- expression (`Leaf`), and operators with their levels of precedence (`Infix`). How tokens are grouped is said here.
 use Rattle.std.specs.Prelude.{◌≡◌, ℕ, suc, false, List, [], ◌∷◌, ◌++◌, length, drop, Some, Ok, codes}
+use Rattle.tcl_words.specs.Bytes as ascii
 use Rattle.tcl_expr.specs.declared.operators.Prefix.{Prefix}
 use Rattle.tcl_expr.specs.declared.operators.Infix.{Infix}
 use Rattle.tcl_expr.specs.White.{past}
@@ -26,8 +27,8 @@ pub data Phrase : ℕ → Rank → List ℕ → Tree → List ℕ → Type 0 whe
       → Phrase d (level 0) (codes "-9223372036854775808" ++ r) (number lowest) (past r)
   -- `(`, a whole expression, `)`
   parens : (d : ℕ) (s r : List ℕ) (t : Tree)
-      → Phrase d whole (past s) t (41 ∷ r)
-      → Phrase (suc d) (level 0) (40 ∷ s) t (past r)
+      → Phrase d whole (past s) t (ascii.close_paren ∷ r)
+      → Phrase (suc d) (level 0) (ascii.open_paren ∷ s) t (past r)
   -- a prefix operator, a phrase of level 0
   prefix : (d b : ℕ) (s r : List ℕ) (op : Prefix) (t : Tree)
       → prefix_at b ≡ Some op
@@ -50,8 +51,8 @@ pub data Phrase : ℕ → Rank → List ℕ → Tree → List ℕ → Type 0 whe
       → Phrase d whole s t r
   -- a phrase of the loosest level, `?`, a whole expression, `:`, a whole expression: so `?:` groups to the right
   branches : (d : ℕ) (s m p r : List ℕ) (c x y : Tree)
-      → Phrase (suc d) (level 10) s c (63 ∷ m)
-      → Phrase d whole (past m) x (58 ∷ p)
+      → Phrase (suc d) (level 10) s c (ascii.question ∷ m)
+      → Phrase d whole (past m) x (ascii.colon ∷ p)
       → Phrase d whole (past p) y r
       → Phrase (suc d) whole s (choice c x y) r
 

@@ -1,11 +1,11 @@
 -- The grammar of commands, as the manual page Tcl(n) has it, rule by rule.
--- `X s v r` says that an X whose value is v stands at the front of the bytes s, and that r is left behind it. `Bytes` has the bytes by their names.
+-- `X s v r` says that an X whose value is v stands at the front of the bytes s, and that r is left behind it. `Bytes` of `tcl_words` has the bytes by their names.
 use Rattle.std.specs.Prelude.{◌≡◌, ◌≢◌, ℕ, suc, ◌+◌, ◌*◌, ◌<◌, ◌≤◌, Bool, true, false, not, ◌&&◌, ◌||◌, List, [], ◌∷◌, ◌++◌, length, drop, Some, None, ◌==◌}
 use Rattle.tcl_words.specs.Backslash.{digit, escaped}
 use Rattle.tcl_words.specs.Lists.{begins_with}
 use Rattle.tcl_words.specs.Pieces.{Pieces, no_pieces, piece, literal, variable, member, script, Spelled}
 use Rattle.tcl_words.specs.Commands.{is_name_byte, Token, byte, substitution, put_token}
-use Rattle.tcl_grammar.specs.Bytes.{tab, newline, vertical_tab, form_feed, carriage_return, space, quote, hash, dollar, open_paren, close_paren, star, semicolon, open_bracket, backslash, close_bracket, letter_x, open_brace, close_brace}
+use Rattle.tcl_words.specs.Bytes.{tab, newline, vertical_tab, form_feed, carriage_return, space, quote, hash, dollar, open_paren, close_paren, star, semicolon, open_bracket, backslash, close_bracket, letter_x, open_brace, close_brace}
 
 -- ---- Bytes
 

@@ -1,5 +1,6 @@
 -- The value of a word (Tcl(n): variable substitution, command substitution).
 use Rattle.std.specs.Prelude.{ℕ, List, [], ◌∷◌, ◌++◌, length, Result, Ok, Err, if◌then◌else◌}
+use Rattle.tcl_words.specs.Bytes as ascii
 use Rattle.tcl_words.specs.Pieces.{Piece, Pieces, literal, variable, member, script, no_pieces, piece}
 use Rattle.tcl_subst.specs.declared.faults.SubstFault.{SubstFault}
 use Rattle.tcl_subst.specs.declared.faults.SubstFault.TheVariants.{TooLong}
@@ -20,7 +21,7 @@ abbrev pub Next : Type 0
 Next = List ℕ → Variables → Fill
 
 abbrev pub element_name : List ℕ → List ℕ → List ℕ
-element_name array index = array ++ (40 ∷ (index ++ 41 ∷ []))
+element_name array index = array ++ (ascii.open_paren ∷ (index ++ ascii.close_paren ∷ []))
 
 -- a value behind the others
 abbrev pub behind : List ℕ → List ℕ → (List ℕ → Fill) → Fill

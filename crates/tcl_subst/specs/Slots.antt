@@ -1,5 +1,6 @@
 -- What a scope's names name, and what reading and changing a scope means (Tcl(n): variables and arrays).
 use Rattle.std.specs.Prelude.{ℕ, Bool, true, false, List, [], ◌+◌, ◌-◌, length, take, drop, Option, Some, None, Result, Ok, Err, is_some, position, ◌==◌, slice_index, if◌then◌else◌}
+use Rattle.tcl_words.specs.Bytes as ascii
 use Rattle.tcl_words.specs.Lists.{elements}
 use Rattle.tcl_subst.specs.declared.faults.SubstFault.{SubstFault}
 use Rattle.tcl_subst.specs.declared.faults.SubstFault.TheVariants.{NoVariable, IsArray, NotArray, Exists, BadList}
@@ -18,7 +19,7 @@ parted front (Some paren) = Some (take paren front, drop (paren + 1) front)
 -- The array and the index, where the last byte is `)` and there is a `(`: the array before the first one, the index between.
 unfoldable pub element : List ℕ → Option (List ℕ × List ℕ)
 element name =
-    if slice_index name (length name - 1) == 41 then parted (take (length name - 1) name) (position (λ b. b == 40) (take (length name - 1) name))
+    if slice_index name (length name - 1) == ascii.close_paren then parted (take (length name - 1) name) (position (λ b. b == ascii.open_paren) (take (length name - 1) name))
     else None
 
 -- reading

@@ -65,8 +65,9 @@ impl Filler {
 
     /// Goes on to the next script, the value or a fault. After a fault it answers that fault again.
     #[tactic(auto, unfolding(crate::specs::Recipes::filling))]
-    pub fn advance(&mut self, alloc: Global, vars: &Vars) -> FillStep
-        ensures told { result ≢ FillStep.Fault SubstFault.Memory → (result, self.new) ≡ filling self.old vars.now }
+    pub fn advance(&mut self, alloc: Global, vars: &mut Vars) -> FillStep
+        ensures told { result ≢ FillStep.Fault SubstFault.Memory → (result, self.new) ≡ filling self.old vars.old }
+        ensures vars { vars.new ≡ vars.old }
         ensures again { (r : Refusal) → self.old.fault ≡ Some r → result ≡ FillStep.Fault (fault_of r) }
         ensures same { (r : Refusal) → self.old.fault ≡ Some r → self.new ≡ self.old }
         ensures stays { (f : SubstFault) → result ≡ FillStep.Fault f → option_map fault_of self.new.fault ≡ Some f }
@@ -108,9 +109,10 @@ impl Filler {
     }
 
     /// Takes steps up to an answer.
-    fn run(&mut self, alloc: Global, vars: &Vars) -> Result<FillStep, Refusal>
+    fn run(&mut self, alloc: Global, vars: &mut Vars) -> Result<FillStep, Refusal>
         requires { self.old.fault ≡ None }
-        ensures ran { Runs result self.old self.new vars.now }
+        ensures ran { Runs result self.old self.new vars.old }
+        ensures same { vars.new ≡ vars.old }
         ensures going { IfOk result (λ s. is_fault s ≡ false) }
     {
         'steps: loop {
@@ -121,9 +123,10 @@ impl Filler {
     }
 
     /// Takes one step, or answers what it or the end of the steps calls for.
-    fn step(&mut self, alloc: Global, vars: &Vars) -> Result<Option<FillStep>, Refusal>
+    fn step(&mut self, alloc: Global, vars: &mut Vars) -> Result<Option<FillStep>, Refusal>
         requires { self.old.fault ≡ None }
-        ensures ran { Steps result self.old self.new vars.now }
+        ensures ran { Steps result self.old self.new vars.old }
+        ensures same { vars.new ≡ vars.old }
         ensures going { IfOk result (λ o. IfSome o (λ s. is_fault s ≡ false)) }
     {
         let at = self.at;

@@ -123,11 +123,12 @@ impl Joined {
         }
     }
 
-    fn variable(&mut self, alloc: Global, name: &Text, vars: &Vars) -> Result<(), Refusal>
-        ensures { Takes result (joined_if_read (value_of name.now vars.now) name.now self.old) self.new }
+    fn variable(&mut self, alloc: Global, name: &Text, vars: &mut Vars) -> Result<(), Refusal>
+        ensures taken { Takes result (joined_if_read (value_of name.now vars.old) name.now self.old) self.new }
+        ensures same { vars.new ≡ vars.old }
     {
         let name = name.as_slice();
-        let read = vars.get(name);
+        let read = vars.settled(name);
         self.join_read(alloc, read, name)
     }
 
@@ -140,8 +141,9 @@ impl Joined {
     }
 
     /// Ends an index, and joins the element's value to what stands around it.
-    fn close(&mut self, alloc: Global, array: &Text, vars: &Vars) -> Result<(), Refusal>
-        ensures { Takes result (joined_if_read (member_of array.now self.old.current vars.now) (element_name array.now self.old.current) (around self.old.outer)) self.new }
+    fn close(&mut self, alloc: Global, array: &Text, vars: &mut Vars) -> Result<(), Refusal>
+        ensures taken { Takes result (joined_if_read (member_of array.now self.old.current vars.old) (element_name array.now self.old.current) (around self.old.outer)) self.new }
+        ensures same { vars.new ≡ vars.old }
     {
         let index = self.leave_index(alloc);
         self.member(alloc, array.as_slice(), index.as_slice(), vars)
@@ -161,18 +163,20 @@ impl Joined {
         alloc: Global,
         array: &[u8],
         index: &[u8],
-        vars: &Vars,
+        vars: &mut Vars,
     ) -> Result<(), Refusal>
-        ensures { Takes result (joined_if_read (member_of array.now index.now vars.now) (element_name array.now index.now) self.old) self.new }
+        ensures taken { Takes result (joined_if_read (member_of array.now index.now vars.old) (element_name array.now index.now) self.old) self.new }
+        ensures same { vars.new ≡ vars.old }
     {
-        let read = vars.get_member(array, index);
         let name = element_name(alloc, array, index)?;
+        let read = vars.settled_member(array, index, name.as_slice());
         self.join_read(alloc, read, name.as_slice())
     }
 
     /// Takes a step that is no script.
-    pub fn take(&mut self, alloc: Global, step: &Step, vars: &Vars) -> Result<(), Refusal>
-        ensures { Takes result (taken step.now self.old vars.now) self.new }
+    pub fn take(&mut self, alloc: Global, step: &Step, vars: &mut Vars) -> Result<(), Refusal>
+        ensures taken { Takes result (taken step.now self.old vars.old) self.new }
+        ensures same { vars.new ≡ vars.old }
     {
         match step {
             Step::Text(text) => self.join(alloc, text.shared(alloc)?),

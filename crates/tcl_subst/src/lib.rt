@@ -17,6 +17,7 @@ mod reads;
 mod recipe;
 mod report;
 mod scope;
+mod settles;
 mod unsets;
 mod vars;
 mod write;

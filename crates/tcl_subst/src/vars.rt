@@ -15,6 +15,7 @@ use crate::names::Names;
 use crate::reads::{is_there, member, read};
 use crate::report::{add_scope, listed_values};
 use crate::scope::{Scope, Slot};
+use crate::settles::settle;
 use crate::unsets::{link, unset};
 use crate::write::Write;
 use crate::writes::write;
@@ -154,6 +155,48 @@ impl Vars {
     {
         let value = member(self.home_of(array), array, index)?;
         Ok(value.shared(self.alloc)?)
+    }
+
+    /// Takes up the list that another owner of the bytes of a variable or an element read. No value changes.
+    fn settle(&mut self, name: &[u8])
+        ensures { self.new ≡ self.old }
+    {
+        if let Some(scope) = self.local_mut(name) {
+            return settle(scope, name);
+        }
+        settle(&mut self.globals, name)
+    }
+
+    /// The value of a variable or an element, shared, as `get` gives it. Where one that was given earlier has been read as a list since,
+    /// the elements are at hand from then on. No value changes.
+    pub fn settled(&mut self, name: &[u8]) -> Result<Value, SubstFault>
+        ensures same { self.new ≡ self.old }
+        ensures given { Gives result (value_of name.now self.old) }
+    {
+        let value = self.get(name)?;
+        if value.was_read() {
+            self.settle(name);
+            return self.get(name);
+        }
+        Ok(value)
+    }
+
+    /// The same of an array's element, which has the name `array(index)`.
+    pub fn settled_member(
+        &mut self,
+        array: &[u8],
+        index: &[u8],
+        name: &[u8],
+    ) -> Result<Value, SubstFault>
+        ensures same { self.new ≡ self.old }
+        ensures given { Gives result (member_of array.now index.now self.old) }
+    {
+        let value = self.get_member(array, index)?;
+        if value.was_read() {
+            self.settle(name);
+            return self.get_member(array, index);
+        }
+        Ok(value)
     }
 
     /// The value of a variable or an element of the outermost scope, shared.

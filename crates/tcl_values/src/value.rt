@@ -1,11 +1,12 @@
 //! A value of a variable or a word: a text that is shared where it is long.
 
 ghost use Rattle.std.specs.Prelude.{◌≡◌, ◌≢◌, ◌++◌, [], length, None, Ok, Err, IfOk, IfErr, OnOk, OnErr};
-ghost use Rattle.tcl_words.specs.Lists.{ReadsAs, elements};
+ghost use Rattle.tcl_words.specs.Lists.{ReadsAs, elements, written};
 ghost use Rattle.tcl_values.specs.Lists.{elements_of, with_elements};
 
 use crate::elements::Elements;
 use crate::faults::GrowFault;
+use crate::kept::Kept;
 use crate::listed::Listed;
 use std::alloc::{AllocError, Global};
 use std::marker::Model;
@@ -21,7 +22,7 @@ pub enum Form {
     /// A short text, which is copied where it is wanted twice.
     Short(Text),
     /// A text that may have several owners.
-    Shared(Rc<Text>),
+    Shared(Rc<Kept>),
     /// A list that may have several owners.
     Listed(Rc<Listed>),
 }
@@ -63,7 +64,7 @@ impl Value {
             });
         }
         Ok(Value {
-            form: Form::Shared(Rc::new(alloc, text)?),
+            form: Form::Shared(Rc::new(alloc, Kept::new(text))?),
         })
     }
 
@@ -72,6 +73,16 @@ impl Value {
         ensures { IfOk result (λ v. v ≡ bytes.now) }
     {
         Value::from_text(alloc, Text::from_slice(alloc, bytes)?)
+    }
+
+    /// The written text of elements, which are at hand from then on.
+    pub fn written(alloc: Global, elements: Vec<Text>) -> Result<Value, AllocError>
+        ensures { IfOk result (λ v. v ≡ written elements.items) }
+    {
+        let list = Rc::new(alloc, Listed::write(alloc, elements)?)?;
+        Ok(Value {
+            form: Form::Listed(list),
+        })
     }
 
     /// The bytes, in order.
@@ -111,8 +122,8 @@ impl Value {
         match self.form {
             Form::Short(text) => Ok(text),
             Form::Shared(text) => match Rc::try_unwrap(text) {
-                Ok(text) => Ok(text),
-                Err(text) => text.copied(alloc),
+                Ok(text) => Ok(text.into_text()),
+                Err(text) => Text::from_slice(alloc, text.as_slice()),
             },
             Form::Listed(list) => match Rc::try_unwrap(list) {
                 Ok(list) => Ok(list.into_text()),
@@ -165,6 +176,29 @@ impl Value {
         Ok(())
     }
 
+    /// Whether an owner of the value's bytes read them as a list, so that `settle` may have something to take up. Takes constant time.
+    pub fn was_read(&self) -> bool {
+        match &self.form {
+            Form::Short(_) => false,
+            Form::Shared(text) => text.was_read(),
+            Form::Listed(_) => false,
+        }
+    }
+
+    /// Takes up the list that another owner of the value's bytes read, where one did, so that its elements are at hand from then on.
+    /// The value stays the same.
+    pub fn settle(&mut self)
+        ensures { self.new ≡ self.old }
+    {
+        if let Form::Shared(text) = &self.form {
+            if let Some(list) = text.found() {
+                if let Ok(list) = list.clone() {
+                    self.form = Form::Listed(list);
+                }
+            }
+        }
+    }
+
     /// Reads the value as a list, so that its elements are at hand from then on. The value stays the same.
     ///
     /// `BadList` exactly where it reads as no list.
@@ -193,12 +227,17 @@ impl Value {
         ensures found { OnOk result (ReadsAs self.now (elements_of self.now)) }
         ensures bad { result ≡ Err ListFault.BadList → elements self.now ≡ None }
     {
-        if let Form::Listed(list) = &self.form {
-            list.elements();
-            return Ok(list.clone()?);
+        match &self.form {
+            Form::Short(text) => {
+                let list = Listed::read(alloc, text.as_slice())?;
+                list.elements();
+                Ok(Rc::new(alloc, list)?)
+            }
+            Form::Shared(text) => text.list(alloc),
+            Form::Listed(list) => {
+                list.elements();
+                Ok(list.clone()?)
+            }
         }
-        let list = Listed::read(alloc, self.as_slice())?;
-        list.elements();
-        Ok(Rc::new(alloc, list)?)
     }
 }

@@ -2,24 +2,25 @@
 -- As in Tcl(n), but without `\u` and `\U`, which are letters here.
 use Rattle.std.specs.Prelude.{ℕ, zero, suc, ◌+◌, ◌-◌, ◌*◌, ◌&&◌, ◌||◌, List, [], ◌∷◌, Option, Some, None, nat_lt, nat_le, ◌==◌, if◌then◌else◌}
 use Rattle.std.specs.List.{prefix_len}
+use Rattle.tcl_words.specs.Bytes as ascii
 
 -- \a \b \f \n \r \t \v; another byte is itself
 abbrev pub escaped : ℕ → ℕ
 escaped b =
-    if b == 97 then 7
-    else (if b == 98 then 8
-    else (if b == 102 then 12
-    else (if b == 110 then 10
-    else (if b == 114 then 13
-    else (if b == 116 then 9
-    else (if b == 118 then 11 else b))))))
+    if b == ascii.letter_a then ascii.bell
+    else (if b == ascii.letter_b then ascii.backspace
+    else (if b == ascii.letter_f then ascii.form_feed
+    else (if b == ascii.letter_n then ascii.newline
+    else (if b == ascii.letter_r then ascii.carriage_return
+    else (if b == ascii.letter_t then ascii.tab
+    else (if b == ascii.letter_v then ascii.vertical_tab else b))))))
 
 -- the value of a digit in base 16
 abbrev pub hex_digit : ℕ → Option ℕ
 hex_digit b =
-    if nat_le 48 b && nat_lt b 58 then Some (b - 48)
-    else (if nat_le 97 b && nat_lt b 103 then Some (b - 87)
-    else (if nat_le 65 b && nat_lt b 71 then Some (b - 55) else None))
+    if nat_le ascii.digit_0 b && nat_le b ascii.digit_9 then Some (b - ascii.digit_0)
+    else (if nat_le ascii.letter_a b && nat_le b ascii.letter_f then Some (b - (ascii.letter_a - 10))
+    else (if nat_le ascii.capital_a b && nat_le b ascii.capital_f then Some (b - (ascii.capital_a - 10)) else None))
 
 -- the value of a digit in a base, at most 16
 abbrev pub below : ℕ → Option ℕ → Option ℕ
@@ -45,11 +46,11 @@ digits base (suc most) value (b ∷ bytes) = digit_step (λ v. digits base most 
 
 -- how many blanks and tabs a text begins with
 unfoldable pub blanks : List ℕ → ℕ
-blanks bytes = prefix_len (λ b. b == 32 || b == 9) bytes
+blanks bytes = prefix_len (λ b. b == ascii.space || b == ascii.tab) bytes
 
 -- behind `\x`: one or two hexadecimal digits, or none, and then it is `x`
 abbrev pub hex_escape : ℕ × ℕ → ℕ × ℕ
-hex_escape (value, zero) = (120, 1)
+hex_escape (value, zero) = (ascii.letter_x, 1)
 hex_escape (value, suc n) = (value, suc (suc n))
 
 abbrev pub octal_escape : ℕ → List ℕ → Option ℕ → ℕ × ℕ
@@ -58,8 +59,8 @@ octal_escape b bytes (Some d) = one_more (digits 8 2 d bytes)
 
 -- the byte that a backslash gives with these bytes behind it, and how many of them belong to it
 unfoldable pub backslash : List ℕ → ℕ × ℕ
-backslash [] = (92, 0)
+backslash [] = (ascii.backslash, 0)
 backslash (b ∷ bytes) =
-    if b == 10 then (32, suc (blanks bytes))
-    else (if b == 120 then hex_escape (digits 16 2 0 bytes)
+    if b == ascii.newline then (ascii.space, suc (blanks bytes))
+    else (if b == ascii.letter_x then hex_escape (digits 16 2 0 bytes)
     else octal_escape b bytes (digit 8 b))

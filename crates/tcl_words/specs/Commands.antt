@@ -1,7 +1,8 @@
 -- How the next command of a text is read: the words, comments and substitutions of Tcl(n).
 -- Of its own this language has the nesting of at most 200, names of letters, digits and underscores alone, and the fault of an index without `)`.
-use Rattle.std.specs.Prelude.{◌≡◌, ℕ, zero, suc, ◌+◌, ◌-◌, Bool, true, false, not, ◌&&◌, ◌||◌, nat_le, nat_lt, List, [], ◌∷◌, ◌++◌, take, drop, Option, Some, None, Result, Ok, Err, ◌==◌, if◌then◌else◌}
+use Rattle.std.specs.Prelude.{◌≡◌, ℕ, zero, suc, ◌+◌, ◌-◌, Bool, true, false, not, ◌&&◌, ◌||◌, nat_le, List, [], ◌∷◌, ◌++◌, take, drop, Option, Some, None, Result, Ok, Err, ◌==◌, if◌then◌else◌}
 use Rattle.std.specs.List.{prefix_len, position}
+use Rattle.tcl_words.specs.Bytes as ascii
 use Rattle.tcl_words.specs.declared.faults.WordFault.{WordFault}
 use Rattle.tcl_words.specs.declared.faults.WordFault.TheVariants.{MissingBrace, MissingBracket, MissingQuote, ExtraAfterQuote, ExtraAfterBrace, TooDeep, Memory, MissingParen}
 use Rattle.tcl_words.specs.declared.stop.Stop.{Stop}
@@ -34,17 +35,17 @@ abbrev pub ◌>>=◌ : {A B : Type 0} → Result A WordFault → (A → Result B
 (Ok x) >>= f = f x
 (Err e) >>= f = Err e
 
--- white space between words: 09 0B 0C 0D 20
+-- white space between words
 abbrev pub is_blank : ℕ → Bool
-is_blank b = b == 32 || b == 9 || b == 11 || b == 12 || b == 13
+is_blank b = b == ascii.space || b == ascii.tab || b == ascii.vertical_tab || b == ascii.form_feed || b == ascii.carriage_return
 
 -- newline and `;` end a command
 abbrev pub ends_command : ℕ → Bool
-ends_command b = b == 10 || b == 59
+ends_command b = b == ascii.newline || b == ascii.semicolon
 
 -- a backslash with a newline behind it
 abbrev pub is_continued : ℕ → List ℕ → Bool
-is_continued b bytes = b == 92 && begins_with 10 bytes
+is_continued b bytes = b == ascii.backslash && begins_with ascii.newline bytes
 
 -- what ends a word without quotes or braces
 abbrev pub is_gap : ℕ → List ℕ → Bool
@@ -53,9 +54,9 @@ is_gap b bytes = is_blank b || ends_command b || is_continued b bytes
 -- whether a run of parts ends before this byte
 abbrev pub stops : Stop → ℕ → List ℕ → Bool
 stops Gap b bytes = is_gap b bytes
-stops NestedGap b bytes = is_gap b bytes || b == 93
-stops Quote b bytes = b == 34
-stops Paren b bytes = b == 41
+stops NestedGap b bytes = is_gap b bytes || b == ascii.close_bracket
+stops Quote b bytes = b == ascii.quote
+stops Paren b bytes = b == ascii.close_paren
 
 -- how many bytes close the run
 abbrev pub stop_len : Stop → ℕ
@@ -94,7 +95,7 @@ pub record Inside : Type 0 where
 
 -- ASCII letters, digits and underscores
 abbrev pub is_name_byte : ℕ → Bool
-is_name_byte b = nat_le 97 b && nat_lt b 123 || nat_le 65 b && nat_lt b 91 || nat_le 48 b && nat_lt b 58 || b == 95
+is_name_byte b = nat_le ascii.letter_a b && nat_le b ascii.letter_z || nat_le ascii.capital_a b && nat_le b ascii.capital_z || nat_le ascii.digit_0 b && nat_le b ascii.digit_9 || b == ascii.underscore
 
 -- how many bytes of a variable's name a text begins with
 unfoldable pub name_len : List ℕ → ℕ
@@ -102,7 +103,7 @@ name_len bytes = prefix_len is_name_byte bytes
 
 -- how many bytes stand before the first `}`
 unfoldable pub brace_at : List ℕ → Option ℕ
-brace_at bytes = position (λ b. b == 125) bytes
+brace_at bytes = position (λ b. b == ascii.close_brace) bytes
 
 -- What stands at one place in a word: a byte that stands for itself or that a backslash gives, or a variable or script.
 pub data Token : Type 0 where
@@ -127,9 +128,9 @@ array_member n bytes (Ok p) = Ok (substitution (member (take n bytes) p.0), 1 + 
 -- Behind `$`. With no name and no index it stands for itself.
 abbrev pub dollar : Inside → ℕ → List ℕ → Read Token
 dollar inside n bytes =
-    if begins_with 123 bytes then braced_variable bytes (brace_at (drop 1 bytes))
-    else (if begins_with 40 (drop n bytes) then array_member n bytes (inside.index (drop (1 + n) bytes))
-    else (if n == 0 then Ok (byte 36, 0)
+    if begins_with ascii.open_brace bytes then braced_variable bytes (brace_at (drop 1 bytes))
+    else (if begins_with ascii.open_paren (drop n bytes) then array_member n bytes (inside.index (drop (1 + n) bytes))
+    else (if n == 0 then Ok (byte ascii.dollar, 0)
     else Ok (substitution (variable (take n bytes)), n)))
 
 -- `[script]`
@@ -140,9 +141,9 @@ script_token bytes (Ok k) = Ok (substitution (script (take (k - 1) bytes)), k)
 -- what stands at a byte, and how many of the bytes behind it belong to it
 unfoldable pub token_at : Inside → ℕ → List ℕ → Read Token
 token_at inside b bytes =
-    if b == 92 then Ok (byte (backslash bytes).0, (backslash bytes).1)
-    else (if b == 91 then script_token bytes (inside.bracket bytes)
-    else (if b == 36 then dollar inside (name_len bytes) bytes
+    if b == ascii.backslash then Ok (byte (backslash bytes).0, (backslash bytes).1)
+    else (if b == ascii.open_bracket then script_token bytes (inside.bracket bytes)
+    else (if b == ascii.dollar then dollar inside (name_len bytes) bytes
     else Ok (byte b, 0)))
 
 -- a token, and then the pieces behind it
@@ -160,8 +161,8 @@ parts inside stop = reading (at_end stop) (part_step inside stop)
 -- In braces nothing is replaced but a backslash before a newline, with the blanks behind it: by a space.
 abbrev pub joined_step : (ℕ → List ℕ) → ℕ → List ℕ → List ℕ
 joined_step on b bytes =
-    if is_continued b bytes then 32 ∷ on (1 + blanks (drop 1 bytes))
-    else (if b == 92 then (92 ∷ take 1 bytes) ++ on 1
+    if is_continued b bytes then ascii.space ∷ on (1 + blanks (drop 1 bytes))
+    else (if b == ascii.backslash then (ascii.backslash ∷ take 1 bytes) ++ on 1
     else b ∷ on 0)
 
 unfoldable pub joined : List ℕ → List ℕ
@@ -190,13 +191,13 @@ in_braces stop bytes (Some n) = closed stop bytes ExtraAfterBrace (piece (litera
 unfoldable pub plain_word : Inside → Stop → List ℕ → Read Pieces
 plain_word inside stop [] = Ok (no_pieces, 0)
 plain_word inside stop (b ∷ bytes) =
-    if b == 34 then in_quotes stop bytes (parts inside Quote bytes)
-    else (if b == 123 then in_braces stop bytes (closing bytes 0)
+    if b == ascii.quote then in_quotes stop bytes (parts inside Quote bytes)
+    else (if b == ascii.open_brace then in_braces stop bytes (closing bytes 0)
     else parts inside stop (b ∷ bytes))
 
 -- `{*}` directly before a word
 abbrev pub is_expansion : Stop → List ℕ → Bool
-is_expansion stop bytes = begins_with 123 bytes && begins_with 42 (drop 1 bytes) && begins_with 125 (drop 2 bytes) && not (may_end stop (drop 3 bytes))
+is_expansion stop bytes = begins_with ascii.open_brace bytes && begins_with ascii.star (drop 1 bytes) && begins_with ascii.close_brace (drop 2 bytes) && not (may_end stop (drop 3 bytes))
 
 -- a word of parts that were read
 abbrev pub spelled : Bool → Read Pieces → Read Spelled
@@ -212,8 +213,8 @@ word inside stop bytes =
 -- a comment up to the newline that ends it; a byte behind a backslash doesn't end it
 abbrev pub comment_step : (ℕ → ℕ) → ℕ → List ℕ → ℕ
 comment_step on b bytes =
-    if b == 10 then 1
-    else (if b == 92 && not (is_empty bytes) then 2 + on 1
+    if b == ascii.newline then 1
+    else (if b == ascii.backslash && not (is_empty bytes) then 2 + on 1
     else 1 + on 0)
 
 unfoldable pub comment_len : List ℕ → ℕ
@@ -226,7 +227,7 @@ gap_at b bytes first =
     if ends_command b then Some (0, true)
     else (if is_blank b then Some (0, first)
     else (if is_continued b bytes then Some (1 + blanks (drop 1 bytes), first)
-    else (if b == 35 && first then Some (comment_len bytes, true)
+    else (if b == ascii.hash && first then Some (comment_len bytes, true)
     else None)))
 
 -- a count of bytes, with n more
@@ -251,7 +252,7 @@ script_at inside on bytes None = after_nested_word on (count_of (word inside Nes
 
 -- A script in brackets: its words and commands up to the `]`. `first` says that no word of the command stands before.
 abbrev pub script_step : Inside → (ℕ → Bool → Result ℕ WordFault) → ℕ → List ℕ → Bool → Result ℕ WordFault
-script_step inside on b bytes first = if b == 93 then Ok 1 else script_at inside on (b ∷ bytes) (gap_at b bytes first)
+script_step inside on b bytes first = if b == ascii.close_bracket then Ok 1 else script_at inside on (b ∷ bytes) (gap_at b bytes first)
 
 -- how many bytes a script takes, with the `]` that ends it
 unfoldable pub nested_script : Inside → List ℕ → Bool → Result ℕ WordFault

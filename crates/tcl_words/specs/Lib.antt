@@ -1,3 +1,4 @@
+pub mod Bytes
 pub mod Course
 pub mod Backslash
 pub mod Lists

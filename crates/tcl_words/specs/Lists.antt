@@ -2,6 +2,7 @@
 use Rattle.std.specs.Prelude.{◌≡◌, ℕ, suc, ◌+◌, ◌-◌, Bool, true, false, not, ◌&&◌, ◌||◌, List, [], ◌∷◌, ◌++◌, take, drop, Option, Some, None, option_map, ◌==◌, if◌then◌else◌}
 use Rattle.std.specs.List.{list_any}
 use Rattle.std.specs.Prelude.{Result, Ok, Err}
+use Rattle.tcl_words.specs.Bytes as ascii
 use Rattle.tcl_words.specs.declared.faults.ListFault.{ListFault}
 use Rattle.tcl_words.specs.declared.faults.ListFault.TheVariants as faults
 use Rattle.tcl_words.specs.Course.{reading}
@@ -22,9 +23,9 @@ abbrev pub begins_with : ℕ → List ℕ → Bool
 begins_with c [] = false
 begins_with c (b ∷ bytes) = b == c
 
--- 09 0A 0B 0C 0D 20
+-- white space in a list
 abbrev pub is_white : ℕ → Bool
-is_white b = b == 32 || b == 9 || b == 10 || b == 11 || b == 12 || b == 13
+is_white b = b == ascii.space || b == ascii.tab || b == ascii.newline || b == ascii.vertical_tab || b == ascii.form_feed || b == ascii.carriage_return
 
 -- what may stand behind an element that is in braces or quotes
 abbrev pub begins_white : List ℕ → Bool
@@ -38,7 +39,7 @@ with_byte b n (Some p) = Some (b ∷ p.0, n + p.1)
 
 -- what ends an element, in quotes or not
 abbrev pub stops_element : Bool → ℕ → Bool
-stops_element true b = b == 34
+stops_element true b = b == ascii.quote
 stops_element false b = is_white b
 
 -- at the text's end
@@ -50,7 +51,7 @@ element_end false = Some ([], 0)
 abbrev pub content_step : Bool → (ℕ → Option (List ℕ × ℕ)) → ℕ → List ℕ → Option (List ℕ × ℕ)
 content_step quoted on b bytes =
     if stops_element quoted b then Some ([], 0)
-    else (if b == 92 then with_byte (backslash bytes).0 (suc (backslash bytes).1) (on (backslash bytes).1)
+    else (if b == ascii.backslash then with_byte (backslash bytes).0 (suc (backslash bytes).1) (on (backslash bytes).1)
     else with_byte b 1 (on 0))
 
 unfoldable pub content : Bool → List ℕ → Option (List ℕ × ℕ)
@@ -64,9 +65,9 @@ plus n (Some k) = Some (n + k)
 -- How many bytes stand before the brace that closes, where n more are open. A byte behind a backslash isn't counted as a brace.
 abbrev pub closing_step : (ℕ → ℕ → Option ℕ) → ℕ → List ℕ → ℕ → Option ℕ
 closing_step on b bytes n =
-    if b == 125 then (if n == 0 then Some 0 else plus 1 (on 0 (n - 1)))
-    else (if b == 123 then plus 1 (on 0 (n + 1))
-    else (if b == 92 then plus 2 (on 1 n)
+    if b == ascii.close_brace then (if n == 0 then Some 0 else plus 1 (on 0 (n - 1)))
+    else (if b == ascii.open_brace then plus 1 (on 0 (n + 1))
+    else (if b == ascii.backslash then plus 2 (on 1 n)
     else plus 1 (on 0 n)))
 
 unfoldable pub closing : List ℕ → ℕ → Option ℕ
@@ -86,8 +87,8 @@ in_quotes bytes (Some p) = if begins_white (drop (p.1 + 1) bytes) then Some (p.0
 unfoldable pub element : List ℕ → Option (List ℕ × ℕ)
 element [] = Some ([], 0)
 element (b ∷ bytes) =
-    if b == 123 then in_braces bytes (closing bytes 0)
-    else (if b == 34 then in_quotes bytes (content true bytes)
+    if b == ascii.open_brace then in_braces bytes (closing bytes 0)
+    else (if b == ascii.quote then in_quotes bytes (content true bytes)
     else content false (b ∷ bytes))
 
 -- an element, and then the elements behind it
@@ -108,9 +109,9 @@ ReadsAs text l = elements text ≡ Some l
 
 -- writing
 
--- 09 0A 0B 0C 0D 20 " { } [ ] $ ; \
+-- a byte that an element of a written list doesn't have bare
 abbrev pub is_special : ℕ → Bool
-is_special b = is_white b || b == 34 || b == 123 || b == 125 || b == 91 || b == 93 || b == 36 || b == 59 || b == 92
+is_special b = is_white b || b == ascii.quote || b == ascii.open_brace || b == ascii.close_brace || b == ascii.open_bracket || b == ascii.close_bracket || b == ascii.dollar || b == ascii.semicolon || b == ascii.backslash
 
 abbrev pub is_empty : List ℕ → Bool
 is_empty [] = true
@@ -118,48 +119,48 @@ is_empty (b ∷ bytes) = false
 
 -- whether an element can't be written as it is
 abbrev pub needs_quoting : Bool → List ℕ → Bool
-needs_quoting first e = is_empty e || list_any is_special e || (first && begins_with 35 e)
+needs_quoting first e = is_empty e || list_any is_special e || (first && begins_with ascii.hash e)
 
 -- as many braces are opened as closed, and none is closed before it is opened, where n are open
 unfoldable pub balances : ℕ → List ℕ → Bool
 balances n [] = n == 0
 balances n (b ∷ bytes) =
-    if b == 125 then (if n == 0 then false else balances (n - 1) bytes)
-    else (if b == 123 then balances (n + 1) bytes else balances n bytes)
+    if b == ascii.close_brace then (if n == 0 then false else balances (n - 1) bytes)
+    else (if b == ascii.open_brace then balances (n + 1) bytes else balances n bytes)
 
 -- whether an element can be written in braces
 abbrev pub fits_braces : List ℕ → Bool
-fits_braces e = not (list_any (λ b. b == 92) e) && balances 0 e
+fits_braces e = not (list_any (λ b. b == ascii.backslash) e) && balances 0 e
 
 -- the letter that stands behind the backslash
 abbrev pub letter : ℕ → ℕ
 letter b =
-    if b == 9 then 116
-    else (if b == 10 then 110
-    else (if b == 11 then 118
-    else (if b == 12 then 102
-    else (if b == 13 then 114 else b))))
+    if b == ascii.tab then ascii.letter_t
+    else (if b == ascii.newline then ascii.letter_n
+    else (if b == ascii.vertical_tab then ascii.letter_v
+    else (if b == ascii.form_feed then ascii.letter_f
+    else (if b == ascii.carriage_return then ascii.letter_r else b))))
 
 -- each special byte behind a backslash
 abbrev pub escape : List ℕ → List ℕ
 escape [] = []
-escape (b ∷ bytes) = if is_special b then 92 ∷ letter b ∷ escape bytes else b ∷ escape bytes
+escape (b ∷ bytes) = if is_special b then ascii.backslash ∷ letter b ∷ escape bytes else b ∷ escape bytes
 
 -- the same, where a `#` at the start of the first element is special too
 abbrev pub escape_first : Bool → List ℕ → List ℕ
-escape_first first e = if first && begins_with 35 e then 92 ∷ escape e else escape e
+escape_first first e = if first && begins_with ascii.hash e then ascii.backslash ∷ escape e else escape e
 
 -- an element as it is, in braces, or with backslashes
 abbrev pub written_element : Bool → List ℕ → List ℕ
 written_element first e =
     if not (needs_quoting first e) then e
-    else (if fits_braces e then (123 ∷ e) ++ 125 ∷ []
+    else (if fits_braces e then (ascii.open_brace ∷ e) ++ ascii.close_brace ∷ []
     else escape_first first e)
 
 -- behind the first element: a space before each
 abbrev pub written_rest : List (List ℕ) → List ℕ
 written_rest [] = []
-written_rest (e ∷ es) = (32 ∷ written_element false e) ++ written_rest es
+written_rest (e ∷ es) = (ascii.space ∷ written_element false e) ++ written_rest es
 
 -- the one written text of a list
 abbrev pub written : List (List ℕ) → List ℕ

@@ -1,5 +1,6 @@
 -- The operands of an expression that are read as words and their parts are: `$..`, `[..]`, `".."` and `{..}` of expr(n).
 use Rattle.std.specs.Prelude.{ℕ, ◌+◌, false, ◌||◌, List, [], ◌∷◌, take, Option, Some, None, Result, Ok, Err, ◌==◌, if◌then◌else◌}
+use Rattle.tcl_words.specs.Bytes as ascii
 use Rattle.tcl_words.specs.declared.faults.WordFault.{WordFault}
 use Rattle.tcl_words.specs.declared.faults.WordFault.TheVariants.{MissingBrace}
 use Rattle.tcl_words.specs.declared.stop.Stop.TheVariants.{Quote}
@@ -35,7 +36,7 @@ braced bytes (Some n) = operand_of (piece (literal (joined (take n bytes))) no_p
 unfoldable pub operand : List ℕ → Operand
 operand [] = Ok None
 operand (b ∷ bytes) =
-    if b == 34 then quoted (parts (inside_of deepest) Quote bytes)
-    else (if b == 123 then braced bytes (closing bytes 0)
-    else (if b == 36 || b == 91 then substituted (token_at (inside_of deepest) b bytes)
+    if b == ascii.quote then quoted (parts (inside_of deepest) Quote bytes)
+    else (if b == ascii.open_brace then braced bytes (closing bytes 0)
+    else (if b == ascii.dollar || b == ascii.open_bracket then substituted (token_at (inside_of deepest) b bytes)
     else Ok None))

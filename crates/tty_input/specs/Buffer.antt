@@ -1,5 +1,6 @@
 -- A line kept byte by byte in a buffer.
 use Rattle.std.specs.Prelude.{ℕ, ◌==◌, List, [], ◌∷◌, ◌++◌, Bool, ◌||◌, if◌then◌else◌}
+use Rattle.tcl_words.specs.Bytes as ascii
 use Rattle.tty_input.specs.declared.given.Given.{Given}
 use Rattle.tty_input.specs.Editing.{is_empty, ends_line}
 use Rattle.tty_input.specs.Handed.{ends_input, line_action}
@@ -13,12 +14,12 @@ without_last (a ∷ b ∷ bs) = a ∷ without_last (b ∷ bs)
 
 -- what leaves the buffer empty
 abbrev pub clears : ℕ → Bool
-clears b = ends_line b || b == 21
+clears b = ends_line b || b == ascii.kill
 
 abbrev pub text_after : ℕ → List ℕ → List ℕ
 text_after b t =
     if clears b then []
-    else (if b == 127 then without_last t else t ++ b ∷ [])
+    else (if b == ascii.delete then without_last t else t ++ b ∷ [])
 
 -- the line is handed over
 abbrev pub handing : ℕ → List ℕ → Given → Given

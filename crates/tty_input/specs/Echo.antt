@@ -1,5 +1,6 @@
 -- What a terminal echoes (POSIX.1-2017, XBD 11.2.5: ECHO, with ECHOE and ECHOK on).
 use Rattle.std.specs.Prelude.{ℕ, ◌==◌, List, [], ◌∷◌, ◌++◌, Bool, if◌then◌else◌}
+use Rattle.tcl_words.specs.Bytes as ascii
 use Rattle.tty_output.specs.declared.modes.Modes.{Modes}
 use Rattle.tty_input.specs.Editing.{is_empty}
 use Rattle.tty_input.specs.Segments.{open_text}
@@ -8,9 +9,9 @@ use Rattle.tty_input.specs.Handed.{received}
 -- what a byte echoes, where the line so far has no text, or has some
 abbrev pub echo_by : Bool → ℕ → List ℕ
 echo_by empty b =
-    if b == 127 then (if empty then [] else 8 ∷ 32 ∷ 8 ∷ [])
-    else (if b == 21 then 21 ∷ 10 ∷ []
-    else (if b == 4 then [] else b ∷ []))
+    if b == ascii.delete then (if empty then [] else ascii.backspace ∷ ascii.space ∷ ascii.backspace ∷ [])
+    else (if b == ascii.kill then ascii.kill ∷ ascii.newline ∷ []
+    else (if b == ascii.end_of_file then [] else b ∷ []))
 
 -- what bytes echo that come behind others
 abbrev pub echo_behind : List ℕ → List ℕ → List ℕ

@@ -1,32 +1,33 @@
 -- A line and the bytes that edit it (POSIX.1-2017, XBD 11.1.9): ERASE is 7F, KILL 15, NL 0A, EOF 04 and CR 0D.
 use Rattle.std.specs.Prelude.{ℕ, zero, suc, ◌==◌, List, [], ◌∷◌, Bool, true, false, ◌||◌, if◌then◌else◌}
 use Rattle.std.specs.List.{list_any}
+use Rattle.tcl_words.specs.Bytes as ascii
 
 abbrev pub is_empty : List ℕ → Bool
 is_empty [] = true
 is_empty (b ∷ bs) = false
 
 abbrev pub ends_line : ℕ → Bool
-ends_line b = b == 10 || b == 4
+ends_line b = b == ascii.newline || b == ascii.end_of_file
 
 -- a line up to its last KILL is dropped
 abbrev pub behind_kill : List ℕ → List ℕ
 behind_kill [] = []
 behind_kill (b ∷ bs) =
-    if list_any (λ c. c == 21) bs then behind_kill bs
-    else (if b == 21 then bs else b ∷ bs)
+    if list_any (λ c. c == ascii.kill) bs then behind_kill bs
+    else (if b == ascii.kill then bs else b ∷ bs)
 
 -- without the first ERASE and the byte before it, if there is one
 abbrev pub without_first_erase : List ℕ → List ℕ
 without_first_erase [] = []
-without_first_erase (a ∷ []) = if a == 127 then [] else a ∷ []
+without_first_erase (a ∷ []) = if a == ascii.delete then [] else a ∷ []
 without_first_erase (a ∷ b ∷ bs) =
-    if a == 127 then b ∷ bs
-    else (if b == 127 then bs else a ∷ without_first_erase (b ∷ bs))
+    if a == ascii.delete then b ∷ bs
+    else (if b == ascii.delete then bs else a ∷ without_first_erase (b ∷ bs))
 
 abbrev pub erase_count : List ℕ → ℕ
 erase_count [] = 0
-erase_count (b ∷ bs) = if b == 127 then suc (erase_count bs) else erase_count bs
+erase_count (b ∷ bs) = if b == ascii.delete then suc (erase_count bs) else erase_count bs
 
 abbrev pub times : ℕ → (List ℕ → List ℕ) → List ℕ → List ℕ
 times zero f t = t

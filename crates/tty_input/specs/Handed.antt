@@ -1,5 +1,6 @@
 -- What a terminal hands over of what is typed (POSIX.1-2017, XBD 11.1.6 and 11.1.7).
 use Rattle.std.specs.Prelude.{ℕ, ◌==◌, List, [], ◌∷◌, ◌++◌, map, Bool, true, false, ◌&&◌, ◌||◌, if◌then◌else◌}
+use Rattle.tcl_words.specs.Bytes as ascii
 use Rattle.tty_output.specs.declared.modes.Modes.{Modes}
 use Rattle.tty_input.specs.declared.action.Action.{Action}
 use Rattle.tty_input.specs.declared.action.Action.TheVariants as action
@@ -8,18 +9,18 @@ use Rattle.tty_input.specs.Segments.{Segments, rest, line, segments}
 
 -- ICRNL: a CR becomes NL
 abbrev pub read_byte : Modes → ℕ → ℕ
-read_byte m b = if b == 13 && m.icrnl then 10 else b
+read_byte m b = if b == ascii.carriage_return && m.icrnl then ascii.newline else b
 
 abbrev pub received : Modes → List ℕ → List ℕ
 received m x = map (read_byte m) x
 
 -- an EOF behind nothing ends the input
 abbrev pub ends_input : ℕ → List ℕ → Bool
-ends_input d t = d == 4 && is_empty t
+ends_input d t = d == ascii.end_of_file && is_empty t
 
 -- a line is handed over with its NL, and without its EOF
 abbrev pub line_text : ℕ → List ℕ → List ℕ
-line_text d t = if d == 10 then t ++ 10 ∷ [] else t
+line_text d t = if d == ascii.newline then t ++ ascii.newline ∷ [] else t
 
 -- what a line with this text, ended by d, gives
 abbrev pub line_action : ℕ → List ℕ → Action

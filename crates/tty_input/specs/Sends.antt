@@ -1,6 +1,7 @@
 -- A terminal's line, and what a send does to it.
 use Rattle.std.specs.Prelude.{◌≡◌, ℕ, ◌==◌, List, [], ◌∷◌, ◌++◌, Bool, not, ◌||◌}
 use Rattle.std.specs.List.{list_all, concat}
+use Rattle.tcl_words.specs.Bytes as ascii
 use Rattle.tty_output.specs.declared.modes.Modes.{Modes}
 use Rattle.tty_input.specs.declared.action.Action.{Action}
 use Rattle.tty_input.specs.Editing.{ends_line}
@@ -15,7 +16,7 @@ pub record Waits : Type 0 where
 
 -- a byte that neither ends a line nor edits it
 abbrev pub is_plain : ℕ → Bool
-is_plain b = not (ends_line b || b == 21 || b == 127)
+is_plain b = not (ends_line b || b == ascii.kill || b == ascii.delete)
 
 abbrev pub all_plain : List ℕ → Bool
 all_plain t = list_all is_plain t

@@ -1,6 +1,7 @@
 -- A terminal's modes as words of stty(1) set them (POSIX.1-2017, XCU stty and XBD chapter 11), of which these words are known.
 use Rattle.std.specs.Prelude.{ℕ, ◌+◌, ◌==◌, List, [], ◌∷◌, codes, Bool, true, false, not, ◌||◌, if◌then◌else◌, Option, Some, None, Result, Ok, Err, is_some}
 use Rattle.std.specs.Str.{bytes_eq}
+use Rattle.tcl_words.specs.Bytes as ascii
 use Rattle.tty_output.specs.declared.modes.Modes.{Modes}
 use Rattle.tty_output.specs.declared.modes.BadMode.{BadMode}
 use Rattle.tcl_expr.specs.Number.{number_of}
@@ -28,7 +29,7 @@ switched name on m =
 abbrev pub set_by : List ℕ → Modes → Option Modes
 set_by [] m = None
 set_by (b ∷ bs) m =
-    if b == 45 then switched bs false m
+    if b == ascii.minus then switched bs false m
     else if bytes_eq (b ∷ bs) (codes "cooked") then Some (cooked true m)
     else if bytes_eq (b ∷ bs) (codes "sane") then Some sane
     else switched (b ∷ bs) true m

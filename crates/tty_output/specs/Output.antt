@@ -1,12 +1,13 @@
 -- What becomes of a program's output on its way through the terminal (POSIX.1-2017, XBD 11.2.3: OPOST, ONLCR).
 use Rattle.std.specs.Prelude.{ℕ, ◌==◌, List, [], ◌∷◌, Bool, not, ◌&&◌, if◌then◌else◌}
 use Rattle.std.specs.List.{filter}
+use Rattle.tcl_words.specs.Bytes as ascii
 use Rattle.tty_output.specs.declared.modes.Modes.{Modes}
 
 -- each NL as CR NL
 abbrev pub with_returns : List ℕ → List ℕ
 with_returns [] = []
-with_returns (b ∷ bs) = if b == 10 then 13 ∷ 10 ∷ with_returns bs else b ∷ with_returns bs
+with_returns (b ∷ bs) = if b == ascii.newline then ascii.carriage_return ∷ ascii.newline ∷ with_returns bs else b ∷ with_returns bs
 
 abbrev pub maps_newlines : Modes → Bool
 maps_newlines m = m.opost && m.onlcr

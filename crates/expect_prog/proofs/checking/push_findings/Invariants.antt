@@ -1,7 +1,10 @@
 use Rattle.std.proofs.Common.{◌≡◌, ◌++◌, drop}
+use Rattle.script_check.specs.Lines.{line_of}
 use Rattle.expect_prog.specs.Check.{finding_lines}
 use Rattle.expect_prog.proofs.checking.push_findings.Given as goal
 
 abbrev pub invariant-loop-finding : goal.invariant-loop-finding
-invariant-loop-finding l =
-    l.text ++ finding_lines l.file l.source (drop l.finding-index l.findings) ≡ l.initial.text ++ finding_lines l.file l.source l.findings
+invariant-loop-finding l = record {
+  line : l.line ≡ line_of l.source l.known;
+  text : l.text ++ finding_lines l.file l.source (drop l.finding-index l.findings) ≡ l.initial.text ++ finding_lines l.file l.source l.findings;
+}

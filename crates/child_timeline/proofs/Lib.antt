@@ -1,0 +1,4 @@
+pub mod Blanks
+pub mod Saying
+pub mod Cutting
+pub mod Telling

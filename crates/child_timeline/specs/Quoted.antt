@@ -1,0 +1,75 @@
+-- A text between quotes: the bytes that it says.
+use Rattle.std.specs.Prelude.{ℕ, ◌+◌, ◌-◌, ◌*◌, ◌<◌, nat_le, List, [], ◌∷◌, ◌==◌, ◌&&◌, if◌then◌else◌, Option, Some, None, option_map}
+use Rattle.child_timeline.specs.declared.quoted.Part.{Part}
+use Rattle.child_timeline.specs.declared.quoted.Part.TheVariants.{Plain, Escape, High, Low, Closed}
+use Rattle.tcl_words.specs.Bytes as ascii
+use Rattle.child_timeline.specs.Words.{is_blank}
+
+-- what a byte behind a backslash stands for
+abbrev pub escaped : ℕ → Option ℕ
+escaped b =
+    if b == ascii.quote then Some ascii.quote
+    else if b == ascii.backslash then Some ascii.backslash
+    else if b == ascii.letter_n then Some ascii.newline
+    else if b == ascii.letter_r then Some ascii.carriage_return
+    else if b == ascii.letter_t then Some ascii.tab
+    else None
+
+-- how much a hexadecimal digit counts, in lower or upper case
+abbrev pub hex_digit : ℕ → Option ℕ
+hex_digit b =
+    if nat_le ascii.digit_0 b && nat_le b ascii.digit_9 then Some (b - ascii.digit_0)
+    else if nat_le ascii.letter_a b && nat_le b ascii.letter_f then Some (b - ascii.letter_a + 10)
+    else if nat_le ascii.capital_a b && nat_le b ascii.capital_f then Some (b - ascii.capital_a + 10)
+    else None
+
+-- a byte of the text, or none, and the part that goes on behind it
+abbrev pub Step : Type 0
+Step = Option ℕ × Part
+
+abbrev pub plain_byte : ℕ → Step
+plain_byte b = (Some b, Plain)
+
+-- what a byte does within a part: a quote ends the text, and behind it stand blanks alone
+abbrev pub step : Part → ℕ → Option Step
+step Plain b =
+    if b == ascii.quote then Some (None, Closed)
+    else if b == ascii.backslash then Some (None, Escape)
+    else Some (plain_byte b)
+step Escape b = if b == ascii.letter_x then Some (None, High) else option_map plain_byte (escaped b)
+step High b = option_map (λ h. (None, Low h)) (hex_digit b)
+step (Low h) b = option_map (λ l. plain_byte (16 * h + l)) (hex_digit b)
+step Closed b = if is_blank b then Some (None, Closed) else None
+
+abbrev pub in_front : Option ℕ → List ℕ → List ℕ
+in_front None bs = bs
+in_front (Some b) bs = b ∷ bs
+
+-- the text is whole where its quote was there
+abbrev pub at_end : Part → Option (List ℕ)
+at_end Plain = None
+at_end Escape = None
+at_end High = None
+at_end (Low h) = None
+at_end Closed = Some []
+
+abbrev pub behind : Option Step → (Part → Option (List ℕ)) → Option (List ℕ)
+behind None more = None
+behind (Some s) more = option_map (in_front s.0) (more s.1)
+
+-- the bytes that a text says from a part on; none where it is no text
+abbrev pub text_from : Part → List ℕ → Option (List ℕ)
+text_from p [] = at_end p
+text_from p (b ∷ bs) = behind (step p b) (λ q. text_from q bs)
+
+-- the first digit that a part keeps is one
+abbrev pub IsPart : Part → Type 0
+IsPart Plain = Unit {0}
+IsPart Escape = Unit {0}
+IsPart High = Unit {0}
+IsPart (Low h) = h < 16
+IsPart Closed = Unit {0}
+
+abbrev pub IsStep : Option Step → Type 0
+IsStep None = Unit {0}
+IsStep (Some s) = IsPart s.1

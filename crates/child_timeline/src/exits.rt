@@ -1,0 +1,72 @@
+//! How children are to end.
+
+ghost use Rattle.std.specs.Prelude.{◌≡◌, ◌++◌, ◌∷◌, [], OnOk};
+ghost use Rattle.child_timeline.specs.Exits.{exit_told, exit_of as exit_of_child};
+
+use child_events::Answer;
+use std::alloc::{AllocError, Global};
+use std::marker::Model;
+
+/// What a wait for a child comes to.
+#[derive(Clone, Copy, Debug)]
+pub struct Exit {
+    /// The child's number, from 1.
+    pub child: u8,
+    pub answer: Answer,
+}
+
+/// What waits come to, of each child once at most. A contract sees a list.
+#[derive(Debug, Drop)]
+pub struct Exits {
+    list: Vec<Exit>,
+}
+
+impl Model for Exits {
+    ghost use Rattle.std.specs.Prelude.{List};
+    ghost use Rattle.child_timeline.specs.declared.exits.Exit.{Exit};
+
+    ghost Value = { List Exit };
+
+    ghost view = { λ t. t.list.items };
+}
+
+impl Exits {
+    /// Nothing is said of any child. It allocates nothing.
+    pub fn new(alloc: Global) -> Exits
+        ensures { result ≡ [] }
+    {
+        Exits {
+            list: Vec::new(alloc),
+        }
+    }
+
+    /// What was said of a child.
+    pub fn told(&self, child: u8) -> Option<Answer>
+        ensures { result ≡ exit_told child self.now }
+    {
+        for exit in self.list.as_slice() {
+            if exit.child == child {
+                return Some(exit.answer);
+            }
+        }
+        None
+    }
+
+    /// What a wait for a child comes to: what was said of it, or else the status 0.
+    pub fn of(&self, child: u8) -> Answer
+        ensures { result ≡ exit_of_child child self.now }
+    {
+        match self.told(child) {
+            Some(answer) => answer,
+            None => Answer::Exit(0),
+        }
+    }
+
+    /// Says what a wait comes to.
+    pub fn push(&mut self, exit: Exit) -> Result<(), AllocError>
+        ensures { OnOk result (self.new ≡ self.old ++ exit ∷ []) }
+    {
+        self.list.push(exit)?;
+        Ok(())
+    }
+}

@@ -1,0 +1,163 @@
+//! A text between quotes.
+
+ghost use Rattle.std.specs.Prelude.{◌≡◌, ◌<◌, ◌++◌, [], IfOk, IfSome, OnOk, option_map};
+ghost use Rattle.child_timeline.specs.Quoted.{escaped as escaped_of, hex_digit as hex_digit_of, step as step_of, in_front, text_from, at_end, IsPart, IsStep};
+
+use crate::words::is_blank;
+use std::alloc::{AllocError, Global};
+use tcl_words::Text;
+
+/// Where in a text a byte stands.
+#[derive(Clone, Copy, Debug)]
+pub(crate) enum Part {
+    /// Where it stands for itself.
+    Plain,
+    /// Behind a backslash.
+    Escape,
+    /// Where the first of two hexadecimal digits is due.
+    High,
+    /// Where the second is due, behind one that counts so much.
+    Low(u8),
+    /// Behind the quote that ends the text.
+    Closed,
+}
+
+/// What a byte behind a backslash stands for.
+fn escaped(byte: u8) -> Option<u8>
+    ensures { result ≡ escaped_of byte }
+{
+    if byte == b'"' {
+        Some(b'"')
+    } else if byte == b'\\' {
+        Some(b'\\')
+    } else if byte == b'n' {
+        Some(b'\n')
+    } else if byte == b'r' {
+        Some(b'\r')
+    } else if byte == b't' {
+        Some(b'\t')
+    } else {
+        None
+    }
+}
+
+/// How much a hexadecimal digit counts.
+fn hex_digit(byte: u8) -> Option<u8>
+    ensures value { result ≡ hex_digit_of byte }
+    ensures few { IfSome result (λ d. d < 16) }
+{
+    if b'0' <= byte && byte <= b'9' {
+        Some(byte - b'0')
+    } else if b'a' <= byte && byte <= b'f' {
+        Some(byte - b'a' + 10)
+    } else if b'A' <= byte && byte <= b'F' {
+        Some(byte - b'A' + 10)
+    } else {
+        None
+    }
+}
+
+/// A byte of the text, or none, and the part behind.
+type Step = (Option<u8>, Part);
+
+fn plain_step(byte: u8) -> Option<Step>
+    ensures { result ≡ step_of Part.Plain byte }
+{
+    if byte == b'"' {
+        Some((None, Part::Closed))
+    } else if byte == b'\\' {
+        Some((None, Part::Escape))
+    } else {
+        Some((Some(byte), Part::Plain))
+    }
+}
+
+fn escape_step(byte: u8) -> Option<Step>
+    ensures { result ≡ step_of Part.Escape byte }
+{
+    if byte == b'x' {
+        return Some((None, Part::High));
+    }
+    let byte = escaped(byte)?;
+    Some((Some(byte), Part::Plain))
+}
+
+fn high_step(byte: u8) -> Option<Step>
+    ensures next { result ≡ step_of Part.High byte }
+    ensures part { IsStep result }
+{
+    let high = hex_digit(byte)?;
+    Some((None, Part::Low(high)))
+}
+
+fn low_step(high: u8, byte: u8) -> Option<Step>
+    requires { high < 16 }
+    ensures { result ≡ step_of (Part.Low high) byte }
+{
+    let low = hex_digit(byte)?;
+    Some((Some(16 * high + low), Part::Plain))
+}
+
+fn closed_step(byte: u8) -> Option<Step>
+    ensures { result ≡ step_of Part.Closed byte }
+{
+    if is_blank(byte) {
+        Some((None, Part::Closed))
+    } else {
+        None
+    }
+}
+
+/// What a byte does within a part.
+fn step(part: Part, byte: u8) -> Option<Step>
+    requires { IsPart part }
+    ensures next { result ≡ step_of part byte }
+    ensures part { IsStep result }
+{
+    match part {
+        Part::Plain => plain_step(byte),
+        Part::Escape => escape_step(byte),
+        Part::High => high_step(byte),
+        Part::Low(high) => low_step(high, byte),
+        Part::Closed => closed_step(byte),
+    }
+}
+
+/// Puts a byte behind a text, where there is one.
+fn push_said(text: &mut Text, said: Option<u8>) -> Result<(), AllocError>
+    ensures { OnOk result (text.new ≡ text.old ++ in_front said []) }
+{
+    match said {
+        Some(byte) => text.push(byte),
+        None => Ok(()),
+    }
+}
+
+/// The text, where its quote was there.
+fn whole(part: Part, text: Text) -> Option<Text>
+    ensures { result ≡ option_map (λ rest. text ++ rest) (at_end part) }
+{
+    match part {
+        Part::Closed => Some(text),
+        Part::Plain => None,
+        Part::Escape => None,
+        Part::High => None,
+        Part::Low(_) => None,
+    }
+}
+
+/// The bytes that a text says, which stands behind a quote and ends with one; None where it is no text.
+pub(crate) fn read_quoted(alloc: Global, bytes: &[u8]) -> Result<Option<Text>, AllocError>
+    ensures { IfOk result (λ text. text ≡ text_from Part.Plain bytes.now) }
+{
+    let mut text = Text::new(alloc);
+    let mut part = Part::Plain;
+    for byte in bytes {
+        let Some((said, next)) = step(part, *byte) else {
+            return Ok(None);
+        };
+        push_said(&mut text, said)?;
+        part = next;
+    }
+    Ok(whole(part, text))
+}

@@ -1,0 +1,52 @@
+//! What a call that waits is waiting for, as a reader sees it.
+
+ghost use Rattle.std.specs.Prelude.{◌≡◌, Some, None, MatchOption, IfOk};
+ghost use Rattle.expect_core.specs.Awaited.{answering as answering_of, expecting as expecting_of, buffer_of};
+ghost use Rattle.expect_core.specs.Deadlines.{as_moment as as_moment_of};
+
+use crate::deadline::as_moment;
+use crate::dialogue::Dialogue;
+use crate::phase::Phase;
+use crate::plan::Plan;
+use std::alloc::{AllocError, Global};
+use tcl_words::Text;
+
+impl Plan {
+    /// The last moment in milliseconds at which an item is in time, where there is one.
+    pub fn last_moment(&self) -> Option<u64>
+        ensures { result ≡ as_moment_of self.now.deadline }
+    {
+        as_moment(self.deadline)
+    }
+}
+
+impl Dialogue {
+    /// The number of the child, from 1, whose answer a call awaits.
+    pub fn answering(&self) -> Option<u8>
+        ensures { result ≡ answering_of self.now.phase }
+    {
+        match &self.phase {
+            Phase::Answer(child, _) => Some(child.number()),
+            Phase::Idle => None,
+            Phase::Expect(_) => None,
+        }
+    }
+
+    /// The expect that waits for an item of one of its children.
+    pub fn expecting(&self) -> Option<&Plan>
+        ensures { MatchOption result (expecting_of self.now.phase ≡ None) (λ p. expecting_of self.now.phase ≡ Some p.now) }
+    {
+        match &self.phase {
+            Phase::Expect(plan) => Some(plan),
+            Phase::Idle => None,
+            Phase::Answer(_, _) => None,
+        }
+    }
+
+    /// A copy of the bytes of a child that no expect has taken, on which its patterns are tried; none where there is no such child.
+    pub fn buffer_copied(&self, alloc: Global, child: u8) -> Result<Text, AllocError>
+        ensures { IfOk result (λ t. t ≡ buffer_of child self.now.own.children) }
+    {
+        self.own.children.buffer_copied(alloc, child)
+    }
+}

@@ -1,0 +1,182 @@
+-- The rules of the commands' flags say what the function of `expect_core` says.
+use Rattle.std.proofs.Common.{◌≡◌, ℕ, Bool, true, false, ◌&&◌, List, [], ◌∷◌, Option, Some, None, Ok, Err, ◌⊎◌, inl, inr, refl, sym, ap, ◌∙◌, subst, codes}
+use Rattle.std.proofs.lemmas.Bool.{and_parts, and_from, and_right, false_from_ne_true}
+use Rattle.std.specs.Str.{bytes_eq}
+use Rattle.tcl_words.specs.Lists.{begins_with}
+use Rattle.expect_core.specs.Flags.{begins_with_minus, switch_word, is_own, no_flags, Flagged, flags_from, flags_of}
+use Rattle.expect_core.specs.declared.flags.Flags.{Flags}
+use Rattle.expect_core.specs.declared.flags.Switch.{Switch}
+use Rattle.expect_core.specs.declared.flags.Switch.TheVariants as switch
+use Rattle.expect_core.specs.declared.flags.Takes.{Takes}
+use Rattle.expect_grammar.specs.FlagRules.{IsSwitch, IsFlag, Stand, End, Wrong, Say, Fail}
+use Rattle.expect_grammar.proofs.Words.{found, never}
+
+-- a minus at its front
+minus_is : (word : List ℕ) → begins_with_minus word ≡ begins_with 45 word
+minus_is [] = refl
+minus_is (b ∷ s) = refl
+
+is_switch : (s : Switch) → IsSwitch (switch_word s) s
+is_switch switch.NoEcho = IsSwitch.noecho
+is_switch switch.Default = IsSwitch.default
+is_switch switch.Timer = IsSwitch.continue_timer
+
+-- no command's own flag is `-i`
+id_isnt_own : (own : Option Switch) → is_own own (codes "-i") ≡ false
+id_isnt_own None = refl
+id_isnt_own (Some switch.NoEcho) = refl
+id_isnt_own (Some switch.Default) = refl
+id_isnt_own (Some switch.Timer) = refl
+
+module _ (takes : Takes) where
+  -- ---- What the tests find
+
+  own_test : (word : List ℕ) (s : Switch) → takes.own ≡ Some s → IsSwitch word s → is_own takes.own word ≡ true
+  own_test word s e IsSwitch.noecho = ap (λ own. is_own own word) e
+  own_test word s e IsSwitch.default = ap (λ own. is_own own word) e
+  own_test word s e IsSwitch.continue_timer = ap (λ own. is_own own word) e
+
+  own_flag : (own : Option Switch) (word : List ℕ) → takes.own ≡ own → is_own own word ≡ true → IsFlag takes word
+  own_flag None word e is = absurd (never (sym is))
+  own_flag (Some s) word e is = found word (switch_word s) (λ w. IsFlag takes w) (IsFlag.own (switch_word s) s e (is_switch s)) is
+
+  id_flag : (word : List ℕ) → takes.id && bytes_eq word (codes "-i") ≡ true → IsFlag takes word
+  id_flag word is = let p = and_parts takes.id _ is in found word (codes "-i") (λ w. IsFlag takes w) (IsFlag.id p.0) p.1
+
+  end_flag : (word : List ℕ) → takes.end && bytes_eq word (codes "--") ≡ true → IsFlag takes word
+  end_flag word is = let p = and_parts takes.end _ is in found word (codes "--") (λ w. IsFlag takes w) (IsFlag.end p.0) p.1
+
+  no_flag : (word : List ℕ) → takes.end && bytes_eq word (codes "--") ≡ false → is_own takes.own word ≡ false → takes.id && bytes_eq word (codes "-i") ≡ false
+      → ¬ IsFlag takes word
+  no_flag word end own id (IsFlag.own v s e is) = never (sym (own_test word s e is) ∙ own)
+  no_flag word end own id (IsFlag.id e) = let is = rw e at id in never is
+  no_flag word end own id (IsFlag.end e) = let is = rw e at end in never is
+
+  -- ---- From the rules to the function
+
+  module _ (name : List ℕ) where
+    own_is : (f : Flags) (word : List ℕ) (rest : List (List ℕ)) (s : Switch) → takes.own ≡ Some s → IsSwitch word s
+        → flags_from name takes false f (word ∷ rest) ≡ flags_from name takes false (record f { on = true }) rest
+    own_is f word rest s e IsSwitch.noecho = rw (and_right takes.end false refl, own_test word s e IsSwitch.noecho) refl
+    own_is f word rest s e IsSwitch.default = rw (and_right takes.end false refl, own_test word s e IsSwitch.default) refl
+    own_is f word rest s e IsSwitch.continue_timer = rw (and_right takes.end false refl, own_test word s e IsSwitch.continue_timer) refl
+
+    id_is : (f : Flags) (rest : List (List ℕ)) → takes.id ≡ true → flags_from name takes false f (codes "-i" ∷ rest) ≡ flags_from name takes true f rest
+    id_is f rest e = rw (and_right takes.end false refl, id_isnt_own takes.own, and_from takes.id true e refl) refl
+
+    -- what is read is read behind the flags that stand in front
+    stood : (f g : Flags) (words behind : List (List ℕ)) → Stand takes f words g behind → flags_from name takes false f words ≡ flags_from name takes false g behind
+    stood f g words behind (Stand.none h ws) = refl
+    stood f g words behind (Stand.own h i word rest ws s e is on) = own_is f word rest s e is ∙ stood (record f { on = true }) g rest behind on
+    stood f g words behind (Stand.id h i word rest ws e on) = id_is f (word ∷ rest) e ∙ stood (record f { id = Some word }) g rest behind on
+
+    ended : (f : Flags) (behind rest : List (List ℕ)) → End takes behind rest → flags_from name takes false f behind ≡ Ok (f, rest)
+    ended f behind rest End.over = refl
+    ended f behind rest (End.argument word ws e) = rw (minus_is word ∙ e) refl
+    ended f behind rest (End.last ws e) = rw e refl
+
+    failed : (f : Flags) (behind : List (List ℕ)) (text : List ℕ) → Wrong name takes behind text → flags_from name takes false f behind ≡ Err text
+    failed f behind text (Wrong.unknown word rest minus other) =
+        let end = false_from_ne_true (takes.end && bytes_eq word (codes "--")) (λ is. other (end_flag word is)) in
+        let own = false_from_ne_true (is_own takes.own word) (λ is. other (own_flag takes.own word refl is)) in
+        let id = false_from_ne_true (takes.id && bytes_eq word (codes "-i")) (λ is. other (id_flag word is)) in
+        rw (minus_is word ∙ minus, end, own, id) refl
+    failed f behind text (Wrong.no_id e) = id_is f [] e
+
+    pub flags_is : (words : List (List ℕ)) (f : Flags) (rest : List (List ℕ)) → Say takes words f rest → flags_of name takes words ≡ Ok (f, rest)
+    flags_is words f rest h = stood no_flags f words h.0 h.1 ∙ ended f h.0 rest h.2
+
+    pub fault_is : (words : List (List ℕ)) (text : List ℕ) → Fail name takes words text → flags_of name takes words ≡ Err text
+    fault_is words text h = stood no_flags h.0 words h.1 h.2 ∙ failed h.0 h.1 text h.3
+
+    -- ---- The rules read the flags, or find something wrong
+
+    data Outcome (f : Flags) (words : List (List ℕ)) : Type 0 where
+      good : (g : Flags) (behind rest : List (List ℕ)) → Stand takes f words g behind → End takes behind rest → Outcome f words
+      wrong : (g : Flags) (behind : List (List ℕ)) (text : List ℕ) → Stand takes f words g behind → Wrong name takes behind text → Outcome f words
+
+    -- of words, and of an `-i` in front of them
+    abbrev Both : List (List ℕ) → Type 0
+    Both words = ((f : Flags) → Outcome f words) × ((f : Flags) → takes.id ≡ true → Outcome f (codes "-i" ∷ words))
+
+    at_end : (f : Flags) (words rest : List (List ℕ)) → End takes words rest → Outcome f words
+    at_end f words rest h = Outcome.good f words rest (Stand.none f words) h
+
+    switched : (f : Flags) (word : List ℕ) (rest : List (List ℕ)) (s : Switch) → takes.own ≡ Some s → IsSwitch word s → Outcome (record f { on = true }) rest → Outcome f (word ∷ rest)
+    switched f word rest s e is (Outcome.good g behind ws h end) = Outcome.good g behind ws (Stand.own f g word rest behind s e is h) end
+    switched f word rest s e is (Outcome.wrong g behind text h bad) = Outcome.wrong g behind text (Stand.own f g word rest behind s e is h) bad
+
+    identified : (f : Flags) (word : List ℕ) (rest : List (List ℕ)) → takes.id ≡ true → Outcome (record f { id = Some word }) rest → Outcome f (codes "-i" ∷ word ∷ rest)
+    identified f word rest e (Outcome.good g behind ws h end) = Outcome.good g behind ws (Stand.id f g word rest behind e h) end
+    identified f word rest e (Outcome.wrong g behind text h bad) = Outcome.wrong g behind text (Stand.id f g word rest behind e h) bad
+
+    own_first : (f : Flags) (word : List ℕ) (rest : List (List ℕ)) (own : Option Switch) → takes.own ≡ own → is_own own word ≡ true → Both rest → Outcome f (word ∷ rest)
+    own_first f word rest None e is b = absurd (never (sym is))
+    own_first f word rest (Some s) e is b = found word (switch_word s) (λ w. Outcome f (w ∷ rest)) (switched f (switch_word s) rest s e (is_switch s) (b.0 (record f { on = true }))) is
+
+    first : (f : Flags) (word : List ℕ) (rest : List (List ℕ)) → Both rest → Outcome f (word ∷ rest)
+    first f word rest b = by_minus (begins_with 45 word) refl
+      where
+        by_id : begins_with 45 word ≡ true → takes.end && bytes_eq word (codes "--") ≡ false → is_own takes.own word ≡ false
+            → (t : Bool) → takes.id && bytes_eq word (codes "-i") ≡ t → Outcome f (word ∷ rest)
+        by_id minus end own true is = let p = and_parts takes.id _ is in found word (codes "-i") (λ w. Outcome f (w ∷ rest)) (b.1 f p.0) p.1
+        by_id minus end own false is = Outcome.wrong f (word ∷ rest) _ (Stand.none f (word ∷ rest)) (Wrong.unknown word rest minus (no_flag word end own is))
+
+        by_own : begins_with 45 word ≡ true → takes.end && bytes_eq word (codes "--") ≡ false → (t : Bool) → is_own takes.own word ≡ t → Outcome f (word ∷ rest)
+        by_own minus end true is = own_first f word rest takes.own refl is b
+        by_own minus end false is = by_id minus end is (takes.id && bytes_eq word (codes "-i")) refl
+
+        by_end : begins_with 45 word ≡ true → (t : Bool) → takes.end && bytes_eq word (codes "--") ≡ t → Outcome f (word ∷ rest)
+        by_end minus true is = let p = and_parts takes.end _ is in found word (codes "--") (λ w. Outcome f (w ∷ rest)) (at_end f (codes "--" ∷ rest) rest (End.last rest p.0)) p.1
+        by_end minus false is = by_own minus is (is_own takes.own word) refl
+
+        by_minus : (t : Bool) → begins_with 45 word ≡ t → Outcome f (word ∷ rest)
+        by_minus true is = by_end is (takes.end && bytes_eq word (codes "--")) refl
+        by_minus false is = at_end f (word ∷ rest) (word ∷ rest) (End.argument word rest is)
+
+    each : (words : List (List ℕ)) → Both words
+    each [] = (λ f. at_end f [] [] End.over, λ f e. Outcome.wrong f (codes "-i" ∷ []) _ (Stand.none f (codes "-i" ∷ [])) (Wrong.no_id e))
+    each (word ∷ rest) = let b = each rest in (λ f. first f word rest b, λ f e. identified f word rest e (b.0 (record f { id = Some word })))
+
+    -- ---- What is read
+
+    same_flags : (p q : Flags × List (List ℕ)) → ◌≡◌ {A = Flagged} (Ok p) (Ok q) → p ≡ q
+    same_flags p q e = cc
+
+    same_text : (v w : List ℕ) → ◌≡◌ {A = Flagged} (Err v) (Err w) → v ≡ w
+    same_text v w e = cc
+
+    pub is_flags : (words : List (List ℕ)) (f : Flags) (rest : List (List ℕ)) → flags_of name takes words ≡ Ok (f, rest) → Say takes words f rest
+    is_flags words f rest is = by ((each words).0 no_flags)
+      where
+        by : Outcome no_flags words → Say takes words f rest
+        by (Outcome.good g behind ws h end) =
+            let same = same_flags (g, ws) (f, rest) (sym (flags_is words g ws (behind, h, end)) ∙ is) in
+            subst (λ p. Say takes words p.0 p.1) same (behind, h, end)
+        by (Outcome.wrong g behind text h bad) = absurd (let read = sym (fault_is words text (g, behind, h, bad)) ∙ is in cc)
+
+    pub is_fault : (words : List (List ℕ)) (text : List ℕ) → flags_of name takes words ≡ Err text → Fail name takes words text
+    is_fault words text is = by ((each words).0 no_flags)
+      where
+        by : Outcome no_flags words → Fail name takes words text
+        by (Outcome.good g behind ws h end) = absurd (let read = sym (flags_is words g ws (behind, h, end)) ∙ is in cc)
+        by (Outcome.wrong g behind told h bad) =
+            subst (λ t. Fail name takes words t) (same_text told text (sym (fault_is words told (g, behind, h, bad)) ∙ is)) (g, behind, h, bad)
+
+    pub never_both : (words : List (List ℕ)) (f : Flags) (rest : List (List ℕ)) (text : List ℕ) → Say takes words f rest → ¬ Fail name takes words text
+    never_both words f rest text h b = let read = sym (flags_is words f rest h) ∙ fault_is words text b in cc
+
+    pub one_reading : (words : List (List ℕ)) (f g : Flags) (rest behind : List (List ℕ)) → Say takes words f rest → Say takes words g behind → (f ≡ g) × (rest ≡ behind)
+    one_reading words f g rest behind h k =
+        let same = same_flags (f, rest) (g, behind) (sym (flags_is words f rest h) ∙ flags_is words g behind k) in
+        (ap (λ (p : Flags × List (List ℕ)). p.0) same, ap (λ (p : Flags × List (List ℕ)). p.1) same)
+
+    pub one_text : (words : List (List ℕ)) (v w : List ℕ) → Fail name takes words v → Fail name takes words w → v ≡ w
+    one_text words v w g h = same_text v w (sym (fault_is words v g) ∙ fault_is words w h)
+
+    pub always : (words : List (List ℕ)) → ((f : Flags) × (rest : List (List ℕ)) × Say takes words f rest) ⊎ ((text : List ℕ) × Fail name takes words text)
+    always words = by ((each words).0 no_flags)
+      where
+        by : Outcome no_flags words → ((f : Flags) × (rest : List (List ℕ)) × Say takes words f rest) ⊎ ((text : List ℕ) × Fail name takes words text)
+        by (Outcome.good f behind rest h end) = inl (f, rest, (behind, h, end))
+        by (Outcome.wrong f behind text h bad) = inr (text, (f, behind, h, bad))

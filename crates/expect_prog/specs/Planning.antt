@@ -1,0 +1,83 @@
+-- What planning a log answers and writes.
+use Rattle.std.specs.Prelude.{◌≡◌, ◌≢◌, ℕ, List, Option, Result, Ok, Err}
+use Rattle.std.specs.Io.KnownBytes.{Appends}
+use Rattle.child_events.specs.declared.event.HallEvent.{HallEvent}
+use Rattle.child_events.specs.Log.{LogText2}
+use Rattle.child_timeline.specs.declared.fault.TimelineFault.TheVariants as lines
+use Rattle.child_timeline.specs.declared.timeline.Timeline.{Timeline}
+use Rattle.child_timeline.specs.Timeline.{timeline_of}
+use Rattle.child_timeline.specs.Told.{AreTold}
+use Rattle.dialogue_sched.specs.declared.script.Script.{Script}
+use Rattle.log_plan.specs.declared.fault.PlanFault.TheVariants as plans
+use Rattle.log_plan.specs.Plan.{Plans}
+use Rattle.expect_prog.specs.declared.planning.PlanLogFault.{PlanLogFault}
+use Rattle.expect_prog.specs.declared.planning.PlanLogFault.TheVariants as fault
+use Rattle.expect_prog.specs.Devices.{WasPut}
+
+-- a fault of the timeline or the plan is no want of memory
+abbrev pub IsNoWant : PlanLogFault → Type 0
+IsNoWant fault.Read = Unit {0}
+IsNoWant (fault.Timeline f) = f ≢ lines.Memory
+IsNoWant (fault.Plan f) = f ≢ plans.Memory
+IsNoWant fault.Write = Unit {0}
+IsNoWant fault.Memory = Unit {0}
+
+-- what reading a timeline answers
+abbrev pub Tells : List ℕ → Result Timeline PlanLogFault → Type 0
+Tells bytes (Ok t) = (timeline_of bytes ≡ Ok t) × AreTold t.events
+Tells bytes (Err fault.Read) = ⊥
+Tells bytes (Err (fault.Timeline f)) = (f ≢ lines.Memory) × (timeline_of bytes ≡ Err f)
+Tells bytes (Err (fault.Plan f)) = ⊥
+Tells bytes (Err fault.Write) = ⊥
+Tells bytes (Err fault.Memory) = Unit {0}
+
+-- The text is the log of the events of the script's plan over the timeline.
+pub record IsLog (s : Script) (t : Timeline) (text : List ℕ) : Type 0 where
+  pub events : List HallEvent
+  pub plan : Plans s t (Ok events)
+  pub log : LogText2 text events
+
+-- what making the log answers
+abbrev pub Logs : Script → Timeline → Result (List ℕ) PlanLogFault → Type 0
+Logs s t (Ok text) = IsLog s t text
+Logs s t (Err fault.Read) = ⊥
+Logs s t (Err (fault.Timeline f)) = ⊥
+Logs s t (Err (fault.Plan f)) = (f ≢ plans.Memory) × Plans s t (Err f)
+Logs s t (Err fault.Write) = ⊥
+Logs s t (Err fault.Memory) = Unit {0}
+
+-- The bytes are the text of a timeline, and the text is the log of the script's plan over it.
+pub record IsLogOver (s : Script) (bytes text : List ℕ) : Type 0 where
+  pub timeline : Timeline
+  pub read : timeline_of bytes ≡ Ok timeline
+  pub log : IsLog s timeline text
+
+-- what making the log of a text answers
+abbrev pub LogsOver : Script → List ℕ → Result (List ℕ) PlanLogFault → Type 0
+LogsOver s bytes (Ok text) = IsLogOver s bytes text
+LogsOver s bytes (Err fault.Read) = ⊥
+LogsOver s bytes (Err (fault.Timeline f)) = (f ≢ lines.Memory) × (timeline_of bytes ≡ Err f)
+LogsOver s bytes (Err (fault.Plan f)) = (f ≢ plans.Memory) × ((t : Timeline) × (timeline_of bytes ≡ Ok t) × Plans s t (Err f))
+LogsOver s bytes (Err fault.Write) = ⊥
+LogsOver s bytes (Err fault.Memory) = Unit {0}
+
+-- The log of the script's plan is written, and nothing else.
+pub record PlannedLog (s : Script) (bytes : List ℕ) (old new : Option (List ℕ)) : Type 0 where
+  pub text : List ℕ
+  pub log : IsLogOver s bytes text
+  pub written : Appends old new text
+
+-- A front of it is written, and nothing else.
+pub record PartPlanned (s : Script) (bytes : List ℕ) (old new : Option (List ℕ)) : Type 0 where
+  pub text : List ℕ
+  pub log : IsLogOver s bytes text
+  pub written : WasPut old new text
+
+-- what planning over these bytes answers, and what it puts behind what was written before
+abbrev pub PlansLog : Script → List ℕ → Option (List ℕ) → Option (List ℕ) → Result (Unit {0}) PlanLogFault → Type 0
+PlansLog s bytes old new (Ok done) = PlannedLog s bytes old new
+PlansLog s bytes old new (Err fault.Read) = Unit {0}
+PlansLog s bytes old new (Err (fault.Timeline f)) = timeline_of bytes ≡ Err f
+PlansLog s bytes old new (Err (fault.Plan f)) = (t : Timeline) × (timeline_of bytes ≡ Ok t) × Plans s t (Err f)
+PlansLog s bytes old new (Err fault.Write) = PartPlanned s bytes old new
+PlansLog s bytes old new (Err fault.Memory) = Unit {0}

@@ -1,0 +1,16 @@
+-- What the plan answers to a request.
+use Rattle.std.specs.Prelude.{ℕ, List}
+use Rattle.child_events.specs.declared.event.Answer.{Answer}
+use Rattle.child_events.specs.declared.event.Answer.TheVariants as answer
+use Rattle.expect_core.specs.declared.request.Act.{Act}
+use Rattle.expect_core.specs.declared.request.Act.TheVariants as act
+use Rattle.child_timeline.specs.declared.exits.Exit.{Exit}
+use Rattle.child_timeline.specs.Exits.{exit_of}
+
+-- what a request to a child comes to: `ok`, and a wait to the child's end
+abbrev pub given : List Exit → ℕ → Act → Answer
+given exits c (act.Spawn words) = answer.Ok
+given exits c (act.Write bytes) = answer.Ok
+given exits c act.End = answer.Ok
+given exits c act.Close = answer.Ok
+given exits c act.Wait = exit_of c exits

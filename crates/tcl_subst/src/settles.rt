@@ -1,0 +1,62 @@
+//! Taking up lists that were read from a scope's values.
+
+ghost use Rattle.std.specs.Prelude.{◌≡◌};
+
+use crate::element::element;
+use crate::names::Names;
+use crate::scope::{Scope, Slot};
+use tcl_values::Value;
+
+/// Takes up the list that another owner of the bytes of a variable or an element read. No value changes.
+pub fn settle(scope: &mut Scope, name: &[u8])
+    ensures { scope.new ≡ scope.old }
+{
+    match element(name) {
+        None => settle_text(scope, name),
+        Some((array, index)) => settle_element(scope, array, index),
+    }
+}
+
+fn settle_text(scope: &mut Scope, name: &[u8])
+    ensures { scope.new ≡ scope.old }
+{
+    if let Some(slot) = scope.get_mut(name) {
+        settle_slot(slot);
+    }
+}
+
+fn settle_slot(slot: &mut Slot)
+    ensures { slot.new ≡ slot.old }
+{
+    match slot {
+        Slot::Text(value) => value.settle(),
+        Slot::Array(_) => {}
+        Slot::Link => {}
+    }
+}
+
+fn settle_element(scope: &mut Scope, array: &[u8], index: &[u8])
+    ensures { scope.new ≡ scope.old }
+{
+    if let Some(slot) = scope.get_mut(array) {
+        settle_member(slot, index);
+    }
+}
+
+fn settle_member(slot: &mut Slot, index: &[u8])
+    ensures { slot.new ≡ slot.old }
+{
+    match slot {
+        Slot::Text(_) => {}
+        Slot::Array(elements) => settle_entry(elements, index),
+        Slot::Link => {}
+    }
+}
+
+fn settle_entry(elements: &mut Names<Value>, index: &[u8])
+    ensures { elements.new ≡ elements.old }
+{
+    if let Some(value) = elements.get_mut(index) {
+        value.settle();
+    }
+}
