@@ -11,27 +11,59 @@ use dialogue_sched::Hall;
 use feed_rings::Bell;
 use std::alloc::{AllocError, Global};
 use std::sync::Wait;
+use tcl_eval::Ending;
 
 /// How many milliseconds a desk rests at most.
 const REST: u64 = 100;
 
-/// Tells an audience what each script has shown since it was told last. The counts are those of the bytes that it was told, by the
-/// script's place.
-fn tell_all<A: Audience>(hall: &Hall, audience: &mut A, told: &mut [usize]) {
-    for place in 0..told.len() {
-        let shown = hall.transcript(place + 1);
-        if told[place] < shown.len() {
-            audience.hear(place, shown.split_at(told[place]).1);
-            told[place] = shown.len();
-        }
+/// What an audience was told of a script.
+#[derive(Clone, Copy, Debug)]
+struct Told {
+    /// How many bytes it has shown.
+    shown: usize,
+    /// Whether it is over.
+    is_over: bool,
+}
+
+/// Tells an audience what the script at a place has shown since it was told last.
+fn tell_shown<A: Audience>(audience: &mut A, place: usize, shown: &[u8], told: &mut Told) {
+    if told.shown < shown.len() {
+        audience.hear(place, shown.split_at(told.shown).1);
+        told.shown = shown.len();
     }
 }
 
-/// A count of nothing for each script of a hall.
-fn nothing_told(alloc: Global, hall: &Hall) -> Result<Vec<usize>, AllocError> {
+/// Tells an audience that the script at a place is over, if it is and that wasn't told.
+fn tell_end<A: Audience>(audience: &mut A, place: usize, ending: Option<Ending>, told: &mut Told) {
+    if told.is_over {
+        return;
+    }
+    let well = match ending {
+        None | Some(Ending::Waiting) => return,
+        Some(Ending::Exit(status)) => status == 0,
+        Some(_) => false,
+    };
+    audience.part(place, well);
+    told.is_over = true;
+}
+
+/// Tells an audience what the scripts of a hall have shown since it was told last, and which are over, by what it was told of each.
+fn tell_all<A: Audience>(hall: &Hall, audience: &mut A, told: &mut [Told]) {
+    for place in 0..told.len() {
+        let told = &mut told[place];
+        tell_shown(audience, place, hall.transcript(place + 1), told);
+        tell_end(audience, place, hall.ending(place + 1), told);
+    }
+}
+
+/// Where nothing was told of any script of a hall.
+fn nothing_told(alloc: Global, hall: &Hall) -> Result<Vec<Told>, AllocError> {
     let mut told = Vec::with_capacity(alloc, hall.len())?;
     for _ in 0..hall.len() {
-        told.push(0)?;
+        told.push(Told {
+            shown: 0,
+            is_over: false,
+        })?;
     }
     Ok(told)
 }

@@ -29,19 +29,19 @@ use Rattle.child_timeline.specs.Told.{brings_answer, IsTold, AreTold}
 
 -- results
 
-ok_is : {A : Type 0} (x y : A) → ◌≡◌ {A = Result A TimelineFault} (Ok x) (Ok y) → x ≡ y
+pub ok_is : {A : Type 0} (x y : A) → ◌≡◌ {A = Result A TimelineFault} (Ok x) (Ok y) → x ≡ y
 ok_is x y h = cc
 
-no_ok : {A : Type 0} (f : TimelineFault) (y : A) → ◌≡◌ {A = Result A TimelineFault} (Err f) (Ok y) → ⊥
+pub no_ok : {A : Type 0} (f : TimelineFault) (y : A) → ◌≡◌ {A = Result A TimelineFault} (Err f) (Ok y) → ⊥
 no_ok f y h = cc
 
 -- one of two
-either : {A P : Type 0} (t : Bool) (a b : Result A TimelineFault) (x : A) → (if t then a else b) ≡ Ok x → (a ≡ Ok x → P) → (b ≡ Ok x → P) → P
+pub either : {A P : Type 0} (t : Bool) (a b : Result A TimelineFault) (x : A) → (if t then a else b) ≡ Ok x → (a ≡ Ok x → P) → (b ≡ Ok x → P) → P
 either true a b x h one other = one h
 either false a b x h one other = other h
 
 -- one and then the other
-both : {A B P : Type 0} (r : Result A TimelineFault) (f : A → Result B TimelineFault) (x : B) → (r >>= f) ≡ Ok x → ((a : A) → r ≡ Ok a → f a ≡ Ok x → P) → P
+pub both : {A B P : Type 0} (r : Result A TimelineFault) (f : A → Result B TimelineFault) (x : B) → (r >>= f) ≡ Ok x → ((a : A) → r ≡ Ok a → f a ≡ Ok x → P) → P
 both (Ok a) f x h go = go a refl h
 both (Err e) f x h go = absurd (no_ok e x h)
 
@@ -192,7 +192,7 @@ exit_kept n t u e h k =
     (λ g. absurd (no_ok (fault.Again n) u g))
     (λ g. subst IsKept (ok_is (record t { exits = t.exits ++ e ∷ [] }) u g) (record { told = k.told; early = k.early }))
 
-line_kept : (n : ℕ) (t u : Timeline) (l : Line) → IsLine l → with_line n t l ≡ Ok u → IsKept t → IsKept u
+pub line_kept : (n : ℕ) (t u : Timeline) (l : Line) → IsLine l → with_line n t l ≡ Ok u → IsKept t → IsKept u
 line_kept n t u line.Nothing is h k = subst IsKept (ok_is t u h) k
 line_kept n t u (line.Tick at) is h k =
     both (moment_after n t.moment at) (λ m. Ok (with_events t m (hall.Tick m ∷ []))) u h

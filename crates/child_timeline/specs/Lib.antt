@@ -4,3 +4,7 @@ pub mod Exits
 pub mod Line
 pub mod Timeline
 pub mod Told
+pub mod Seconds
+pub mod Cast
+pub mod Typescript
+pub mod Said

@@ -2,7 +2,7 @@
 
 use std::alloc::{AllocError, AllocFailed};
 
-/// The first fault of a text that is no timeline, with the number of its line, counted from 1.
+/// The first fault of a text that is no timeline, or no cast, with the number of its line, counted from 1.
 #[derive(Clone, Copy, Debug, PartialEq, Eq)]
 pub enum TimelineFault {
     /// What is no line of a timeline: an unknown word, one that is missing, or one too many.
@@ -21,6 +21,10 @@ pub enum TimelineFault {
     Status(usize),
     /// The end of a child of which it was said before.
     Again(usize),
+    /// What is no header of a cast of version 2 or 3.
+    Header,
+    /// What is no event of a cast.
+    Event(usize),
     /// Memory was refused.
     Memory,
 }

@@ -95,7 +95,7 @@ fn cause(word: &[u8]) -> Option<Cause>
 }
 
 /// How a child ends.
-fn status(line: usize, word: &[u8]) -> Result<Answer, TimelineFault>
+pub(crate) fn status(line: usize, word: &[u8]) -> Result<Answer, TimelineFault>
     ensures { result ≡ status_of line word.now }
 {
     if is(word, b"killed") {
@@ -221,7 +221,7 @@ fn is_of_exit(word: &[u8]) -> bool
 }
 
 /// Whether words are none, or a comment.
-fn says_nothing(words: &[u8]) -> bool
+pub(crate) fn says_nothing(words: &[u8]) -> bool
     ensures { result ≡ says_nothing_of words.now }
 {
     match words {

@@ -223,7 +223,7 @@ fn with_exit(line: usize, timeline: Timeline, exit: Exit) -> Result<Timeline, Ti
 }
 
 /// The timeline with what a line says.
-fn with_line(
+pub(crate) fn with_line(
     alloc: Global,
     line: usize,
     timeline: Timeline,

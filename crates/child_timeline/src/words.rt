@@ -77,7 +77,7 @@ fn starts_number(word: &[u8]) -> bool
 
 /// The number that digits write.
 #[tactic(auto, using(child_events::proofs::Numbers::number_stops, child_events::proofs::Numbers::number_ends))]
-fn digits_number(word: &[u8]) -> Option<u64>
+pub(crate) fn digits_number(word: &[u8]) -> Option<u64>
     requires { length word.now ≤ 16 }
     ensures { result ≡ digits_number_of word.now }
 {

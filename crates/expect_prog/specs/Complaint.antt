@@ -1,5 +1,5 @@
 -- Which line a fault gives.
-use Rattle.std.specs.Prelude.{◌≡◌, ℕ, ◌+◌, ◌-◌, List, slice_get, IfSome}
+use Rattle.std.specs.Prelude.{◌≡◌, ℕ, ◌+◌, ◌-◌, List, slice_get, IfSome, Option, Some, None}
 use Rattle.std.specs.Borrow.{Bor}
 use Rattle.child_events.specs.declared.faults.LogFault.{LogFault}
 use Rattle.child_events.specs.declared.faults.LogFault.TheVariants as logs
@@ -90,6 +90,20 @@ ExplainLine log files (explain.SourceTooLong n) c = IsTooLong files n c
 ExplainLine log files explain.Write c = c ≡ line.Unwritten
 ExplainLine log files explain.Memory c = c ≡ line.Memory
 
+-- what can't be written is named by its file
+abbrev pub IsNotWritten : Bor (List ℕ) → Complaint → Type 0
+IsNotWritten file (line.NotWritten path) = path ≡ file
+IsNotWritten file c = ⊥
+
+-- the line where an account of a run can't be told in a file
+abbrev pub AccountLine : Bor (List ℕ) → ExplainFault → Complaint → Type 0
+AccountLine file explain.Memory c = c ≡ line.Memory
+AccountLine file explain.Read c = IsNotWritten file c
+AccountLine file (explain.Log f) c = IsNotWritten file c
+AccountLine file explain.TooManyScripts c = IsNotWritten file c
+AccountLine file (explain.SourceTooLong n) c = IsNotWritten file c
+AccountLine file explain.Write c = IsNotWritten file c
+
 -- a line that names a line of a file, and what is wrong there
 abbrev pub BadLine : Bor (List ℕ) → ℕ → Wrong → Complaint → Type 0
 BadLine file n what (line.Timeline path number told) = (path ≡ file) × (number ≡ n) × (told ≡ what)
@@ -104,6 +118,8 @@ TimelineLine file (lines.Cause n) c = BadLine file n wrong.Cause c
 TimelineLine file (lines.Text n) c = BadLine file n wrong.Text c
 TimelineLine file (lines.Status n) c = BadLine file n wrong.Status c
 TimelineLine file (lines.Again n) c = BadLine file n wrong.Again c
+TimelineLine file lines.Header c = BadLine file 1 wrong.Header c
+TimelineLine file (lines.Event n) c = BadLine file n wrong.Event c
 TimelineLine file lines.Memory c = c ≡ line.Memory
 
 -- a script that asks on and on is named by its file, with the moment
@@ -115,15 +131,20 @@ abbrev pub IsLongSource : Bor (List ℕ) → Complaint → Type 0
 IsLongSource file (line.SourceTooLong path) = path ≡ file
 IsLongSource file c = ⊥
 
--- the line where a log is planned, of a script's file over a timeline's
-abbrev pub PlanLine : Bor (List ℕ) → Bor (List ℕ) → PlanLogFault → Complaint → Type 0
-PlanLine script timeline plan.Read c = IsUnreadable timeline c
-PlanLine script timeline (plan.Timeline f) c = TimelineLine timeline f c
-PlanLine script timeline (plan.Plan plans.SourceTooLong) c = IsLongSource script c
-PlanLine script timeline (plan.Plan (plans.Unending m)) c = IsUnending script m c
-PlanLine script timeline (plan.Plan plans.Memory) c = c ≡ line.Memory
-PlanLine script timeline plan.Write c = c ≡ line.Unwritten
-PlanLine script timeline plan.Memory c = c ≡ line.Memory
+-- the file of which lines are bad: the timing's, where there is one, or else the timeline's
+abbrev pub file_of_lines : Bor (List ℕ) → Option (Bor (List ℕ)) → Bor (List ℕ)
+file_of_lines timeline None = timeline
+file_of_lines timeline (Some timing) = timing
+
+-- the line where a log is planned, of a script's file over a timeline's, with a timing's
+abbrev pub PlanLine : Bor (List ℕ) → Bor (List ℕ) → Option (Bor (List ℕ)) → PlanLogFault → Complaint → Type 0
+PlanLine script timeline timing plan.Read c = IsUnreadable timeline c
+PlanLine script timeline timing (plan.Timeline f) c = TimelineLine (file_of_lines timeline timing) f c
+PlanLine script timeline timing (plan.Plan plans.SourceTooLong) c = IsLongSource script c
+PlanLine script timeline timing (plan.Plan (plans.Unending m)) c = IsUnending script m c
+PlanLine script timeline timing (plan.Plan plans.Memory) c = c ≡ line.Memory
+PlanLine script timeline timing plan.Write c = c ≡ line.Unwritten
+PlanLine script timeline timing plan.Memory c = c ≡ line.Memory
 
 -- the line of a run of the files of scripts
 abbrev pub DriveLine : List (Bor (List ℕ)) → DriveFault → Complaint → Type 0

@@ -7,6 +7,7 @@ pub mod Form
 pub mod Devices
 pub mod Written
 pub mod Shelf
+pub mod Record
 pub mod Replay
 pub mod Drive
 pub mod Show
@@ -16,5 +17,6 @@ pub mod Explain
 pub mod Planning
 pub mod Complaint
 pub mod Follow
+pub mod Progress
 pub mod Check
 pub mod Given

@@ -1,11 +1,13 @@
 -- What planning a log answers and writes.
-use Rattle.std.specs.Prelude.{◌≡◌, ◌≢◌, ℕ, List, Option, Result, Ok, Err}
+use Rattle.std.specs.Prelude.{◌≡◌, ◌≢◌, ℕ, List, Option, Some, None, Result, Ok, Err}
 use Rattle.std.specs.Io.KnownBytes.{Appends}
 use Rattle.child_events.specs.declared.event.HallEvent.{HallEvent}
 use Rattle.child_events.specs.Log.{LogText2}
+use Rattle.child_timeline.specs.declared.fault.TimelineFault.{TimelineFault}
 use Rattle.child_timeline.specs.declared.fault.TimelineFault.TheVariants as lines
 use Rattle.child_timeline.specs.declared.timeline.Timeline.{Timeline}
-use Rattle.child_timeline.specs.Timeline.{timeline_of}
+use Rattle.child_timeline.specs.Said.{said_of}
+use Rattle.child_timeline.specs.Typescript.{timed_typescript}
 use Rattle.child_timeline.specs.Told.{AreTold}
 use Rattle.dialogue_sched.specs.declared.script.Script.{Script}
 use Rattle.log_plan.specs.declared.fault.PlanFault.TheVariants as plans
@@ -22,14 +24,19 @@ IsNoWant (fault.Plan f) = f ≢ plans.Memory
 IsNoWant fault.Write = Unit {0}
 IsNoWant fault.Memory = Unit {0}
 
+-- the timeline of a text: with a timing it is that of a typescript
+abbrev pub told_by : List ℕ → Option (List ℕ) → Result Timeline TimelineFault
+told_by bytes None = said_of bytes
+told_by bytes (Some timing) = timed_typescript bytes timing
+
 -- what reading a timeline answers
-abbrev pub Tells : List ℕ → Result Timeline PlanLogFault → Type 0
-Tells bytes (Ok t) = (timeline_of bytes ≡ Ok t) × AreTold t.events
-Tells bytes (Err fault.Read) = ⊥
-Tells bytes (Err (fault.Timeline f)) = (f ≢ lines.Memory) × (timeline_of bytes ≡ Err f)
-Tells bytes (Err (fault.Plan f)) = ⊥
-Tells bytes (Err fault.Write) = ⊥
-Tells bytes (Err fault.Memory) = Unit {0}
+abbrev pub Tells : List ℕ → Option (List ℕ) → Result Timeline PlanLogFault → Type 0
+Tells bytes timing (Ok t) = (told_by bytes timing ≡ Ok t) × AreTold t.events
+Tells bytes timing (Err fault.Read) = ⊥
+Tells bytes timing (Err (fault.Timeline f)) = (f ≢ lines.Memory) × (told_by bytes timing ≡ Err f)
+Tells bytes timing (Err (fault.Plan f)) = ⊥
+Tells bytes timing (Err fault.Write) = ⊥
+Tells bytes timing (Err fault.Memory) = Unit {0}
 
 -- The text is the log of the events of the script's plan over the timeline.
 pub record IsLog (s : Script) (t : Timeline) (text : List ℕ) : Type 0 where
@@ -47,37 +54,37 @@ Logs s t (Err fault.Write) = ⊥
 Logs s t (Err fault.Memory) = Unit {0}
 
 -- The bytes are the text of a timeline, and the text is the log of the script's plan over it.
-pub record IsLogOver (s : Script) (bytes text : List ℕ) : Type 0 where
+pub record IsLogOver (s : Script) (bytes : List ℕ) (timing : Option (List ℕ)) (text : List ℕ) : Type 0 where
   pub timeline : Timeline
-  pub read : timeline_of bytes ≡ Ok timeline
+  pub read : told_by bytes timing ≡ Ok timeline
   pub log : IsLog s timeline text
 
 -- what making the log of a text answers
-abbrev pub LogsOver : Script → List ℕ → Result (List ℕ) PlanLogFault → Type 0
-LogsOver s bytes (Ok text) = IsLogOver s bytes text
-LogsOver s bytes (Err fault.Read) = ⊥
-LogsOver s bytes (Err (fault.Timeline f)) = (f ≢ lines.Memory) × (timeline_of bytes ≡ Err f)
-LogsOver s bytes (Err (fault.Plan f)) = (f ≢ plans.Memory) × ((t : Timeline) × (timeline_of bytes ≡ Ok t) × Plans s t (Err f))
-LogsOver s bytes (Err fault.Write) = ⊥
-LogsOver s bytes (Err fault.Memory) = Unit {0}
+abbrev pub LogsOver : Script → List ℕ → Option (List ℕ) → Result (List ℕ) PlanLogFault → Type 0
+LogsOver s bytes timing (Ok text) = IsLogOver s bytes timing text
+LogsOver s bytes timing (Err fault.Read) = ⊥
+LogsOver s bytes timing (Err (fault.Timeline f)) = (f ≢ lines.Memory) × (told_by bytes timing ≡ Err f)
+LogsOver s bytes timing (Err (fault.Plan f)) = (f ≢ plans.Memory) × ((t : Timeline) × (told_by bytes timing ≡ Ok t) × Plans s t (Err f))
+LogsOver s bytes timing (Err fault.Write) = ⊥
+LogsOver s bytes timing (Err fault.Memory) = Unit {0}
 
 -- The log of the script's plan is written, and nothing else.
-pub record PlannedLog (s : Script) (bytes : List ℕ) (old new : Option (List ℕ)) : Type 0 where
+pub record PlannedLog (s : Script) (bytes : List ℕ) (timing old new : Option (List ℕ)) : Type 0 where
   pub text : List ℕ
-  pub log : IsLogOver s bytes text
+  pub log : IsLogOver s bytes timing text
   pub written : Appends old new text
 
 -- A front of it is written, and nothing else.
-pub record PartPlanned (s : Script) (bytes : List ℕ) (old new : Option (List ℕ)) : Type 0 where
+pub record PartPlanned (s : Script) (bytes : List ℕ) (timing old new : Option (List ℕ)) : Type 0 where
   pub text : List ℕ
-  pub log : IsLogOver s bytes text
+  pub log : IsLogOver s bytes timing text
   pub written : WasPut old new text
 
 -- what planning over these bytes answers, and what it puts behind what was written before
-abbrev pub PlansLog : Script → List ℕ → Option (List ℕ) → Option (List ℕ) → Result (Unit {0}) PlanLogFault → Type 0
-PlansLog s bytes old new (Ok done) = PlannedLog s bytes old new
-PlansLog s bytes old new (Err fault.Read) = Unit {0}
-PlansLog s bytes old new (Err (fault.Timeline f)) = timeline_of bytes ≡ Err f
-PlansLog s bytes old new (Err (fault.Plan f)) = (t : Timeline) × (timeline_of bytes ≡ Ok t) × Plans s t (Err f)
-PlansLog s bytes old new (Err fault.Write) = PartPlanned s bytes old new
-PlansLog s bytes old new (Err fault.Memory) = Unit {0}
+abbrev pub PlansLog : Script → List ℕ → Option (List ℕ) → Option (List ℕ) → Option (List ℕ) → Result (Unit {0}) PlanLogFault → Type 0
+PlansLog s bytes timing old new (Ok done) = PlannedLog s bytes timing old new
+PlansLog s bytes timing old new (Err fault.Read) = Unit {0}
+PlansLog s bytes timing old new (Err (fault.Timeline f)) = told_by bytes timing ≡ Err f
+PlansLog s bytes timing old new (Err (fault.Plan f)) = (t : Timeline) × (told_by bytes timing ≡ Ok t) × Plans s t (Err f)
+PlansLog s bytes timing old new (Err fault.Write) = PartPlanned s bytes timing old new
+PlansLog s bytes timing old new (Err fault.Memory) = Unit {0}

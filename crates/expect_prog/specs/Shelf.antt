@@ -28,3 +28,7 @@ transcript_path folder count n file = folder ++ ascii.slash ∷ [] ++ number_tex
 -- a transcript that wasn't written is told before all else
 abbrev pub outcome_of : Bool → Bool → Outcome
 outcome_of well whole = if whole then (if well then Well else Otherwise) else Lost
+
+-- and so is anything else that wasn't
+abbrev pub outcome_and : Outcome → Bool → Outcome
+outcome_and outcome whole = if whole then outcome else Lost

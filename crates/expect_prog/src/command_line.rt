@@ -1,6 +1,7 @@
 //! What the words of the command line ask for.
 
 ghost use Rattle.std.specs.Prelude.{◌≡◌, ◌≤◌, ◌*◌, option_map, IfOk, IfSome, Some, None};
+ghost use Rattle.expect_prog.specs.Complaint.{file_of_lines};
 ghost use Rattle.expect_prog.specs.Given.{steps_given, names_of, files_told, format_given};
 
 use crate::form::{Form, Format};
@@ -60,6 +61,8 @@ pub struct Run<'a> {
     pub record: Option<&'a str>,
     /// Whether what the scripts show is told as it comes.
     pub follow: bool,
+    /// The file that what they did is told in.
+    pub explain: Option<&'a str>,
 }
 
 /// A log's file that is to be shown.
@@ -88,8 +91,22 @@ pub struct Plan<'a> {
     pub limit_ms: Option<u64>,
     /// The file of its source.
     pub source: &'a str,
-    /// The file of the timeline.
+    /// The file of the timeline, or of a recording.
     pub timeline: &'a str,
+    /// The file of a typescript's timing.
+    pub timing: Option<&'a str>,
+}
+
+impl<'a> Plan<'a> {
+    /// The file of which lines may be bad.
+    pub fn lines(&self) -> &'a str
+        ensures { result ≡ file_of_lines self.now.timeline self.now.timing }
+    {
+        match self.timing {
+            Some(timing) => timing,
+            None => self.timeline,
+        }
+    }
 }
 
 /// Files of scripts that are to be checked.
@@ -218,6 +235,13 @@ fn follow<'a>(alloc: Global) -> Arg<'a> {
         .action(ArgAction::SetTrue)
 }
 
+fn account<'a>(alloc: Global) -> Arg<'a> {
+    Arg::new(alloc, "explain")
+        .long("explain")
+        .value_name("FILE")
+        .help("Tell in FILE what scripts did, and what they waited for")
+}
+
 fn run_command<'a>(alloc: Global) -> Result<Command<'a>, AllocError> {
     Command::new(alloc, "run")
         .about("Runs scripts with real programs, and prints their reports")
@@ -227,6 +251,7 @@ fn run_command<'a>(alloc: Global) -> Result<Command<'a>, AllocError> {
         .arg(steps(alloc))?
         .arg(record(alloc))?
         .arg(follow(alloc))?
+        .arg(account(alloc))?
         .arg(vars(alloc))?
         .arg(requests(alloc))?
         .arg(format(alloc))?
@@ -277,12 +302,20 @@ fn timeline<'a>(alloc: Global) -> Arg<'a> {
         .required(true)
 }
 
+fn timing<'a>(alloc: Global) -> Arg<'a> {
+    Arg::new(alloc, "timing")
+        .long("timing")
+        .value_name("TIMING")
+        .help("The file of a typescript's timing")
+}
+
 fn plan_command<'a>(alloc: Global) -> Result<Command<'a>, AllocError> {
     Command::new(alloc, "plan")
         .about("Plans a log for replay, of a script and what its children say")
         .after_help(help::PLAN)
         .arg(limit(alloc))?
         .arg(steps(alloc))?
+        .arg(timing(alloc))?
         .arg(source(alloc))?
         .arg(timeline(alloc))
 }
@@ -414,6 +447,7 @@ fn run_of<'a>(alloc: Global, matches: &ArgMatches<'a>) -> Result<Order<'a>, Allo
         workers: matches.get_one::<u64>("workers").map_or(1, byte_of),
         record: matches.get_str("record"),
         follow: matches.get_flag("follow"),
+        explain: matches.get_str("explain"),
     }))
 }
 
@@ -445,6 +479,7 @@ fn plan_of<'a>(matches: &ArgMatches<'a>) -> Order<'a> {
         limit_ms: limit_of(matches.get_one::<u64>("limit")),
         source: matches.get_str("source").unwrap_or(""),
         timeline: matches.get_str("timeline").unwrap_or(""),
+        timing: matches.get_str("timing"),
     })
 }
 

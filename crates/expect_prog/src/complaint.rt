@@ -1,7 +1,7 @@
 //! Faults as lines on standard error.
 
 ghost use Rattle.std.specs.Prelude.{◌≡◌};
-ghost use Rattle.expect_prog.specs.Complaint.{LogLine, OpeningLine, RunLine, FaultLine, DriveLine, ShowLine, ExplainLine, PlanLine, TimelineLine, BadLine, refusal_number as number_of};
+ghost use Rattle.expect_prog.specs.Complaint.{LogLine, OpeningLine, RunLine, FaultLine, DriveLine, ShowLine, ExplainLine, AccountLine, PlanLine, TimelineLine, BadLine, refusal_number as number_of};
 
 use crate::command_line::{Explain, Plan, Replay, Run, Show};
 use crate::driving::DriveFault;
@@ -17,7 +17,7 @@ use log_plan::PlanFault;
 use std::alloc::{AllocError, AllocFailed};
 use thiserror::Error;
 
-/// What is wrong with a line of a timeline.
+/// What is wrong with a line of a timeline, or of a recording.
 #[derive(Clone, Copy, Debug, Error)]
 pub enum Wrong {
     #[error("no line of a timeline")]
@@ -36,6 +36,10 @@ pub enum Wrong {
     Status,
     #[error("the child's exit again")]
     Again,
+    #[error("no header of a cast of version 2 or 3")]
+    Header,
+    #[error("no event of a recording")]
+    Event,
 }
 
 /// Why the reports of an order are not all printed.
@@ -206,6 +210,20 @@ impl<'a> Complaint<'a> {
         }
     }
 
+    /// The complaint of a fault where an account of a run is told in a file. Its log is the run's own record.
+    pub fn of_account(fault: ExplainFault, path: &'a str) -> Complaint<'a>
+        ensures { AccountLine path.entry fault result }
+    {
+        match fault {
+            ExplainFault::Read => Complaint::NotWritten(path),
+            ExplainFault::Log(_) => Complaint::NotWritten(path),
+            ExplainFault::TooManyScripts => Complaint::NotWritten(path),
+            ExplainFault::SourceTooLong(_) => Complaint::NotWritten(path),
+            ExplainFault::Write => Complaint::NotWritten(path),
+            ExplainFault::Memory => Complaint::Memory,
+        }
+    }
+
     /// A bad line of a timeline's file.
     fn bad(path: &'a str, line: usize, what: Wrong) -> Complaint<'a>
         ensures { BadLine path.entry line what result }
@@ -225,17 +243,19 @@ impl<'a> Complaint<'a> {
             TimelineFault::Text(line) => Complaint::bad(path, line, Wrong::Text),
             TimelineFault::Status(line) => Complaint::bad(path, line, Wrong::Status),
             TimelineFault::Again(line) => Complaint::bad(path, line, Wrong::Again),
+            TimelineFault::Header => Complaint::bad(path, 1, Wrong::Header),
+            TimelineFault::Event(line) => Complaint::bad(path, line, Wrong::Event),
             TimelineFault::Memory => Complaint::Memory,
         }
     }
 
     /// The complaint of a fault where a log is planned.
     pub fn of_plan(fault: PlanLogFault, order: &Plan<'a>) -> Complaint<'a>
-        ensures { PlanLine order.now.source order.now.timeline fault result }
+        ensures { PlanLine order.now.source order.now.timeline order.now.timing fault result }
     {
         match fault {
             PlanLogFault::Read => Complaint::Unreadable(order.timeline),
-            PlanLogFault::Timeline(fault) => Complaint::of_timeline(fault, order.timeline),
+            PlanLogFault::Timeline(fault) => Complaint::of_timeline(fault, order.lines()),
             PlanLogFault::Plan(PlanFault::SourceTooLong) => Complaint::SourceTooLong(order.source),
             PlanLogFault::Plan(PlanFault::Unending(moment)) => Complaint::Unending {
                 path: order.source,

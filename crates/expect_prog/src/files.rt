@@ -36,15 +36,24 @@ pub fn opened<'a, R: Files>(rt: &R, path: &'a str) -> Result<R::File, Complaint<
     }
 }
 
-/// The bytes of a source; of a longer one than is allowed, a byte more than that.
-fn source<'a, R: Files>(rt: &R, alloc: Global, path: &'a str) -> Result<Text, Complaint<'a>> {
-    let file = opened(rt, path)?;
-    let mut reader = Counted::new(file.take(SOURCE_LIMIT as u64 + 1));
+/// The bytes that are read of the file of a path.
+fn read_whole<'a, D: Read + Drop>(
+    alloc: Global,
+    device: D,
+    path: &'a str,
+) -> Result<Text, Complaint<'a>> {
+    let mut reader = Counted::new(device);
     match read_all(alloc, &mut reader) {
         Ok(text) => Ok(text),
         Err(ReadFault::Failed) => Err(Complaint::Unreadable(path)),
         Err(ReadFault::Memory) => Err(Complaint::Memory),
     }
+}
+
+/// The bytes of a source; of a longer one than is allowed, a byte more than that.
+fn source<'a, R: Files>(rt: &R, alloc: Global, path: &'a str) -> Result<Text, Complaint<'a>> {
+    let file = opened(rt, path)?;
+    read_whole(alloc, file.take(SOURCE_LIMIT as u64 + 1), path)
 }
 
 /// The bytes of files of sources, read in order; the first that can't be read is complained of.
@@ -182,7 +191,20 @@ pub fn explain_files<'a, R: Files + Print>(
     }
 }
 
-/// Plans the log of an order: its script is read first, and then the timeline.
+/// The bytes of the file of a timing, if there is one.
+fn timing<'a, R: Files>(
+    rt: &R,
+    alloc: Global,
+    path: Option<&'a str>,
+) -> Result<Option<Text>, Complaint<'a>> {
+    let Some(path) = path else {
+        return Ok(None);
+    };
+    let text = read_whole(alloc, opened(rt, path)?, path)?;
+    Ok(Some(text))
+}
+
+/// Plans the log of an order: its script is read first, then its timing, and then the timeline.
 pub fn plan_file<'a, R: Files + Print>(
     rt: &R,
     alloc: Global,
@@ -190,9 +212,10 @@ pub fn plan_file<'a, R: Files + Print>(
 ) -> Result<Outcome, Complaint<'a>> {
     let source = source(rt, alloc, order.source)?;
     let script = script_of(alloc, order.steps, order.limit_ms, source);
+    let timing = timing(rt, alloc, order.timing)?;
     let mut timeline = Counted::new(opened(rt, order.timeline)?);
     let mut out = Counted::new(io::writer(rt));
-    match plan_log(alloc, script, &mut timeline, &mut out) {
+    match plan_log(alloc, script, &mut timeline, &timing, &mut out) {
         Ok(()) => Ok(Outcome::Well),
         Err(fault) => Err(Complaint::of_plan(fault, order)),
     }

@@ -4,11 +4,13 @@ ghost use Rattle.std.specs.Prelude.{◌≡◌, ◌≤◌, ◌++◌, ◌∷◌, [
 ghost use Rattle.expect_prog.specs.Follow.{mark_of, marked_byte, marked, told_so};
 
 use crate::escape::{Place, push_text};
+use crate::progress::Progress;
 use crate::texts::push_labelled;
 use child_keeper::{Audience, Clock};
 use child_pipes::Wall;
 use std::alloc::{AllocError, Global};
 use std::io::Write;
+use std::sync::Wait;
 use std::time::Clock as SystemClock;
 use tcl_words::Text;
 
@@ -220,35 +222,59 @@ impl<E: Write + Drop> Live<E> {
     }
 }
 
-/// A worker's clock, which tells what its scripts show, where they are followed.
+/// What a worker tells while its scripts run.
+#[derive(Drop)]
+pub enum Told<R: Drop, E: Write + Drop> {
+    /// What its scripts show.
+    Shown(Live<E>),
+    /// How far they are.
+    Far(Progress<R, E>),
+    Nothing,
+}
+
+/// A worker's clock, which tells what is to be told while its scripts run.
 #[derive(Drop)]
 pub struct Follower<R: SystemClock + Drop, E: Write + Drop> {
     wall: Wall<R>,
-    live: Option<Live<E>>,
+    told: Told<R, E>,
 }
 
 impl<R: SystemClock + Drop, E: Write + Drop> Follower<R, E> {
-    pub fn new(wall: Wall<R>, live: Option<Live<E>>) -> Follower<R, E> {
-        Follower { wall, live }
+    pub fn new(wall: Wall<R>, told: Told<R, E>) -> Follower<R, E> {
+        Follower { wall, told }
     }
 }
 
-impl<R: SystemClock + Drop, E: Write + Drop> Clock for Follower<R, E> {
+impl<R: SystemClock + Wait + Copy + Drop, E: Write + Copy + Drop> Clock for Follower<R, E> {
     fn now(&mut self) -> u64 {
-        self.wall.now()
+        let moment = self.wall.now();
+        if let Told::Far(progress) = &mut self.told {
+            progress.look(moment);
+        }
+        moment
     }
 }
 
-impl<R: SystemClock + Drop, E: Write + Drop> Audience for Follower<R, E> {
+impl<R: SystemClock + Wait + Copy + Drop, E: Write + Copy + Drop> Audience for Follower<R, E> {
     fn hear(&mut self, place: usize, bytes: &[u8]) {
-        if let Some(live) = &mut self.live {
-            live.hear(place, bytes);
+        match &mut self.told {
+            Told::Shown(live) => live.hear(place, bytes),
+            Told::Far(progress) => progress.hear(place),
+            Told::Nothing => {}
+        }
+    }
+
+    fn part(&mut self, place: usize, well: bool) {
+        if let Told::Far(progress) = &mut self.told {
+            progress.part(place, well);
         }
     }
 
     fn leave(&mut self) {
-        if let Some(live) = &mut self.live {
-            live.leave();
+        match &mut self.told {
+            Told::Shown(live) => live.leave(),
+            Told::Far(progress) => progress.leave(),
+            Told::Nothing => {}
         }
     }
 }

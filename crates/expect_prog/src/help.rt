@@ -146,6 +146,11 @@ of one script on a terminal as it is, else so that it does nothing there; of
 several scripts by lines, behind each script's number. The reports stay as they
 are.
 
+With --explain, when all are over, FILE gets what each script did at each event
+and what it waited for then: `exprun explain --help` says how it is told. If
+that can't be written it is said, and the status is 2; the reports are printed
+all the same.
+
 --summary, --format json, --format tap and --escape print the reports in short,
 for programs, for prove(1), and for terminals, and --transcripts writes files:
 `exprun replay --help` says how.
@@ -284,6 +289,12 @@ and in front of exit. A line that is empty or begins with # says nothing.
 
 In TEXT \\\\ is a backslash, \\\" a quote, \\n a newline, \\r a carriage return, \\t a
 tab, and \\x with two hexadecimal digits any byte, as show prints them.
+
+A recording of a terminal is taken as it is: a cast of asciinema (version 2 or
+3), or a typescript of script(1), with the times of its TIMING, classic or
+advanced, or else all at once. What it shows is the output of child 1, which
+ends with it. It has the terminal's echo and carriage returns in it: the script
+says `set stty_init {-echo -onlcr}`.
 
 Where a line is bad nothing is written, the status is 2, and the first one is
 told, as `exprun: plan: TIMELINE:3: no moment`. So is a script that asks more

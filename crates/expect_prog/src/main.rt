@@ -1,6 +1,7 @@
 //! Runs scripts, or replays them over a log of events, and prints their reports; or shows a log, explains one, plans one, or checks scripts.
 #![tactic(auto)]
 
+mod account;
 mod asks;
 mod checking;
 mod command_line;
@@ -21,6 +22,8 @@ mod line;
 mod outcome;
 mod patterns;
 mod planning;
+mod progress;
+mod record;
 mod replaying;
 mod reporting;
 mod running;

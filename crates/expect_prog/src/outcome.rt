@@ -1,7 +1,7 @@
 //! How an order ended.
 
 ghost use Rattle.std.specs.Prelude.{◌≡◌};
-ghost use Rattle.expect_prog.specs.Shelf.{outcome_of};
+ghost use Rattle.expect_prog.specs.Shelf.{outcome_of, outcome_and};
 
 /// How an order ended of which the reports, a log, or findings are printed.
 #[derive(Clone, Copy, Debug)]
@@ -10,7 +10,7 @@ pub enum Outcome {
     Well,
     /// A script ended otherwise, or something was found.
     Otherwise,
-    /// A transcript wasn't written, which is told.
+    /// A transcript or an account wasn't written, which is told.
     Lost,
 }
 
@@ -26,5 +26,15 @@ impl Outcome {
             return Outcome::Well;
         }
         Outcome::Otherwise
+    }
+
+    /// The same where something more was written, or wasn't.
+    pub fn and(self, whole: bool) -> Outcome
+        ensures { result ≡ outcome_and self whole }
+    {
+        if whole {
+            return self;
+        }
+        Outcome::Lost
     }
 }

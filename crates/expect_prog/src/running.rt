@@ -2,14 +2,17 @@
 
 ghost use Rattle.std.specs.Prelude.{◌≡◌, ◌≤◌, length, vec_len, IfOk};
 
+use crate::account::{Account, opened_account};
 use crate::command_line::Run;
-use crate::complaint::Complaint;
+use crate::complaint::{Complaint, tell};
 use crate::driving::{DriveFault, drive};
 use crate::files::scripts;
 use crate::folder::Folder;
-use crate::following::{Follower, Live, Manner, Tale};
+use crate::following::{Follower, Live, Manner, Tale, Told};
 use crate::form::Form;
 use crate::outcome::Outcome;
+use crate::progress::{Line, Progress};
+use crate::record::Record;
 use crate::shelf::{NoShelf, Shelf};
 use child_events::Counted;
 use child_pipes::{Free, Orphans, Pipes, Programs, Wall, Watch};
@@ -21,20 +24,7 @@ use std::rt::Files;
 use std::sync::Wait;
 use std::thread::Threads;
 use std::time::Clock;
-
-/// Takes everything and keeps nothing.
-#[derive(Drop)]
-struct Nowhere;
-
-impl Write for Nowhere {
-    fn write(&mut self, buf: &[u8]) -> io::Result<usize> {
-        Ok(buf.len())
-    }
-
-    fn flush(&mut self) -> io::Result<()> {
-        Ok(())
-    }
-}
+use tcl_words::Text;
 
 /// So many keepers of processes, each under its own name.
 fn keepers<R: Programs + Wait + Copy + Drop>(
@@ -66,57 +56,116 @@ fn manner_of(is_alone: bool, is_terminal: bool, number: u8) -> Manner {
     Manner::Escaped
 }
 
-/// The scripts of one of so many workers, as they are followed.
-fn tales_of(
+/// The numbers of the scripts of one of so many workers.
+fn numbers_of(
     alloc: Global,
     scripts: usize,
     workers: u8,
     worker: u8,
-    is_terminal: bool,
-) -> Result<Vec<Tale>, AllocError> {
-    let mut tales = Vec::new(alloc);
+) -> Result<Vec<u8>, AllocError> {
+    let mut numbers = Vec::new(alloc);
     for number in 1..=64 {
         if usize::from(number) <= scripts && (number - 1) % workers.max(1) == worker {
-            let tale = Tale::new(alloc, manner_of(scripts == 1, is_terminal, number));
-            let Ok(()) = tales.push(tale) else {
+            let Ok(()) = numbers.push(number) else {
                 return Err(AllocError);
             };
         }
     }
+    Ok(numbers)
+}
+
+/// Scripts as they are followed, by their numbers.
+fn tales_of(
+    alloc: Global,
+    numbers: &[u8],
+    is_alone: bool,
+    is_terminal: bool,
+) -> Result<Vec<Tale>, AllocError> {
+    let mut tales = Vec::new(alloc);
+    for number in numbers {
+        let tale = Tale::new(alloc, manner_of(is_alone, is_terminal, *number));
+        let Ok(()) = tales.push(tale) else {
+            return Err(AllocError);
+        };
+    }
     Ok(tales)
 }
 
-/// Where one of so many workers tells what its scripts show, if there is something to tell it to.
-fn live_of<E: Write + IsTerminal + Copy + Drop>(
-    alloc: Global,
-    scripts: usize,
-    workers: u8,
-    worker: u8,
-    told: Option<E>,
-) -> Result<Option<Live<E>>, AllocError> {
-    let Some(to) = told else {
-        return Ok(None);
-    };
-    let tales = tales_of(alloc, scripts, workers, worker, to.is_terminal())?;
-    Ok(Some(Live::new(alloc, to, tales)))
+/// What is told while scripts run.
+#[derive(Drop)]
+enum Telling<R: Drop, E: Drop> {
+    /// What they show.
+    Shown(E),
+    /// How far they are.
+    Far(Line<R, E>),
+    Nothing,
 }
 
-/// A clock of so many workers each, which tell the same moments, from 0 on. Where there is something to tell to, each tells it what its
-/// worker's scripts show.
-fn clocks<R: Clock + Copy + Drop, E: Write + IsTerminal + Copy + Drop>(
+impl<R: Wait + Copy + Drop, E: Write + IsTerminal + Copy + Drop> Telling<R, E> {
+    /// What is told of so many scripts of so many workers on `to`: what they show, if that is asked for, or else on a terminal how far they
+    /// are.
+    fn new(
+        rt: R,
+        alloc: Global,
+        to: E,
+        follow: bool,
+        scripts: usize,
+        workers: u8,
+    ) -> Result<Telling<R, E>, AllocError> {
+        if follow {
+            return Ok(Telling::Shown(to));
+        }
+        if to.is_terminal() {
+            return Ok(Telling::Far(Line::new(rt, alloc, to, scripts, workers)?));
+        }
+        Ok(Telling::Nothing)
+    }
+
+    /// What one worker of them tells of its scripts, of so many.
+    fn told(
+        &self,
+        alloc: Global,
+        scripts: usize,
+        workers: u8,
+        worker: u8,
+    ) -> Result<Told<R, E>, AllocError> {
+        let numbers = numbers_of(alloc, scripts, workers, worker)?;
+        match self {
+            Telling::Shown(to) => {
+                let tales = tales_of(alloc, numbers.as_slice(), scripts == 1, to.is_terminal())?;
+                Ok(Told::Shown(Live::new(alloc, *to, tales)))
+            }
+            Telling::Far(line) => {
+                let progress = Progress::new(alloc, line.shared()?, worker, numbers.as_slice())?;
+                Ok(Told::Far(progress))
+            }
+            Telling::Nothing => Ok(Told::Nothing),
+        }
+    }
+
+    /// Nothing more is told.
+    fn end(&mut self) {
+        if let Telling::Far(line) = self {
+            line.erase();
+        }
+    }
+}
+
+/// A clock of so many workers each, which tell the same moments, from 0 on, and what is to be told of the worker's scripts.
+fn clocks<R: Clock + Wait + Copy + Drop, E: Write + IsTerminal + Copy + Drop>(
     rt: R,
     alloc: Global,
     count: u8,
     scripts: usize,
-    told: Option<E>,
+    telling: &Telling<R, E>,
 ) -> Result<Vec<Follower<R, E>>, AllocError>
     ensures { IfOk result (λ cs. length cs.items ≡ count) }
 {
     let wall = Wall::new(rt);
     let mut clocks = Vec::new(alloc);
     for worker in 0..count {
-        let live = live_of(alloc, scripts, count, worker, told)?;
-        let Ok(()) = clocks.push(Follower::new(wall.again(), live)) else {
+        let told = telling.told(alloc, scripts, count, worker)?;
+        let Ok(()) = clocks.push(Follower::new(wall.again(), told)) else {
             return Err(AllocError);
         };
     }
@@ -138,47 +187,63 @@ fn workers(asked: u8) -> u8
     asked
 }
 
-/// Runs scripts over processes. Transcripts go to `shelf`, the record goes to `log`, and the reports go to `out`; what scripts show is told,
-/// where that is asked for.
+/// Runs scripts over processes. Transcripts go to `shelf`, the record goes to `log`, and the reports go to `out`; what is to be told of them
+/// while they run is told on `errors`.
 fn run_scripts<
     R: Threads + Wait + Clock + Programs + Copy + Send + Drop + 'static,
     E: Write + IsTerminal + Copy + Send + Drop + 'static,
     S: Shelf,
-    L: Write + Drop,
+    L: Write,
     O: Write + Drop,
 >(
     rt: R,
     alloc: Global,
     scripts: Vec<Script>,
     workers_asked: u8,
-    told: Option<E>,
+    follow: bool,
+    errors: E,
     form: &Form,
     shelf: &mut S,
-    log: L,
+    record: &mut L,
     out: O,
 ) -> Result<bool, DriveFault> {
     let orphans = Orphans::new(alloc)?;
     let keepers = keepers(rt, alloc, scripts.len(), &orphans)?;
-    let clocks = clocks(rt, alloc, workers(workers_asked), scripts.len(), told)?;
+    let (count, workers) = (scripts.len(), workers(workers_asked));
+    let mut telling = Telling::new(rt, alloc, errors, follow, count, workers)?;
+    let clocks = clocks(rt, alloc, workers, count, &telling)?;
     let watch = Watch::start(rt, alloc, orphans)?;
-    let mut log = Counted::new(log);
+    let mut log = Counted::new(record);
     let mut out = Counted::new(out);
     let outcome = drive(
         rt, alloc, scripts, keepers, clocks, Free, form, shelf, &mut log, &mut out,
     );
+    telling.end();
     if let Some(watch) = watch {
         watch.stop(&rt);
     }
     outcome
 }
 
-/// Runs an order's scripts over real children, hands their transcripts to a shelf, and prints the reports. The answer says whether each
-/// script ended with status 0.
+/// The file that the record of an order is written to, which is made.
+fn record_file<'a, R: Files>(rt: &R, order: &Run<'a>) -> Result<Option<R::File>, Complaint<'a>> {
+    let Some(path) = order.record else {
+        return Ok(None);
+    };
+    match fs::File::create(rt, path) {
+        Ok(file) => Ok(Some(file)),
+        Err(_) => Err(Complaint::Unwritten),
+    }
+}
+
+/// Runs an order's scripts over real children, hands their transcripts to a shelf and their record to `record`, and prints the reports. The
+/// answer says whether each script ended with status 0.
 fn run_order<
     'a,
     R: Files + Print + Threads + Wait + Clock + Programs + Copy + Send + Drop + 'static,
     E: Write + IsTerminal + Copy + Send + Drop + 'static,
     S: Shelf,
+    L: Write,
 >(
     rt: R,
     alloc: Global,
@@ -186,55 +251,83 @@ fn run_order<
     errors: E,
     scripts: Vec<Script>,
     shelf: &mut S,
+    record: &mut L,
 ) -> Result<bool, Complaint<'a>> {
-    let form = &order.scripts.form;
     let out = io::writer(&rt);
-    let told = if order.follow { Some(errors) } else { None };
-    let outcome = match order.record {
-        Some(path) => {
-            let Ok(log) = fs::File::create(&rt, path) else {
-                return Err(Complaint::Unwritten);
-            };
-            run_scripts(
-                rt,
-                alloc,
-                scripts,
-                order.workers,
-                told,
-                form,
-                shelf,
-                log,
-                out,
-            )
-        }
-        None => run_scripts(
-            rt,
-            alloc,
-            scripts,
-            order.workers,
-            told,
-            form,
-            shelf,
-            Nowhere,
-            out,
-        ),
-    };
-    outcome.map_err(|fault| Complaint::of_drive(fault, order))
+    match run_scripts(
+        rt,
+        alloc,
+        scripts,
+        order.workers,
+        order.follow,
+        errors,
+        &order.scripts.form,
+        shelf,
+        record,
+        out,
+    ) {
+        Ok(well) => Ok(well),
+        Err(fault) => Err(Complaint::of_drive(fault, order)),
+    }
 }
 
-/// Runs the files of an order over real children, keeps their transcripts where that is asked for, and prints the reports. What the scripts
-/// show is told on `errors`, where that is asked for.
+/// Runs an order's scripts over real children, and keeps their transcripts where that is asked for.
+fn run_and_keep<
+    'a,
+    R: Files + Print + Eprint + Threads + Wait + Clock + Programs + Copy + Send + Drop + 'static,
+    E: Write + IsTerminal + Copy + Send + Drop + 'static,
+    L: Write,
+>(
+    rt: R,
+    alloc: Global,
+    order: &Run<'a>,
+    errors: E,
+    scripts: Vec<Script>,
+    record: &mut L,
+) -> Result<Outcome, Complaint<'a>> {
+    let Some(path) = order.scripts.transcripts else {
+        let well = run_order(rt, alloc, order, errors, scripts, &mut NoShelf, record)?;
+        return Ok(Outcome::of(well, true));
+    };
+    let mut folder = Folder::new(&rt, alloc, path, order.scripts.sources.as_slice())?;
+    let well = run_order(rt, alloc, order, errors, scripts, &mut folder, record)?;
+    Ok(Outcome::of(well, folder.is_whole()))
+}
+
+/// Tells an account over a record, of which memory for keeping it may have been refused. The answer says whether it is told.
+fn tell_account<'a, R: Eprint, F: Write + Drop>(
+    rt: &R,
+    alloc: Global,
+    account: Account<'a, F>,
+    record: Option<Text>,
+) -> bool {
+    let Some(record) = record else {
+        tell(rt, &Complaint::Memory);
+        return false;
+    };
+    match account.tell(alloc, record.as_slice()) {
+        Ok(()) => true,
+        Err(complaint) => {
+            tell(rt, &complaint);
+            false
+        }
+    }
+}
+
+/// Runs the files of an order over real children, keeps their transcripts where that is asked for, prints the reports, and then tells what
+/// the scripts did, where that is asked for. What they show is told on `errors`, where that is asked for.
 pub fn run_files<
     'a,
     R: Files + Print + Eprint + Threads + Wait + Clock + Programs + Copy + Send + Drop + 'static,
     E: Write + IsTerminal + Copy + Send + Drop + 'static,
 >(rt: R, alloc: Global, order: &Run<'a>, errors: E) -> Result<Outcome, Complaint<'a>> {
     let scripts = scripts(&rt, alloc, &order.scripts)?;
-    let Some(path) = order.scripts.transcripts else {
-        let well = run_order(rt, alloc, order, errors, scripts, &mut NoShelf)?;
-        return Ok(Outcome::of(well, true));
+    let Some(path) = order.explain else {
+        let mut record = Record::new(record_file(&rt, order)?, None);
+        return run_and_keep(rt, alloc, order, errors, scripts, &mut record);
     };
-    let mut folder = Folder::new(&rt, alloc, path, order.scripts.sources.as_slice())?;
-    let well = run_order(rt, alloc, order, errors, scripts, &mut folder)?;
-    Ok(Outcome::of(well, folder.is_whole()))
+    let account = opened_account(&rt, alloc, path, scripts.as_slice())?;
+    let mut record = Record::new(record_file(&rt, order)?, Some(Text::new(alloc)));
+    let outcome = run_and_keep(rt, alloc, order, errors, scripts, &mut record)?;
+    Ok(outcome.and(tell_account(&rt, alloc, account, record.kept())))
 }
