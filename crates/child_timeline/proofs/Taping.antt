@@ -1,5 +1,5 @@
 -- Typescripts, entry by entry.
-use Rattle.std.proofs.Common.{◌≡◌, ℕ, ◌+◌, ◌<◌, ◌≤◌, List, [], ◌∷◌, ◌++◌, length, take, drop, get_or, Bool, true, false, Option, Some, None, refl, sym, ap, subst, ◌∙◌, arith, append_assoc, append-nil}
+use Rattle.std.proofs.Common.{◌≡◌, ℕ, ◌+◌, ◌<◌, ◌≤◌, List, [], ◌∷◌, ◌++◌, length, take, drop, get_or, Bool, true, false, refl, sym, ap, subst, ◌∙◌, arith, append_assoc, append-nil}
 use Rattle.std.specs.Prelude.{◌/◌, ◌==◌, nat_le, IfOk, Result, Ok, Err, if◌then◌else◌, codes}
 use Rattle.std.specs.Str.{bytes_eq}
 use Rattle.std.proofs.lemmas.Bool.Decides.{nat_tests}
@@ -11,7 +11,6 @@ use Rattle.child_timeline.specs.declared.typescript.Tape.{Tape}
 use Rattle.child_timeline.specs.declared.fault.TimelineFault.{TimelineFault}
 use Rattle.child_timeline.specs.declared.fault.TimelineFault.TheVariants as fault
 use Rattle.child_timeline.specs.declared.line.When.TheVariants.{At, After}
-use Rattle.child_timeline.specs.declared.line.Line.{Line}
 use Rattle.child_timeline.specs.declared.line.Line.TheVariants as line
 use Rattle.child_timeline.specs.declared.timeline.Timeline.{Timeline}
 use Rattle.child_timeline.specs.Line.{Reads, ◌>>=◌, or_fault, status_of}
@@ -20,7 +19,7 @@ use Rattle.child_timeline.specs.Timeline.{with_line}
 use Rattle.child_timeline.specs.Told.{AreTold}
 use Rattle.child_timeline.specs.Seconds.{micros_of}
 use Rattle.child_timeline.specs.Cast.{within}
-use Rattle.child_timeline.specs.Typescript.{behind_line, is_end, before_end, is_empty, kind_of, behind_kind, Said, output, header, said_by, played, with_entry, with_words, with_timing, with_timings, wound_up, unwound}
+use Rattle.child_timeline.specs.Typescript.{behind_line, is_end, before_end, is_empty, kind_of, behind_kind, Said, output, header, said_by, played, with_entry, with_timing, with_timings, with_rest, wound_up, unwound}
 use Rattle.child_timeline.proofs.Telling.{ok_is, no_ok, either, both, IsLine, IsKept, line_kept}
 use Rattle.child_timeline.proofs.Casts.{within_is}
 
@@ -118,8 +117,14 @@ one_timing n body p q w ws h = ap (λ (e : Result Tape TimelineFault). e >>= λ 
 pub unwound_is : (body : List ℕ) → IsWound body unwound
 unwound_is body = record { kept = record { told = tt; early = omega arith }; early = omega arith; at = omega arith }
 
+pub rest_kept : (t u : Timeline) (rest : List ℕ) → with_rest t rest ≡ Ok u → IsKept t → IsKept u
+rest_kept t u rest h k =
+    either (is_empty rest) (Ok t) (with_line 1 t (line.Child (After 0) 1 (what.Out rest))) u h
+    (λ g. subst IsKept (ok_is t u g) k)
+    (λ g. line_kept 1 t u (line.Child (After 0) 1 (what.Out rest)) (refl, refl) g k)
+
 pub told_wound_up : (body : List ℕ) (p : Tape) (x : Result Timeline TimelineFault) → Reads x (wound_up body p) → IsKept p.timeline → IfOk x (λ u. AreTold u.events)
 told_wound_up body p (Ok u) h k =
-    (both (with_line 1 p.timeline (line.Child (After 0) 1 (what.Out (drop p.at body)))) (λ t. with_line 1 t (line.Child (After 0) 1 what.Eof)) u h
-    (λ t made g. line_kept 1 t u (line.Child (After 0) 1 what.Eof) (refl, refl) g (line_kept 1 p.timeline t (line.Child (After 0) 1 (what.Out (drop p.at body))) (refl, refl) made k))).told
+    (both (with_rest p.timeline (drop p.at body)) (λ t. with_line 1 t (line.Child (After 0) 1 what.Eof)) u h
+    (λ t made g. line_kept 1 t u (line.Child (After 0) 1 what.Eof) (refl, refl) g (rest_kept p.timeline t (drop p.at body) made k))).told
 told_wound_up body p (Err f) h k = tt

@@ -1,6 +1,6 @@
 -- What script(1) wrote: a line that says when it was started, what was shown, and a line that says when it was done; and how its timing says when each part
 -- was shown, in the classic or in the advanced format (script(1), --logging-format).
-use Rattle.std.specs.Prelude.{ℕ, ◌+◌, ◌/◌, nat_le, List, [], ◌∷◌, take, drop, length, codes, Bool, true, false, not, ◌&&◌, ◌==◌, if◌then◌else◌, Option, Some, None, Result, Ok, Err}
+use Rattle.std.specs.Prelude.{ℕ, ◌+◌, ◌/◌, nat_le, List, [], ◌∷◌, take, drop, length, codes, Bool, true, false, not, ◌&&◌, ◌==◌, if◌then◌else◌, Result, Ok, Err}
 use Rattle.std.specs.Char.{is_ascii_digit}
 use Rattle.std.specs.Str.{bytes_eq}
 use Rattle.child_events.specs.declared.event.What.TheVariants as what
@@ -105,9 +105,13 @@ abbrev pub with_timings : ℕ → List ℕ → Tape → List (List ℕ) → Resu
 with_timings n body p [] = Ok p
 with_timings n body p (w ∷ ws) = with_timing n body p w >>= λ q. with_timings (n + 1) body q ws
 
--- what no entry showed is shown at the end, and then the output ends
+-- what no entry showed is shown at the end
+abbrev pub with_rest : Timeline → List ℕ → Result Timeline TimelineFault
+with_rest t rest = if is_empty rest then Ok t else with_line 1 t (line.Child (After 0) 1 (what.Out rest))
+
+-- and then the output ends
 abbrev pub wound_up : List ℕ → Tape → Result Timeline TimelineFault
-wound_up body p = with_line 1 p.timeline (line.Child (After 0) 1 (what.Out (drop p.at body))) >>= λ u. with_line 1 u (line.Child (After 0) 1 what.Eof)
+wound_up body p = with_rest p.timeline (drop p.at body) >>= λ u. with_line 1 u (line.Child (After 0) 1 what.Eof)
 
 -- nothing is shown yet
 abbrev pub unwound : Tape

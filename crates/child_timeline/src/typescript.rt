@@ -4,7 +4,7 @@ ghost use Rattle.std.specs.Prelude.{◌≡◌, ◌≤◌, length, IfOk};
 ghost use Rattle.child_timeline.specs.Told.{AreTold};
 ghost use Rattle.child_timeline.specs.Line.{Reads};
 ghost use Rattle.child_timeline.specs.Words.{after_blanks};
-ghost use Rattle.child_timeline.specs.Typescript.{begins_with as begins_with_of, is_typescript as is_typescript_of, behind_line as behind_line_of, is_empty as is_empty_of, is_end as is_end_of, before_end as before_end_of, shown as shown_of, is_kind as is_kind_of, kind_of, behind_kind, output as output_of, header as header_of, said_by as said_by_of, with_entry as with_entry_of, with_timing as with_timing_of, wound_up as wound_up_of, unwound as unwound_of, typescript_of, timed_by as timed_by_of, timed_typescript};
+ghost use Rattle.child_timeline.specs.Typescript.{begins_with as begins_with_of, is_typescript as is_typescript_of, behind_line as behind_line_of, is_empty as is_empty_of, is_end as is_end_of, before_end as before_end_of, shown as shown_of, is_kind as is_kind_of, kind_of, behind_kind, output as output_of, header as header_of, said_by as said_by_of, with_entry as with_entry_of, with_timing as with_timing_of, with_rest as with_rest_of, wound_up as wound_up_of, unwound as unwound_of, typescript_of, timed_by as timed_by_of, timed_typescript};
 
 use crate::cast::later;
 use crate::exits::Exit;
@@ -231,6 +231,23 @@ fn with_timing(
     }
 }
 
+/// The timeline with what is shown at its end.
+fn with_rest(alloc: Global, timeline: Timeline, rest: &[u8]) -> Result<Timeline, TimelineFault>
+    requires { timeline.moment ≤ 9000000000000000 }
+    ensures { Reads result (with_rest_of timeline rest.now) }
+{
+    if is_empty(rest) {
+        return Ok(timeline);
+    }
+    let text = Text::from_slice(alloc, rest)?;
+    let last = Line::Child {
+        when: When::After(0),
+        child: 1,
+        what: What::Out(text),
+    };
+    with_line(alloc, 1, timeline, last)
+}
+
 /// The timeline with what is shown at its end, where the output ends.
 fn wind_up(alloc: Global, body: &[u8], tape: Tape) -> Result<Timeline, TimelineFault>
     requires early { tape.timeline.moment ≤ 9000000000000000 }
@@ -242,13 +259,7 @@ fn wind_up(alloc: Global, body: &[u8], tape: Tape) -> Result<Timeline, TimelineF
         clock: _,
         at,
     } = tape;
-    let rest = Text::from_slice(alloc, body.split_at(at).1)?;
-    let last = Line::Child {
-        when: When::After(0),
-        child: 1,
-        what: What::Out(rest),
-    };
-    let timeline = with_line(alloc, 1, timeline, last)?;
+    let timeline = with_rest(alloc, timeline, body.split_at(at).1)?;
     let end = Line::Child {
         when: When::After(0),
         child: 1,
