@@ -20,6 +20,8 @@ LEFT = re.compile(r"`search` did not prove ((?:`[^`]+`(?:, | and )?)+)")
 IN_FILE = re.compile(r"(?m)^(?:\./)?proofs/(\S+)/(Answers|Invariants)\.antt:(\d+):\d+: error: (.*(?:\n  .*)*)")
 # A search that ended: another bound would change nothing.
 ENDED = "Every way was tried"
+# What `grind` says, within a search too, where it found values at which all hypotheses hold and the goal doesn't.
+FALSE = re.compile(r"`grind`: the goal does not follow\. The hypotheses hold, and the goal fails at")
 FRONT = re.compile(r"(?m)^(?:\./)?(src/[^:\s]+)\S*: error\[")
 
 
@@ -71,6 +73,8 @@ def how_refused(message):
     tactic = TACTIC.match(first)
     if not tactic:
         return "names" if NAMES.search(first) else "unfit"
+    if FALSE.search(message):
+        return "false"
     if ENDED in message:
         return "shown"
     return "limit" if tactic[1] == "search" or LIMIT.search(message) else "shown"

@@ -3,8 +3,13 @@
 import pathlib
 import re
 import shutil
+from collections import Counter
+
+from functions import all_functions
 
 PARTS = ("src", "specs", "proofs")
+CYCLE = re.compile(r"(?m)^ *#\[cycle\(\w+\)\]\n")
+ATTRIBUTE = re.compile(r"(?ms)^ *#\[tactic\((.*?)\)\]\n")
 
 
 def copied(crate, room):
@@ -44,17 +49,41 @@ def write_hole(crate, function, room):
     )
 
 
-def without_bodies(functions, texts):
-    """The texts of a source in which these functions call nothing, so that a check needs what they state alone.
+def left_out_whole(functions, texts):
+    """Those of these functions whose bodies can be left out, as they are without: in no cycle of calls.
 
-    A function in a cycle of calls keeps its body, since the cycle would be none.
+    A cycle is left out whole or not at all, and what a constant calls keeps its body.
     """
+    free = [it for it in functions if "const fn" not in texts[it.file][it.start : it.end].partition("{")[0]]
+    sizes = Counter(it.unit() for it in free)
+    return [it._replace(cycle=None, mates=()) for it in free if not it.cycle or sizes[it.unit()] == len(it.mates)]
+
+
+def above(text, start):
+    """The text before a function, parted where the comment and the attributes above it begin."""
+    before, gap, own = text[:start].rpartition("\n\n")
+    return before + gap, own
+
+
+def without_bodies(functions, texts):
+    """The texts of a source in which these functions call nothing, so that a check needs what they state alone."""
     made = dict(texts)
     for it in sorted(functions, key=lambda it: -it.start):
         text = made[it.file]
         depth = re.match(" *", text[it.start :])[0]
-        head = text[it.body : it.end].partition("{")[0]
-        if not it.cycle and "const fn" not in text[it.start : it.end].partition("{")[0]:
-            body = f"{head}{{\n{depth}    unreachable!()\n{depth}}}\n"
-            made[it.file] = text[: it.body] + body + text[it.end :]
+        before, own = above(text, it.start)
+        head = text[it.start : it.body] + text[it.body : it.end].partition("{")[0]
+        made[it.file] = f"{before}{CYCLE.sub('', own)}{head}{{\n{depth}    unreachable!()\n{depth}}}\n{text[it.end :]}"
+    return made
+
+
+def untried(units, texts):
+    """The texts of a source in which no goal of these functions is tried but where an answer is written."""
+    made = dict(texts)
+    for it in sorted(all_functions(texts), key=lambda it: -it.start):
+        if it.unit() in units:
+            text = made[it.file]
+            depth = re.match(" *", text[it.start :])[0]
+            before, own = above(text, it.start)
+            made[it.file] = f"{before}{ATTRIBUTE.sub('', own)}{depth}#[tactic(none)]\n{text[it.start :]}"
     return made

@@ -3,8 +3,8 @@
 A line `file: PATH` names a file of src/, and pairs of lines `old: TEXT` and `new: TEXT` follow; each old text stands
 there exactly once. More lines may stand at the head: `judge: FUNCTION` names a function beside the edited one that
 must refuse, `refused-by: termination` says that the end of a recursion or a loop is what the edit is about, and
-`goal: FUNCTION GOAL` names a goal at which it is refused, so that the search that has to end there is written out at
-once. `tests/edits/run --goals` writes those.
+`goal: FUNCTION GOAL` names a goal at which it is refused, so that this goal alone is tried, and the search that has to
+end there is written out at once. `tests/edits/run --goals` writes those.
 """
 
 import re

@@ -1,7 +1,8 @@
 """Refusals that an earlier run on this machine saw, as `rt ci` keeps what it proved.
 
 A refusal is kept under the sum of all that it stands on: the kit, the texts of the crate and of those below it, the edit, and the texts of
-this runner. So it never goes stale: where anything has changed, there is none under the new sum. Only refusals are kept.
+this runner. So it never goes stale: where anything has changed, there is none under the new sum. Only refusals are kept. The goals that an
+edit names are no part of the sum, since they say where to look and not what counts: so a run that writes them needn't be done again.
 """
 
 import hashlib
@@ -34,7 +35,8 @@ class Keeping:
     def place(self, name):
         """The file that keeps the refusal of an edit."""
         sum = self.sum.copy()
-        sum.update(pathlib.Path(self.crate.folder, "edits", f"{name}.edit").read_bytes())
+        lines = pathlib.Path(self.crate.folder, "edits", f"{name}.edit").read_bytes().split(b"\n")
+        sum.update(b"\n".join(it for it in lines if not it.startswith(b"goal: ")))
         return store() / f"{self.crate.name}-{name}-{sum.hexdigest()}"
 
     def goal_of(self, name):

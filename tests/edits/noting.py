@@ -5,17 +5,16 @@ import pathlib
 from searches import BESIDE
 
 
-def goals_to_note(source, trial, found):
-    """The goals of a refused edit that the prover searched for, each behind its function."""
-    named = []
+def goals_to_note(source, trial, goal, found):
+    """The goal at which a check refused an edit behind the function that it is of, but for a closure's and a stale one."""
     for function in trial.concerned(source):
         own = "" if len(function.mates) < 2 else function.name.rpartition("::")[2] + "-"
-        sought = [it.goal for it in found.goals.get(f"{source.crate.name}::{function.name}", [])]
-        written = {it.goal.removesuffix(BESIDE) for it in found.files.get(function.unit().replace("::", "/"), [])}
-        sought += [it for it in trial.edit.goals_of(function.name) if it in written]
-        sought += trial.searched.get(function.name, {})
-        named += [(function.name, goal) for goal in dict.fromkeys(sought) if goal.startswith(own)]
-    return named
+        refused = found.goals.get(f"{source.crate.name}::{function.name}", [])
+        refused = refused + found.files.get(function.unit().replace("::", "/"), [])
+        is_own = goal.startswith(own) and goal in [it.goal.removesuffix(BESIDE) for it in refused]
+        if is_own and (function.name, goal) not in trial.stale:
+            return [(function.name, goal)]
+    return []
 
 
 def note_goals(crate, name, goals):

@@ -7,7 +7,7 @@ import tempfile
 from typing import NamedTuple
 
 from checks import checked
-from copies import copied, folder_of, may_have_hole, without_bodies, write_hole, write_texts
+from copies import copied, folder_of, left_out_whole, may_have_hole, untried, without_bodies, write_hole, write_texts
 from crates import check_words
 from edits import BadEdit, Change, Edit, edited
 from functions import all_functions
@@ -31,18 +31,22 @@ class Source(NamedTuple):
 class Trial(NamedTuple):
     """An edit that is to be tried, what it changes, and the goals for which a search is written out.
 
-    Of each such goal it has how it was refused before, by the function's name. It is bare where the goals that the
-    edit names were left out.
+    Of each such goal it has how it was refused before, by the function's name. Stale goals are those that the edit names
+    and that were left out.
     """
 
     edit: Edit
     change: Change
     searched: dict
-    is_bare: bool = False
+    stale: tuple = ()
 
     def bare(self):
         """The same without the goals that the edit names: the searches that are written out for them decide nothing."""
-        return self._replace(edit=self.edit._replace(goals=()), is_bare=True)
+        return self._replace(edit=self.edit._replace(goals=()), stale=self.edit.goals)
+
+    def named(self, function):
+        """The goals of a function that are tried alone, as the edit names them; without any, all are tried."""
+        return () if self.searched else self.edit.goals_of(function.name)
 
     def concerned(self, source):
         """The functions that may refuse the edit: those that it changes, and its judges."""
@@ -96,21 +100,30 @@ def control_of(source, units):
     return min(free, key=lambda it: (lines(it), it.end - it.start), default=None)
 
 
-def next_round(source, trials):
-    """As many of the trials as one copy can have, and those that are left."""
+def units_of(source, trials):
+    """What is proved at once, of all that trials concern."""
+    return {it.unit() for trial in trials for it in trial.concerned(source)}
+
+
+def next_round(source, trials, common=None):
+    """As many of the trials as one copy can have, and those that are left.
+
+    The control is the common one, which no trial of the crate concerns, where there is one: what a round proved of it, the
+    next ones need not.
+    """
     taken, left, texts, units = [], [], source.texts, set()
     for trial in trials:
-        mine = {it.unit() for it in trial.concerned(source)}
+        mine = units_of(source, [trial])
         is_apart = not taken or not (trial.change.is_outside or taken[0].change.is_outside or mine & units)
         try:
-            made = edited(trial.edit, texts) if is_apart and control_of(source, units | mine) else None
+            made = edited(trial.edit, texts) if is_apart and (common or control_of(source, units | mine)) else None
         except BadEdit:
             made = None
         if made is None:
             left.append(trial)
         else:
             taken, texts, units = [*taken, trial], made, units | mine
-    return Round(taken, texts, control_of(source, units)), left
+    return Round(taken, texts, common or control_of(source, units)), left
 
 
 def with_holes(source, turn, room):
@@ -120,15 +133,18 @@ def with_holes(source, turn, room):
     proved[turn.control.name] = turn.control
     units = {it.unit() for it in proved.values()}
     left_out = [it for it in all_functions(turn.texts) if it.unit() not in units and may_have_hole(it, room)]
-    write_texts(without_bodies(left_out, turn.texts), room)
+    whole = {it.name: it for it in left_out_whole(left_out, turn.texts)}
+    concerned = [(trial, it) for trial in turn.trials for it in trial.concerned(source)]
+    narrow = {it.unit() for trial, it in concerned if trial.named(it)}
+    write_texts(untried(narrow, without_bodies(whole.values(), turn.texts)), room)
     for function in left_out:
-        write_hole(source.crate, function, room)
-    for trial in turn.trials:
-        for function in trial.concerned(source):
-            goals = trial.searched.get(function.name) if trial.searched else trial.edit.goals_of(function.name)
-            if goals:
-                text, replaces = source.texts[function.file], bool(trial.searched)
-                write_searches(source.crate, function, text, goals, room, replaces)
+        shutil.rmtree(folder_of(function, room), ignore_errors=True)
+        write_hole(source.crate, whole.get(function.name, function), room)
+    for trial, function in concerned:
+        goals = trial.searched.get(function.name) if trial.searched else trial.named(function)
+        if goals:
+            text, replaces = source.texts[function.file], bool(trial.searched)
+            write_searches(source.crate, function, text, goals, room, replaces)
     return list(proved)
 
 

@@ -190,6 +190,10 @@ EDITS = {
     "a_constant": (edit("u8 = 100;", "u8 = 99;", head="judge: least\n"), "refused at returns"),
     "in_a_cycle": (edit("return true;", "return false;"), "refused at even-returns"),
     "in_the_same_cycle": (edit("return false;", "return true;"), "refused at odd-returns"),
+    "in_a_cycle_at_its_goal": (
+        edit("    odd(n - 1)", "    odd(n - 1) == false", head="goal: even even-returns\n"),
+        "refused at even-returns",
+    ),
     "a_caller_as_judge": (edit(*NEXT_ENSURES, head="judge: second\n"), "refused at next-requires"),
     "a_caller_alone": (edit(*NEXT_ENSURES), "NOT REFUSED: only small::second refuses it"),
     "the_end_as_meant": (edit("    down(n - 1)", "    down(n)", head="refused-by: termination\n"), "refused at"),

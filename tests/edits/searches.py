@@ -6,11 +6,10 @@ attribute `tactic` names.
 
 import re
 
-from copies import folder_of
+from copies import ATTRIBUTE, above, folder_of
 
 # How the name of a search that stands beside an answer ends.
 BESIDE = "-sought"
-ATTRIBUTE = re.compile(r"#\[tactic\((.*?)\)\]\n", re.S)
 
 
 def paths_in(word, attribute):
@@ -21,8 +20,7 @@ def paths_in(word, attribute):
 
 def attribute_of(function, text):
     """The attribute `tactic` of a function, or nothing."""
-    above = text[: function.start].rpartition("\n\n")[2]
-    found = ATTRIBUTE.search(above)
+    found = ATTRIBUTE.search(above(text, function.start)[1])
     return found[1] if found else ""
 
 
@@ -66,10 +64,38 @@ def beside(paragraphs, goal):
     return [*paragraphs, re.sub(rf"(?m)^(pub )?{re.escape(goal)}(?=[ \n])", rf"\g<1>{goal}{BESIDE}", "\n".join(lines))]
 
 
+def names_of(paragraph):
+    """What a paragraph of a proof file defines."""
+    return re.findall(r"(?m)^(?:\w+ )*(\S+) :", paragraph)
+
+
+def has_word(name, text):
+    """Whether a text has a name as a word of its own."""
+    return re.search(rf"(?<![\w-]){re.escape(name)}(?![\w-])", text) is not None
+
+
+def answers_to(goals, paragraphs):
+    """The paragraphs of a proof file with answers to these goals, and with what those name of the others."""
+    kept = [it for it in paragraphs if any(has_answer([it], goal) for goal in goals)]
+    while True:
+        text = "\n".join(kept)
+        named = [it for it in paragraphs if any(has_word(name, text) for name in names_of(it))]
+        if set(named) <= set(kept):
+            return kept
+        kept = [it for it in paragraphs if it in kept or it in named]
+
+
+def is_needed(crate, line, text):
+    """Whether a line of imports brings more than lemmas of the crate that a text doesn't name."""
+    names = re.fullmatch(rf"use Rattle\.{crate.name}\.proofs\.\S+\.\{{(.*)\}}", line)
+    return names is None or any("◌" in it or has_word(it, text) for it in names[1].split(", "))
+
+
 def write_searches(crate, function, text, goals, room, replaces=True):
     """Has a search answer these goals of a function, whose source has this text, in a copy of its crate.
 
-    Answers that are written stay, and have the search beside them, where it replaces none.
+    Where it replaces no answers, those that are written to these goals stay, with the search beside them, and there are
+    no others.
     """
     folder = folder_of(function, room)
     file, attribute = folder / "Answers.antt", attribute_of(function, text)
@@ -80,6 +106,10 @@ def write_searches(crate, function, text, goals, room, replaces=True):
     if file.is_file():
         before = file.read_text(encoding="utf-8")
     paragraphs = before.rstrip("\n").split("\n\n")
+    if not replaces:
+        kept = answers_to(goals, paragraphs[1:])
+        imports = [it for it in paragraphs[0].split("\n") if is_needed(crate, it, "\n\n".join(kept))]
+        paragraphs = ["\n".join(imports), *kept]
     for goal in () if replaces else goals:
         paragraphs = beside(paragraphs, goal)
     for goal in [it + BESIDE if has_answer(paragraphs, it + BESIDE) else it for it in goals]:

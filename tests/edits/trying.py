@@ -9,8 +9,8 @@ from copies import folder_of
 from edits import BadEdit, change_of, read_edit
 from keeping import Keeping
 from noting import goals_to_note
-from rounds import Trial, next_round, run_alone, run_round, source_of
-from searches import answered_goals
+from rounds import Trial, control_of, next_round, run_alone, run_round, source_of, units_of
+from searches import BESIDE, answered_goals
 from verdicts import Verdict, open_goals, refusals_of, verdict_of, with_sought, without_refusal
 
 WHY = {
@@ -77,8 +77,9 @@ class Trying:
         """Tries edits in rounds, and returns what they don't decide, with its verdict."""
         undecided = [(it, Verdict("proved", "")) for it in trials if not it.concerned(self.source)]
         trials = [it for it in trials if it.concerned(self.source)]
+        common = control_of(self.source, units_of(self.source, trials))
         while trials:
-            turn, trials = next_round(self.source, trials)
+            turn, trials = next_round(self.source, trials, common)
             found = run_round(self.source, turn, self.kept)
             self.seconds, self.rounds = self.seconds + found.seconds, self.rounds + 1
             if not found.lines:
@@ -92,11 +93,11 @@ class Trying:
                 verdict, goals = self.verdict(trial, found)
                 if verdict.word == "refused":
                     self.refused(trial.edit.name, "refused at", verdict.goal, is_sound)
-                    self.goals[trial.edit.name] = () if trial.is_bare else goals_to_note(self.source, trial, found)
-                elif verdict.word == "open":
-                    again.append(trial._replace(searched=goals))
+                    self.goals[trial.edit.name] = goals_to_note(self.source, trial, verdict.goal, found)
                 elif trial.edit.goals and not trial.searched:
                     again.append(trial.bare())
+                elif verdict.word == "open":
+                    again.append(trial._replace(searched=goals))
                 else:
                     undecided.append((trial, verdict))
             trials = again + trials
@@ -106,9 +107,12 @@ class Trying:
         """The verdict of a check on an edit, and the goals by function for which a search is to be written out."""
         split = {}
         for it in trial.concerned(self.source):
-            named = set() if trial.searched else set(trial.edit.goals_of(it.name))
-            named -= set(answered_goals(folder_of(it, pathlib.Path(self.source.crate.folder))))
-            split[it.name] = with_sought(refusals_of(self.source.crate, it, found), named)
+            named = trial.named(it)
+            refusals = refusals_of(self.source.crate, it, found)
+            if named:
+                refusals = [of for of in refusals if of.goal.removesuffix(BESIDE) in named]
+            alone = set(named) - set(answered_goals(folder_of(it, pathlib.Path(self.source.crate.folder))))
+            split[it.name] = with_sought(refusals, alone)
         goals = {name: open_goals(answers) for name, (answers, _) in split.items()}
         searched = {goal: how for goals in trial.searched.values() for goal, how in goals.items()}
         verdict = verdict_of(trial.edit, [it for answers, _ in split.values() for it in answers], searched)
@@ -143,6 +147,8 @@ class Trying:
             return self.tell(trial.edit.name, False, f"{WHY[verdict.word]}: {verdict.goal}")
         found = run_alone(self.source, trial, self.kept, [])
         self.seconds += found.seconds
+        if not found.lines:
+            return self.tell(trial.edit.name, False, f"NOT TRIED: its check tells of no function: {found.said.strip()[-300:]}")
         verdict, _ = self.verdict(trial, found)
         if verdict.word == "refused":
             return self.refused(trial.edit.name, "refused alone at", verdict.goal)

@@ -1,13 +1,14 @@
 -- The pieces of a log are what encode_lower writes.
-use Rattle.std.proofs.Common.{◌≡◌, ℕ, zero, suc, ◌+◌, ◌*◌, ◌-◌, ◌/◌, ◌%◌, ◌<◌, ◌≤◌, List, [], ◌∷◌, length, slice_index, Bool, true, false, not, ◌&&◌, inl, inr, Some, Result, Ok, Err, refl, sym, ap, subst, lit<, eq-eqb, ◌∙◌, arith}
-use Rattle.std.specs.Prelude.{◌==◌, if◌then◌else◌, nat_le, nat_lt, nat_eq, codes}
+use Rattle.std.proofs.Common.{◌≡◌, ℕ, zero, suc, ◌+◌, ◌*◌, ◌-◌, ◌/◌, ◌%◌, ◌<◌, ◌≤◌, List, [], ◌∷◌, length, take, drop, slice_index, Bool, true, false, not, ◌&&◌, inl, inr, Some, Result, Ok, Err, refl, sym, ap, subst, lit<, eq-eqb, ◌∙◌, append-nil, arith}
+use Rattle.std.specs.Prelude.{◌==◌, if◌then◌else◌, nat_le, nat_lt, nat_eq, slice_set, codes}
 use Rattle.std.specs.Str.{bytes_eq}
 use Rattle.std.proofs.lemmas.Bool.Decides.{nat_tests}
 use Rattle.std.proofs.lemmas.Bool.{and_parts, cases_lt, eqb-true}
 use Rattle.std.proofs.lemmas.Slice.Eq.{bytes_eq-Decides}
 use Rattle.hex.specs.declared.error.FromHexError.{FromHexError}
 use Rattle.hex.specs.Hex.{IsBytes, decode_of, decode_pairs, encode_lower, encode_with, hex_digit_value, lower_digits, pair_value, value_at, digit_or_error}
-use Rattle.hex.proofs.Pairs.{cons_byte, decode_pairs-ok_pair}
+use Rattle.std.proofs.lemmas.List.{take_all, take_more_set}
+use Rattle.hex.proofs.Pairs.{cons_byte, prepend, prepend-cons_byte, decode_pairs-ok_pair}
 use Rattle.hex.proofs.HexLemmas.{decode_of-encode_lower, decode_of-even, length-encode_with}
 use Rattle.child_events.specs.declared.faults.LogFault.TheVariants as fault
 use Rattle.child_events.specs.Log.{hex_text}
@@ -50,6 +51,42 @@ value_glyph d lower = grind (arith, nat_tests)
 
 lower_meant : (k : ℕ) → k < 16 → is_lower_hex_digit (glyph k) ≡ true
 lower_meant k lt = grind (arith, nat_tests)
+
+-- each of lower-case digits is one
+pub lower_at : (w : List ℕ) → all_lower_hex w ≡ true → (i : ℕ) → i < length w → is_lower_hex_digit (slice_index w i) ≡ true
+lower_at [] lower i lt = absurd (omega arith)
+lower_at (d ∷ w) lower zero lt = (and_parts (is_lower_hex_digit d) (all_lower_hex w) lower).0
+lower_at (d ∷ w) lower (suc i) lt = lower_at w (and_parts (is_lower_hex_digit d) (all_lower_hex w) lower).1 i (omega arith)
+
+-- so are those behind the first two
+pub lower_behind : (w : List ℕ) → all_lower_hex w ≡ true → all_lower_hex (drop 2 w) ≡ true
+lower_behind [] lower = refl
+lower_behind (h ∷ []) lower = refl
+lower_behind (h ∷ l ∷ w) lower = (and_parts (is_lower_hex_digit l) (all_lower_hex w) (and_parts (is_lower_hex_digit h) (all_lower_hex (l ∷ w)) lower).1).1
+
+pub first_two : (w : List ℕ) → 2 ≤ length w → w ≡ slice_index w 0 ∷ slice_index w 1 ∷ drop 2 w
+first_two [] some = absurd (omega arith)
+first_two (h ∷ []) some = absurd (omega arith)
+first_two (h ∷ l ∷ w) some = refl
+
+-- a pair more is decoded
+pub pair_decoded : (word rest behind out : List ℕ) (high low v i : ℕ) → rest ≡ high ∷ low ∷ behind → i < length out → pair_value high low (2 * i) ≡ Ok v
+    → decode_pairs 0 word ≡ prepend (take i out) (decode_pairs (2 * i) rest)
+    → decode_pairs 0 word ≡ prepend (take (i + 1) (slice_set out i v)) (decode_pairs (2 * (i + 1)) behind)
+pair_decoded word rest behind out high low v i shape room pair so =
+    let two : 2 * i + 2 ≡ 2 * (i + 1) = omega arith in
+    so
+    ∙ ap (prepend (take i out)) (
+    ap (decode_pairs (2 * i)) shape ∙ decode_pairs-ok_pair (2 * i) high low v behind pair ∙ ap (λ (k : ℕ). cons_byte v (decode_pairs k behind)) two
+    )
+    ∙ prepend-cons_byte (take i out) v (decode_pairs (2 * (i + 1)) behind)
+    ∙ ap (λ (front : List ℕ). prepend front (decode_pairs (2 * (i + 1)) behind)) (sym (take_more_set out i v room))
+
+-- all are
+pub pairs_decoded : (word rest out : List ℕ) (i : ℕ) → length out ≤ i → length rest ≡ 0 → decode_pairs 0 word ≡ prepend (take i out) (decode_pairs (2 * i) rest) → decode_pairs 0 word ≡ Ok out
+unfolding decode_pairs
+pairs_decoded word [] out i end none so = so ∙ ap Ok (append-nil (take i out) ∙ take_all i out end)
+pairs_decoded word (d ∷ rest) out i end none so = absurd (omega (arith, none))
 
 pub record Encodes (text bytes : List ℕ) : Type 0 where
   pub same : text ≡ encode_lower bytes

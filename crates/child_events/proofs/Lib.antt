@@ -13,3 +13,4 @@ pub mod Worlds
 pub mod Queued
 pub mod Nexts
 pub mod Judged
+pub mod Pieces

@@ -1,14 +1,15 @@
 -- A log that is judged first, and read afterwards.
-use Rattle.std.specs.Prelude.{◌≡◌, ℕ, zero, suc, ◌+◌, ◌<◌, ◌^◌, List, [], ◌∷◌, IsOk, Result, Ok, Err, ⊤}
+use Rattle.std.specs.Prelude.{◌≡◌, ℕ, zero, suc, ◌+◌, ◌<◌, ◌≤◌, ◌%◌, ◌^◌, nat_le, ◌&&◌, IsTrue, List, [], ◌∷◌, length, IsOk, Result, Ok, Err, ⊤}
 use Rattle.tcl_words.specs.Bytes as ascii
 use Rattle.child_events.specs.declared.event.What.TheVariants as what
 use Rattle.child_events.specs.declared.event.HallEvent.{HallEvent}
 use Rattle.child_events.specs.declared.faults.LogFault.{LogFault}
 use Rattle.child_events.specs.declared.faults.LogFault.TheVariants as fault
 use Rattle.child_events.specs.declared.version.Version.{Version}
+use Rattle.child_events.specs.declared.fields.Stamp.{Stamp}
 use Rattle.child_events.specs.declared.line.Line.{Line}
 use Rattle.child_events.specs.declared.line.Line.TheVariants as line
-use Rattle.child_events.specs.Reading.{◌>>=◌, parts, piece_of, stamped, line_event, first_line, lines_events}
+use Rattle.child_events.specs.Reading.{◌>>=◌, parts, all_lower_hex, piece_of, stamped, line_event, first_line, lines_events}
 
 -- the event that a line says, in line n
 abbrev pub said_event : ℕ → Line → Result HallEvent LogFault
@@ -42,3 +43,22 @@ pub record AreJudged (n k : ℕ) (rest : List ℕ) : Type 0 where
 abbrev pub Judges : Version → List (List ℕ) → Result ℕ LogFault → Type 0
 Judges v ws (Ok k) = (lines_events v (first_line v) ws ≡ lines_read (first_line v) k ws) × IsOk (lines_read (first_line v) k ws)
 Judges v ws (Err f) = lines_events v (first_line v) ws ≡ Err f
+
+-- these three are within their limits, and the stamp has them
+pub record IsStampOf (script child moment : ℕ) (stamp : Stamp) : Type 0 where
+  pub script_fits : IsTrue (nat_le 1 script && nat_le script 64)
+  pub child_fits : IsTrue (nat_le 1 child && nat_le child 16)
+  pub moment_fits : moment ≤ 9000000000000000
+  pub same : stamp ≡ record { script = script; child = child; moment = moment }
+
+-- lower-case pairs of digits, of a piece that has bytes
+pub record ArePairs (digits : List ℕ) : Type 0 where
+  pub lower : IsTrue (all_lower_hex digits)
+  pub even : length digits % 2 ≡ 0
+  pub some : 0 < length digits
+  pub few : length digits ≤ 8192
+
+-- a line without a fault, whatever its number: the output that these digits write
+pub record IsPieceLine (text : List ℕ) (stamp : Stamp) (digits : List ℕ) : Type 0 where
+  pub pairs : ArePairs digits
+  pub event : (n : ℕ) → line_event n text ≡ said_event n (line.Piece stamp digits)

@@ -254,3 +254,9 @@ Refused bytes f = (first_fault bytes ≡ Some f) × ((es : List HallEvent) → L
 abbrev pub SplitsAt : ℕ → List ℕ → Option (Bor (List ℕ) × Bor (List ℕ)) → Type 0
 SplitsAt sep bs None = parts sep bs ≡ bs ∷ []
 SplitsAt sep bs (Some found) = (parts sep bs ≡ found.0.now ∷ parts sep found.1.now) × (length found.1.now < length bs)
+
+-- the first field is this number, and these fields stand behind it
+pub record NumberFirst (bytes : List ℕ) (n : ℕ) (behind : List ℕ) : Type 0 where
+  pub word : List ℕ
+  pub split : parts ascii.space bytes ≡ word ∷ parts ascii.space behind
+  pub number : number_of word ≡ Some n

@@ -5,7 +5,7 @@ ghost use Rattle.std.specs.Str.{bytes_eq};
 ghost use Rattle.child_events.specs.Judging.{judged};
 ghost use Rattle.child_events.specs.Reading.{SplitsAt, starts_number as starts, digits_number as digits_number_of, number_of, or_fault, number_within as within, is_lower_hex_digit as is_digit, all_lower_hex, piece_of, cause_of, what_alone as alone_of, failed as failed_of, what_failed as failed_with, moment_of, stamp_of, any_empty as any_empty_of, Reads};
 
-use crate::digits::Digits;
+use crate::digits::{Digits, decoded};
 use crate::event::{Answer, Cause, HallEvent, What};
 use crate::faults::LogFault;
 use memchr::memchr;
@@ -15,11 +15,14 @@ use tcl_words::Text;
 /// The greatest moment of a log, in milliseconds.
 pub(crate) const MOST_MOMENT: u64 = 9_000_000_000_000_000;
 
+/// The most decimal digits of a number.
+pub const MOST_DECIMALS: usize = 16;
+
 /// The most bytes of a line, without its newline.
 pub const LONGEST: usize = 8219;
 
 /// The most hexadecimal digits of a piece.
-const MOST_DIGITS: usize = 8192;
+pub const MOST_DIGITS: usize = 8192;
 
 /// The words of a child's line that say whose event it is, and when.
 #[derive(Clone, Copy)]
@@ -66,7 +69,7 @@ pub fn is(word: &[u8], name: &[u8]) -> bool
 }
 
 /// 0 alone, or anything of which the first is not 0.
-fn starts_number(word: &[u8]) -> bool
+pub fn starts_number(word: &[u8]) -> bool
     ensures { result ≡ starts word.now }
 {
     match word {
@@ -96,7 +99,7 @@ fn digits_number(word: &[u8]) -> Option<u64>
 fn number(word: &[u8]) -> Option<u64>
     ensures { result ≡ number_of word.now }
 {
-    if starts_number(word) && word.len() <= 16 {
+    if starts_number(word) && word.len() <= MOST_DECIMALS {
         digits_number(word)
     } else {
         None
@@ -210,11 +213,7 @@ pub fn piece(alloc: Global, line: usize, digits: &Digits) -> Result<Text, LogFau
     if is(word, b"-") {
         return Ok(Text::new(alloc));
     }
-    match hex::decode(alloc, word) {
-        Ok(bytes) => Ok(Text { bytes }),
-        Err(hex::FromHexError::OutOfMemory) => Err(LogFault::Memory),
-        Err(_) => Err(LogFault::Hex(line)),
-    }
+    Ok(decoded(alloc, word)?)
 }
 
 /// The cause that a word names.

@@ -10,6 +10,7 @@ mod hall_events;
 mod line;
 mod log_reader;
 mod next;
+mod piece_line;
 mod queue;
 mod reading;
 mod slot;

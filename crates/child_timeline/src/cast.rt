@@ -174,11 +174,11 @@ fn with_scene(
     requires clock { reel.clock ≤ 9000000000000000 }
     ensures { Reads result (with_scene_of line on reel (time.now, (code.now, text.now))) }
 {
-    let Some(seconds) = micros(alloc, time.as_bytes())? else {
+    let Some(moment) = micros(alloc, time.as_bytes())? else {
         return Err(TimelineFault::Moment(line));
     };
     let Reel { timeline, clock } = reel;
-    let clock = clock_after(line, on, clock, seconds)?;
+    let clock = clock_after(line, on, clock, moment)?;
     let said = line_of_scene(alloc, line, clock, code, text)?;
     let timeline = with_line(alloc, line, timeline, said)?;
     Ok(Reel { timeline, clock })

@@ -14,7 +14,7 @@ use Rattle.expect_prog.specs.declared.explaining.ExplainFault.TheVariants.{Read,
 use Rattle.expect_prog.specs.Devices.{WasPut}
 use Rattle.expect_prog.specs.Explain.{Told, Explained, at_first, no_script, others, own, silent, told, StepOf, StepTold, OwnTold, TellsBehind, step_text, is_told, Course, Courses, IsTooLong, Explains, Tells, TellsOne}
 use Rattle.expect_prog.proofs.Carried.{carried}
-use Rattle.expect_prog.proofs.Telling.{take_more}
+use Rattle.expect_prog.proofs.Series.{take_more}
 
 -- what writing a text leaves
 abbrev pub Writing : Option (List ℕ) → Option (List ℕ) → List ℕ → Result (Unit {0}) ExplainFault → Type 0

@@ -12,7 +12,7 @@ use Rattle.expect_prog.specs.Devices.{Writes}
 use Rattle.expect_prog.specs.Report.{labelled}
 use Rattle.expect_prog.specs.Line.{how_many, kind_label, kinds_text}
 use Rattle.expect_prog.proofs.Writing.{writes_then, gives_up}
-use Rattle.expect_prog.proofs.Telling.{take_more, drop_more}
+use Rattle.expect_prog.proofs.Series.{take_more, drop_more}
 
 pub is_labelled : (label : List ℕ) (n : ℕ) → label ++ decimal n ≡ labelled label n
 unfolding labelled

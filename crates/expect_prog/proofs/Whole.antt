@@ -10,7 +10,7 @@ use Rattle.expect_prog.specs.Devices.{Writes}
 use Rattle.expect_prog.specs.Form.{parts_bytes, opening, closing, endings_of, told_bytes}
 use Rattle.expect_prog.specs.Written.{StandsFor, AllStandFor, WritesParts, WritesAll}
 use Rattle.expect_prog.proofs.Writing.{writes_then, gives_up}
-use Rattle.expect_prog.proofs.Telling.{stand_same}
+use Rattle.expect_prog.proofs.Series.{stand_same}
 
 module _ (form : Form) (rs : List Report) (a b : Option (List ℕ)) where
   abbrev pub front : ℕ → List ℕ

@@ -1,6 +1,7 @@
 pub mod Report
 pub mod Line
 pub mod Escape
+pub mod Acts
 pub mod Tap
 pub mod Json
 pub mod Form

@@ -6,11 +6,11 @@ use Rattle.child_events.specs.Log.{hex_text}
 use Rattle.tcl_eval.specs.declared.ending.Ending.{Ending}
 use Rattle.tcl_eval.specs.declared.ending.Ending.TheVariants.{Exit, Error, StepLimit, TimeLimit, Memory, Waiting}
 use Rattle.session.specs.declared.report.Report.{Report}
-use Rattle.expect_core.specs.declared.request.Act.{Act}
-use Rattle.expect_core.specs.declared.request.Act.TheVariants as act
 use Rattle.expect_core.specs.declared.request.Request.{Request}
+use Rattle.expect_prog.specs.declared.acts.Spelling.TheVariants.{Hex}
 use Rattle.expect_prog.specs.declared.texts.Shown.{Shown}
 use Rattle.expect_prog.specs.declared.escape.Place.TheVariants.{Lines}
+use Rattle.expect_prog.specs.Acts.{act_text}
 use Rattle.expect_prog.specs.Escape.{escaped}
 
 -- a label and a number behind it; closed, so that the text of a line stays in pieces
@@ -57,22 +57,9 @@ vars_lines (v ∷ vs) = var_line v ++ vars_lines vs
 abbrev pub vars_part : Bool → List (List ℕ × List ℕ) → List ℕ
 vars_part shown vars = if shown then vars_lines vars else []
 
--- each word in lower-case hexadecimal, or a dash where it is empty, behind a space
-abbrev pub words_part : List (List ℕ) → List ℕ
-words_part [] = []
-words_part (w ∷ ws) = (ascii.space ∷ [] ++ hex_text w) ++ words_part ws
-
--- the program and its arguments, or the bytes, in hexadecimal
-abbrev pub act_text : Act → List ℕ
-act_text (act.Spawn words) = codes "spawn" ++ words_part words
-act_text (act.Write bytes) = codes "write " ++ hex_text bytes
-act_text act.End = codes "end"
-act_text act.Close = codes "close"
-act_text act.Wait = codes "wait"
-
 -- what is asked of which child
 unfoldable pub ask_words : Request → List ℕ
-ask_words r = labelled (codes "ask ") r.child ++ ascii.space ∷ [] ++ act_text r.act
+ask_words r = labelled (codes "ask ") r.child ++ ascii.space ∷ [] ++ act_text Hex r.act
 
 abbrev pub ask_line : Request → List ℕ
 ask_line r = ask_words r ++ ascii.newline ∷ []

@@ -7,13 +7,13 @@ use Rattle.exp_match.specs.declared.entry.Want.{Want}
 use Rattle.exp_match.specs.declared.entry.Want.TheVariants as want
 use Rattle.expect_core.specs.declared.child.Child.{Child}
 use Rattle.expect_core.specs.declared.plan.Plan.{Plan}
-use Rattle.expect_core.specs.declared.request.Act.{Act}
-use Rattle.expect_core.specs.declared.request.Act.TheVariants as act
 use Rattle.expect_core.specs.declared.request.Request.{Request}
 use Rattle.expect_core.specs.Awaited.{buffer_of}
 use Rattle.expect_core.specs.Deadlines.{as_moment}
 use Rattle.session.specs.Left.{Kept}
 use Rattle.session.specs.Awaited.{answering, expecting}
+use Rattle.expect_prog.specs.declared.acts.Spelling.TheVariants.{Quoted}
+use Rattle.expect_prog.specs.Acts.{act_text}
 use Rattle.expect_prog.specs.Report.{labelled}
 use Rattle.expect_prog.specs.Escape.{quoted}
 use Rattle.expect_prog.specs.Patterns.{want_text}
@@ -22,21 +22,9 @@ use Rattle.expect_prog.specs.Patterns.{want_text}
 unfoldable pub margin : List ℕ
 margin = codes "             "
 
--- each word of a program between quotes, behind a space
-abbrev pub quoted_words : List (List ℕ) → List ℕ
-quoted_words [] = []
-quoted_words (w ∷ ws) = (codes " " ++ quoted w) ++ quoted_words ws
-
-abbrev pub act_words : Act → List ℕ
-act_words (act.Spawn words) = codes "spawn" ++ quoted_words words
-act_words (act.Write bytes) = codes "write " ++ quoted bytes
-act_words act.End = codes "end"
-act_words act.Close = codes "close"
-act_words act.Wait = codes "wait"
-
 -- the line of a request
 unfoldable pub request_line : Request → List ℕ
-request_line r = margin ++ labelled (codes "asks child ") r.child ++ codes ": " ++ act_words r.act ++ codes "\n"
+request_line r = margin ++ labelled (codes "asks child ") r.child ++ codes ": " ++ act_text Quoted r.act ++ codes "\n"
 
 abbrev pub request_lines : List Request → List ℕ
 request_lines [] = []

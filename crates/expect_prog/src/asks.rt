@@ -1,42 +1,13 @@
 //! The text of what a script asked of its children.
 
 ghost use Rattle.std.specs.Prelude.{◌≡◌, ◌++◌, OnOk};
-ghost use Rattle.expect_prog.specs.Report.{labelled, words_part, act_text, ask_words, ask_line, ask_lines, asks_part};
+ghost use Rattle.expect_prog.specs.Report.{labelled, ask_words, ask_line, ask_lines, asks_part};
 
-use crate::texts::{push_hex, push_labelled};
-use session::{Act, Request};
+use crate::acts::{Spelling, push_act};
+use crate::texts::push_labelled;
+use session::Request;
 use std::alloc::{AllocError, Global};
 use tcl_words::Text;
-
-/// Puts the words of a program behind a text, each in hexadecimal behind a space.
-fn push_words(alloc: Global, text: &mut Text, words: &[Text]) -> Result<(), AllocError>
-    ensures { OnOk result (text.new ≡ text.old ++ words_part words.now) }
-{
-    for word in words {
-        text.push(b' ')?;
-        push_hex(alloc, text, word.as_slice())?;
-    }
-    Ok(())
-}
-
-/// Puts what is asked of a child behind a text.
-fn push_act(alloc: Global, text: &mut Text, act: &Act) -> Result<(), AllocError>
-    ensures { OnOk result (text.new ≡ text.old ++ act_text act.now) }
-{
-    match act {
-        Act::Spawn(words) => {
-            text.extend(b"spawn")?;
-            push_words(alloc, text, words.as_slice())
-        }
-        Act::Write(bytes) => {
-            text.extend(b"write ")?;
-            push_hex(alloc, text, bytes.as_slice())
-        }
-        Act::End => text.extend(b"end"),
-        Act::Close => text.extend(b"close"),
-        Act::Wait => text.extend(b"wait"),
-    }
-}
 
 /// Puts what a request asks of which child behind a text.
 #[tactic(auto, unfolding(crate::specs::Report::ask_words))]
@@ -49,7 +20,7 @@ pub(crate) fn push_ask_words(
 {
     push_labelled(alloc, text, b"ask ", u128::from(request.child))?;
     text.push(b' ')?;
-    push_act(alloc, text, &request.act)
+    push_act(alloc, text, Spelling::Hex, &request.act)
 }
 
 /// Puts the line of a request behind a text.

@@ -2,6 +2,7 @@
 #![tactic(auto)]
 
 mod account;
+mod acts;
 mod asks;
 mod checking;
 mod command_line;
@@ -31,6 +32,7 @@ mod shelf;
 mod showing;
 mod tally;
 mod tap;
+mod telling;
 mod texts;
 mod waits;
 

@@ -3,14 +3,15 @@
 ghost use Rattle.std.specs.Prelude.{◌≡◌, ◌++◌, IfOk, OnOk, Some, None, MatchOption};
 ghost use Rattle.exp_match.specs.Choice.{in_groups};
 ghost use Rattle.session.specs.Awaited.{answering, expecting};
-ghost use Rattle.expect_prog.specs.Waits.{margin, quoted_words, act_words, request_line, request_lines, answer_line, verdict as verdict_of, entry_line, own_line, own_lines, tail_of, buffer_line, side_lines, deadline_line, endless_line, until_line, expect_lines, wait_lines};
+ghost use Rattle.expect_prog.specs.Waits.{margin, request_line, request_lines, answer_line, verdict as verdict_of, entry_line, own_line, own_lines, tail_of, buffer_line, side_lines, deadline_line, endless_line, until_line, expect_lines, wait_lines};
 
+use crate::acts::{Spelling, push_act};
 use crate::escape::push_quoted;
 use crate::patterns::push_want;
 use crate::texts::push_labelled;
 use exp_match::{Entry, Want};
 use expect_core::{Groups, Place, Plan};
-use session::{Act, Request, Session};
+use session::{Request, Session};
 use std::alloc::{AllocError, Global};
 use tcl_words::Text;
 
@@ -25,34 +26,6 @@ fn push_margin(text: &mut Text) -> Result<(), AllocError>
     text.extend(b"             ")
 }
 
-fn push_words(alloc: Global, text: &mut Text, words: &[Text]) -> Result<(), AllocError>
-    ensures { OnOk result (text.new ≡ text.old ++ quoted_words words.now) }
-{
-    for word in words {
-        text.extend(b" ")?;
-        push_quoted(alloc, text, word.as_slice())?;
-    }
-    Ok(())
-}
-
-fn push_act(alloc: Global, text: &mut Text, act: &Act) -> Result<(), AllocError>
-    ensures { OnOk result (text.new ≡ text.old ++ act_words act.now) }
-{
-    match act {
-        Act::Spawn(words) => {
-            text.extend(b"spawn")?;
-            push_words(alloc, text, words.as_slice())
-        }
-        Act::Write(bytes) => {
-            text.extend(b"write ")?;
-            push_quoted(alloc, text, bytes.as_slice())
-        }
-        Act::End => text.extend(b"end"),
-        Act::Close => text.extend(b"close"),
-        Act::Wait => text.extend(b"wait"),
-    }
-}
-
 /// Puts the line of a request behind a text.
 #[tactic(auto, unfolding(crate::specs::Waits::request_line))]
 fn push_request(alloc: Global, text: &mut Text, request: &Request) -> Result<(), AllocError>
@@ -61,7 +34,7 @@ fn push_request(alloc: Global, text: &mut Text, request: &Request) -> Result<(),
     push_margin(text)?;
     push_labelled(alloc, text, b"asks child ", u128::from(request.child))?;
     text.extend(b": ")?;
-    push_act(alloc, text, &request.act)?;
+    push_act(alloc, text, Spelling::Quoted, &request.act)?;
     text.extend(b"\n")
 }
 

@@ -2,7 +2,7 @@
 
 use child_events::{Answer, HallEvent, What};
 use dialogue_sched::{Hall, HallFault, HallRefusal, Script};
-use session::{Act, Ending, Pairs, Settings};
+use session::{Act, Ending, Pairs, Report, Settings};
 use std::alloc::Global;
 use std::process::Abort;
 use std::test::Fail;
@@ -61,10 +61,14 @@ fn is_refused(hall: &mut Hall, event: HallEvent, why: HallRefusal) -> bool {
     hall.step(event).is_err_and(|r| r == why)
 }
 
-/// Whether the first script waits, having asked for its start alone.
-fn waits_for_its_start(hall: &Hall) -> Result<bool, Fail> {
-    let report = hall.report(1).ok_or("no report")?;
-    Ok(matches!(report.ending, Ending::Waiting) && report.requests.len() == 1)
+/// What the first script's report is so far.
+fn first_report(hall: &Hall) -> Result<Report, Fail> {
+    let report = hall.report(1);
+    Ok(report.ok_or("no report")?)
+}
+
+fn waits_for_its_start(report: &Report) -> bool {
+    matches!(report.ending, Ending::Waiting) && report.requests.len() == 1
 }
 
 // An event of no script, of no child, too late and too long: the first reason counts, and the hall is as it was.
@@ -74,7 +78,8 @@ fn refusals(rt: HostRuntime) -> Result<(), Fail> {
     let mut hall = hall(alloc, &[DIALOGUE])?;
     let piece = output(alloc, 4097)?;
     refuses(&rt, &mut hall, piece);
-    assert!(rt; waits_for_its_start(&hall)?);
+    let report = first_report(&hall)?;
+    assert!(rt; waits_for_its_start(&report));
     Ok(())
 }
 
@@ -104,12 +109,11 @@ fn writes(hall: &mut Hall) -> bool {
     }
 }
 
-/// Whether the first script has ended, after all that it was to show and send.
-fn is_done(hall: &Hall) -> Result<bool, Fail> {
-    let report = hall.report(1).ok_or("no report")?;
+/// Whether a script has ended, after all that it was to show and send.
+fn is_done(report: &Report) -> bool {
     let is_shown = report.transcript.as_slice() == b"spawn p\r\na\r\nbdone\n".as_slice();
     let is_sent = report.sent.as_slice() == [2].as_slice();
-    Ok(matches!(report.ending, Ending::Exit(0)) && is_shown && is_sent)
+    matches!(report.ending, Ending::Exit(0)) && is_shown && is_sent
 }
 
 // Each request goes out once, as soon as the events decide it.
@@ -118,7 +122,8 @@ fn requests_once(rt: HostRuntime) -> Result<(), Fail> {
     let alloc = rt.alloc();
     let mut hall = hall(alloc, &[DIALOGUE, b"puts x"])?;
     goes_on(&rt, &mut hall, output(alloc, 1)?)?;
-    assert!(rt; is_done(&hall)? && hall.request(1).is_none());
+    let report = first_report(&hall)?;
+    assert!(rt; is_done(&report) && hall.request(1).is_none());
     Ok(())
 }
 

@@ -1,7 +1,7 @@
 //! The flags of Expect's commands, and how many words stand behind them.
 
 ghost use Rattle.std.specs.Prelude.{◌≡◌, [], IfOk, false};
-ghost use Rattle.script_check.specs.Flags.{counted, own_word, takes_of, role_of, flag_role, flagged, shown};
+ghost use Rattle.script_check.specs.Flags.{counted, own_word, takes, takes_of, role_of, flag_role, flagged, shown};
 
 use crate::commands::Order;
 use crate::counts::{Count, at_least, between, exactly, fits};
@@ -80,53 +80,36 @@ fn own_word(own: Own) -> &'static [u8]
     }
 }
 
+fn with_flags(own: Own, id: bool, end: bool, count: Count) -> Takes
+    ensures { result ≡ takes own id end count }
+{
+    Takes {
+        own,
+        id,
+        end,
+        count,
+    }
+}
+
 /// What each command of Expect takes. `expect`, `puts` and `log_user` have rules of their own.
 pub(crate) fn takes_of(order: Order) -> Takes
     ensures { result ≡ takes_of order }
 {
     match order {
-        Order::Spawn => Takes {
-            own: Own::NoEcho,
-            id: false,
-            end: true,
-            count: at_least(1),
-        },
-        Order::Send => Takes {
-            own: Own::None,
-            id: true,
-            end: true,
-            count: exactly(1),
-        },
-        Order::SendUser => Takes {
-            own: Own::None,
-            id: false,
-            end: true,
-            count: exactly(1),
-        },
-        Order::ExpContinue => Takes {
-            own: Own::Timer,
-            id: false,
-            end: false,
-            count: exactly(0),
-        },
-        Order::Close | Order::Wait => Takes {
-            own: Own::None,
-            id: true,
-            end: false,
-            count: exactly(0),
-        },
-        Order::MatchMax | Order::RemoveNulls => Takes {
-            own: Own::Default,
-            id: true,
-            end: false,
-            count: between(0, 1),
-        },
-        Order::Expect | Order::LogUser | Order::Puts => Takes {
-            own: Own::None,
-            id: false,
-            end: false,
-            count: at_least(0),
-        },
+        Order::Spawn => with_flags(Own::NoEcho, false, true, at_least(1)),
+        Order::Send => with_flags(Own::None, true, true, exactly(1)),
+        Order::SendUser => with_flags(Own::None, false, true, exactly(1)),
+        Order::ExpContinue => with_flags(Own::Timer, false, false, exactly(0)),
+        Order::Close | Order::Wait => with_flags(Own::None, true, false, exactly(0)),
+        Order::MatchMax | Order::RemoveNulls => with_flags(
+            Own::Default,
+            true,
+            false,
+            between(0, 1),
+        ),
+        Order::Expect | Order::LogUser | Order::Puts => {
+            with_flags(Own::None, false, false, at_least(0))
+        }
     }
 }
 

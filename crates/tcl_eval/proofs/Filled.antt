@@ -1,12 +1,9 @@
--- A word whose filler was just begun.
+-- Words whose filling was begun.
 use Rattle.std.proofs.Common.{◌≡◌, ℕ, zero, suc, Bool, false, ◌==◌, ◌+◌, List, [], ◌∷◌, drop, length, ap, sym, refl, ◌∙◌, arith}
 use Rattle.tcl_words.specs.Pieces.{Spelled}
-use Rattle.tcl_subst.specs.Filling.{Fill}
-use Rattle.tcl_subst.specs.Recipes.{Filling, given}
-use Rattle.tcl_subst.specs.Rests.{rest}
+use Rattle.tcl_subst.specs.Filling.{Fill, fill}
 use Rattle.tcl_subst.specs.Variables.{Variables}
 use Rattle.tcl_commands.specs.declared.code.Code.{Code}
-use Rattle.tcl_commands.specs.declared.code.Code.TheVariants.{Ok}
 use Rattle.tcl_commands.specs.Said.{Outcome}
 use Rattle.tcl_commands.specs.Groups.{turned}
 use Rattle.tcl_scripts.specs.declared.script.Reading.{Reading}
@@ -16,46 +13,29 @@ use Rattle.tcl_eval.specs.declared.frame.Then.TheVariants.{Command}
 use Rattle.tcl_eval.specs.declared.frame.End.TheVariants.{StepLimit}
 use Rattle.tcl_eval.specs.declared.frame.Frame.{Frame}
 use Rattle.tcl_eval.specs.declared.frame.Frame.TheVariants.{Onward}
-use Rattle.tcl_eval.specs.declared.frame.Onward.TheVariants.{Fill as FillOn, Seq}
-use Rattle.tcl_eval.specs.Advanced.{Fills}
+use Rattle.tcl_eval.specs.declared.frame.Onward.TheVariants.{Seq}
 use Rattle.tcl_eval.specs.Tree.{State, Tree, Over}
 use Rattle.tcl_eval.specs.Meaning.{Next, Eval, eval, on_said, spread, fill_word, fill_words, on_ok, command, sequence, stepped, each, turn_end}
 use Rattle.tcl_eval.specs.Rest.{frames_rest, then_rest}
-use Rattle.tcl_eval.specs.Work.{Work, EvalWork, Ticks, Now, Tick, stepped_work, each_work, word_work, words_work, eval_work, then_work, frames_work}
+use Rattle.tcl_eval.specs.Work.{Work, EvalWork, Ticks, Now, stepped_work, each_work, word_work, words_work}
 
-pub words_first : (ev : Eval) (f : Filling) (w : Spelled) (ws words : List Spelled) (done : List (List ℕ)) (k : Next) (go : List (List ℕ) → State → Tree) (st : State)
-    → Fills f w → words ≡ w ∷ ws
-    → fill_word ev (rest (given [] f) st.vars) k (λ v st. on_said (spread w.expand v done) k (λ done st. fill_words ev ws done k go st) st) st ≡ fill_words ev words done k go st
-words_first ev f w ws words done k go st fills e =
-    ap (λ (p : Fill). fill_word ev p k (λ v st. on_said (spread w.expand v done) k (λ done st. fill_words ev ws done k go st) st) st) (fills st.vars)
-    ∙ ap (λ (l : List Spelled). fill_words ev l done k go st) (sym e)
+-- a word whose filling was begun, before the others
+module _ (p : Fill) (w : Spelled) (expand : Bool) (to next : ℕ) (words : List Spelled) (done : List (List ℕ)) (vars now : Variables) where
+  pub begun_rest : p ≡ fill w.pieces now → now ≡ vars → expand ≡ w.expand → drop next words ≡ w ∷ drop to words
+      → (ev : Eval) (k : Next) (go : List (List ℕ) → State → Tree) (st : State) → st.vars ≡ vars
+      → fill_word ev p k (λ v st. on_said (spread expand v done) k (λ done st. fill_words ev (drop to words) done k go st) st) st ≡ fill_words ev (drop next words) done k go st
+  begun_rest begun same split is ev k go st e =
+      ap (λ (b : Bool). fill_word ev p k (λ v st. on_said (spread b v done) k (λ done st. fill_words ev (drop to words) done k go st) st) st) split
+      ∙ ap (λ (p : Fill). fill_word ev p k (λ v st. on_said (spread w.expand v done) k (λ done st. fill_words ev (drop to words) done k go st) st) st) (begun ∙ ap (λ (v : Variables). fill w.pieces v) (same ∙ sym e))
+      ∙ ap (λ (l : List Spelled). fill_words ev l done k go st) (sym is)
 
-pub words_work_first : (ev : EvalWork) (f : Filling) (w : Spelled) (ws words : List Spelled) (done : List (List ℕ)) (k : Work) (go : List (List ℕ) → State → Ticks) (st : State)
-    → Fills f w → words ≡ w ∷ ws
-    → Tick (word_work ev (rest (given [] f) st.vars) k (λ v st. on_said (spread w.expand v done) k (λ done st. words_work ev ws done k go st) st) st) ≡ words_work ev words done k go st
-words_work_first ev f w ws words done k go st fills e =
-    ap (λ (p : Fill). Tick (word_work ev p k (λ v st. on_said (spread w.expand v done) k (λ done st. words_work ev ws done k go st) st) st)) (fills st.vars)
-    ∙ ap (λ (l : List Spelled). words_work ev l done k go st) (sym e)
-
--- the frame that was pushed for a word, handed a value without bytes
-module _ (depth next to : ℕ) (words words' : List Spelled) (w : Spelled) (expand : Bool) (filler : Filling) (done : List (List ℕ)) (what : Then) (stack stack' : List Frame) (v : List ℕ) (st : State) where
-  pub fill_frame : drop next words ≡ w ∷ drop to words → Fills filler w → words' ≡ words → expand ≡ w.expand → stack' ≡ Onward (FillOn words' to expand filler done what depth) ∷ stack → v ≡ []
-      → frames_rest stack' Ok v st ≡ fill_words (eval depth) (drop next words) done (frames_rest stack) (then_rest depth what (frames_rest stack)) st
-  fill_frame is fills same spread' pushed none =
-      ap (λ (s : List Frame). frames_rest s Ok v st) pushed
-      ∙ ap (λ (v : List ℕ). frames_rest (Onward (FillOn words' to expand filler done what depth) ∷ stack) Ok v st) none
-      ∙ ap (λ (l : List Spelled). frames_rest (Onward (FillOn l to expand filler done what depth) ∷ stack) Ok [] st) same
-      ∙ ap (λ (b : Bool). frames_rest (Onward (FillOn words to b filler done what depth) ∷ stack) Ok [] st) spread'
-      ∙ words_first (eval depth) filler w (drop to words) (drop next words) done (frames_rest stack) (then_rest depth what (frames_rest stack)) st fills is
-
-  pub fill_frame_work : drop next words ≡ w ∷ drop to words → Fills filler w → words' ≡ words → expand ≡ w.expand → stack' ≡ Onward (FillOn words' to expand filler done what depth) ∷ stack → v ≡ []
-      → frames_work stack' Ok v st ≡ words_work (eval_work depth) (drop next words) done (frames_work stack) (then_work what (frames_work stack)) st
-  fill_frame_work is fills same spread' pushed none =
-      ap (λ (s : List Frame). frames_work s Ok v st) pushed
-      ∙ ap (λ (v : List ℕ). frames_work (Onward (FillOn words' to expand filler done what depth) ∷ stack) Ok v st) none
-      ∙ ap (λ (l : List Spelled). frames_work (Onward (FillOn l to expand filler done what depth) ∷ stack) Ok [] st) same
-      ∙ ap (λ (b : Bool). frames_work (Onward (FillOn words to b filler done what depth) ∷ stack) Ok [] st) spread'
-      ∙ words_work_first (eval_work depth) filler w (drop to words) (drop next words) done (frames_work stack) (then_work what (frames_work stack)) st fills is
+  pub begun_work : p ≡ fill w.pieces now → now ≡ vars → expand ≡ w.expand → drop next words ≡ w ∷ drop to words
+      → (ev : EvalWork) (k : Work) (go : List (List ℕ) → State → Ticks) (st : State) → st.vars ≡ vars
+      → word_work ev p k (λ v st. on_said (spread expand v done) k (λ done st. words_work ev (drop to words) done k go st) st) st ≡ words_work ev (drop next words) done k go st
+  begun_work begun same split is ev k go st e =
+      ap (λ (b : Bool). word_work ev p k (λ v st. on_said (spread b v done) k (λ done st. words_work ev (drop to words) done k go st) st) st) split
+      ∙ ap (λ (p : Fill). word_work ev p k (λ v st. on_said (spread w.expand v done) k (λ done st. words_work ev (drop to words) done k go st) st) st) (begun ∙ ap (λ (v : Variables). fill w.pieces v) (same ∙ sym e))
+      ∙ ap (λ (l : List Spelled). words_work ev l done k go st) (sym is)
 
 -- the frame that was pushed for the commands behind one whose words are filled
 module _ (depth to : ℕ) (script script' : List Reading) (words words' : List Spelled) (done : List (List ℕ)) (stack stack' : List Frame) (st : State) where

@@ -1,26 +1,35 @@
 -- What an evaluation tells of its expression.
-use Rattle.std.specs.Prelude.{◌≡◌, []}
+use Rattle.std.specs.Prelude.{◌≡◌}
 use Rattle.tcl_words.specs.Pieces.{Spelled}
 use Rattle.tcl_expr.specs.Value.{outcome, known, faulty, needs}
-use Rattle.tcl_subst.specs.Filling.{fill}
-use Rattle.tcl_subst.specs.Recipes.{Filling, given}
-use Rattle.tcl_subst.specs.Rests.{rest}
+use Rattle.tcl_subst.specs.declared.fill_step.FillStep.TheVariants as step
+use Rattle.tcl_subst.specs.Filling.{Fill, fill, Full as Filled}
+use Rattle.tcl_subst.specs.Recipes.{Filling}
+use Rattle.tcl_subst.specs.Rests.{rest, told}
 use Rattle.tcl_subst.specs.Variables.{Variables}
 use Rattle.tcl_eval.specs.declared.advance.Advance.{Advance}
 use Rattle.tcl_eval.specs.declared.advance.Advance.TheVariants.{Value, Operand, Fault}
+use Rattle.tcl_eval.specs.declared.begun.Begun.{Begun}
+use Rattle.tcl_eval.specs.declared.begun.Begun.TheVariants.{Full, Script, Failed}
 use Rattle.tcl_eval.specs.Evaluated.{Evaluated}
 
--- A filler that was just begun: handed a value without bytes, it comes to what the word's parts come to.
+-- A filler that was just begun comes to what the word's parts come to.
 abbrev pub Fills : Filling → Spelled → Type 0
-Fills f w = (vars : Variables) → rest (given [] f) vars ≡ fill w.pieces vars
+Fills f w = (vars : Variables) → rest f vars ≡ fill w.pieces vars
 
--- the operand that is needed, and what fills it
-pub record NeedsFilled (f : Filling) (e : Evaluated) : Type 0 where
+-- what a word comes to whose filling was begun
+abbrev pub begun_fill : Begun → Fill
+begun_fill (Full value) = Filled value
+begun_fill (Script f number) = told (step.NeedScript number, f)
+begun_fill (Failed f fault) = told (step.Fault fault, f)
+
+-- the operand that is needed, and what it comes to
+pub record NeedsFilled (vars : Variables) (p : Fill) (e : Evaluated) : Type 0 where
   pub word : Spelled
   pub is : outcome e.tree e.given ≡ needs word
-  pub fills : Fills f word
+  pub fills : p ≡ fill word.pieces vars
 
-abbrev pub IsTold : Advance → Evaluated → Type 0
-IsTold (Value text) e = outcome e.tree e.given ≡ known text
-IsTold (Operand f) e = NeedsFilled f e
-IsTold (Fault f) e = outcome e.tree e.given ≡ faulty f
+abbrev pub IsTold : Variables → Advance → Evaluated → Type 0
+IsTold vars (Value text) e = outcome e.tree e.given ≡ known text
+IsTold vars (Operand b) e = NeedsFilled vars (begun_fill b) e
+IsTold vars (Fault f) e = outcome e.tree e.given ≡ faulty f

@@ -1,7 +1,7 @@
 -- What scripts mean, and what is left of a run. To read first: Tree (a meaning is a tree that names the calls of the host, one after
 -- another), Meaning (the tree of a script), Unrolled (what loops mean, with no bound) and Suspended (a run that stops and goes on). Asked, Steps,
 -- Evaluated and Advanced have the words of single contracts. Rest says what is left of a machine's frames, and Work that a run comes to an
--- end: both are about the machine alone, and can be passed over.
+-- end; Halted and Reached are of expressions and words without scripts: all four are about the machine alone, and can be passed over.
 pub mod Tree
 pub mod Meaning
 pub mod Unrolled
@@ -12,3 +12,5 @@ pub mod Evaluated
 pub mod Advanced
 pub mod Rest
 pub mod Work
+pub mod Halted
+pub mod Reached

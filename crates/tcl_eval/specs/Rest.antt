@@ -4,11 +4,8 @@ use Rattle.tcl_subst.specs.Recipes.{given}
 use Rattle.tcl_subst.specs.Rests.{rest}
 use Rattle.tcl_subst.specs.Variables.{Variables}
 use Rattle.tcl_commands.specs.declared.code.Code.{Code}
-use Rattle.tcl_commands.specs.declared.code.Code.TheVariants.{Ok, Error}
-use Rattle.tcl_commands.specs.Texts.{expr_fault}
+use Rattle.tcl_commands.specs.declared.code.Code.TheVariants.{Ok}
 use Rattle.tcl_scripts.specs.Commands.{commands}
-use Rattle.tcl_eval.specs.declared.advance.Advance.{Advance}
-use Rattle.tcl_eval.specs.declared.advance.Advance.TheVariants.{Value, Operand as NeedOperand, Fault}
 use Rattle.tcl_eval.specs.declared.frame.End.TheVariants.{Finished}
 use Rattle.tcl_eval.specs.declared.frame.Then.{Then}
 use Rattle.tcl_eval.specs.declared.frame.Then.TheVariants.{Command, List as HostList}
@@ -47,13 +44,6 @@ goal_rest depth (Arm body arms') k v st =
 -- an expression that was evaluated so far
 abbrev pub evaluated : ℕ → Evaluated → Goal → Next → State → Tree
 evaluated depth e goal k st = value_from (fill_parts (eval depth)) e.tree e.given k (λ v vs st. goal_rest depth goal k v st) st
-
--- what follows a step of an evaluation
-abbrev pub advanced_to : ℕ → Advance → Evaluated → Goal → Next → State → Tree
-advanced_to depth (Value v) e goal k st = goal_rest depth goal k v st
-advanced_to depth (NeedOperand f) e goal k st =
-    fill_word (eval depth) (rest (given [] f) st.vars) k (λ v st. evaluated depth (with_operand v e) goal k st) st
-advanced_to depth (Fault f) e goal k st = k Error (expr_fault [] f) st
 
 -- a loop: its condition, and then its turns
 abbrev pub looped : ℕ → Turning → Next → State → Tree

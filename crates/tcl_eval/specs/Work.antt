@@ -9,12 +9,10 @@ use Rattle.tcl_subst.specs.Rests.{rest}
 use Rattle.tcl_commands.specs.declared.code.Code.{Code}
 use Rattle.tcl_commands.specs.declared.code.Code.TheVariants.{Ok, Error, Return, Break, Continue, Again, AgainLater}
 use Rattle.tcl_commands.specs.Groups.{assigned}
-use Rattle.tcl_commands.specs.Texts.{word_fault, expr_fault, too_deep}
+use Rattle.tcl_commands.specs.Texts.{word_fault, too_deep}
 use Rattle.tcl_scripts.specs.declared.script.Reading.{Reading}
 use Rattle.tcl_scripts.specs.declared.script.Reading.TheVariants.{Command as Words, Malformed}
 use Rattle.tcl_scripts.specs.Commands.{commands}
-use Rattle.tcl_eval.specs.declared.advance.Advance.{Advance}
-use Rattle.tcl_eval.specs.declared.advance.Advance.TheVariants.{Value, Operand as NeedOperand, Fault}
 use Rattle.tcl_eval.specs.declared.frame.Then.{Then}
 use Rattle.tcl_eval.specs.declared.frame.Then.TheVariants.{Command, List as HostList}
 use Rattle.tcl_eval.specs.declared.frame.Goal.{Goal}
@@ -56,7 +54,7 @@ abbrev pub word_work : EvalWork → Filled → Work → (List ℕ → State → 
 word_work ev = fill_word (λ script k. ev script (one_more k))
 
 abbrev pub parts_work : EvalWork → Spelled → Work → (List ℕ → State → Ticks) → State → Ticks
-parts_work ev w k go st = Tick (word_work ev (fill w.pieces st.vars) k go st)
+parts_work ev w k go st = word_work ev (fill w.pieces st.vars) k go st
 
 abbrev pub words_work : EvalWork → List Spelled → List (List ℕ) → Work → (List (List ℕ) → State → Ticks) → State → Ticks
 words_work ev [] done k go st = go done st
@@ -96,12 +94,6 @@ goal_work ev (Arm body arms) k v st =
 
 abbrev pub evaluated_work : EvalWork → Evaluated → Goal → Work → State → Ticks
 evaluated_work ev e goal k st = value_work ev e.tree e.given k (λ v vs st. goal_work ev goal k v st) st
-
-abbrev pub advanced_work : EvalWork → Advance → Evaluated → Goal → Work → State → Ticks
-advanced_work ev (Value v) e goal k st = goal_work ev goal k v st
-advanced_work ev (NeedOperand f) e goal k st =
-    Tick (word_work ev (rest (given [] f) st.vars) k (λ v st. evaluated_work ev (with_operand v e) goal k st) st)
-advanced_work ev (Fault f) e goal k st = k Error (expr_fault [] f) st
 
 abbrev pub loop_work : EvalWork → Expression → Work → State → Ticks
 loop_work ev test k st = condition_work ev test k (λ b st. decided_work b k st) st

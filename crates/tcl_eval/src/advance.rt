@@ -1,7 +1,7 @@
 //! What an evaluation came to.
 
+use crate::begun::Begun;
 use tcl_expr::ExprFault;
-use tcl_subst::Filler;
 use tcl_values::Value;
 
 /// What an evaluation came to.
@@ -9,8 +9,8 @@ use tcl_values::Value;
 pub(crate) enum Advance {
     /// The value.
     Value(Value),
-    /// An operand's value is needed: this fills it.
-    Operand(Filler),
+    /// An operand's value is needed, and filling it was begun.
+    Operand(Begun),
     /// There is no value.
     Fault(ExprFault),
 }

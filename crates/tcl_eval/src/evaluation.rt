@@ -1,6 +1,6 @@
 //! The evaluation of an expression, operand by operand.
 
-ghost use Rattle.std.specs.Prelude.{◌≡◌, [], ℕ, List, Some, IfOk, OnOk};
+ghost use Rattle.std.specs.Prelude.{◌≡◌, ℕ, List, Some, IfOk, OnOk};
 ghost use Rattle.tcl_words.specs.Pieces.{Spelled};
 ghost use Rattle.tcl_expr.specs.Grammar.{parsed};
 ghost use Rattle.tcl_expr.specs.Numbered.{operand_at};
@@ -8,16 +8,19 @@ ghost use Rattle.tcl_expr.specs.Reads.{Gives};
 ghost use Rattle.tcl_expr.specs.Tells.{TellsFault};
 ghost use Rattle.tcl_expr.specs.Tree.{Tree};
 ghost use Rattle.tcl_expr.specs.Value.{outcome, faulty};
-ghost use Rattle.tcl_subst.specs.Recipes.{begun, steps_onto};
-ghost use Rattle.tcl_eval.specs.Advanced.{Fills, IsTold};
+ghost use Rattle.tcl_subst.specs.Filling.{fill};
+ghost use Rattle.tcl_eval.specs.Advanced.{IsTold, begun_fill};
 ghost use Rattle.tcl_eval.specs.Evaluated.{fresh, with_operand};
+ghost use Rattle.tcl_eval.specs.Halted.{HaltsAt, Alike, AlikeWork};
 
 use crate::advance::Advance;
+use crate::begun::{Begun, begin_operand};
+use crate::halt::Halt;
 use std::alloc::{AllocError, Global};
 use std::marker::Model;
 use std::rc::Rc;
-use tcl_expr::{Expr, ExprFault, Operands, Step, parse};
-use tcl_subst::{Filler, Recipe, filling_is_fill};
+use tcl_expr::{Expr, ExprFault, Operands, Step, operands_are_bounded, parse};
+use tcl_subst::Vars;
 use tcl_values::Value;
 
 /// An expression, shared. A contract sees its tree.
@@ -97,40 +100,51 @@ impl Evaluation {
         self.log.give(text)
     }
 
-    /// Goes on until the value is known, a fault is met or an operand is needed.
-    pub(crate) fn advance(&mut self, alloc: Global) -> Result<Advance, AllocError>
-        ensures told { IfOk result (λ a. IsTold a self.old) }
+    /// Goes on until the value is known, a fault is met, or an operand needs a script or can't be filled.
+    pub(crate) fn advance(&mut self, alloc: Global, vars: &mut Vars) -> Result<Halt, AllocError>
+        ensures halts { IfOk result (λ h. HaltsAt vars.old h self.new) }
+        ensures alike { OnOk result (Alike vars.old self.old self.new) }
+        ensures work { OnOk result (AlikeWork vars.old self.old self.new) }
+        ensures same { vars.new ≡ vars.old }
+    {
+        operands_are_bounded();
+        'operands: loop {
+            match self.step(alloc, vars)? {
+                Advance::Value(value) => return Ok(Halt::Value(value)),
+                Advance::Fault(fault) => return Ok(Halt::Fault(fault)),
+                Advance::Operand(begun) => match begun {
+                    Begun::Full(value) => self.give(alloc, value)?,
+                    Begun::Script(filler, number) => return Ok(Halt::Script(filler, number)),
+                    Begun::Failed(filler, fault) => return Ok(Halt::Failed(filler, fault)),
+                },
+            }
+        }
+    }
+
+    /// Goes on until the value is known, a fault is met or an operand is needed, and begins to fill that.
+    fn step(&mut self, alloc: Global, vars: &mut Vars) -> Result<Advance, AllocError>
+        ensures told { IfOk result (λ a. IsTold vars.old a self.old) }
         ensures same { self.new ≡ self.old }
+        ensures vars { vars.new ≡ vars.old }
     {
         match self.test.expr.advance(alloc, &mut self.log) {
             Step::Value(text) => Ok(Advance::Value(Value::from_text(alloc, text)?)),
-            Step::NeedVar(number) => Ok(Advance::Operand(self.operand(alloc, number)?)),
-            Step::NeedScript(number) => Ok(Advance::Operand(self.operand(alloc, number)?)),
+            Step::NeedVar(number) => Ok(Advance::Operand(self.operand(alloc, number, vars)?)),
+            Step::NeedScript(number) => Ok(Advance::Operand(self.operand(alloc, number, vars)?)),
             Step::Fault(fault) => Ok(Advance::Fault(told(fault)?)),
         }
     }
 
-    /// What fills the operand of a number.
-    fn operand(&self, alloc: Global, number: usize) -> Result<Filler, AllocError>
-        ensures { (w : Spelled) → operand_at self.now.tree number ≡ Some w → IfOk result (λ f. Fills f w) }
+    /// Begins to fill the operand of a number.
+    fn operand(&self, alloc: Global, number: usize, vars: &mut Vars) -> Result<Begun, AllocError>
+        ensures told { (w : Spelled) → operand_at self.now.tree number ≡ Some w → IfOk result (λ b. begun_fill b ≡ fill w.pieces vars.old) }
+        ensures same { vars.new ≡ vars.old }
     {
         match self.test.expr.operand(number) {
             None => Err(AllocError),
-            Some(word) => {
-                let recipe = Recipe::of(alloc, word)?;
-                let filler = Filler::new(alloc, Rc::new(alloc, recipe)?);
-                Ok(first(filler))
-            }
+            Some(word) => begin_operand(alloc, word, vars),
         }
     }
-}
-
-/// A filler that was just begun.
-pub(crate) fn first(filler: Filler) -> Filler
-    ensures { (w : Spelled) → filler ≡ begun (steps_onto w.pieces []) → Fills result w }
-{
-    filling_is_fill();
-    filler
 }
 
 /// A fault that says something of the expression.

@@ -3,17 +3,18 @@
 ghost use Rattle.std.specs.Prelude.{◌≡◌, ◌+◌, ◌≤◌, ◌*◌, ◌∷◌, [], IfOk, if◌then◌else◌};
 ghost use Rattle.tcl_subst.specs.Rests.{told};
 ghost use Rattle.tcl_eval.specs.Evaluated.{fresh, with_operand};
+ghost use Rattle.tcl_eval.specs.Halted.{halted_rest, halted_work};
 ghost use Rattle.tcl_commands.specs.Says.{Says};
 ghost use Rattle.tcl_commands.specs.Texts.{expected_number, expr_fault};
 ghost use Rattle.tcl_eval.specs.Steps.{left_of};
 ghost use Rattle.tcl_eval.specs.Meaning.{eval, fill_word, arms, tree_of, on_said};
-ghost use Rattle.tcl_eval.specs.Rest.{onward_rest, goal_rest, evaluated, advanced_to, turns_left, AnyRestIs, RestIs};
-ghost use Rattle.tcl_eval.specs.Work.{Tick, eval_work, onward_work, word_work, goal_work, evaluated_work, advanced_work, decided_work, arms_work, bodies, credit, potential, AnyWorkIs, WorkIs};
+ghost use Rattle.tcl_eval.specs.Rest.{onward_rest, goal_rest, evaluated, turns_left, AnyRestIs, RestIs};
+ghost use Rattle.tcl_eval.specs.Work.{Tick, eval_work, onward_work, word_work, goal_work, evaluated_work, decided_work, arms_work, bodies, credit, potential, AnyWorkIs, WorkIs};
 
-use crate::advance::Advance;
 use crate::engine::Engine;
 use crate::evaluation::{Evaluation, Test};
 use crate::frame::{End, Frame, Goal, Mode, Onward, Turning};
+use crate::halt::Halt;
 use crate::meter::Meter;
 use crate::words::{resumed, script_text};
 use std::alloc::{AllocError, Global};
@@ -36,58 +37,44 @@ impl Engine {
         ensures potential { IfOk result (λ mode. potential self.new (left_of meter.new) mode ≤ 8 * left_of meter.old + bodies self.old.stack) }
         ensures bound { meter.new.bound ≡ meter.old.bound }
     {
-        let step = evaluation.advance(self.alloc)?;
-        let mode = self.express_to(meter, step, evaluation, goal, depth)?;
+        let halt = evaluation.advance(self.alloc, &mut self.vars)?;
+        let mode = self.express_from(meter, halt, evaluation, goal, depth)?;
         Ok(mode)
     }
 
-    /// Goes on behind a step of an evaluation.
-    fn express_to(
+    /// Goes on where an evaluation halted.
+    fn express_from(
         &mut self,
         meter: &mut Meter,
-        step: Advance,
+        halt: Halt,
         evaluation: Evaluation,
         goal: Goal,
         depth: u32,
     ) -> Result<Mode, AllocError>
-        ensures rest { RestIs self.old meter.old result self.new meter.new (λ k st. advanced_to depth step evaluation goal k st) }
-        ensures work { WorkIs self.old meter.old result self.new meter.new (λ k st. advanced_work (eval_work depth) step evaluation goal k st) }
+        ensures rest { RestIs self.old meter.old result self.new meter.new (λ k st. halted_rest depth halt evaluation goal k st) }
+        ensures work { WorkIs self.old meter.old result self.new meter.new (λ k st. halted_work (eval_work depth) halt evaluation goal k st) }
         ensures potential { IfOk result (λ mode. potential self.new (left_of meter.new) mode ≤ 8 * left_of meter.old + bodies self.old.stack) }
         ensures bound { meter.new.bound ≡ meter.old.bound }
     {
-        match step {
-            Advance::Value(value) => {
+        match halt {
+            Halt::Value(value) => {
                 drop(evaluation);
                 self.reached(meter, value, goal, depth)
             }
-            Advance::Operand(filler) => self.begin_operand(evaluation, filler, goal, depth),
-            Advance::Fault(fault) => {
+            Halt::Script(filler, number) => {
+                self.operand_script(number, evaluation, filler, goal, depth)
+            }
+            Halt::Failed(filler, fault) => {
+                drop(evaluation);
+                drop(goal);
+                self.not_filled(&filler, fault)
+            }
+            Halt::Fault(fault) => {
                 drop(evaluation);
                 drop(goal);
                 self.not_evaluated(&fault)
             }
         }
-    }
-
-    /// Begins to fill an operand.
-    fn begin_operand(
-        &mut self,
-        evaluation: Evaluation,
-        filler: Filler,
-        goal: Goal,
-        depth: u32,
-    ) -> Result<Mode, AllocError>
-        ensures rest { AnyRestIs self.old result self.new (λ k st. advanced_to depth (Advance.Operand filler) evaluation goal k st) }
-        ensures work { AnyWorkIs self.old result self.new (λ k st. advanced_work (eval_work depth) (Advance.Operand filler) evaluation goal k st) }
-        ensures potential { IfOk result (λ mode. bodies self.new.stack + credit mode ≤ bodies self.old.stack) }
-    {
-        self.stack.push(Frame::Onward(Onward::Operand {
-            evaluation,
-            filler,
-            goal,
-            depth,
-        }))?;
-        Ok(Mode::Give(Code::Ok, Value::new(self.alloc)))
     }
 
     /// An expression without a value.

@@ -8,12 +8,14 @@
 
 mod advance;
 mod asking;
+mod begun;
 mod commands;
 mod ending;
 mod engine;
 mod evaluation;
 mod exprs;
 mod frame;
+mod halt;
 mod host;
 mod laws;
 mod loops;
@@ -22,6 +24,7 @@ mod meter;
 mod pile;
 mod procedure;
 mod procs;
+mod reached;
 mod replies;
 mod values;
 mod words;

@@ -1,26 +1,26 @@
 //! How words are filled.
 
 ghost use Rattle.std.specs.Prelude.{◌≡◌, ◌≢◌, ◌+◌, ◌≤◌, ◌*◌, ◌∷◌, [], drop, unwrap_or, IfOk, None, Some};
-ghost use Rattle.tcl_subst.specs.Filling.{fill};
 ghost use Rattle.tcl_subst.specs.Recipes.{given, script_at, refused_name};
 ghost use Rattle.tcl_subst.specs.Rests.{rest, told};
 ghost use Rattle.tcl_commands.specs.Says.{Says};
 ghost use Rattle.tcl_commands.specs.Texts.{not_read};
-ghost use Rattle.tcl_eval.specs.Advanced.{Fills};
 ghost use Rattle.tcl_eval.specs.Steps.{left_of};
 ghost use Rattle.tcl_eval.specs.Meaning.{eval, fill_word, fill_words, spread, on_said};
+ghost use Rattle.tcl_eval.specs.Reached.{Reaches, ReachesWork, reached_rest, reached_work};
 ghost use Rattle.tcl_eval.specs.Rest.{onward_rest, then_rest, AnyRestIs, RestIs};
 ghost use Rattle.tcl_eval.specs.Work.{eval_work, onward_work, word_work, words_work, then_work, then_weight, bodies, credit, potential, AnyWorkIs, WorkIs};
 
+use crate::begun::{Begun, advanced, begin_kept};
 use crate::engine::Engine;
-use crate::evaluation::first;
 use crate::frame::{End, Frame, Mode, Onward, Then};
 use crate::meter::Meter;
+use crate::reached::Reached;
 use crate::values::Values;
 use std::alloc::{AllocError, Global};
 use tcl_commands::{Code, Complaint, bad_list, not_read, said, word_fault};
-use tcl_scripts::{KeptWord, Words};
-use tcl_subst::{FillStep, Filler, SubstFault, Vars, filling_is_fill};
+use tcl_scripts::Words;
+use tcl_subst::{FillStep, Filler, SubstFault, Vars};
 use tcl_values::Value;
 use tcl_words::{ListFault, Text};
 
@@ -70,23 +70,38 @@ impl Engine {
         ensures potential { IfOk result (λ mode. potential self.new (left_of meter.new) mode ≤ 8 * left_of meter.old + bodies self.old.stack + then_weight then) }
         ensures bound { meter.new.bound ≡ meter.old.bound }
     {
-        match words.next(next) {
-            None => self.filled(meter, done, then, depth),
-            Some((word, to)) => {
-                let expand = word.is_expanded();
-                let filler = first_filler(self.alloc, word)?;
-                let words = words.shared()?;
-                self.stack.push(Frame::Onward(Onward::Fill {
-                    words,
-                    next: to,
-                    expand,
-                    filler,
-                    done,
-                    then,
-                    depth,
-                }))?;
-                Ok(Mode::Give(Code::Ok, Value::new(self.alloc)))
+        let reached = fill_up(self.alloc, &words, next, done, &mut self.vars)?;
+        let mode = self.fill_from(meter, words, reached, then, depth)?;
+        Ok(mode)
+    }
+
+    /// Goes on behind words that were filled so far.
+    fn fill_from(
+        &mut self,
+        meter: &mut Meter,
+        words: Words,
+        reached: Reached,
+        then: Then,
+        depth: u32,
+    ) -> Result<Mode, AllocError>
+        ensures rest { RestIs self.old meter.old result self.new meter.new (λ k st. reached_rest (eval depth) words reached k (then_rest depth then k) st) }
+        ensures work { WorkIs self.old meter.old result self.new meter.new (λ k st. reached_work (eval_work depth) words reached k (then_work then k) st) }
+        ensures potential { IfOk result (λ mode. potential self.new (left_of meter.new) mode ≤ 8 * left_of meter.old + bodies self.old.stack + then_weight then) }
+        ensures bound { meter.new.bound ≡ meter.old.bound }
+    {
+        match reached {
+            Reached::End(done) => {
+                drop(words);
+                self.filled(meter, done, then, depth)
             }
+            Reached::Script {
+                filler,
+                number,
+                expand,
+                next,
+                done,
+            } => self.fill_script(number, words, next, expand, filler, done, then, depth),
+            Reached::Error(text) => Ok(Mode::Give(Code::Error, text)),
         }
     }
 
@@ -198,17 +213,58 @@ impl Engine {
     pub(crate) fn not_filled(&self, filler: &Filler, fault: SubstFault) -> Result<Mode, AllocError>
         ensures { IfOk result (λ mode. mode ≡ Mode.Give Code.Error (not_read (refused_name filler.now.fault) fault)) }
     {
-        let text = not_read(self.alloc, filler.name(), fault)?;
-        Ok(Mode::Give(Code::Error, Value::from_text(self.alloc, text)?))
+        Ok(Mode::Give(Code::Error, unfilled(self.alloc, filler, fault)?))
     }
 }
 
-/// What fills a word, at its first step.
-fn first_filler(alloc: Global, word: &KeptWord) -> Result<Filler, AllocError>
-    ensures { IfOk result (λ f. Fills f word.now) }
+/// Fills words from a place on, behind those that are done, up to one that needs a script or can't be filled.
+fn fill_up(
+    alloc: Global,
+    words: &Words,
+    next: usize,
+    done: Values,
+    vars: &mut Vars,
+) -> Result<Reached, AllocError>
+    ensures rest { IfOk result (λ r. Reaches vars.old words.now next done r) }
+    ensures work { IfOk result (λ r. ReachesWork vars.old words.now next done r) }
+    ensures same { vars.new ≡ vars.old }
 {
-    let filler = word.filler(alloc)?;
-    Ok(first(filler))
+    let mut next = next;
+    let mut done = done;
+    'words: loop {
+        let Some((word, to)) = words.next(next) else {
+            return Ok(Reached::End(done));
+        };
+        let expand = word.is_expanded();
+        match begin_kept(alloc, word, vars)? {
+            Begun::Full(value) => match said(alloc, spread(alloc, expand, value, done))? {
+                Ok(more) => {
+                    done = more;
+                    next = to;
+                }
+                Err(text) => return Ok(Reached::Error(text)),
+            },
+            Begun::Script(filler, number) => {
+                return Ok(Reached::Script {
+                    filler,
+                    number,
+                    expand,
+                    next: to,
+                    done,
+                });
+            }
+            Begun::Failed(filler, fault) => {
+                return Ok(Reached::Error(unfilled(alloc, &filler, fault)?));
+            }
+        }
+    }
+}
+
+/// The error of a word that can't be filled.
+fn unfilled(alloc: Global, filler: &Filler, fault: SubstFault) -> Result<Value, AllocError>
+    ensures { IfOk result (λ text. text ≡ not_read (refused_name filler.now.fault) fault) }
+{
+    Value::from_text(alloc, not_read(alloc, filler.name(), fault)?)
 }
 
 /// The next step of a filler, with the value of its script.
@@ -224,18 +280,6 @@ pub(crate) fn resumed(
     filler.give(alloc, value)?;
     let step = advanced(alloc, filler, vars)?;
     Ok(step)
-}
-
-/// The next step of a filler.
-fn advanced(alloc: Global, filler: &mut Filler, vars: &mut Vars) -> Result<FillStep, AllocError>
-    ensures told { IfOk result (λ s. told (s, filler.new) ≡ rest filler.old vars.old) }
-    ensures same { vars.new ≡ vars.old }
-{
-    filling_is_fill();
-    match filler.advance(alloc, vars) {
-        FillStep::Fault(SubstFault::Memory) => Err(AllocError),
-        step => Ok(step),
-    }
 }
 
 /// The text of the script that a filler needs.

@@ -2,12 +2,15 @@
 
 ghost use Rattle.std.specs.Prelude.{◌≡◌, [], ◌∷◌, ◌++◌, MatchOption, drop, length, IfOk, OnOk};
 ghost use Rattle.tcl_words.specs.Pieces.{word_view, words_view};
+ghost use Rattle.tcl_subst.specs.Filling.{fill};
+ghost use Rattle.tcl_subst.specs.Plain.{is_plain, TellsValue};
 ghost use Rattle.tcl_subst.specs.Recipes.{begun, steps_onto};
 
 use std::alloc::{AllocError, Global};
 use std::marker::Model;
 use std::rc::Rc;
-use tcl_subst::{Filler, Recipe};
+use tcl_subst::{Filler, Recipe, Vars};
+use tcl_values::Value;
 use tcl_words::Word;
 
 /// A word with the steps of filling it. A contract sees its parts.
@@ -62,6 +65,14 @@ impl KeptWord {
         ensures { result ≡ self.now.expand }
     {
         self.expand
+    }
+
+    /// Its value, where it is one literal or one variable. `None` for another word, and where it can't be filled.
+    pub fn plain_value(&self, alloc: Global, vars: &mut Vars) -> Result<Option<Value>, AllocError>
+        ensures value { IfOk result (λ o. TellsValue o (is_plain self.now.pieces) (fill self.now.pieces vars.old)) }
+        ensures same { vars.new ≡ vars.old }
+    {
+        self.recipe.plain_value(alloc, vars)
     }
 
     /// What fills it, at the first step.

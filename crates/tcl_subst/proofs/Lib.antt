@@ -4,3 +4,4 @@ pub mod Joins
 pub mod Steps
 pub mod FillingLaw
 pub mod Onward
+pub mod OnePart

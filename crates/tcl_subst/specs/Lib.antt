@@ -3,6 +3,7 @@ pub mod Faults
 pub mod Filling
 pub mod HomeLending
 pub mod Lending
+pub mod Plain
 pub mod Recipes
 pub mod Report
 pub mod Rests

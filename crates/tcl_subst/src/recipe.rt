@@ -2,9 +2,13 @@
 
 ghost use Rattle.std.specs.Prelude.{◌≡◌, ◌++◌, [], IfOk, OnOk};
 ghost use Rattle.std.specs.Option.{option_copied};
-ghost use Rattle.tcl_words.specs.Pieces.{part_view, parts_view, word_view};
+ghost use Rattle.tcl_words.specs.Pieces.{Pieces, part_view, parts_view, word_view};
+ghost use Rattle.tcl_subst.specs.Filling.{fill};
+ghost use Rattle.tcl_subst.specs.Plain.{is_plain, TellsValue};
 ghost use Rattle.tcl_subst.specs.Recipes.{piece_onto, steps_onto, script_at, is_script};
 
+use crate::plain::{literal_value, variable_value};
+use crate::vars::Vars;
 use std::alloc::{AllocError, Global};
 use tcl_values::Value;
 use tcl_words::{Part, Text, Word};
@@ -54,6 +58,23 @@ impl Recipe {
         let mut steps = Vec::new(alloc);
         push_parts(&mut steps, alloc, word.parts.as_slice())?;
         Ok(Recipe { steps })
+    }
+
+    /// The value of a word that is one literal or one variable. `None` for another word, and where the word can't be filled.
+    pub fn plain_value(&self, alloc: Global, vars: &mut Vars) -> Result<Option<Value>, AllocError>
+        ensures value { (ps : Pieces) → self.now.steps.items ≡ steps_onto ps [] → IfOk result (λ o. TellsValue o (is_plain ps) (fill ps vars.old)) }
+        ensures same { vars.new ≡ vars.old }
+    {
+        let [step] = self.steps.as_slice() else {
+            return Ok(None);
+        };
+        match step {
+            Step::Text(text) => Ok(literal_value(text.shared(alloc)?)),
+            Step::Variable(name) => variable_value(name.as_slice(), vars),
+            Step::Script(_) => Ok(None),
+            Step::Open => Ok(None),
+            Step::Close(_) => Ok(None),
+        }
     }
 
     /// The text of the script that is the step of a number.

@@ -4,6 +4,7 @@ ghost use Rattle.std.specs.Prelude.{◌≡◌, ◌++◌, ◌∷◌, [], length, 
 ghost use Rattle.tty_output.specs.Output.{convert, maps_newlines};
 
 use crate::modes::Modes;
+use memchr::{memchr_iter, memchr2};
 use std::alloc::{AllocError, Global};
 use tcl_words::Text;
 
@@ -35,18 +36,21 @@ fn most_seen(modes: Modes, bytes: &[u8]) -> usize {
     if !modes.maps_newlines() {
         return bytes.len();
     }
-    let newlines = bytes.iter().filter(|b| **b == b'\n').count();
+    let newlines = memchr_iter(b'\n', bytes).count();
     bytes.len().saturating_add(newlines)
 }
 
 /// Output as it is seen: without NUL bytes where they are removed, and with a carriage return before each newline where `opost` and `onlcr` are on.
-#[tactic(auto, using(crate::proofs::Converted::convert_each))]
 pub fn convert(alloc: Global, remove: bool, modes: Modes, bytes: &[u8]) -> Result<Text, AllocError>
     ensures { IfOk result (λ t. t ≡ convert remove modes bytes.now) }
 {
     let mut out = Vec::with_capacity(alloc, most_seen(modes, bytes))?;
-    for b in bytes {
-        push_converted(&mut out, remove, modes, *b)?;
+    let mut rest = bytes;
+    'pieces: while let Some(at) = memchr2(b'\n', 0, rest) {
+        out.extend_from_slice(&rest[..at])?;
+        push_converted(&mut out, remove, modes, rest[at])?;
+        rest = &rest[at + 1..];
     }
+    out.extend_from_slice(rest)?;
     Ok(Text { bytes: out })
 }

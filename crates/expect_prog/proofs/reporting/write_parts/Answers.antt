@@ -1,5 +1,5 @@
 use Rattle.std.proofs.Common.{◌≤◌, ◌<◌, ◌++◌, ◌∷◌, [], length, add-one, arith}
-use Rattle.expect_prog.proofs.Telling.{stopped, stands_more, put_more, well_more, endings_more, as_many_ended}
+use Rattle.expect_prog.proofs.Series.{stopped, stands_more, put_more, well_more, endings_more, as_many_ended}
 use Rattle.expect_prog.proofs.reporting.write_parts.Goals as goal
 
 pub returns-in_default : goal.returns-in_default

@@ -1,6 +1,10 @@
-use Rattle.std.proofs.Common.{◌≡◌, ◌++◌, drop}
+use Rattle.std.proofs.Common.{◌≡◌, ◌++◌, length}
 use Rattle.tty_output.specs.Output.{convert}
 use Rattle.tty_output.proofs.output.convert.Given as goal
 
-abbrev pub invariant-loop-b : goal.invariant-loop-b
-invariant-loop-b l = l.out.items ++ convert l.remove l.modes (drop l.b-index l.bytes) ≡ convert l.remove l.modes l.bytes
+-- what is seen so far, and what is seen of the bytes that are left
+abbrev pub invariant-pieces : goal.invariant-pieces
+invariant-pieces l = l.out.items ++ convert l.remove l.modes l.rest ≡ convert l.remove l.modes l.bytes
+
+abbrev pub decreases-pieces : goal.decreases-pieces
+decreases-pieces l = length l.rest

@@ -1,5 +1,0 @@
-use Rattle.tcl_eval.proofs.Begun.{fills_first}
-use Rattle.tcl_eval.proofs.evaluation.first.Goals as goal
-
-pub returns : goal.returns
-returns c w e = fills_first c.filling_is_fill.ensures.begun _ w e

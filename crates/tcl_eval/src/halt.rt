@@ -1,0 +1,18 @@
+//! Where an evaluation halts.
+
+use tcl_expr::ExprFault;
+use tcl_subst::{Filler, SubstFault};
+use tcl_values::Value;
+
+/// Where an evaluation halts.
+#[derive(Drop)]
+pub(crate) enum Halt {
+    /// At its value.
+    Value(Value),
+    /// At an operand that needs a script: what fills it, and the script's step.
+    Script(Filler, usize),
+    /// At an operand that can't be filled.
+    Failed(Filler, SubstFault),
+    /// At a fault.
+    Fault(ExprFault),
+}

@@ -1,0 +1,78 @@
+-- What is told of a word that is one literal or one variable.
+use Rattle.std.proofs.Common.{◌≡◌, ℕ, ◌<◌, ◌≤◌, Bool, true, false, List, [], ◌∷◌, length, get_or, Option, Some, None, Result, Ok, Err, IfOk, refl, sym, ap, ◌∙◌, subst, arith}
+use Rattle.tcl_words.specs.declared.shapes.Part.{Part}
+use Rattle.tcl_words.specs.Pieces.{Piece, Pieces, literal, variable, member, script, no_pieces, piece, parts_view}
+use Rattle.tcl_subst.specs.declared.recipe.Step.{Step}
+use Rattle.tcl_subst.specs.declared.recipe.Step.TheVariants.{Text, Variable, Script, Open, Close}
+use Rattle.tcl_subst.specs.Filling.{Fill, fill}
+use Rattle.tcl_subst.specs.Plain.{is_plain, TellsValue}
+use Rattle.tcl_subst.specs.Recipes.{piece_onto, steps_onto, begun}
+use Rattle.tcl_subst.specs.Rests.{rest}
+use Rattle.tcl_subst.specs.Variables.{Variables}
+use Rattle.tcl_subst.proofs.FillingLaw.{begun_comes_to}
+
+abbrev is_plain_step : Step → Bool
+is_plain_step (Text text) = true
+is_plain_step (Variable name) = true
+is_plain_step (Script text) = false
+is_plain_step Open = false
+is_plain_step (Close array) = false
+
+-- the steps of a plain word
+abbrev are_plain : List Step → Bool
+are_plain [] = false
+are_plain (s ∷ []) = is_plain_step s
+are_plain (s ∷ t ∷ more) = false
+
+two_not : (s : Step) (q : Piece) (left : List Step) → are_plain (s ∷ piece_onto q left) ≡ false
+two_not s (literal text) left = refl
+two_not s (variable name) left = refl
+two_not s (member array index) left = refl
+two_not s (script text) left = refl
+
+open_not : (left : List Step) → are_plain (Open ∷ left) ≡ false
+open_not [] = refl
+open_not (s ∷ left) = refl
+
+-- a word is plain where its steps are
+plain_steps : (ps : Pieces) → are_plain (steps_onto ps []) ≡ is_plain ps
+plain_steps no_pieces = refl
+plain_steps (piece (literal text) no_pieces) = refl
+plain_steps (piece (variable name) no_pieces) = refl
+plain_steps (piece (member array index) no_pieces) = open_not (steps_onto index (Close array ∷ []))
+plain_steps (piece (script text) no_pieces) = refl
+plain_steps (piece (literal text) (piece q more)) = two_not (Text text) q (steps_onto more [])
+plain_steps (piece (variable name) (piece q more)) = two_not (Variable name) q (steps_onto more [])
+plain_steps (piece (member array index) (piece q more)) = open_not (steps_onto index (Close array ∷ piece_onto q (steps_onto more [])))
+plain_steps (piece (script text) (piece q more)) = two_not (Script text) q (steps_onto more [])
+
+-- words with the same steps are told alike
+pub told_alike : (o : Option (List ℕ)) (ps one : Pieces) (vars : Variables) → steps_onto ps [] ≡ steps_onto one [] → TellsValue o (is_plain one) (fill one vars) → TellsValue o (is_plain ps) (fill ps vars)
+told_alike o ps one vars same t =
+    let plain : is_plain one ≡ is_plain ps = sym (plain_steps one) ∙ ap are_plain (sym same) ∙ plain_steps ps in
+    let comes : fill one vars ≡ fill ps vars = sym (begun_comes_to one vars) ∙ ap (λ (s : List Step). rest (begun s) vars) (sym same) ∙ begun_comes_to ps vars in
+    subst (λ (b : Bool). TellsValue o b (fill ps vars)) plain (subst (λ (f : Fill). TellsValue o (is_plain one) f) comes t)
+
+pub told_alike_if : {E : Type 0} (r : Result (Option (List ℕ)) E) (ps one : Pieces) (vars : Variables) → steps_onto ps [] ≡ steps_onto one [] → IfOk r (λ o. TellsValue o (is_plain one) (fill one vars)) → IfOk r (λ o. TellsValue o (is_plain ps) (fill ps vars))
+told_alike_if (Ok o) ps one vars same t = told_alike o ps one vars same t
+told_alike_if (Err e) ps one vars same t = tt
+
+-- the only one of a list
+pub only_item : {X : Type 0} (xs : List X) (x : X) → x ≡ get_or xs 0 x → 0 < length xs → length xs < 2 → xs ≡ x ∷ []
+only_item [] x is some few = absurd (omega arith)
+only_item (y ∷ []) x is some few = ap (λ z. z ∷ []) (sym is)
+only_item (y ∷ z ∷ more) x is some few = absurd (omega arith)
+
+not_told : (plain : Bool) (f : Fill) → plain ≡ false → TellsValue None plain f
+not_told true f e = absurd cc
+not_told false f e = λ (t : false ≡ true) v is. absurd cc
+
+-- nothing is told of a word that hasn't one part
+pub no_part : (parts : List Part) (f : Fill) → length parts < 1 → TellsValue None (is_plain (parts_view parts)) f
+no_part [] f few = not_told false f refl
+no_part (p ∷ more) f few = absurd (omega arith)
+
+pub several_parts : (parts : List Part) (f : Fill) → 2 ≤ length parts → TellsValue None (is_plain (parts_view parts)) f
+several_parts [] f many = absurd (omega arith)
+several_parts (p ∷ []) f many = absurd (omega arith)
+several_parts (p ∷ q ∷ more) f many = not_told false f refl
