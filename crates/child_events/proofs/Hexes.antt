@@ -1,14 +1,14 @@
 -- The pieces of a log are what encode_lower writes.
-use Rattle.std.proofs.Common.{◌≡◌, ℕ, zero, suc, ◌+◌, ◌*◌, ◌-◌, ◌/◌, ◌%◌, ◌<◌, ◌≤◌, List, [], ◌∷◌, length, take, drop, slice_index, Bool, true, false, not, ◌&&◌, inl, inr, Some, Result, Ok, Err, refl, sym, ap, subst, lit<, eq-eqb, ◌∙◌, append-nil, arith}
-use Rattle.std.specs.Prelude.{◌==◌, if◌then◌else◌, nat_le, nat_lt, nat_eq, slice_set, codes}
+use Rattle.std.proofs.Common.{◌≡◌, ℕ, zero, suc, ◌+◌, ◌*◌, ◌-◌, ◌/◌, ◌%◌, ◌<◌, ◌≤◌, List, [], ◌∷◌, length, slice_index, Bool, true, false, not, ◌&&◌, inl, inr, Some, Result, Ok, Err, refl, sym, ap, subst, lit<, eq-eqb, ◌∙◌, ◌⊎◌, arith}
+use Rattle.std.specs.Prelude.{◌==◌, if◌then◌else◌, nat_le, nat_lt, nat_eq, codes, IsOk}
 use Rattle.std.specs.Str.{bytes_eq}
 use Rattle.std.proofs.lemmas.Bool.Decides.{nat_tests}
 use Rattle.std.proofs.lemmas.Bool.{and_parts, cases_lt, eqb-true}
 use Rattle.std.proofs.lemmas.Slice.Eq.{bytes_eq-Decides}
 use Rattle.hex.specs.declared.error.FromHexError.{FromHexError}
+use Rattle.hex.specs.declared.error.FromHexError.TheVariants.{OutOfMemory}
 use Rattle.hex.specs.Hex.{IsBytes, decode_of, decode_pairs, encode_lower, encode_with, hex_digit_value, lower_digits, pair_value, value_at, digit_or_error}
-use Rattle.std.proofs.lemmas.List.{take_all, take_more_set}
-use Rattle.hex.proofs.Pairs.{cons_byte, prepend, prepend-cons_byte, decode_pairs-ok_pair}
+use Rattle.hex.proofs.Pairs.{cons_byte, decode_pairs-ok_pair}
 use Rattle.hex.proofs.HexLemmas.{decode_of-encode_lower, decode_of-even, length-encode_with}
 use Rattle.child_events.specs.declared.faults.LogFault.TheVariants as fault
 use Rattle.child_events.specs.Log.{hex_text}
@@ -37,7 +37,7 @@ digit_is : (k : ℕ) → k < 16 → slice_index lower_digits k ≡ glyph k
 digit_is k lt = glyphs_below-at 16 k refl lt
 
 -- a lower-case digit has a value, and is that value's digit
-abbrev pub value_of : ℕ → ℕ
+abbrev value_of : ℕ → ℕ
 value_of d = if nat_le d 57 then d - 48 else d - 87
 
 value_is : (d : ℕ) → is_lower_hex_digit d ≡ true → hex_digit_value d ≡ Some (value_of d)
@@ -52,41 +52,41 @@ value_glyph d lower = grind (arith, nat_tests)
 lower_meant : (k : ℕ) → k < 16 → is_lower_hex_digit (glyph k) ≡ true
 lower_meant k lt = grind (arith, nat_tests)
 
--- each of lower-case digits is one
-pub lower_at : (w : List ℕ) → all_lower_hex w ≡ true → (i : ℕ) → i < length w → is_lower_hex_digit (slice_index w i) ≡ true
-lower_at [] lower i lt = absurd (omega arith)
-lower_at (d ∷ w) lower zero lt = (and_parts (is_lower_hex_digit d) (all_lower_hex w) lower).0
-lower_at (d ∷ w) lower (suc i) lt = lower_at w (and_parts (is_lower_hex_digit d) (all_lower_hex w) lower).1 i (omega arith)
+pair_is : (h l i : ℕ) → is_lower_hex_digit h ≡ true → is_lower_hex_digit l ≡ true → pair_value h l i ≡ Ok (value_of h * 16 + value_of l)
+pair_is h l i lh ll =
+    let first : value_at h i ≡ Ok (value_of h) = ap (digit_or_error h i) (value_is h lh) in
+    let second : value_at l (i + 1) ≡ Ok (value_of l) = ap (digit_or_error l (i + 1)) (value_is l ll) in
+    rw (first, second) refl
 
--- so are those behind the first two
-pub lower_behind : (w : List ℕ) → all_lower_hex w ≡ true → all_lower_hex (drop 2 w) ≡ true
-lower_behind [] lower = refl
-lower_behind (h ∷ []) lower = refl
-lower_behind (h ∷ l ∷ w) lower = (and_parts (is_lower_hex_digit l) (all_lower_hex w) (and_parts (is_lower_hex_digit h) (all_lower_hex (l ∷ w)) lower).1).1
-
-pub first_two : (w : List ℕ) → 2 ≤ length w → w ≡ slice_index w 0 ∷ slice_index w 1 ∷ drop 2 w
-first_two [] some = absurd (omega arith)
-first_two (h ∷ []) some = absurd (omega arith)
-first_two (h ∷ l ∷ w) some = refl
-
--- a pair more is decoded
-pub pair_decoded : (word rest behind out : List ℕ) (high low v i : ℕ) → rest ≡ high ∷ low ∷ behind → i < length out → pair_value high low (2 * i) ≡ Ok v
-    → decode_pairs 0 word ≡ prepend (take i out) (decode_pairs (2 * i) rest)
-    → decode_pairs 0 word ≡ prepend (take (i + 1) (slice_set out i v)) (decode_pairs (2 * (i + 1)) behind)
-pair_decoded word rest behind out high low v i shape room pair so =
-    let two : 2 * i + 2 ≡ 2 * (i + 1) = omega arith in
-    so
-    ∙ ap (prepend (take i out)) (
-    ap (decode_pairs (2 * i)) shape ∙ decode_pairs-ok_pair (2 * i) high low v behind pair ∙ ap (λ (k : ℕ). cons_byte v (decode_pairs k behind)) two
-    )
-    ∙ prepend-cons_byte (take i out) v (decode_pairs (2 * (i + 1)) behind)
-    ∙ ap (λ (front : List ℕ). prepend front (decode_pairs (2 * (i + 1)) behind)) (sym (take_more_set out i v room))
-
--- all are
-pub pairs_decoded : (word rest out : List ℕ) (i : ℕ) → length out ≤ i → length rest ≡ 0 → decode_pairs 0 word ≡ prepend (take i out) (decode_pairs (2 * i) rest) → decode_pairs 0 word ≡ Ok out
+-- lower-case pairs have bytes
+pub pairs_decode : (i : ℕ) (w : List ℕ) → all_lower_hex w ≡ true → length w % 2 ≡ 0 → IsOk (decode_pairs i w)
 unfolding decode_pairs
-pairs_decoded word [] out i end none so = so ∙ ap Ok (append-nil (take i out) ∙ take_all i out end)
-pairs_decoded word (d ∷ rest) out i end none so = absurd (omega (arith, none))
+pairs_decode i [] lower even = refl
+pairs_decode i (d ∷ []) lower even = absurd (omega (arith, even))
+pairs_decode i (h ∷ l ∷ rest) lower even = by_cases (decode_pairs (i + 2) rest) refl (pairs_decode (i + 2) rest others (omega (arith, even)))
+  where
+    first : is_lower_hex_digit h ≡ true
+    first = (and_parts (is_lower_hex_digit h) (all_lower_hex (l ∷ rest)) lower).0
+
+    second : is_lower_hex_digit l ≡ true
+    second = (and_parts (is_lower_hex_digit l) (all_lower_hex rest) (and_parts (is_lower_hex_digit h) (all_lower_hex (l ∷ rest)) lower).1).0
+
+    others : all_lower_hex rest ≡ true
+    others = (and_parts (is_lower_hex_digit l) (all_lower_hex rest) (and_parts (is_lower_hex_digit h) (all_lower_hex (l ∷ rest)) lower).1).1
+
+    step : decode_pairs i (h ∷ l ∷ rest) ≡ cons_byte (value_of h * 16 + value_of l) (decode_pairs (i + 2) rest)
+    step = decode_pairs-ok_pair i h l (value_of h * 16 + value_of l) rest (pair_is h l i first second)
+
+    by_cases : (r : Result (List ℕ) FromHexError) → decode_pairs (i + 2) rest ≡ r → IsOk r → IsOk (decode_pairs i (h ∷ l ∷ rest))
+    by_cases (Ok bs) is ok = subst (λ (x : Result (List ℕ) FromHexError). IsOk x) (sym (step ∙ ap (cons_byte (value_of h * 16 + value_of l)) is)) refl
+    by_cases (Err f) is ok = absurd (cc)
+
+-- so that want of memory alone keeps them from being read
+pub memory_alone : (w : List ℕ) (e : FromHexError) → all_lower_hex w ≡ true → length w % 2 ≡ 0 → (e ≡ OutOfMemory) ⊎ (decode_of w ≡ Err e) → e ≡ OutOfMemory
+memory_alone w e lower even (inl memory) = memory
+memory_alone w e lower even (inr so) =
+    let read = subst (λ (r : Result (List ℕ) FromHexError). IsOk r) (sym (decode_of-even w even) ∙ so) (pairs_decode 0 w lower even) in
+    absurd (cc)
 
 pub record Encodes (text bytes : List ℕ) : Type 0 where
   pub same : text ≡ encode_lower bytes
@@ -115,12 +115,6 @@ encodes_pair h l rest bytes lh ll others =
           ∙ ap (λ (d : ℕ). slice_index lower_digits ((value_of h * 16 + value_of l) / 16) ∷ d ∷ encode_lower bytes) (sym second);
       bytes_fit = more_bytes (value_of h * 16 + value_of l) bytes (omega arith) others.bytes_fit;
     }
-
-pub pair_is : (h l i : ℕ) → is_lower_hex_digit h ≡ true → is_lower_hex_digit l ≡ true → pair_value h l i ≡ Ok (value_of h * 16 + value_of l)
-pair_is h l i lh ll =
-    let first : value_at h i ≡ Ok (value_of h) = ap (digit_or_error h i) (value_is h lh) in
-    let second : value_at l (i + 1) ≡ Ok (value_of l) = ap (digit_or_error l (i + 1)) (value_is l ll) in
-    rw (first, second) refl
 
 pairs_said : (i : ℕ) (text bytes : List ℕ) → all_lower_hex text ≡ true → decode_pairs i text ≡ Ok bytes → Encodes text bytes
 unfolding decode_pairs encode_with

@@ -1,12 +1,11 @@
 -- A log that is judged first.
-use Rattle.std.proofs.Common.{◌≡◌, ℕ, zero, suc, ◌+◌, ◌*◌, ◌-◌, ◌<◌, ◌≤◌, List, [], ◌∷◌, ◌++◌, length, take, drop, slice_index, Bool, true, false, not, ◌&&◌, Result, Ok, Err, refl, sym, ap, subst, ◌∙◌, add-one, append-nil, arith}
+use Rattle.std.proofs.Common.{◌≡◌, ℕ, zero, suc, ◌+◌, ◌-◌, ◌<◌, ◌≤◌, List, [], ◌∷◌, ◌++◌, length, take, drop, slice_index, Bool, true, false, not, ◌&&◌, Result, Ok, Err, refl, sym, ap, subst, ◌∙◌, add-one, append-nil, arith}
 use Rattle.std.specs.Prelude.{min, ◌==◌, ◌%◌, nat_lt, codes, if◌then◌else◌, IfOk, IfErr, IsOk}
 use Rattle.std.specs.Str.{bytes_eq}
 use Rattle.std.proofs.lemmas.Bool.Decides.{nat_tests}
 use Rattle.std.proofs.lemmas.Bool.{and_parts}
 use Rattle.hex.specs.declared.error.FromHexError.{FromHexError}
-use Rattle.hex.specs.Hex.{decode_of, decode_pairs}
-use Rattle.hex.proofs.Pairs.{cons_byte, decode_pairs-ok_pair}
+use Rattle.hex.specs.Hex.{decode_of}
 use Rattle.hex.proofs.HexLemmas.{decode_of-even}
 use Rattle.child_events.specs.declared.event.HallEvent.{HallEvent}
 use Rattle.child_events.specs.declared.faults.LogFault.{LogFault}
@@ -16,7 +15,7 @@ use Rattle.child_events.specs.Log.{LogText}
 use Rattle.child_events.specs.Reading.{parts, is_lower_hex_digit, all_lower_hex, piece_of, decoded, ◌>>=◌, line_event, first_line, lines_events, log_events, fault_in, Refused}
 use Rattle.child_events.specs.Judging.{judged, lines_read, events_in, Judges}
 use Rattle.child_events.proofs.Parts.{Without, parts_whole}
-use Rattle.child_events.proofs.Hexes.{value_of, pair_is}
+use Rattle.child_events.proofs.Hexes.{pairs_decode}
 use Rattle.child_events.proofs.Lines.{front_of, front_none, line_read}
 use Rattle.child_events.proofs.Whole.{log_said, log_meant}
 
@@ -42,29 +41,6 @@ pub without_before : (sep i : ℕ) (bytes : List ℕ) → ((k : ℕ) → k < i �
 without_before sep zero bytes h = tt
 without_before sep (suc i) [] h = tt
 without_before sep (suc i) (b ∷ bs) h = (is_false (b == sep) (h 0 (omega arith)), without_before sep i bs (λ k lt. h (suc k) (omega (arith, lt))))
-
--- lower-case pairs have bytes
-pairs_decode : (i : ℕ) (w : List ℕ) → all_lower_hex w ≡ true → length w % 2 ≡ 0 → IsOk (decode_pairs i w)
-unfolding decode_pairs
-pairs_decode i [] lower even = refl
-pairs_decode i (d ∷ []) lower even = absurd (omega (arith, even))
-pairs_decode i (h ∷ l ∷ rest) lower even = by_cases (decode_pairs (i + 2) rest) refl (pairs_decode (i + 2) rest others (omega (arith, even)))
-  where
-    first : is_lower_hex_digit h ≡ true
-    first = (and_parts (is_lower_hex_digit h) (all_lower_hex (l ∷ rest)) lower).0
-
-    second : is_lower_hex_digit l ≡ true
-    second = (and_parts (is_lower_hex_digit l) (all_lower_hex rest) (and_parts (is_lower_hex_digit h) (all_lower_hex (l ∷ rest)) lower).1).0
-
-    others : all_lower_hex rest ≡ true
-    others = (and_parts (is_lower_hex_digit l) (all_lower_hex rest) (and_parts (is_lower_hex_digit h) (all_lower_hex (l ∷ rest)) lower).1).1
-
-    step : decode_pairs i (h ∷ l ∷ rest) ≡ cons_byte (value_of h * 16 + value_of l) (decode_pairs (i + 2) rest)
-    step = decode_pairs-ok_pair i h l (value_of h * 16 + value_of l) rest (pair_is h l i first second)
-
-    by_cases : (r : Result (List ℕ) FromHexError) → decode_pairs (i + 2) rest ≡ r → IsOk r → IsOk (decode_pairs i (h ∷ l ∷ rest))
-    by_cases (Ok bs) is ok = subst (λ (x : Result (List ℕ) FromHexError). IsOk x) (sym (step ∙ ap (cons_byte (value_of h * 16 + value_of l)) is)) refl
-    by_cases (Err f) is ok = absurd (cc)
 
 -- a piece whose digits were checked
 pub piece_checked : (n : ℕ) (w : List ℕ) → bytes_eq w (codes "-") ≡ false → length w % 2 ≡ 0 → all_lower_hex w ≡ true → length w ≤ 8192 → Ok tt ≡ judged (piece_of n w)

@@ -1,7 +1,7 @@
 //! The last word of a line, which may be the digits of a piece.
 
-ghost use Rattle.std.specs.Prelude.{◌≡◌, ◌<◌, ◌*◌, ◌%◌, ℕ, length, Some, Ok, IfOk, IsTrue};
-ghost use Rattle.hex.specs.Hex.{hex_digit_value, pair_value, decode_pairs, decode_of};
+ghost use Rattle.std.specs.Prelude.{◌≡◌, ◌%◌, length, Ok, IfOk, IsTrue};
+ghost use Rattle.hex.specs.Hex.{decode_of};
 ghost use Rattle.child_events.specs.Reading.{is_lower_hex_digit as is_digit, all_lower_hex};
 
 use std::alloc::{AllocError, Global};
@@ -44,50 +44,19 @@ pub fn is_lower_hex(word: &[u8]) -> bool
     all
 }
 
-/// The value of a lower-case digit.
-fn value(digit: u8) -> u8
-    requires { IsTrue (is_digit digit) }
-    ensures value { hex_digit_value digit ≡ Some result }
-    ensures small { result < 16 }
-{
-    if digit <= b'9' {
-        digit - b'0'
-    } else {
-        digit - b'a' + 10
-    }
-}
-
-/// The byte of two lower-case digits.
-fn pair(high: u8, low: u8) -> u8
-    requires high { IsTrue (is_digit high) }
-    requires low { IsTrue (is_digit low) }
-    ensures { (i : ℕ) → pair_value high low i ≡ Ok result }
-{
-    value(high) * 16 + value(low)
-}
-
-/// Writes the bytes of pairs of lower-case digits.
-fn decode_into(word: &[u8], bytes: &mut [u8])
-    requires lower { IsTrue (all_lower_hex word.now) }
-    requires twice { length word.now ≡ 2 * length bytes.old }
-    ensures { decode_pairs 0 word.now ≡ Ok bytes.new }
-{
-    let mut rest = word;
-    'bytes: for byte in bytes.iter_mut() {
-        *byte = pair(rest[0], rest[1]);
-        rest = &rest[2..];
-    }
-}
-
 /// The bytes of pairs of lower-case digits.
 pub fn decoded(alloc: Global, word: &[u8]) -> Result<Text, AllocError>
     requires lower { IsTrue (all_lower_hex word.now) }
     requires even { length word.now % 2 ≡ 0 }
     ensures { IfOk result (λ bytes. decode_of word.now ≡ Ok bytes) }
 {
-    let mut bytes = vec![in alloc; 0; word.len() / 2]?;
-    decode_into(word, bytes.as_mut_slice());
-    Ok(Text { bytes })
+    match hex::decode(alloc, word) {
+        Ok(bytes) => Ok(Text { bytes }),
+        Err(hex::FromHexError::OutOfMemory) => Err(AllocError),
+        Err(hex::FromHexError::OddLength) => unreachable!(),
+        Err(hex::FromHexError::InvalidStringLength) => unreachable!(),
+        Err(hex::FromHexError::InvalidHexCharacter { .. }) => unreachable!(),
+    }
 }
 
 impl<'a> Digits<'a> {

@@ -4,7 +4,7 @@ use Rattle.std.proofs.lemmas.Bool.{eqb-true, eq-eqb, cases_lt}
 use Rattle.std.proofs.lemmas.Bool.Decides.{nat_tests}
 use Rattle.std.proofs.lemmas.List.{get_or-drop}
 use Rattle.std.specs.Char.{to_ascii_lowercase, to_ascii_uppercase}
-use Rattle.memchr.specs.Find.{OccursAt, Nowhere, Passes, is_byte2}
+use Rattle.memchr.specs.Find.{OccursAt, Nowhere, Passes, is_byte, is_byte2}
 use Rattle.exp_match.specs.Exact.{StandsAt}
 
 pub stands_from_occurs : (bytes text : List ℕ) (k : ℕ) → OccursAt bytes text k → StandsAt false text bytes k
@@ -12,6 +12,10 @@ stands_from_occurs bytes text k o = (o.fits, λ j h. eq-eqb _ _ (o.reads j h))
 
 pub occurs_from_stands : (bytes text : List ℕ) (k : ℕ) → StandsAt false text bytes k → OccursAt bytes text k
 occurs_from_stands bytes text k s = record { fits = s.0; reads = λ j h. eqb-true _ _ (s.1 j h) }
+
+-- a text of which one byte isn't there
+pub stands_nowhere : (bytes text : List ℕ) (j : ℕ) → j < length text → Nowhere (Passes (is_byte (get_or text j 0)) bytes) 0 (length bytes) → (k : ℕ) → ¬ StandsAt false text bytes k
+stands_nowhere bytes text j inside none k s = none (k + j) (omega arith) (omega (arith, inside, s.0)) (s.1 j inside)
 
 -- a byte that is alike without case is one of the two cases
 cases_of : (b c : ℕ) → eqb (to_ascii_lowercase b) (to_ascii_lowercase c) ≡ true → is_byte2 (to_ascii_lowercase c) (to_ascii_uppercase c) b ≡ true

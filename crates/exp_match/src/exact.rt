@@ -5,15 +5,15 @@ ghost use Rattle.exp_match.specs.Exact.{StandsAt, FindsExact, find_text};
 
 use crate::places::after;
 use memchr::arch::all::packedpair::{DefaultFrequencyRank, HeuristicFrequencyRank};
-use memchr::{memchr2, memmem};
+use memchr::{memchr, memchr2, memmem};
 
 /// How many bytes of a text are compared for the rarest one.
 const RANKED: usize = 32;
 
 /// The least place where a text stands, with its end. Under `nocase` letters of ASCII are compared without case.
 ///
-/// It takes no memory. With case it is one linear search, without case it looks at the text at each place where its rarest byte stands.
-/// Only time depends on which one is taken for that.
+/// It takes no memory. With case it is one linear search, made where the text's last byte is there; without case it looks at the text at each
+/// place where its rarest byte stands. Only time depends on which one is taken for that.
 pub(crate) fn find_exact(text: &[u8], nocase: bool, bytes: &[u8]) -> Option<(usize, usize)>
     ensures stands { FindsExact nocase text.now bytes.now result }
     ensures value { result ≡ find_text nocase text.now bytes.now }
@@ -46,10 +46,28 @@ pub(crate) fn find_exact_on(
     }
 }
 
+/// Whether the last byte of a text isn't among the bytes, so that the text stands nowhere. It is mostly a rare one, and sought at once, where the
+/// search for a text has to be made ready first.
+fn lacks_last(text: &[u8], bytes: &[u8]) -> bool
+    ensures { IsTrue result → FindsExact false text.now bytes.now None }
+{
+    if text.is_empty() {
+        return false;
+    }
+    let last = text.len() - 1;
+    match memchr(text[last], bytes) {
+        Some(_) => false,
+        None => true,
+    }
+}
+
 /// The least place of a text, with case.
 fn find_same(text: &[u8], bytes: &[u8]) -> Option<(usize, usize)>
     ensures { FindsExact false text.now bytes.now result }
 {
+    if lacks_last(text, bytes) {
+        return None;
+    }
     match memmem::find(bytes, text) {
         Some(at) => Some((at, at + text.len())),
         None => None,

@@ -304,7 +304,7 @@ module _ (a : Dialogue) (Out : ℕ → Type 0) where
       (λ i w q qs lanes o is k. (lane_kept i _ lanes (of i w) k.0, k.1)) lanes o k
 
   met_kept : (p : Plan) (i n : ℕ) (rest : List ℕ) (r : Variables × Unset) (st : Dialogue) → Free i → FreeOf p → Kept st → KeptAfter (met p i n rest r st)
-  met_kept p i n rest (vars, None) st free of k = (k.0, pushed_kept p (with_bytes i rest st.own) of (child_kept i _ st.own free k.1), k.2, k.3)
+  met_kept p i n rest (vars, None) st free of k = (k.0, pushed_kept (record p { met = Some (record { entry = n; child = Some i }) }) (with_bytes i rest st.own) of (child_kept i _ st.own free k.1), k.2, k.3)
   met_kept p i n rest (vars, Some text) st free of k = k
 
   all_met_kept : (p : Plan) (i : ℕ) (found : Option ℕ) (vars : Variables) (st : Dialogue) → Free i → FreeOf p → Kept st → KeptAfter (all_met p i found vars st)
@@ -325,7 +325,7 @@ module _ (a : Dialogue) (Out : ℕ → Type 0) where
 
   acting_kept : (p : Plan) (found : Option ℕ) (vars : Variables) (st : Dialogue) → FreeOf p → Kept st → KeptAfter (acting_at p found vars st)
   acting_kept p None vars st of k = k
-  acting_kept p (Some n) vars st of k = (k.0, pushed_kept p st.own of k.1, k.2, k.3)
+  acting_kept p (Some n) vars st of k = (k.0, pushed_kept (record p { met = Some (record { entry = n; child = None }) }) st.own of k.1, k.2, k.3)
 
   by_heard_kept : (p : Plan) (vars : Variables) (v : Heard) (st : Dialogue) → IsAbout (watched p) v → FreeOf p → Kept st → KeptAfter (by_heard p vars v st)
   by_heard_kept p vars (Match i n spans) st about of k = matched_kept p i n spans vars st (of i about) of k

@@ -22,3 +22,4 @@ pub mod Steps
 pub mod Apart
 pub mod Asking
 pub mod Worlds
+pub mod Receiving

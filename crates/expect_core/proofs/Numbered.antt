@@ -204,7 +204,7 @@ pushed_numbered : (p : Plan) (o : Own) → WatchPlaces p.sides → OwnNumbered o
 pushed_numbered p o at k = record { few = k.few; placed = (at, k.placed); asked = k.asked }
 
 met_numbered : (p : Plan) (i n : ℕ) (rest : List ℕ) (r : Variables × Unset) (st : Dialogue) → WatchPlaces p.sides → Numbered st → NumberedAfter (met p i n rest r st)
-met_numbered p i n rest (vars, None) st at k = (pushed_numbered p (with_bytes i rest st.own) at (child_numbered i _ st.own k.0), k.1)
+met_numbered p i n rest (vars, None) st at k = (pushed_numbered (record p { met = Some (record { entry = n; child = Some i }) }) (with_bytes i rest st.own) at (child_numbered i _ st.own k.0), k.1)
 met_numbered p i n rest (vars, Some text) st at k = k
 
 all_met_numbered : (p : Plan) (i : ℕ) (found : Option ℕ) (vars : Variables) (st : Dialogue) → WatchPlaces p.sides → Numbered st → NumberedAfter (all_met p i found vars st)
@@ -225,7 +225,7 @@ let_go_numbered p i vars (Some c) st at k = k
 
 acting_numbered : (p : Plan) (found : Option ℕ) (vars : Variables) (st : Dialogue) → WatchPlaces p.sides → Numbered st → NumberedAfter (acting_at p found vars st)
 acting_numbered p None vars st at k = k
-acting_numbered p (Some n) vars st at k = (pushed_numbered p st.own at k.0, k.1)
+acting_numbered p (Some n) vars st at k = (pushed_numbered (record p { met = Some (record { entry = n; child = None }) }) st.own at k.0, k.1)
 
 by_heard_numbered : (p : Plan) (vars : Variables) (h : Heard) (st : Dialogue) → WatchPlaces p.sides → IsAbout (watched p) h → Numbered st → NumberedAfter (by_heard p vars h st)
 by_heard_numbered p vars (Match i n spans) st at about k = matched_numbered p i n spans vars st at k

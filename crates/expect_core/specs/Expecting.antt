@@ -22,6 +22,7 @@ use Rattle.expect_core.specs.declared.request.Act.TheVariants as act
 use Rattle.expect_core.specs.declared.child.Standing.TheVariants as standing
 use Rattle.expect_core.specs.declared.plan.Span.{Span}
 use Rattle.expect_core.specs.declared.plan.Span.TheVariants.{Seconds}
+use Rattle.expect_core.specs.declared.plan.Met.{Met}
 use Rattle.expect_core.specs.declared.plan.Plan.{Plan}
 use Rattle.expect_core.specs.declared.phase.Purpose.{Purpose}
 use Rattle.expect_core.specs.declared.phase.Purpose.TheVariants as purpose
@@ -71,7 +72,7 @@ span_in (Some text) vars = span_by text
 span_in None vars = optional (codes "timeout") vars >>= span_or_ten
 
 abbrev pub plan_at : List ℕ → PatternList → Span → ℕ → Plan
-plan_at is list span clock = record { sides = sides_of list is; order = is; list = list; span = span; deadline = deadline_from clock span }
+plan_at is list span clock = record { sides = sides_of list is; order = is; list = list; span = span; deadline = deadline_from clock span; met = None }
 
 abbrev pub plan_by : PatternList → Variables → Own → Said Plan
 plan_by list vars o =
@@ -120,25 +121,25 @@ met_pairs id bytes = (with_index (codes "spawn_id"), id) ∷ (with_index (codes 
 
 -- what follows
 
--- an action is evaluated, and the expect kept meanwhile
-abbrev pub acting : Plan → List ℕ → Variables → Dialogue → Outcome
-acting p action vars st = replied (Body action) vars (owning (record st.own { plans = p ∷ st.own.plans }) st)
-
 abbrev pub no_entry : Entry
 no_entry = record { want = want.Keyword keyword.Eof; indices = false; notransfer = false; action = []; group = 0 }
 
 abbrev pub entry_of : ℕ → Plan → Entry
 entry_of n p = slice_index_or p.list.entries n no_entry
 
+-- the action of what was met is evaluated, and the expect kept meanwhile
+abbrev pub acting : Plan → Met → Variables → Dialogue → Outcome
+acting p m vars st = replied (Body (entry_of m.entry p).action) vars (owning (record st.own { plans = record p { met = Some m } ∷ st.own.plans }) st)
+
 -- the action of a keyword, if one is listed
 abbrev pub acting_at : Plan → Option ℕ → Variables → Dialogue → Outcome
 acting_at p None vars st = done [] vars st
-acting_at p (Some n) vars st = acting p (entry_of n p).action vars st
+acting_at p (Some n) vars st = acting p (record { entry = n; child = None }) vars st
 
 -- the bytes that are met are stored, and leave the buffer
 abbrev pub met : Plan → ℕ → ℕ → List ℕ → Variables × Unset → Dialogue → Outcome
 met p i n rest (vars, Some text) st = failed text vars st
-met p i n rest (vars, None) st = acting p (entry_of n p).action vars (owning (with_bytes i rest st.own) st)
+met p i n rest (vars, None) st = acting p (record { entry = n; child = Some i }) vars (owning (with_bytes i rest st.own) st)
 
 abbrev pub meeting : Plan → ℕ → ℕ → Pairs → List ℕ → Variables → Dialogue → Outcome
 meeting p i n pairs rest vars st = met p i n rest (set_all pairs vars) st

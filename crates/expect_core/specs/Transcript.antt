@@ -1,5 +1,5 @@
 -- The commands that write to the transcript, and the one that says whether children's output is seen there.
-use Rattle.std.specs.Prelude.{ℕ, ◌+◌, List, [], ◌∷◌, ◌++◌, codes, Bool, true, false, if◌then◌else◌, None, Ok, Err}
+use Rattle.std.specs.Prelude.{ℕ, List, [], ◌∷◌, ◌++◌, codes, Bool, true, false, if◌then◌else◌, None, Ok, Err}
 use Rattle.std.specs.Str.{bytes_eq}
 use Rattle.tcl_words.specs.Bytes as ascii
 use Rattle.tcl_subst.specs.Variables.{Variables}

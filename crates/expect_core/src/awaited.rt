@@ -1,6 +1,7 @@
 //! What a call that waits is waiting for, as a reader sees it.
 
-ghost use Rattle.std.specs.Prelude.{◌≡◌, Some, None, MatchOption, IfOk};
+ghost use Rattle.std.specs.Prelude.{◌≡◌, ◌∷◌, [], List, Some, None, MatchOption, IfOk};
+ghost use Rattle.expect_core.specs.declared.plan.Plan.{Plan as PlanOf};
 ghost use Rattle.expect_core.specs.Awaited.{answering as answering_of, expecting as expecting_of, buffer_of};
 ghost use Rattle.expect_core.specs.Deadlines.{as_moment as as_moment_of};
 
@@ -41,6 +42,13 @@ impl Dialogue {
             Phase::Idle => None,
             Phase::Answer(_, _) => None,
         }
+    }
+
+    /// The expect whose action is evaluated, the innermost where one is in the action of another.
+    pub fn acting(&self) -> Option<&Plan>
+        ensures { MatchOption result (self.now.own.plans ≡ []) (λ p. (outer : List PlanOf) × (self.now.own.plans ≡ p.now ∷ outer)) }
+    {
+        self.own.plans.top()
     }
 
     /// A copy of the bytes of a child that no expect has taken, on which its patterns are tried; none where there is no such child.

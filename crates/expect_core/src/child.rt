@@ -18,7 +18,7 @@ use std::alloc::{AllocError, Global};
 use std::marker::Model;
 use tcl_words::Text;
 use tty_input::{Actions, Line};
-use tty_output::{Modes, convert};
+use tty_output::{Modes, convert, convert_behind};
 
 /// Whether a child has an id, and whether commands can still speak to it.
 #[derive(Clone, Copy, Debug, PartialEq, Eq)]
@@ -304,6 +304,13 @@ impl Children {
         ensures { IfOk result (λ t. t ≡ convert (child_in i self.now).remove_nulls (child_in i self.now).line.modes piece.now) }
     {
         convert(alloc, self.removes_nulls(i), self.modes(i), piece)
+    }
+
+    /// A text with what is seen of an item of a child behind it.
+    pub(crate) fn seen_behind(&self, text: Text, i: Place, piece: &[u8]) -> Result<Text, AllocError>
+        ensures { IfOk result (λ t. t ≡ text ++ convert (child_in i self.now).remove_nulls (child_in i self.now).line.modes piece.now) }
+    {
+        convert_behind(text, self.removes_nulls(i), self.modes(i), piece)
     }
 }
 

@@ -1,6 +1,6 @@
 //! A script's dialogue with its children.
 
-ghost use Rattle.std.specs.Prelude.{◌≡◌, map, IfOk, OnOk, IsTrue, None};
+ghost use Rattle.std.specs.Prelude.{◌≡◌, [], map, IfOk, OnOk, IsTrue, None};
 ghost use Rattle.child_events.specs.declared.event.Answer.{Answer};
 ghost use Rattle.tcl_subst.specs.Variables.{Variables};
 ghost use Rattle.expect_core.specs.Good.{Good};
@@ -21,6 +21,7 @@ use crate::request::{Request, Requests};
 use crate::settings::Settings;
 use child_events::{Answer, Cause, Event, What};
 use std::alloc::{AllocError, Global};
+use std::mem;
 use tcl_commands::Code;
 use tcl_eval::{Ending, HostStep};
 use tcl_values::Value;
@@ -154,6 +155,17 @@ impl Dialogue {
         ensures { IfOk result (λ r. r ≡ self.now.own.requests) }
     {
         self.own.requests.copied(alloc)
+    }
+
+    /// What the script wrote, with the output that it took, and what it asked of its children, in order. Both are given up.
+    pub fn give_told(&mut self) -> (Text, Requests)
+        ensures told { result ≡ (self.old.own.transcript, self.old.own.requests) }
+        ensures left { self.new ≡ record self.old { own = record self.old.own { transcript = []; requests = [] } } }
+    {
+        let alloc = self.alloc();
+        let transcript = mem::replace(&mut self.own.transcript, Text::new(alloc));
+        let requests = mem::replace(&mut self.own.requests, Requests::new(alloc));
+        (transcript, requests)
     }
 
     /// For each child that was asked for, how many bytes of its writes were accepted.

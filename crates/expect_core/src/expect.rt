@@ -12,7 +12,7 @@ use crate::listen::{Times, listen, look};
 use crate::own::{Own, deadline_from};
 use crate::phase::{Heard, Phase, Purpose};
 use crate::place::Place;
-use crate::plan::Plan;
+use crate::plan::{Met, Plan};
 use crate::planning::plan_of;
 use crate::request::Act;
 use crate::scoped::set_all;
@@ -57,7 +57,10 @@ impl Plan {
 fn with_index(alloc: Global, index: &[u8]) -> Result<Text, AllocError>
     ensures { IfOk result (λ t. t ≡ index_text index.now) }
 {
-    let mut text = Text::from_slice(alloc, b"expect_out(")?;
+    let mut text = Text {
+        bytes: Vec::with_capacity(alloc, index.len().saturating_add(12))?,
+    };
+    text.extend(b"expect_out(")?;
     text.extend(index)?;
     text.push(b')')?;
     Ok(text)
@@ -213,12 +216,13 @@ impl Dialogue {
         &mut self,
         alloc: Global,
         vars: &Vars,
-        plan: Plan,
-        index: usize,
+        mut plan: Plan,
+        met: Met,
     ) -> Result<HostStep, AllocError>
-        ensures { IfOk result (λ s. acting plan (entry_of index plan).action vars.now self.old ≡ (s, vars.now, self.new)) }
+        ensures { IfOk result (λ s. acting plan met vars.now self.old ≡ (s, vars.now, self.new)) }
     {
-        let action = Value::from_slice(alloc, plan.action(index))?;
+        let action = Value::from_slice(alloc, plan.action(met.entry))?;
+        plan.met = Some(met);
         self.own.plans.push(plan)?;
         Ok(HostStep::Body(action))
     }
@@ -234,7 +238,7 @@ impl Dialogue {
         ensures { IfOk result (λ s. acting_there plan index vars.now self.old ≡ (s, vars.now, self.new)) }
     {
         match index {
-            Some(index) => self.act(alloc, vars, plan, index),
+            Some(entry) => self.act(alloc, vars, plan, Met { entry, child: None }),
             None => Ok(done(Value::new(alloc))),
         }
     }
@@ -254,11 +258,15 @@ impl Dialogue {
     ) -> Result<HostStep, AllocError>
         ensures { IfOk result (λ s. meeting_of plan i index pairs (drop count (bytes_of i self.old.own)) vars.old self.old ≡ (s, vars.new, self.new)) }
     {
-        if let Some(text) = set_all(alloc, vars, pairs.as_slice())? {
+        if let Some(text) = set_all(alloc, vars, pairs)? {
             return Ok(HostStep::Fail(text));
         }
         self.own.children.take(i, count);
-        self.act(alloc, vars, plan, index)
+        let met = Met {
+            entry: index,
+            child: Some(i),
+        };
+        self.act(alloc, vars, plan, met)
     }
 
     /// A pattern matches.
@@ -341,18 +349,18 @@ impl Dialogue {
         alloc: Global,
         vars: &mut Vars,
         plan: Plan,
-        heard: Heard,
+        heard: &Heard,
     ) -> Result<HostStep, AllocError>
-        ensures { IfOk result (λ s. by_heard_of plan vars.old heard self.old ≡ (s, vars.new, self.new)) }
+        ensures { IfOk result (λ s. by_heard_of plan vars.old heard.now self.old ≡ (s, vars.new, self.new)) }
     {
         match heard {
-            Heard::Match(i, index, spans) => self.on_match(alloc, vars, plan, i, index, &spans),
+            Heard::Match(i, index, spans) => self.on_match(alloc, vars, plan, *i, *index, spans),
             Heard::Full(i) => {
-                let index = plan.list.at_full(plan.sides.groups(i));
-                self.on_all_met(alloc, vars, plan, i, index)
+                let index = plan.list.at_full(plan.sides.groups(*i));
+                self.on_all_met(alloc, vars, plan, *i, index)
             }
             Heard::TimedOut(deadline) => {
-                self.own.clock = deadline;
+                self.own.clock = *deadline;
                 let index = plan.list.at_timeout();
                 self.act_at(alloc, vars, plan, index)
             }
@@ -361,8 +369,8 @@ impl Dialogue {
                 self.set_phase(Phase::Expect(plan));
                 Ok(HostStep::Wait)
             }
-            Heard::Ended(i) => self.close(alloc, vars, i, Purpose::End(plan)),
-            Heard::Failed(i, cause) => self.close(alloc, vars, i, Purpose::Fail(cause)),
+            Heard::Ended(i) => self.close(alloc, vars, *i, Purpose::End(plan)),
+            Heard::Failed(i, cause) => self.close(alloc, vars, *i, Purpose::Fail(*cause)),
         }
     }
 
@@ -380,7 +388,7 @@ impl Dialogue {
             horizon: self.horizon,
         };
         let heard = listen(alloc, times, &plan, &mut self.lanes, &mut self.own)?;
-        self.conclude(alloc, vars, plan, heard)
+        self.conclude(alloc, vars, plan, &heard)
     }
 
     /// Begins a wait for a pattern.
@@ -397,7 +405,7 @@ impl Dialogue {
             horizon: self.horizon,
         };
         let heard = look(alloc, times, &plan, &mut self.lanes, &mut self.own)?;
-        self.conclude(alloc, vars, plan, heard)
+        self.conclude(alloc, vars, plan, &heard)
     }
 
     /// `expect` with these arguments.

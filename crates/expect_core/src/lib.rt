@@ -40,6 +40,6 @@ pub use deadline::sooner;
 pub use dialogue::Dialogue;
 pub use laws::{children_apart, dialogue_laws};
 pub use place::Place;
-pub use plan::{Groups, Plan, Sides};
+pub use plan::{Groups, Met, Plan, Sides};
 pub use request::{Act, Request, Requests};
 pub use settings::{Pairs, Settings};

@@ -1,6 +1,6 @@
 //! A wait for patterns of several children.
 
-ghost use Rattle.std.specs.Prelude.{◌≡◌, ◌<◌, ◌+◌, List, length, IfOk};
+ghost use Rattle.std.specs.Prelude.{◌≡◌, ◌<◌, ◌+◌, List, length, IfOk, box_value, option_map};
 ghost use Rattle.expect_core.specs.declared.lanes.Lane.{Lane};
 ghost use Rattle.expect_core.specs.declared.own.Own.{Own};
 ghost use Rattle.expect_core.specs.Heard.{at_most as is_at_most, lapse, watched, Listened, chosen_of, decided, tested, heard, heads as heads_of, listen as listen_of, look as look_of};
@@ -16,8 +16,8 @@ use crate::place::Place;
 use crate::plan::{Groups, Plan};
 use crate::quiet::Quiet;
 use crate::sought::Sought;
-use child_events::{Item, Queue, pick};
-use exp_match::{Chosen, Matchers};
+use child_events::{Cause, Item, Queue, pick};
+use exp_match::{Chosen, Matchers, Spans};
 use std::alloc::{AllocError, Global};
 
 /// How long a script waits: its last moment, and the greatest moment so far.
@@ -61,6 +61,53 @@ fn lapsed(times: Times, deadline: Option<u128>) -> Heard
     }
 }
 
+/// What ends a wait lies in a box: so it costs little to hand on whether anything ends it, as each item asks.
+fn boxed(alloc: Global, heard: Heard) -> Result<Box<Heard>, AllocError>
+    ensures { IfOk result (λ b. b.value ≡ heard) }
+{
+    Ok(Box::new(alloc, heard)?)
+}
+
+/// A pattern matches.
+fn matched(
+    alloc: Global,
+    child: Place,
+    index: usize,
+    spans: &Spans,
+) -> Result<Box<Heard>, AllocError>
+    ensures { IfOk result (λ b. b.value ≡ Heard.Match child index spans.now) }
+{
+    boxed(alloc, Heard::Match(child, index, *spans))
+}
+
+/// As many bytes are kept as may be.
+fn filled(alloc: Global, child: Place) -> Result<Box<Heard>, AllocError>
+    ensures { IfOk result (λ b. b.value ≡ Heard.Full child) }
+{
+    boxed(alloc, Heard::Full(child))
+}
+
+/// The output ended.
+fn ended(alloc: Global, child: Place) -> Result<Box<Heard>, AllocError>
+    ensures { IfOk result (λ b. b.value ≡ Heard.Ended child) }
+{
+    boxed(alloc, Heard::Ended(child))
+}
+
+/// Reading the output failed.
+fn unread(alloc: Global, child: Place, cause: Cause) -> Result<Box<Heard>, AllocError>
+    ensures { IfOk result (λ b. b.value ≡ Heard.Failed child cause) }
+{
+    boxed(alloc, Heard::Failed(child, cause))
+}
+
+/// Nothing came in time.
+fn too_late(alloc: Global, times: Times, deadline: Option<u128>) -> Result<Box<Heard>, AllocError>
+    ensures { IfOk result (λ b. b.value ≡ lapse times.limit times.horizon deadline) }
+{
+    boxed(alloc, lapsed(times, deadline))
+}
+
 /// Takes the first item, where it came in time.
 pub(crate) fn take_item(
     items: &mut Queue,
@@ -102,19 +149,19 @@ fn test_one<'l>(
     groups: &Groups,
     sought: usize,
     own: &mut Own,
-) -> Result<Option<Heard>, AllocError>
+) -> Result<Option<Box<Heard>>, AllocError>
     requires { IsSought plan.now (child, groups.now) sought own.old }
-    ensures goes { IfOk result (λ r. (lanes : List Lane) (k : Own → Listened) → decided child (chosen_of plan.now (child, groups.now) own.old) lanes own.old k ≡ goes r lanes own.new k) }
-    ensures trims { IfOk result (λ r. TrimsNone r plan.now (child, groups.now) own.old own.new) }
-    ensures none { IfOk result (λ r. FoundNone r plan.now (child, groups.now) own.old) }
+    ensures goes { IfOk result (λ r. (lanes : List Lane) (k : Own → Listened) → decided child (chosen_of plan.now (child, groups.now) own.old) lanes own.old k ≡ goes (option_map box_value r) lanes own.new k) }
+    ensures trims { IfOk result (λ r. TrimsNone (option_map box_value r) plan.now (child, groups.now) own.old own.new) }
+    ensures none { IfOk result (λ r. FoundNone (option_map box_value r) plan.now (child, groups.now) own.old) }
 {
     let groups = groups.list.as_slice();
-    match own
+    let chosen = own
         .children
-        .choose(alloc, matchers, child, &plan.list, groups, sought)?
-    {
-        Chosen::Pattern(index, spans) => Ok(Some(Heard::Match(child, index, spans))),
-        Chosen::Full => Ok(Some(Heard::Full(child))),
+        .choose(alloc, matchers, child, &plan.list, groups, sought)?;
+    match &chosen {
+        Chosen::Pattern(index, spans) => Ok(Some(matched(alloc, child, *index, spans)?)),
+        Chosen::Full => Ok(Some(filled(alloc, child)?)),
         Chosen::None => {
             own.children.trim(child);
             Ok(None)
@@ -132,13 +179,13 @@ fn test_side<'l>(
     changed: &Option<Place>,
     at: usize,
     own: &mut Own,
-) -> Result<Option<Heard>, AllocError>
+) -> Result<Option<Box<Heard>>, AllocError>
     requires here { at < length (watched plan.now) }
     requires quiet { AreQuietBut changed.now at plan.now quiet.old own.old }
     requires sought { AreSought plan.now sought.old own.old }
-    ensures goes { IfOk result (λ r. (lanes : List Lane) (k : Own → Listened) → decided (side plan.now at).0 (chosen_of plan.now (side plan.now at) own.old) lanes own.old k ≡ goes r lanes own.new k) }
-    ensures quiet { IfOk result (λ r. GoesOnQuietBut r changed.now (at + 1) plan.now quiet.new own.new) }
-    ensures sought { IfOk result (λ r. GoesOnSought r plan.now sought.new own.new) }
+    ensures goes { IfOk result (λ r. (lanes : List Lane) (k : Own → Listened) → decided (side plan.now at).0 (chosen_of plan.now (side plan.now at) own.old) lanes own.old k ≡ goes (option_map box_value r) lanes own.new k) }
+    ensures quiet { IfOk result (λ r. GoesOnQuietBut (option_map box_value r) changed.now (at + 1) plan.now quiet.new own.new) }
+    ensures sought { IfOk result (λ r. GoesOnSought (option_map box_value r) plan.now sought.new own.new) }
 {
     let (child, groups) = &plan.sides.list[at];
     if quiet.spares(at, *child, changed) {
@@ -162,12 +209,12 @@ fn test<'l>(
     sought: &mut Sought,
     changed: &Option<Place>,
     own: &mut Own,
-) -> Result<Option<Heard>, AllocError>
+) -> Result<Option<Box<Heard>>, AllocError>
     requires quiet { AreQuietBut changed.now 0 plan.now quiet.old own.old }
     requires sought { AreSought plan.now sought.old own.old }
-    ensures tested { IfOk result (λ r. (lanes : List Lane) (k : Own → Listened) → tested plan.now plan.now.sides lanes own.old k ≡ goes r lanes own.new k) }
-    ensures quiet { IfOk result (λ r. GoesOnQuiet r plan.now quiet.new own.new) }
-    ensures sought { IfOk result (λ r. GoesOnSought r plan.now sought.new own.new) }
+    ensures tested { IfOk result (λ r. (lanes : List Lane) (k : Own → Listened) → tested plan.now plan.now.sides lanes own.old k ≡ goes (option_map box_value r) lanes own.new k) }
+    ensures quiet { IfOk result (λ r. GoesOnQuiet (option_map box_value r) plan.now quiet.new own.new) }
+    ensures sought { IfOk result (λ r. GoesOnSought (option_map box_value r) plan.now sought.new own.new) }
 {
     'sides: for at in 0..plan.sides.list.len() {
         let tested = test_side(alloc, plan, matchers, quiet, sought, changed, at, own)?;
@@ -188,20 +235,20 @@ fn hear<'l>(
     child: Place,
     item: Item,
     own: &mut Own,
-) -> Result<Option<Heard>, AllocError>
+) -> Result<Option<Box<Heard>>, AllocError>
     requires quiet { AreQuiet plan.now quiet.old own.old }
     requires sought { AreSought plan.now sought.old own.old }
-    ensures heard { IfOk result (λ r. (lanes : List Lane) (k : Own → Listened) → heard plan.now child item lanes own.old k ≡ goes r lanes own.new k) }
-    ensures quiet { IfOk result (λ r. GoesOnQuiet r plan.now quiet.new own.new) }
-    ensures sought { IfOk result (λ r. GoesOnSought r plan.now sought.new own.new) }
+    ensures heard { IfOk result (λ r. (lanes : List Lane) (k : Own → Listened) → heard plan.now child item lanes own.old k ≡ goes (option_map box_value r) lanes own.new k) }
+    ensures quiet { IfOk result (λ r. GoesOnQuiet (option_map box_value r) plan.now quiet.new own.new) }
+    ensures sought { IfOk result (λ r. GoesOnSought (option_map box_value r) plan.now sought.new own.new) }
 {
     match item {
         Item::Out(piece) => {
             own.receive(alloc, child, piece.as_slice())?;
             test(alloc, plan, matchers, quiet, sought, &Some(child), own)
         }
-        Item::Eof => Ok(Some(Heard::Ended(child))),
-        Item::ReadFail(cause) => Ok(Some(Heard::Failed(child, cause))),
+        Item::Eof => Ok(Some(ended(alloc, child)?)),
+        Item::ReadFail(cause) => Ok(Some(unread(alloc, child, cause)?)),
     }
 }
 
@@ -237,19 +284,19 @@ fn turn<'l>(
     sought: &mut Sought,
     lanes: &mut Lanes,
     own: &mut Own,
-) -> Result<Option<Heard>, AllocError>
+) -> Result<Option<Box<Heard>>, AllocError>
     requires quiet { AreQuiet plan.now quiet.old own.old }
     requires sought { AreSought plan.now sought.old own.old }
-    ensures turned { IfOk result (λ r. (k : List Lane → Own → Listened) → turned times plan.now lanes.old own.old k ≡ turns r lanes.new own.new k) }
-    ensures fewer { IfOk result (λ r. IsFewer r lanes.old lanes.new) }
-    ensures quiet { IfOk result (λ r. GoesOnQuiet r plan.now quiet.new own.new) }
-    ensures sought { IfOk result (λ r. GoesOnSought r plan.now sought.new own.new) }
+    ensures turned { IfOk result (λ r. (k : List Lane → Own → Listened) → turned times plan.now lanes.old own.old k ≡ turns (option_map box_value r) lanes.new own.new k) }
+    ensures fewer { IfOk result (λ r. IsFewer (option_map box_value r) lanes.old lanes.new) }
+    ensures quiet { IfOk result (λ r. GoesOnQuiet (option_map box_value r) plan.now quiet.new own.new) }
+    ensures sought { IfOk result (λ r. GoesOnSought (option_map box_value r) plan.now sought.new own.new) }
 {
     let Some(child) = next_child(alloc, times, plan, lanes)? else {
-        return Ok(Some(lapsed(times, plan.deadline)));
+        return Ok(Some(too_late(alloc, times, plan.deadline)?));
     };
     let Some((moment, item)) = lanes.take_item(child, times, plan.deadline) else {
-        return Ok(Some(lapsed(times, plan.deadline)));
+        return Ok(Some(too_late(alloc, times, plan.deadline)?));
     };
     own.advance(moment);
     let heard = hear(alloc, plan, matchers, quiet, sought, child, item, own)?;
@@ -266,10 +313,10 @@ fn hear_all<'l>(
     sought: &mut Sought,
     lanes: &mut Lanes,
     own: &mut Own,
-) -> Result<Heard, AllocError>
+) -> Result<Box<Heard>, AllocError>
     requires quiet { AreQuiet plan.now quiet.old own.old }
     requires sought { AreSought plan.now sought.old own.old }
-    ensures { IfOk result (λ h. listen_of times.limit times.horizon plan.now lanes.old own.old ≡ (h, lanes.new, own.new)) }
+    ensures { IfOk result (λ h. listen_of times.limit times.horizon plan.now lanes.old own.old ≡ (h.value, lanes.new, own.new)) }
 {
     'turns: loop {
         match turn(alloc, times, plan, matchers, quiet, sought, lanes, own)? {
@@ -286,8 +333,8 @@ pub(crate) fn listen(
     plan: &Plan,
     lanes: &mut Lanes,
     own: &mut Own,
-) -> Result<Heard, AllocError>
-    ensures { IfOk result (λ h. listen_of times.limit times.horizon plan.now lanes.old own.old ≡ (h, lanes.new, own.new)) }
+) -> Result<Box<Heard>, AllocError>
+    ensures { IfOk result (λ h. listen_of times.limit times.horizon plan.now lanes.old own.old ≡ (h.value, lanes.new, own.new)) }
 {
     let mut matchers = Matchers::new(alloc);
     let mut quiet = Quiet::new(alloc, plan.sides.list.len())?;
@@ -311,8 +358,8 @@ pub(crate) fn look(
     plan: &Plan,
     lanes: &mut Lanes,
     own: &mut Own,
-) -> Result<Heard, AllocError>
-    ensures { IfOk result (λ h. look_of times.limit times.horizon plan.now lanes.old own.old ≡ (h, lanes.new, own.new)) }
+) -> Result<Box<Heard>, AllocError>
+    ensures { IfOk result (λ h. look_of times.limit times.horizon plan.now lanes.old own.old ≡ (h.value, lanes.new, own.new)) }
 {
     let mut matchers = Matchers::new(alloc);
     let mut quiet = Quiet::new(alloc, plan.sides.list.len())?;

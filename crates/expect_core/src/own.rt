@@ -1,15 +1,17 @@
 //! What the commands of a script change.
 
-ghost use Rattle.std.specs.Prelude.{◌≡◌, OnOk};
+ghost use Rattle.std.specs.Prelude.{◌≡◌, ◌++◌, OnOk};
 ghost use Rattle.expect_core.specs.Heard.{deadline_from as deadline_of};
-ghost use Rattle.expect_core.specs.Owned.{at_moment, told, logged, asked, received, size_at, with_size, removes_at, with_removal};
+ghost use Rattle.expect_core.specs.Owned.{at_moment, bytes_of, told, logged, asked, received, seen, with_bytes, size_at, with_size, removes_at, with_removal};
 
 use crate::child::Children;
+use crate::kept::behind;
 use crate::place::Place;
 use crate::plan::Span;
 use crate::plans::Plans;
 use crate::request::{Act, Request, Requests};
 use std::alloc::{AllocError, Global};
+use std::mem;
 use tcl_words::Text;
 
 /// What the commands of a script change.
@@ -79,6 +81,26 @@ impl Own {
         })
     }
 
+    /// What is seen of a piece of a child's output stands behind the transcript, and is kept from there.
+    #[tactic(auto, using(crate::proofs::Receiving::put_behind))]
+    fn receive_told(&mut self, alloc: Global, i: Place, piece: &[u8]) -> Result<(), AllocError>
+        ensures { OnOk result (self.new ≡ with_bytes i (bytes_of i self.old ++ seen i piece.now self.old) (told (seen i piece.now self.old) self.old)) }
+    {
+        let before = self.transcript.len();
+        let transcript = mem::replace(&mut self.transcript, Text::new(alloc));
+        self.transcript = self.children.seen_behind(transcript, i, piece)?;
+        self.children
+            .keep(i, behind(self.transcript.as_slice(), before))
+    }
+
+    /// What is seen of a piece of a child's output is kept.
+    fn receive_untold(&mut self, alloc: Global, i: Place, piece: &[u8]) -> Result<(), AllocError>
+        ensures { OnOk result (self.new ≡ with_bytes i (bytes_of i self.old ++ seen i piece.now self.old) self.old) }
+    {
+        let text = self.children.seen(alloc, i, piece)?;
+        self.children.keep(i, text.as_slice())
+    }
+
     /// A piece of a child's output was taken.
     pub(crate) fn receive(
         &mut self,
@@ -88,9 +110,11 @@ impl Own {
     ) -> Result<(), AllocError>
         ensures { OnOk result (self.new ≡ received i piece.now self.old) }
     {
-        let text = self.children.seen(alloc, i, piece)?;
-        self.log(text.as_slice())?;
-        self.children.keep(i, text.as_slice())
+        if self.log_user {
+            self.receive_told(alloc, i, piece)
+        } else {
+            self.receive_untold(alloc, i, piece)
+        }
     }
 
     /// How many bytes are kept of a child, or of children to come.

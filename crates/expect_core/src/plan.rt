@@ -158,6 +158,15 @@ impl Sides {
     }
 }
 
+/// What ended the wait of an expect.
+#[derive(Clone, Copy, Debug)]
+pub struct Met {
+    /// The number of the pattern or keyword in its list, from 0.
+    pub entry: usize,
+    /// The child whose bytes were met; none where time passed.
+    pub child: Option<Place>,
+}
+
 /// What an expect waits for.
 #[derive(Drop)]
 pub struct Plan {
@@ -171,4 +180,6 @@ pub struct Plan {
     pub span: Span,
     /// The last moment at which an item is in time, where there is one.
     pub deadline: Option<u128>,
+    /// What was met last, where something was: while its action is evaluated, that is the action of this entry.
+    pub met: Option<Met>,
 }

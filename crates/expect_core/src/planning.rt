@@ -191,6 +191,7 @@ fn plan_at(
         list,
         span,
         deadline: deadline_from(clock, span),
+        met: None,
     })
 }
 

@@ -1,7 +1,8 @@
 //! The expects whose actions are evaluated.
 
-ghost use Rattle.std.specs.Prelude.{◌≡◌, ◌∷◌, [], MatchOption, OnOk};
+ghost use Rattle.std.specs.Prelude.{◌≡◌, ◌∷◌, [], List, MatchOption, OnOk};
 ghost use Rattle.exp_match.specs.Arguments.{Gives, patterns_of};
+ghost use Rattle.expect_core.specs.declared.plan.Plan.{Plan as PlanOf};
 
 use crate::plan::Plan;
 use exp_match::{Compiled, PatternFault, PatternList};
@@ -44,6 +45,13 @@ impl Plans {
         ensures { OnOk result (self.new ≡ plan ∷ self.old) }
     {
         self.pile.push(plan)
+    }
+
+    /// The innermost expect.
+    pub(crate) fn top(&self) -> Option<&Plan>
+        ensures { MatchOption result (self.now ≡ []) (λ plan. (outer : List PlanOf) × (self.now ≡ plan.now ∷ outer)) }
+    {
+        self.pile.top()
     }
 
     /// Takes the innermost expect.

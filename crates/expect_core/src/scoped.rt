@@ -44,19 +44,30 @@ pub(crate) fn needed(alloc: Global, vars: &Vars, name: &[u8]) -> Result<Value, C
 }
 
 /// Gives names their values, one after another. The first that can't be set ends it: the text of that error.
-pub(crate) fn set_all(
+fn set_list(
     alloc: Global,
     vars: &mut Vars,
-    pairs: &[(Text, Text)],
+    list: Vec<(Text, Text)>,
 ) -> Result<Option<Value>, AllocError>
-    ensures { IfOk result (λ r. set_all_of pairs.now vars.old ≡ (vars.new, r)) }
+    ensures { IfOk result (λ r. set_all_of list.items vars.old ≡ (vars.new, r)) }
 {
-    'pairs: for (name, value) in pairs {
-        let value = Value::from_slice(alloc, value.as_slice())?;
+    'pairs: for (name, value) in list {
+        let value = Value::from_text(alloc, value)?;
         if let Err(fault) = vars.set(name.as_slice(), value) {
             let text = not_set(alloc, name.as_slice(), fault)?;
             return Ok(Some(Value::from_text(alloc, text)?));
         }
     }
     Ok(None)
+}
+
+/// Gives names their values, for which the pairs are given up. The first that can't be set ends it: the text of that error.
+pub(crate) fn set_all(
+    alloc: Global,
+    vars: &mut Vars,
+    pairs: Pairs,
+) -> Result<Option<Value>, AllocError>
+    ensures { IfOk result (λ r. set_all_of pairs vars.old ≡ (vars.new, r)) }
+{
+    set_list(alloc, vars, pairs.list)
 }

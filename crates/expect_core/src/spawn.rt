@@ -39,7 +39,7 @@ fn make_current(alloc: Global, vars: &mut Vars, id: Text) -> Result<Option<Value
 {
     let mut pairs = Pairs::new(alloc);
     pairs.push(Text::from_slice(alloc, b"spawn_id")?, id)?;
-    set_all(alloc, vars, pairs.as_slice())
+    set_all(alloc, vars, pairs)
 }
 
 impl Dialogue {

@@ -10,10 +10,16 @@ use std::alloc::{AllocError, Global};
 use tcl_commands::quoted;
 use tcl_words::Text;
 
-/// A number in decimal digits.
+/// A number in decimal digits. One digit is written at once.
+#[tactic(auto, using(std::proofs::lemmas::Fmt::decimal_digit))]
 pub(crate) fn decimal(alloc: Global, number: usize) -> Result<Text, AllocError>
     ensures { IfOk result (λ t. t ≡ decimal number) }
 {
+    if number < 10 {
+        let mut digit = Text::new(alloc);
+        digit.push(b'0' + number as u8)?;
+        return Ok(digit);
+    }
     Ok(Text {
         bytes: format!(in alloc; "{number}")?.into_bytes(),
     })

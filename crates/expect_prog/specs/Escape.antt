@@ -1,5 +1,5 @@
 -- Bytes of any kind as text that does nothing on a terminal, and from which they can be read again.
-use Rattle.std.specs.Prelude.{ℕ, ◌-◌, List, [], ◌∷◌, ◌++◌, codes, Bool, true, false, not, ◌&&◌, ◌||◌, ◌==◌, nat_lt, nat_le, Option, Some, None, if◌then◌else◌}
+use Rattle.std.specs.Prelude.{ℕ, ◌-◌, List, [], ◌∷◌, ◌++◌, codes, Bool, false, not, ◌&&◌, ◌||◌, ◌==◌, nat_le, Option, Some, None, if◌then◌else◌}
 use Rattle.std.specs.Char.{is_control}
 use Rattle.tcl_words.specs.Bytes as ascii
 use Rattle.hex.specs.Hex.{encode_lower}

@@ -23,6 +23,7 @@ use Rattle.expect_prog.specs.Report.{labelled, head_line}
 use Rattle.expect_prog.specs.Escape.{quoted}
 use Rattle.expect_prog.specs.Devices.{WasPut}
 use Rattle.expect_prog.specs.Show.{event_line}
+use Rattle.expect_prog.specs.Trail.{place_lines}
 use Rattle.expect_prog.specs.Waits.{request_lines, wait_lines}
 
 -- a tick behind which a script has begun no step more
@@ -80,9 +81,9 @@ fault_line ending.TimeLimit fault = []
 fault_line ending.Memory fault = []
 fault_line ending.Waiting fault = []
 
--- how it ends: the first line of its report, and its error
+-- how it ends: the first line of its report, its error, and where that came by
 unfoldable pub end_text : ℕ → Report → List ℕ
-end_text n r = head_line n r ++ fault_line r.ending r.fault
+end_text n r = head_line n r ++ fault_line r.ending r.fault ++ place_lines r.trail
 
 -- the course of the script of a number over events
 pub record Course (n : ℕ) (script : Script) (events : List HallEvent) (text : List ℕ) : Type 0 where

@@ -7,7 +7,7 @@ use Rattle.tcl_eval.specs.declared.ending.Ending.TheVariants.{Exit, Error, StepL
 use Rattle.session.specs.declared.report.Report.{Report}
 use Rattle.expect_prog.specs.declared.tally.Kind.{Kind}
 use Rattle.expect_prog.specs.declared.tally.Kind.TheVariants as kind
-use Rattle.expect_prog.specs.Report.{labelled, ending_text, head_words, is_done}
+use Rattle.expect_prog.specs.Report.{labelled, head_words, is_done}
 
 -- a byte that would end a line or be no text: a control character of ASCII
 abbrev pub is_control : ℕ → Bool

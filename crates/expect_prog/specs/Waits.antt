@@ -1,6 +1,5 @@
 -- What a script asks of its children, and what it waits for, in lines that are read beside those of its events.
-use Rattle.std.specs.Prelude.{ℕ, ◌+◌, ◌-◌, List, [], ◌∷◌, ◌++◌, length, drop, codes, Bool, if◌then◌else◌, Option, Some, None}
-use Rattle.tcl_words.specs.Bytes as ascii
+use Rattle.std.specs.Prelude.{ℕ, ◌+◌, ◌-◌, List, [], ◌∷◌, ◌++◌, length, drop, codes, if◌then◌else◌, Option, Some, None}
 use Rattle.exp_match.specs.Choice.{in_groups}
 use Rattle.exp_match.specs.declared.entry.Entry.{Entry}
 use Rattle.exp_match.specs.declared.entry.Want.{Want}

@@ -12,6 +12,7 @@ use crate::devices::{ReadFault, read_all, write_all};
 use crate::escape::push_quoted;
 use crate::events::push_line;
 use crate::texts::{push_head, push_labelled};
+use crate::trail::push_places;
 use crate::waits::{push_requests, push_waits};
 use child_events::{Counted, HallEvent, HallEvents, LogFault, LogReader, own_event};
 use dialogue_sched::{MOST_SCRIPTS, Script};
@@ -172,7 +173,8 @@ fn push_end(alloc: Global, text: &mut Text, number: u8, report: &Report) -> Resu
 {
     push_head(alloc, text, usize::from(number), report)?;
     text.push(b'\n')?;
-    push_fault(alloc, text, report.ending, report.fault.as_slice())
+    push_fault(alloc, text, report.ending, report.fault.as_slice())?;
+    push_places(alloc, text, report.trail.as_slice())
 }
 
 /// The course of script `number` over events.

@@ -34,6 +34,7 @@ mod tally;
 mod tap;
 mod telling;
 mod texts;
+mod trail;
 mod waits;
 
 use crate::command_line::{Order, read_words};

@@ -67,19 +67,24 @@ fn first_report(hall: &Hall) -> Result<Report, Fail> {
     Ok(report.ok_or("no report")?)
 }
 
-fn waits_for_its_start(report: &Report) -> bool {
-    matches!(report.ending, Ending::Waiting) && report.requests.len() == 1
+/// Whether the first script waits, having asked for its start alone.
+fn waits_for_its_start(hall: &Hall) -> Result<bool, Fail> {
+    let report = first_report(hall)?;
+    let waits = matches!(report.ending, Ending::Waiting) && report.requests.len() == 1;
+    drop(report);
+    Ok(waits)
 }
 
 // An event of no script, of no child, too late and too long: the first reason counts, and the hall is as it was.
 #[test]
 fn refusals(rt: HostRuntime) -> Result<(), Fail> {
     let alloc = rt.alloc();
-    let mut hall = hall(alloc, &[DIALOGUE])?;
     let piece = output(alloc, 4097)?;
+    let mut hall = hall(alloc, &[DIALOGUE])?;
     refuses(&rt, &mut hall, piece);
-    let report = first_report(&hall)?;
-    assert!(rt; waits_for_its_start(&report));
+    let waits = waits_for_its_start(&hall);
+    drop(hall);
+    assert!(rt; waits?);
     Ok(())
 }
 
@@ -109,26 +114,30 @@ fn writes(hall: &mut Hall) -> bool {
     }
 }
 
-/// Whether a script has ended, after all that it was to show and send.
-fn is_done(report: &Report) -> bool {
+/// Whether the first script has ended, after all that it was to show and send, and asks for nothing more.
+fn is_done(hall: &mut Hall) -> Result<bool, Fail> {
+    let report = first_report(hall)?;
     let is_shown = report.transcript.as_slice() == b"spawn p\r\na\r\nbdone\n".as_slice();
     let is_sent = report.sent.as_slice() == [2].as_slice();
-    matches!(report.ending, Ending::Exit(0)) && is_shown && is_sent
+    let is_over = matches!(report.ending, Ending::Exit(0));
+    drop(report);
+    Ok(is_over && is_shown && is_sent && hall.request(1).is_none())
 }
 
 // Each request goes out once, as soon as the events decide it.
 #[test]
 fn requests_once(rt: HostRuntime) -> Result<(), Fail> {
     let alloc = rt.alloc();
+    let output = output(alloc, 1)?;
     let mut hall = hall(alloc, &[DIALOGUE, b"puts x"])?;
-    goes_on(&rt, &mut hall, output(alloc, 1)?)?;
-    let report = first_report(&hall)?;
-    assert!(rt; is_done(&report) && hall.request(1).is_none());
+    let done = goes_on(&rt, &mut hall, output);
+    drop(hall);
+    assert!(rt; done?);
     Ok(())
 }
 
-/// A dialogue up to its end, with this output.
-fn goes_on<R: Abort>(rt: &R, hall: &mut Hall, output: HallEvent) -> Result<(), Fail> {
+/// Whether a dialogue is done at its end, with this output.
+fn goes_on<R: Abort>(rt: &R, hall: &mut Hall, output: HallEvent) -> Result<bool, Fail> {
     assert!(rt; starts_a_child(hall));
     assert!(rt;
         hall.request(1).is_none() && hall.request(2).is_none() && hall.request(3).is_none()
@@ -137,29 +146,65 @@ fn goes_on<R: Abort>(rt: &R, hall: &mut Hall, output: HallEvent) -> Result<(), F
     assert!(rt; writes(hall) && hall.request(1).is_none());
     step(hall, answered(1, 1, 2))?;
     step(hall, output)?;
-    step(hall, HallEvent::Tick { moment: 9 })
+    step(hall, HallEvent::Tick { moment: 9 })?;
+    is_done(hall)
 }
 
-// None is a hall too; the 65th script is one too many, and is told before a source that is too long.
-#[test]
-fn opening(rt: HostRuntime) -> Result<(), Fail> {
-    let alloc = rt.alloc();
-    assert_eq!(rt; hall(alloc, &[])?.len(), 0);
-    let mut scripts = Vec::new(alloc);
+/// A source that is longer than one may be.
+fn long_source(alloc: Global) -> Result<Text, Fail> {
     let mut long = Text::new(alloc);
     for _ in 0..1_048_577 {
         long.push(b' ')?;
     }
-    scripts.push(script(alloc, long.as_slice())?)?;
-    for _ in 0..64 {
+    Ok(long)
+}
+
+/// So many scripts behind the others.
+fn push_scripts(alloc: Global, scripts: &mut Vec<Script>, count: usize) -> Result<(), Fail> {
+    for _ in 0..count {
         scripts.push(script(alloc, b"puts x")?)?;
     }
-    let too_many = Hall::new(alloc, scripts).is_err_and(|f| f == HallFault::TooManyScripts);
-    let mut second = Vec::new(alloc);
-    second.push(script(alloc, b"puts x")?)?;
-    second.push(script(alloc, long.as_slice())?)?;
-    let too_long = Hall::new(alloc, second).is_err_and(|f| f == HallFault::SourceTooLong(2));
-    assert!(rt; too_many && too_long);
+    Ok(())
+}
+
+/// Why there is no hall of a script of this source, with so many others before it and behind it.
+fn fault_of(
+    alloc: Global,
+    before: usize,
+    source: &[u8],
+    behind: usize,
+) -> Result<Option<HallFault>, Fail> {
+    let mut scripts = Vec::new(alloc);
+    push_scripts(alloc, &mut scripts, before)?;
+    scripts.push(script(alloc, source)?)?;
+    push_scripts(alloc, &mut scripts, behind)?;
+    Ok(Hall::new(alloc, scripts).err())
+}
+
+/// Whether the 65th script is one too many, which is told before a source that is too long, and that source is told otherwise.
+fn tells_faults(alloc: Global, long: &[u8]) -> Result<bool, Fail> {
+    let many = fault_of(alloc, 0, long, 64)?;
+    let second = fault_of(alloc, 1, long, 0)?;
+    Ok(many == Some(HallFault::TooManyScripts) && second == Some(HallFault::SourceTooLong(2)))
+}
+
+#[test]
+fn opening(rt: HostRuntime) -> Result<(), Fail> {
+    let alloc = rt.alloc();
+    let long = long_source(alloc)?;
+    let told = tells_faults(alloc, long.as_slice());
+    drop(long);
+    assert!(rt; told?);
+    Ok(())
+}
+
+// None is a hall too.
+#[test]
+fn no_scripts(rt: HostRuntime) -> Result<(), Fail> {
+    let empty = hall(rt.alloc(), &[])?;
+    let count = empty.len();
+    drop(empty);
+    assert_eq!(rt; count, 0);
     Ok(())
 }
 
@@ -168,13 +213,22 @@ const LOOP: &[u8] = b"for {set i 0} {$i < 10000} {incr i} {append a x}; spawn p;
 /// Whether a script that waits behind a long loop still waits when so many pieces of output came, one after another.
 fn waits(alloc: Global, pieces: usize) -> Result<bool, Fail> {
     let mut hall = hall(alloc, &[LOOP])?;
-    step(&mut hall, answered(1, 1, 1))?;
+    let waits = goes_on_waiting(alloc, &mut hall, pieces);
+    drop(hall);
+    waits
+}
+
+/// The same of the first script of a hall.
+fn goes_on_waiting(alloc: Global, hall: &mut Hall, pieces: usize) -> Result<bool, Fail> {
+    step(hall, answered(1, 1, 1))?;
     for _ in 0..pieces {
-        step(&mut hall, output(alloc, 1)?)?;
+        step(hall, output(alloc, 1)?)?;
     }
-    let report = hall.report(1).ok_or("no report")?;
+    let report = first_report(hall)?;
     let told = report.transcript.len().checked_sub(9) == Some(pieces);
-    Ok(matches!(report.ending, Ending::Waiting) && report.steps == 30_004 && told)
+    let waits = matches!(report.ending, Ending::Waiting) && report.steps == 30_004 && told;
+    drop(report);
+    Ok(waits)
 }
 
 // tests/growths counts how often this test and the next one ask for memory.

@@ -66,17 +66,34 @@ fn feed_all(alloc: Global, session: &mut Session, events: &[HallEvent]) -> Resul
     Ok(())
 }
 
-/// Whether a session that is fed the events of a log ends well with this transcript, unless it was refused memory.
-fn ends_with(alloc: Global, source: &[u8], log: &[u8], transcript: &[u8]) -> Result<bool, Fail> {
-    let Script { source, settings } = script(alloc, source)?;
+/// The report of a session that is fed the events of a log.
+fn report_of(alloc: Global, source: &[u8], log: &[u8]) -> Result<Report, Fail> {
     let events = read_log(alloc, log)?;
+    let Script { source, settings } = script(alloc, source)?;
     let mut session = Session::new(alloc, source, settings)?;
-    feed_all(alloc, &mut session, events.as_slice())?;
-    let report = session.report_or_memory();
-    if is_refused(&report) {
+    let fed = feed_all(alloc, &mut session, events.as_slice());
+    let report = session.into_report();
+    if let Err(fault) = fed {
+        drop(report);
+        return Err(fault);
+    }
+    Ok(report)
+}
+
+/// Whether a report is of a script that ended well with this transcript, unless it was refused memory.
+fn is_well(report: &Report, transcript: &[u8]) -> Result<bool, Fail> {
+    if is_refused(report) {
         return Err(Fail::from(REFUSED));
     }
     Ok(matches!(report.ending, Ending::Exit(0)) && report.transcript.as_slice() == transcript)
+}
+
+/// Whether a session that is fed the events of a log ends well with this transcript, unless it was refused memory.
+fn ends_with(alloc: Global, source: &[u8], log: &[u8], transcript: &[u8]) -> Result<bool, Fail> {
+    let report = report_of(alloc, source, log)?;
+    let well = is_well(&report, transcript);
+    drop(report);
+    well
 }
 
 #[test]

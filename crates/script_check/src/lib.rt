@@ -28,4 +28,5 @@ mod stretch;
 pub use findings::{Findings, check};
 pub use lines::{line_of, newlines};
 pub use problem::{Finding, Problem};
+pub use readings::begin_of;
 pub use span::Span;

@@ -3,7 +3,7 @@
 ghost use Rattle.std.specs.Prelude.{◌≡◌, ℕ, List, IfOk, Option, Result, Err};
 ghost use Rattle.tcl_words.specs.Commands.{Fails};
 ghost use Rattle.tcl_words.specs.Pieces.{Spelled, command_view};
-ghost use Rattle.script_check.specs.Readings.{command_in, readings, readings_in};
+ghost use Rattle.script_check.specs.Readings.{begin_of, command_in, readings, readings_in};
 
 use crate::placed::{Words, behind_gap, placed_words};
 use crate::span::Span;
@@ -59,6 +59,13 @@ fn told(fault: WordFault) -> Result<WordFault, AllocError>
         WordFault::MissingParen => Ok(WordFault::MissingParen),
         WordFault::Memory => Err(AllocError),
     }
+}
+
+/// What is left of a text from the begin of its next command on.
+pub fn begin_of(text: &[u8]) -> &[u8]
+    ensures { result.now ≡ begin_of text.now }
+{
+    behind_gap(true, text)
 }
 
 /// The command of a text that ends at a place of the source.

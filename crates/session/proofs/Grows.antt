@@ -16,7 +16,7 @@ use Rattle.expect_core.specs.Laws.{IsFront, Keeps}
 use Rattle.expect_core.proofs.Goodness.{GoodAfter, outcome_good, good_fresh}
 use Rattle.expect_core.proofs.Fronts.{KeptAfter, front_same, keeps_same, outcome_kept}
 use Rattle.session.specs.declared.report.Report.{Report}
-use Rattle.session.specs.Play.{behind, ending_of, fault_of, play}
+use Rattle.session.specs.Play.{behind, ending_of, fault_of, trail_of, play}
 use Rattle.session.specs.Meaning.{steps_of, tree_of, meaning}
 use Rattle.session.specs.Growth.{Continues, EndingStays, OnlyGrows}
 use Rattle.session.proofs.Suspending.{onwards, outcomes_onward, good_extended}
@@ -73,7 +73,7 @@ module _ (es : List Event) where
         (behind_grows (outcome call d) (outcome_good call d g))
 
   play_grows : (bound : ℕ) (t : Tree) (d : Dialogue) → Good d → Grows (play bound t d) (play bound t (extended es d))
-  play_grows bound (Over e s) d g = inl (said_extended (ending_of e) (fault_of e) (bound - s.left) s.vars es d)
+  play_grows bound (Over e s) d g = inl (said_extended (ending_of e) (fault_of e) (trail_of e s.trail) (bound - s.left) s.vars es d)
   play_grows bound (Ask (Knows word) left go) d g = play_grows bound (go (Known (knows word))) d g
   play_grows bound (Ask (Begin words vars) left go) d g =
       call_grows (bound - left) (λ r. play bound (go r)) (λ o r. play_since o bound (go r)) (λ r. play_grows bound (go r)) (Begin words vars) d g

@@ -16,10 +16,11 @@ use Rattle.expect_core.specs.declared.own.Own.{Own}
 use Rattle.expect_core.specs.declared.request.Request.{Request}
 use Rattle.expect_core.specs.declared.dialogue.Dialogue.{Dialogue}
 use Rattle.expect_core.specs.Lanes.{offered, extended}
+use Rattle.session.specs.declared.place.Place.{Place}
 use Rattle.session.specs.declared.report.Report.{Report}
 use Rattle.session.specs.declared.session.Session.TheInside.{Inside}
 use Rattle.session.specs.Left.{Kept, left, Fed, HandsOut}
-use Rattle.session.specs.Play.{said, ending_of, fault_of, play}
+use Rattle.session.specs.Play.{said, ending_of, fault_of, trail_of, play}
 use Rattle.session.specs.Shown.{shown, Ran}
 use Rattle.session.specs.Sound.{Sound, kept_of}
 
@@ -31,10 +32,11 @@ pub extended_append : (es later : List Event) (d : Dialogue) → extended later 
 extended_append [] later d = refl
 extended_append (e ∷ es) later d = extended_append es later (offered e d)
 
-said_by : Ending → List ℕ → ℕ → Variables → Own → Report
-said_by e fault steps vars o = record {
+said_by : Ending → List ℕ → List Place → ℕ → Variables → Own → Report
+said_by e fault trail steps vars o = record {
   ending = e;
   fault = fault;
+  trail = trail;
   transcript = o.transcript;
   vars = values_of vars.globals;
   requests = o.requests;
@@ -42,13 +44,13 @@ said_by e fault steps vars o = record {
   steps = steps;
 }
 
-pub said_extended : (e : Ending) (fault : List ℕ) (steps : ℕ) (vars : Variables) (es : List Event) (d : Dialogue) → said e fault steps vars (extended es d) ≡ said e fault steps vars d
+pub said_extended : (e : Ending) (fault : List ℕ) (trail : List Place) (steps : ℕ) (vars : Variables) (es : List Event) (d : Dialogue) → said e fault trail steps vars (extended es d) ≡ said e fault trail steps vars d
 unfolding said_by
-said_extended e fault steps vars es d = ap (said_by e fault steps vars) (own_extended es d)
+said_extended e fault trail steps vars es d = ap (said_by e fault trail steps vars) (own_extended es d)
 
 -- a run that is over says the same whatever comes
 over_says : (bound : ℕ) (engine : Engine) (mode : Mode) (steps : ℕ) (d : Dialogue) (xs ys : List Event) → IsOver mode → play bound (engine_rest engine steps mode) (extended xs d) ≡ play bound (engine_rest engine steps mode) (extended ys d)
-over_says bound engine (Ended e) steps d xs ys over = said_extended (ending_of e) (fault_of e) _ engine.vars xs d ∙ sym (said_extended (ending_of e) (fault_of e) _ engine.vars ys d)
+over_says bound engine (Ended e) steps d xs ys over = said_extended (ending_of e) (fault_of e) (trail_of e engine.trail) _ engine.vars xs d ∙ sym (said_extended (ending_of e) (fault_of e) (trail_of e engine.trail) _ engine.vars ys d)
 over_says bound engine _ steps d xs ys over = absurd over
 
 -- what a test says of a run that isn't over

@@ -6,3 +6,4 @@ pub mod Numbering
 pub mod Quieting
 pub mod Readying
 pub mod Sparing
+pub mod Watching

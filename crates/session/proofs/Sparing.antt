@@ -35,8 +35,10 @@ use Rattle.tcl_eval.specs.declared.host.HostStep.{HostStep}
 use Rattle.tcl_eval.specs.declared.host.HostStep.TheVariants.{Done, Fail, Body, Words, Wait, Stop, Unknown, Memory}
 use Rattle.tcl_eval.specs.declared.frame.End.TheVariants as end
 use Rattle.tcl_eval.specs.declared.procedure.Procedure.{Procedure}
+use Rattle.tcl_eval.specs.declared.trail.Origin.{Origin}
+use Rattle.tcl_eval.specs.declared.trail.Origin.TheVariants as origin
 use Rattle.tcl_eval.specs.Tree.{Call, Begin, Resume, AfterWords, AfterBody, Knows, Reply, Stepped, Known, step_of, vars_of, known_of, State, Tree, Over, Ask}
-use Rattle.tcl_eval.specs.Meaning.{Next, Eval, on_ok, on_said, after, on_bool, tested, computed, turn_end, stepped, fill_word, fill_parts, spread, fill_words, value_from, expression, tree_of as expression_of, condition, otherwise, arms, decided, advanced, turned, loop, each, digit, caught, left_scope, scope_end, invalid_name, called_as, called, reserved, defined, after_script, next_body, after_body, host_body, worded, host_words, begun, while_command, for_command, new_proc, proc_command, catch_command, invoked, named, invoke, command, sequence, eval}
+use Rattle.tcl_eval.specs.Meaning.{Next, Eval, passed, taken, noting, on_ok, on_said, after, on_bool, tested, computed, turn_end, stepped, fill_word, fill_parts, spread, fill_words, value_from, expression, tree_of as expression_of, condition, otherwise, arms, decided, advanced, turned, loop, each, digit, caught, left_scope, left_by_error, scope_end, invalid_name, called_as, called, reserved, defined, after_script, next_body, after_body, host_body, worded, host_words, begun, while_command, for_command, new_proc, proc_command, catch_command, invoked, named, invoke, command, sequence, eval}
 use Rattle.tcl_eval.specs.Suspended.{at_the_end}
 use Rattle.expect_core.specs.declared.dialogue.Dialogue.{Dialogue}
 use Rattle.expect_core.specs.declared.request.Request.{Request}
@@ -80,7 +82,7 @@ abbrev SparedSo : (State → Tree) → Type 0
 SparedSo go = (st : State) → SparedTree (go st)
 
 abbrev SparedEval : Eval → Type 0
-SparedEval ev = (script : List Reading) (k : Next) (st : State) → SparedNext k → SparedTree (ev script k st)
+SparedEval ev = (script : List ℕ) (k : Next) (st : State) → SparedNext k → SparedTree (ev script k st)
 
 -- ---- evaluations
 
@@ -126,26 +128,35 @@ decided-spared : (b : Bool) (k : Next) (turn : State → Tree) (st : State) → 
 decided-spared false k turn st h g = h Ok [] st
 decided-spared true k turn st h g = stepped-spared st.left st turn g
 
-scope_end-spared : (k : Next) → SparedNext k → SparedNext (scope_end k)
-scope_end-spared k h Ok v st = h Ok v (left_scope st)
-scope_end-spared k h Error v st = h Error v (left_scope st)
-scope_end-spared k h Return v st = h Ok v (left_scope st)
-scope_end-spared k h Break v st = h Error _ (left_scope st)
-scope_end-spared k h Continue v st = h Error _ (left_scope st)
-scope_end-spared k h Again v st = h Again v (left_scope st)
-scope_end-spared k h AgainLater v st = h AgainLater v (left_scope st)
+noting-spared : (o : Origin) (k : Next) → SparedNext k → SparedNext (noting o k)
+noting-spared o k h Ok v st = h Ok v st
+noting-spared o k h Error v st = h Error v (passed o st)
+noting-spared o k h Return v st = h Return v st
+noting-spared o k h Break v st = h Break v st
+noting-spared o k h Continue v st = h Continue v st
+noting-spared o k h Again v st = h Again v st
+noting-spared o k h AgainLater v st = h AgainLater v st
+
+scope_end-spared : (words : List (List ℕ)) (k : Next) → SparedNext k → SparedNext (scope_end words k)
+scope_end-spared words k h Ok v st = h Ok v (left_scope st)
+scope_end-spared words k h Error v st = h Error v (left_by_error words st)
+scope_end-spared words k h Return v st = h Ok v (left_scope st)
+scope_end-spared words k h Break v st = h Error _ (left_by_error words st)
+scope_end-spared words k h Continue v st = h Error _ (left_by_error words st)
+scope_end-spared words k h Again v st = h Again v (left_scope st)
+scope_end-spared words k h AgainLater v st = h AgainLater v (left_scope st)
 
 caught-spared : (o : Option (List ℕ)) (k : Next) → SparedNext k → SparedNext (caught o k)
-caught-spared None k h c v st = h Ok (digit c) st
+caught-spared None k h c v st = h Ok (digit c) (taken st)
 caught-spared (Some name) k h c v st =
-    on_said-spared (or_not_set name (with_value (set_to v) name st.vars)) k (λ vars st. k Ok (digit c) (record st { vars = vars })) st h
+    on_said-spared (or_not_set name (with_value (set_to v) name st.vars)) k (λ vars st. k Ok (digit c) (record st { vars = vars })) (taken st) h
     (λ vars st. h Ok (digit c) (record st { vars = vars }))
 
 defined-spared : (name formals body : List ℕ) (b : Bool) (k : Next) (st : State) → SparedNext k → SparedTree (defined name formals body b k st)
 defined-spared name formals body true k st h = h Error (reserved name) st
 defined-spared name formals body false k st h =
-    on_said-spared (formals_of formals) k (λ fs st. k Ok [] (record st { procs = with_entry name (record { formals = fs; body = commands body }) st.procs })) st h
-    (λ fs st. h Ok [] (record st { procs = with_entry name (record { formals = fs; body = commands body }) st.procs }))
+    on_said-spared (formals_of formals) k (λ fs st. k Ok [] (record st { procs = with_entry name (record { formals = fs; body = body }) st.procs })) st h
+    (λ fs st. h Ok [] (record st { procs = with_entry name (record { formals = fs; body = body }) st.procs }))
 
 after_script-spared : (c : Code) (s : HostStep) (k : Next) (more : List ℕ → State → Tree) (st : State) → SparedStep s → SparedNext k → SparedOn more → SparedTree (after_script c s k more st)
 after_script-spared c (Done code v) k more st s h g = elim c as (λ c. SparedTree (after_script c (Done code v) k more st)) [ Ok ↦ h code v st | _ ↦ h code v st ]
@@ -167,7 +178,7 @@ module _ (ev : Eval) (evaluates : SparedEval ev) where
   word-spared : (f : Fill) (k : Next) (go : List ℕ → State → Tree) (st : State) → SparedNext k → SparedOn go → SparedTree (fill_word ev f k go st)
   word-spared (Full v) k go st h g = g v st
   word-spared (Asks text more) k go st h g =
-      evaluates (commands text) (on_ok (λ v st. fill_word ev (more v st.vars) k go st) k) st
+      evaluates text (on_ok (λ v st. fill_word ev (more v st.vars) k go st) k) st
       (on_ok-spared (λ v st. fill_word ev (more v st.vars) k go st) k (λ v st. word-spared (more v st.vars) k go st h g) h)
   word-spared (Failed f name) k go st h g = h Error (not_read name f) st
 
@@ -214,20 +225,20 @@ module _ (ev : Eval) (evaluates : SparedEval ev) where
 
   otherwise-spared : (o : Option (List ℕ)) (k : Next) (st : State) → SparedNext k → SparedTree (otherwise ev o k st)
   otherwise-spared None k st h = h Ok [] st
-  otherwise-spared (Some body) k st h = evaluates (commands body) k st h
+  otherwise-spared (Some body) k st h = evaluates body k st h
 
   arms-spared : (list : List (List ℕ × List ℕ)) (o : Option (List ℕ)) (k : Next) (st : State) → SparedNext k → SparedTree (arms ev list o k st)
   arms-spared [] o k st h = otherwise-spared o k st h
   arms-spared (a ∷ more) o k st h =
-      on_said-spared (expression_of a.0) k (λ t st. condition ev t k (λ b st. if b then ev (commands a.1) k st else arms ev more o k st) st) st h
-      (λ t st. condition-spared t k (λ b st. if b then ev (commands a.1) k st else arms ev more o k st) st h
-      (λ b st. spared_if b _ _ (evaluates (commands a.1) k st h) (arms-spared more o k st h)))
+      on_said-spared (expression_of a.0) k (λ t st. condition ev t k (λ b st. if b then ev a.1 k st else arms ev more o k st) st) st h
+      (λ t st. condition-spared t k (λ b st. if b then ev a.1 k st else arms ev more o k st) st h
+      (λ b st. spared_if b _ _ (evaluates a.1 k st h) (arms-spared more o k st h)))
 
-  advanced-spared : (next : Option (List Reading)) (k : Next) (more : State → Tree) (st : State) → SparedNext k → SparedSo more → SparedTree (advanced ev next k more st)
+  advanced-spared : (next : Option (List ℕ)) (k : Next) (more : State → Tree) (st : State) → SparedNext k → SparedSo more → SparedTree (advanced ev next k more st)
   advanced-spared None k more st h g = g st
   advanced-spared (Some next) k more st h g = evaluates next (on_ok (λ v st. more st) k) st (on_ok-spared (λ v st. more st) k (λ v st. g st) h)
 
-  module _ (test : Expression) (body : List Reading) (next : Option (List Reading)) (k : Next) (h : SparedNext k) where
+  module _ (test : Expression) (body : List ℕ) (next : Option (List ℕ)) (k : Next) (h : SparedNext k) where
     turned-spared : (n : ℕ) (st : State) → SparedTree (turned ev test body next k n st)
     turned-spared zero st = tt
     turned-spared (suc n) st =
@@ -243,7 +254,7 @@ module _ (ev : Eval) (evaluates : SparedEval ev) where
         condition-spared test k (λ b st'. decided b k (turned ev test body next k st.left) st') st h
         (λ b st'. decided-spared b k (turned ev test body next k st.left) st' h (turned-spared st.left))
 
-  each-spared : (names : List (List ℕ)) (groups : List (List (List ℕ))) (body : List Reading) (k : Next) (st : State) → SparedNext k → SparedTree (each ev names groups body k st)
+  each-spared : (names : List (List ℕ)) (groups : List (List (List ℕ))) (body : List ℕ) (k : Next) (st : State) → SparedNext k → SparedTree (each ev names groups body k st)
   each-spared names [] body k st h = h Ok [] st
   each-spared names (es ∷ groups) body k st h =
       stepped-spared st.left st
@@ -258,8 +269,8 @@ module _ (ev : Eval) (evaluates : SparedEval ev) where
   called_as-spared : (o : Option Procedure) (name : List ℕ) (args : List (List ℕ)) (k : Next) (st : State) → SparedNext k → SparedTree (called_as ev o name args k st)
   called_as-spared None name args k st h = h Error (invalid_name name) st
   called_as-spared (Some p) name args k st h =
-      on_said-spared (entered name p.formals args st.vars) k (λ vars st. ev p.body (scope_end k) (record st { vars = vars })) st h
-      (λ vars st. evaluates p.body (scope_end k) (record st { vars = vars }) (scope_end-spared k h))
+      on_said-spared (entered name p.formals args st.vars) k (λ vars st. ev p.body (scope_end (name ∷ args) k) (record st { vars = vars })) st h
+      (λ vars st. evaluates p.body (scope_end (name ∷ args) k) (record st { vars = vars }) (scope_end-spared (name ∷ args) k h))
 
   called-spared : (words : List (List ℕ)) (k : Next) (st : State) → SparedNext k → SparedTree (called ev words k st)
   called-spared [] k st h = h Error (invalid_name []) st
@@ -271,10 +282,10 @@ module _ (ev : Eval) (evaluates : SparedEval ev) where
   after_body-spared zero k h c v st = λ r s. after_script-spared c (step_of r) k (next_body ev k zero) (record st { vars = vars_of r }) s h (λ text st. tt)
   after_body-spared (suc n) k h c v st = λ r s.
       after_script-spared c (step_of r) k (next_body ev k (suc n)) (record st { vars = vars_of r }) s h
-      (λ text st. evaluates (commands text) (after_body ev k n) st (after_body-spared n k h))
+      (λ text st. evaluates text (after_body ev k n) st (after_body-spared n k h))
 
   host_body-spared : (text : List ℕ) (k : Next) (st : State) → SparedNext k → SparedTree (host_body ev k text st)
-  host_body-spared text k st h = evaluates (commands text) (after_body ev k st.left) st (after_body-spared st.left k h)
+  host_body-spared text k st h = evaluates text (after_body ev k st.left) st (after_body-spared st.left k h)
 
   worded-spared : (s : HostStep) (k : Next) (st : State) → SparedStep s → SparedNext k → SparedTree (worded ev s k st)
   worded-spared (Done c v) k st s h = h c v st
@@ -308,7 +319,7 @@ module _ (ev : Eval) (evaluates : SparedEval ev) where
   while-spared name [] k st h = h Error (wrong_args name) st
   while-spared name (test ∷ []) k st h = h Error (wrong_args name) st
   while-spared name (test ∷ body ∷ []) k st h =
-      on_said-spared (expression_of test) k (λ t st. loop ev t (commands body) None k st) st h (λ t st. loop-spared t (commands body) None k h st)
+      on_said-spared (expression_of test) k (λ t st. loop ev t body None k st) st h (λ t st. loop-spared t body None k h st)
   while-spared name (test ∷ body ∷ other ∷ more) k st h = h Error (wrong_args name) st
 
   for-spared : (name : List ℕ) (args : List (List ℕ)) (k : Next) (st : State) → SparedNext k → SparedTree (for_command ev name args k st)
@@ -317,10 +328,10 @@ module _ (ev : Eval) (evaluates : SparedEval ev) where
   for-spared name (start ∷ test ∷ []) k st h = h Error (wrong_args name) st
   for-spared name (start ∷ test ∷ next ∷ []) k st h = h Error (wrong_args name) st
   for-spared name (start ∷ test ∷ next ∷ body ∷ []) k st h =
-      evaluates (commands start) (on_ok (λ v st. on_said (expression_of test) k (λ t st. loop ev t (commands body) (Some (commands next)) k st) st) k) st
-      (on_ok-spared (λ v st. on_said (expression_of test) k (λ t st. loop ev t (commands body) (Some (commands next)) k st) st) k
-      (λ v st. on_said-spared (expression_of test) k (λ t st. loop ev t (commands body) (Some (commands next)) k st) st h
-      (λ t st. loop-spared t (commands body) (Some (commands next)) k h st)) h)
+      evaluates start (on_ok (λ v st. on_said (expression_of test) k (λ t st. loop ev t body (Some next) k st) st) k) st
+      (on_ok-spared (λ v st. on_said (expression_of test) k (λ t st. loop ev t body (Some next) k st) st) k
+      (λ v st. on_said-spared (expression_of test) k (λ t st. loop ev t body (Some next) k st) st h
+      (λ t st. loop-spared t body (Some next) k h st)) h)
   for-spared name (start ∷ test ∷ next ∷ body ∷ other ∷ more) k st h = h Error (wrong_args name) st
 
   new_proc-spared : (o : Option Verb) (name formals body : List ℕ) (k : Next) (st : State) → SparedNext k → SparedTree (new_proc o name formals body k st)
@@ -336,8 +347,8 @@ module _ (ev : Eval) (evaluates : SparedEval ev) where
 
   catch-spared : (name : List ℕ) (args : List (List ℕ)) (k : Next) (st : State) → SparedNext k → SparedTree (catch_command ev name args k st)
   catch-spared name [] k st h = h Error (wrong_args name) st
-  catch-spared name (script ∷ []) k st h = evaluates (commands script) (caught None k) st (caught-spared None k h)
-  catch-spared name (script ∷ variable ∷ []) k st h = evaluates (commands script) (caught (Some variable) k) st (caught-spared (Some variable) k h)
+  catch-spared name (script ∷ []) k st h = evaluates script (caught None k) st (caught-spared None k h)
+  catch-spared name (script ∷ variable ∷ []) k st h = evaluates script (caught (Some variable) k) st (caught-spared (Some variable) k h)
   catch-spared name (script ∷ variable ∷ other ∷ more) k st h = h Error (wrong_args name) st
 
   invoked-spared : (verb : Verb) (name : List ℕ) (args : List (List ℕ)) (k : Next) (st : State) → SparedNext k → SparedTree (invoked ev verb name args k st)
@@ -346,13 +357,13 @@ module _ (ev : Eval) (evaluates : SparedEval ev) where
   invoked-spared While name args k st h = while-spared name args k st h
   invoked-spared For name args k st h = for-spared name args k st h
   invoked-spared Foreach name args k st h =
-      on_said-spared (each_of name args) k (λ e st. each ev e.0.names e.0.left (commands e.1) k st) st h (λ e st. each-spared e.0.names e.0.left (commands e.1) k st h)
+      on_said-spared (each_of name args) k (λ e st. each ev e.0.names e.0.left e.1 k st) st h (λ e st. each-spared e.0.names e.0.left e.1 k st h)
   invoked-spared Proc name args k st h = proc-spared name args k st h
   invoked-spared Expr name args k st h =
       on_said-spared (expr_text name args) k (λ text st. on_said (expression_of text) k (λ t st. expression ev t k (λ v st. k Ok v st) st) st) st h
       (λ text st. on_said-spared (expression_of text) k (λ t st. expression ev t k (λ v st. k Ok v st) st) st h
       (λ t st. expression-spared t k (λ v st. k Ok v st) st h (λ v st. h Ok v st)))
-  invoked-spared EvalCommand name args k st h = on_said-spared (eval_text name args) k (λ text st. ev (commands text) k st) st h (λ text st. evaluates (commands text) k st h)
+  invoked-spared EvalCommand name args k st h = on_said-spared (eval_text name args) k (λ text st. ev text k st) st h (λ text st. evaluates text k st h)
   invoked-spared Catch name args k st h = catch-spared name args k st h
   invoked-spared Exit name args k st h = on_said-spared (exit_status name args) k (λ n st. Over (end.Stopped (ending.Exit n)) st) st h (λ n st. tt)
 
@@ -369,16 +380,17 @@ module _ (ev : Eval) (evaluates : SparedEval ev) where
       words-spared words [] k (λ words st. stepped st.left st (λ st. invoke ev words k st)) st h
       (λ words st. stepped-spared st.left st (λ st. invoke ev words k st) (λ st. invoke-spared words k st h))
 
-  sequence-spared : (rs : List Reading) (k : Next) (last : List ℕ) (st : State) → SparedNext k → SparedTree (sequence ev rs k last st)
-  sequence-spared [] k last st h = h Ok last st
-  sequence-spared (Malformed f ∷ rs) k last st h = h Error (word_fault f) st
-  sequence-spared (Command words ∷ rs) k last st h =
-      command-spared words (on_ok (λ v st. sequence ev rs k v st) k) st
-      (on_ok-spared (λ v st. sequence ev rs k v st) k (λ v st. sequence-spared rs k v st h) h)
+  sequence-spared : (script : List ℕ) (rs : List Reading) (k : Next) (last : List ℕ) (st : State) → SparedNext k → SparedTree (sequence ev script rs k last st)
+  sequence-spared script [] k last st h = h Ok last st
+  sequence-spared script (Malformed at f ∷ rs) k last st h = h Error (word_fault f) (passed (origin.Command script at) st)
+  sequence-spared script (Command at words ∷ rs) k last st h =
+      let o : Origin = origin.Command script at in
+      command-spared words (on_ok (λ v st. sequence ev script rs k v st) (noting o k)) st
+      (on_ok-spared (λ v st. sequence ev script rs k v st) (noting o k) (λ v st. sequence-spared script rs k v st h) (noting-spared o k h))
 
 eval-spared : (depth : ℕ) → SparedEval (eval depth)
 eval-spared zero script k st h = h Error too_deep st
-eval-spared (suc depth) script k st h = sequence-spared (eval depth) (eval-spared depth) script k [] st h
+eval-spared (suc depth) script k st h = sequence-spared (eval depth) (eval-spared depth) script (commands script) k [] st h
 
 end-spared : SparedNext at_the_end
 end-spared Ok v st = tt
@@ -392,7 +404,7 @@ end-spared AgainLater v st = tt
 tree_spared : (source : List ℕ) (settings : Settings) → SparedTree (tree_of source settings)
 unfolding tree_of
 tree_spared source settings =
-    eval-spared 200 (commands source) at_the_end (record { vars = first_variables settings.env; procs = []; left = steps_of settings.steps }) end-spared
+    eval-spared 200 source at_the_end (record { vars = first_variables settings.env; procs = []; left = steps_of settings.steps; trail = [] }) end-spared
 
 -- ---- with a dialogue
 

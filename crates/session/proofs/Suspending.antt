@@ -1,6 +1,7 @@
 -- A run of a machine leaves the report for whatever comes as it was.
 use Rattle.std.proofs.Common.{◌≡◌, ◌≢◌, ℕ, Bool, true, false, Option, ◌-◌, List, [], ◌∷◌, refl, sym, ap, ◌∙◌, subst, max, arith}
 use Rattle.std.specs.Prelude.{IsTrue}
+use Rattle.std.specs.Bool.{OnFalse}
 use Rattle.child_events.specs.declared.event.Event.{Event}
 use Rattle.child_events.specs.declared.event.Event.TheVariants as event
 use Rattle.tcl_subst.specs.Variables.{Variables}
@@ -154,7 +155,7 @@ told_step call left go s vars d d' t g e = record {
   same = λ bound es. stepped bound left go vars call s d d' es t g e;
 }
 
-step_by : (call : Call) (left : ℕ) (go : Reply → Tree) (r : Reply) (d d' : Dialogue) → Good d → IsReply d call r d' → IsTrue d'.lives → Steps (Ask call left go) r d d'
+pub step_by : (call : Call) (left : ℕ) (go : Reply → Tree) (r : Reply) (d d' : Dialogue) → Good d → IsReply d call r d' → IsTrue d'.lives → Steps (Ask call left go) r d d'
 step_by (Begin words w) left go (Stepped s vars) d d' g a lives = told_step (Begin words w) left go s vars d d' tt g (a.0 lives).1
 step_by (Resume w) left go (Stepped s vars) d d' g a lives = told_step (Resume w) left go s vars d d' tt g (a.0 lives).1
 step_by (AfterWords words w) left go (Stepped s vars) d d' g a lives = told_step (AfterWords words w) left go s vars d d' tt g (a.0 lives).1
@@ -256,7 +257,7 @@ vars_asking engine (BodyMode c v bound depth true) n a = refl
 vars_asking engine (BodyMode c v bound depth false) n a = refl
 vars_asking engine _ n a = absurd a
 
-shown_asking : (bound : ℕ) (engine : Engine) (mode : Mode) (n : ℕ) (d : Dialogue) → IsAsking mode → said ending.Waiting [] (bound - n) engine.vars d ≡ shown bound engine mode n d
+shown_asking : (bound : ℕ) (engine : Engine) (mode : Mode) (n : ℕ) (d : Dialogue) → IsAsking mode → said ending.Waiting [] [] (bound - n) engine.vars d ≡ shown bound engine mode n d
 shown_asking bound engine (BeginMode words depth r) n d a = refl
 shown_asking bound engine (WordsMode words depth r) n d a = refl
 shown_asking bound engine (BodyMode c v b depth r) n d a = refl
@@ -273,8 +274,8 @@ unfolding left_in vars_in
 shows_waiting bound engine mode n d a w =
     ap (λ (t : Tree). play bound t d) w.tree
     ∙ ap (behind (bound - w.left) (λ r. play bound (w.go r))) w.waits
-    ∙ ap (λ (k : ℕ). said ending.Waiting [] (bound - k) w.vars d) (sym (ap left_in w.tree) ∙ left_asking engine mode n a)
-    ∙ ap (λ (v : Variables). said ending.Waiting [] (bound - n) v d) (sym (ap vars_in w.tree) ∙ vars_asking engine mode n a)
+    ∙ ap (λ (k : ℕ). said ending.Waiting [] [] (bound - k) w.vars d) (sym (ap left_in w.tree) ∙ left_asking engine mode n a)
+    ∙ ap (λ (v : Variables). said ending.Waiting [] [] (bound - n) v d) (sym (ap vars_in w.tree) ∙ vars_asking engine mode n a)
     ∙ shown_asking bound engine mode n d a
 
 quiet_asking : (engine : Engine) (mode : Mode) (n : ℕ) (d : Dialogue) → IsAsking mode → Waiting (engine_rest engine n mode) d → Quiet engine mode n d
@@ -307,6 +308,11 @@ quiet_pause (pause.Finished c v) replies t d engine mode n d' g differs l lives 
 quiet_pause (pause.Stopped e) replies t d engine mode n d' g differs l lives p = quiet_over engine mode _ n d' p
 quiet_pause pause.StepLimit replies t d engine mode n d' g differs l lives p = quiet_over engine mode _ n d' p
 quiet_pause pause.Memory replies t d engine mode n d' g differs l lives p = absurd (differs refl)
+
+-- what holds where a test fails, where it failed
+pub unless : {P : Type 0} (b : Bool) → b ≡ false → OnFalse b P → P
+unless true h p = cc
+unless false h p = p
 
 -- a run, from what the machine's run ensures
 pub ran : (why : Pause) (old : Engine) (was : Mode) (had : ℕ) (d : Dialogue) (new : Engine) (is : Mode) (has : ℕ) (d' : Dialogue) → (IsTrue d.lives → Good d) → why ≢ pause.Memory → IsTrue d'.lives → ((replies : List Reply) × Leads IsReply replies (engine_rest old had was) d (engine_rest new has is) d' × IsPauseOf why is replies) → Ran old was had d new is has d'

@@ -9,3 +9,4 @@ pub mod Quiet
 pub mod Awaited
 pub mod Shown
 pub mod Sound
+pub mod Watching

@@ -1,6 +1,5 @@
 -- What a script means over all its events.
 use Rattle.std.specs.Prelude.{ℕ, nat_lt, List, [], if◌then◌else◌}
-use Rattle.tcl_scripts.specs.Commands.{commands}
 use Rattle.tcl_eval.specs.Meaning.{eval}
 use Rattle.tcl_eval.specs.Suspended.{at_the_end}
 use Rattle.tcl_eval.specs.Tree.{Tree}
@@ -18,7 +17,7 @@ steps_of n = if nat_lt n 1000000000000 then n else 1000000000000
 
 -- The tree of a source: at most 200 scripts are evaluated within one another. It computes long, so it opens only where it is named.
 unfoldable pub tree_of : List ℕ → Settings → Tree
-tree_of source settings = eval 200 (commands source) at_the_end (record { vars = first_variables settings.env; procs = []; left = steps_of settings.steps })
+tree_of source settings = eval 200 source at_the_end (record { vars = first_variables settings.env; procs = []; left = steps_of settings.steps; trail = [] })
 
 -- The meaning of a source, its settings and the script's own events, whose moments are raised as they come: each call sees all of them.
 abbrev pub meaning : List ℕ → Settings → List Event → Report

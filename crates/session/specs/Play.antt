@@ -1,5 +1,5 @@
 -- What a script's tree comes to with a dialogue.
-use Rattle.std.specs.Prelude.{ℕ, ◌-◌, List, [], map, codes}
+use Rattle.std.specs.Prelude.{ℕ, ◌-◌, List, [], ◌∷◌, map, codes}
 use Rattle.tcl_subst.specs.Report.{values_of}
 use Rattle.tcl_subst.specs.Variables.{Variables}
 use Rattle.tcl_commands.specs.declared.code.Code.{Code}
@@ -8,18 +8,23 @@ use Rattle.tcl_eval.specs.declared.ending.Ending.{Ending}
 use Rattle.tcl_eval.specs.declared.ending.Ending.TheVariants as ending
 use Rattle.tcl_eval.specs.declared.frame.End.{End}
 use Rattle.tcl_eval.specs.declared.frame.End.TheVariants as end
+use Rattle.tcl_eval.specs.declared.trail.Origin.{Origin}
+use Rattle.tcl_eval.specs.declared.trail.Origin.TheVariants as origin
 use Rattle.tcl_eval.specs.declared.host.HostStep.TheVariants.{Done, Fail, Body, Words, Wait, Stop, Unknown, Memory}
 use Rattle.tcl_eval.specs.Tree.{Call, Begin, Resume, AfterWords, AfterBody, Knows, Reply, Stepped, Known, Tree, Over, Ask}
 use Rattle.tcl_eval.specs.Meaning.{outside_loop}
 use Rattle.expect_core.specs.declared.dialogue.Dialogue.{Dialogue}
 use Rattle.expect_core.specs.Answered.{Outcome}
 use Rattle.expect_core.specs.Calls.{outcome, knows}
+use Rattle.session.specs.declared.place.Place.{Place}
+use Rattle.session.specs.declared.place.Place.TheVariants.{Command, Procedure}
 use Rattle.session.specs.declared.report.Report.{Report}
 
-abbrev pub said : Ending → List ℕ → ℕ → Variables → Dialogue → Report
-said e fault steps vars st = record {
+abbrev pub said : Ending → List ℕ → List Place → ℕ → Variables → Dialogue → Report
+said e fault trail steps vars st = record {
   ending = e;
   fault = fault;
+  trail = trail;
   transcript = st.own.transcript;
   vars = values_of vars.globals;
   requests = st.own.requests;
@@ -46,6 +51,26 @@ fault_at Continue value = outside_loop (codes "continue")
 fault_at Again value = codes "exp_continue outside of expect"
 fault_at AgainLater value = codes "exp_continue outside of expect"
 
+-- the name of a procedure that these words called
+abbrev pub name_of : List (List ℕ) → List ℕ
+name_of [] = []
+name_of (name ∷ args) = name
+
+-- where an error was handed on
+abbrev pub place_of : Origin → Place
+place_of (origin.Command script at) = Command script at
+place_of (origin.Procedure words) = Procedure (name_of words)
+
+-- where the error came by that ended a script
+abbrev pub trail_at : Code → List Origin → List Place
+trail_at Ok trail = []
+trail_at Return trail = []
+trail_at Error trail = map place_of trail
+trail_at Break trail = []
+trail_at Continue trail = []
+trail_at Again trail = []
+trail_at AgainLater trail = []
+
 abbrev pub fault_if : Ending → List ℕ
 fault_if e = []
 
@@ -61,12 +86,18 @@ fault_of (end.Stopped e) = []
 fault_of end.StepLimit = []
 fault_of end.Memory = []
 
-abbrev pub over_with : End → ℕ → Variables → Dialogue → Report
-over_with e steps vars st = said (ending_of e) (fault_of e) steps vars st
+abbrev pub trail_of : End → List Origin → List Place
+trail_of (end.Finished c value) trail = trail_at c trail
+trail_of (end.Stopped e) trail = []
+trail_of end.StepLimit trail = []
+trail_of end.Memory trail = []
+
+abbrev pub over_with : End → List Origin → ℕ → Variables → Dialogue → Report
+over_with e trail steps vars st = said (ending_of e) (fault_of e) (trail_of e trail) steps vars st
 
 -- a call that waits waits for ever, where no more events come
 abbrev pub behind : ℕ → (Reply → Dialogue → Report) → Outcome → Report
-behind steps more (Wait, vars, st) = said ending.Waiting [] steps vars st
+behind steps more (Wait, vars, st) = said ending.Waiting [] [] steps vars st
 behind steps more (Done c v, vars, st) = more (Stepped (Done c v) vars) st
 behind steps more (Fail t, vars, st) = more (Stepped (Fail t) vars) st
 behind steps more (Body t, vars, st) = more (Stepped (Body t) vars) st
@@ -85,5 +116,5 @@ asking steps more (AfterBody c value vars) st = behind steps more (outcome (Afte
 
 -- The report of a tree and a dialogue: each call sees all that its dialogue has.
 abbrev pub play : ℕ → Tree → Dialogue → Report
-play bound (Over e s) st = over_with e (bound - s.left) s.vars st
+play bound (Over e s) st = over_with e s.trail (bound - s.left) s.vars st
 play bound (Ask call left go) st = asking (bound - left) (λ r. play bound (go r)) call st

@@ -16,8 +16,8 @@ use Rattle.session.specs.Quiet.{Quiet}
 
 -- the report of a machine that ended so, or waits
 abbrev pub shown_at : Option End → ℕ → Engine → Dialogue → Report
-shown_at (Some e) steps engine st = over_with e steps engine.vars st
-shown_at None steps engine st = said ending.Waiting [] steps engine.vars st
+shown_at (Some e) steps engine st = over_with e engine.trail steps engine.vars st
+shown_at None steps engine st = said ending.Waiting [] [] steps engine.vars st
 
 -- the report that a machine shows
 abbrev pub shown : ℕ → Engine → Mode → ℕ → Dialogue → Report

@@ -13,6 +13,7 @@ abbrev pub memory_report : Report
 memory_report = record {
   ending = Memory;
   fault = [];
+  trail = [];
   transcript = [];
   vars = [];
   requests = [];

@@ -5,12 +5,17 @@
 
 mod first;
 mod laws;
+mod place;
 mod report;
 mod session;
 mod show;
+mod watched;
+mod watcher;
 
 pub use expect_core::{Act, Pairs, Request, Requests, Settings};
 pub use laws::{growth, no_meaning_is_memory, request_law};
+pub use place::{Place, Places};
 pub use report::{Counts, Report};
 pub use session::{NewFault, SOURCE_LIMIT, STEPS_LIMIT, Session};
 pub use tcl_eval::Ending;
+pub use watcher::Watcher;

@@ -3,6 +3,7 @@
 ghost use Rattle.std.specs.Prelude.{◌≡◌, IfOk};
 ghost use Rattle.session.specs.Spent.{memory_report};
 
+use crate::place::Places;
 use expect_core::{Pairs, Requests};
 use std::alloc::{AllocError, Global};
 use std::marker::Model;
@@ -45,6 +46,8 @@ pub struct Report {
     pub ending: Ending,
     /// The text of the error that ended it; empty at any other ending.
     pub fault: Text,
+    /// Where that error came by, the innermost place first; empty at any other ending.
+    pub trail: Places,
     /// What it wrote, and the output of its children that it took.
     pub transcript: Text,
     /// The global variables that have a value, in byte order of names.
@@ -65,6 +68,7 @@ impl Report {
         Report {
             ending: Ending::Memory,
             fault: Text::new(alloc),
+            trail: Places::new(alloc),
             transcript: Text::new(alloc),
             vars: Pairs::new(alloc),
             requests: Requests::new(alloc),
@@ -81,6 +85,7 @@ impl Report {
         Ok(Report {
             ending: self.ending,
             fault: self.fault.copied(alloc)?,
+            trail: self.trail.copied(alloc)?,
             transcript: self.transcript.copied(alloc)?,
             vars: self.vars.copied(alloc)?,
             requests: self.requests.copied(alloc)?,

@@ -14,10 +14,13 @@ ghost use Rattle.session.specs.Meaning.{meaning, steps_of, tree_of};
 ghost use Rattle.session.specs.Quiet.{QuietUntil, waits_until};
 ghost use Rattle.session.specs.Shown.{Ran};
 ghost use Rattle.session.specs.Spent.{memory_report, Reports};
+ghost use Rattle.session.specs.Watching.{met_by_run, met_from, met_over, Sights};
 
 use crate::first::first_variables;
 use crate::report::Report;
-use crate::show::{ending_of, shown};
+use crate::show::{ending_of, shown, shown_last};
+use crate::watched::Watched;
+use crate::watcher::{Nobody, Watcher};
 use child_events::Event;
 use expect_core::{Dialogue, Plan, Request, Settings};
 use std::alloc::{AllocError, Global};
@@ -93,6 +96,28 @@ fn lay_ready(
     Ok(())
 }
 
+/// Lays the requests ready that stand behind the first ones, where no memory was refused to the run that asked for them. The answer says whether
+/// none was refused to it or is here; where some was, no request lies ready.
+fn lay_behind(
+    alloc: Global,
+    ready: &mut VecDeque<Request>,
+    dialogue: &Dialogue,
+    asked: usize,
+    ran: bool,
+) -> bool
+    ensures ran { IsTrue result → IsTrue ran }
+    ensures ready { IsTrue result → ready.new.items ≡ ready.old.items ++ drop asked dialogue.now.own.requests }
+    ensures spent { result ≡ false → ready.new.items ≡ [] }
+{
+    if ran {
+        if let Ok(()) = lay_ready(alloc, ready, rest_of(dialogue.requests(), asked)) {
+            return true;
+        }
+    }
+    *ready = VecDeque::new(alloc);
+    false
+}
+
 /// Runs on to the next pause, and lays the requests ready that are asked for on the way. The answer says whether no memory was refused;
 /// where some was, no request lies ready.
 fn go_on(
@@ -108,13 +133,44 @@ fn go_on(
     ensures spent { result ≡ false → ready.new.items ≡ [] }
 {
     let asked = dialogue.requests().len();
-    if run_on(machine, dialogue, meter) {
-        if let Ok(()) = lay_ready(alloc, ready, rest_of(dialogue.requests(), asked)) {
-            return true;
-        }
+    let ran = run_on(machine, dialogue, meter);
+    lay_behind(alloc, ready, dialogue, asked, ran)
+}
+
+/// Runs on as `run_on` does, and shows a watcher what is met on the way.
+fn run_watched<W: Watcher + Drop>(
+    machine: &mut Machine<Dialogue>,
+    watched: &mut Watched<W>,
+    meter: &mut Meter,
+) -> bool
+    requires { IsTrue watched.old.dialogue.lives → Good watched.old.dialogue }
+    ensures ran { IsTrue result → Ran machine.old.engine machine.old.mode (left_of meter.old) watched.old.dialogue machine.new.engine machine.new.mode (left_of meter.new) watched.new.dialogue }
+    ensures seen { IsTrue result → Sights W.sees (met_by_run machine.old.engine (left_of meter.old) machine.old.mode watched.old.dialogue) watched.old.watcher (met_by_run machine.new.engine (left_of meter.new) machine.new.mode watched.new.dialogue) watched.new.watcher }
+{
+    let pause = machine.run_over(watched, meter);
+    if is_memory(&pause) {
+        return false;
     }
-    *ready = VecDeque::new(alloc);
-    false
+    watched.dialogue.lives()
+}
+
+/// Runs on as `go_on` does, and shows a watcher what is met on the way.
+fn go_on_watched<W: Watcher + Drop>(
+    alloc: Global,
+    machine: &mut Machine<Dialogue>,
+    watched: &mut Watched<W>,
+    meter: &mut Meter,
+    ready: &mut VecDeque<Request>,
+) -> bool
+    requires { IsTrue watched.old.dialogue.lives → Good watched.old.dialogue }
+    ensures ran { IsTrue result → Ran machine.old.engine machine.old.mode (left_of meter.old) watched.old.dialogue machine.new.engine machine.new.mode (left_of meter.new) watched.new.dialogue }
+    ensures ready { IsTrue result → ready.new.items ≡ ready.old.items ++ drop (length watched.old.dialogue.own.requests) watched.new.dialogue.own.requests }
+    ensures spent { result ≡ false → ready.new.items ≡ [] }
+    ensures seen { IsTrue result → Sights W.sees (met_by_run machine.old.engine (left_of meter.old) machine.old.mode watched.old.dialogue) watched.old.watcher (met_by_run machine.new.engine (left_of meter.new) machine.new.mode watched.new.dialogue) watched.new.watcher }
+{
+    let asked = watched.dialogue.requests().len();
+    let ran = run_watched(machine, watched, meter);
+    lay_behind(alloc, ready, &watched.dialogue, asked, ran)
 }
 
 /// Puts events behind what came, one after another.
@@ -162,18 +218,26 @@ impl Model for Session {
 }
 
 impl Session {
-    fn open(alloc: Global, source: &[u8], settings: &Settings) -> Result<Session, AllocError>
-        ensures left { IfOk result (λ s. IsTrue s.lives → (later : List Event) → left s later ≡ meaning source.now settings.now later) }
-        ensures handed { IfOk result (λ s. s.handed ≡ 0) }
+    fn open<W: Watcher + Drop>(
+        alloc: Global,
+        source: &[u8],
+        settings: &Settings,
+        watcher: W,
+    ) -> Result<(Session, W), AllocError>
+        ensures left { IfOk result (λ r. IsTrue r.0.lives → (later : List Event) → left r.0 later ≡ meaning source.now settings.now later) }
+        ensures handed { IfOk result (λ r. r.0.handed ≡ 0) }
+        ensures seen { IfOk result (λ r. IsTrue r.0.lives → Sights W.sees (met_over source.now settings.now) watcher (met_from r.0) r.1) }
     {
         let vars = first_variables(alloc, settings.env.as_slice())?;
         let mut machine = Machine::new(alloc, source, vars)?;
-        let mut dialogue = Dialogue::new(alloc, settings)?;
+        let dialogue = Dialogue::new(alloc, settings)?;
+        let mut watched = Watched { dialogue, watcher };
         let bound = bounded(settings.steps);
         let mut meter = Meter::new(bound);
         let mut ready = VecDeque::new(alloc);
-        let lives = go_on(alloc, &mut machine, &mut dialogue, &mut meter, &mut ready);
-        Ok(Session {
+        let lives = go_on_watched(alloc, &mut machine, &mut watched, &mut meter, &mut ready);
+        let Watched { dialogue, watcher } = watched;
+        let session = Session {
             alloc,
             bound,
             machine,
@@ -182,7 +246,29 @@ impl Session {
             ready,
             handed: 0,
             lives,
-        })
+        };
+        Ok((session, watcher))
+    }
+
+    /// A session that has run to its first wait, of which a watcher has seen what was met.
+    pub fn watched<W: Watcher + Drop>(
+        alloc: Global,
+        source: Text,
+        settings: Settings,
+        watcher: W,
+    ) -> Result<(Session, W), NewFault>
+        ensures left { IfOk result (λ r. IsTrue r.0.lives → (later : List Event) → left r.0 later ≡ meaning source settings later) }
+        ensures handed { IfOk result (λ r. r.0.handed ≡ 0) }
+        ensures seen { IfOk result (λ r. IsTrue r.0.lives → Sights W.sees (met_over source settings) watcher (met_from r.0) r.1) }
+        ensures too_long { IsErrOf result NewFault.SourceTooLong ↔ (SOURCE_LIMIT < length source) }
+    {
+        if source.len() > SOURCE_LIMIT {
+            return Err(NewFault::SourceTooLong);
+        }
+        match Session::open(alloc, source.as_slice(), &settings, watcher) {
+            Ok(opened) => Ok(opened),
+            Err(_) => Err(NewFault::Memory),
+        }
     }
 
     /// A session that has run to its first wait.
@@ -191,13 +277,8 @@ impl Session {
         ensures handed { IfOk result (λ s. s.handed ≡ 0) }
         ensures too_long { IsErrOf result NewFault.SourceTooLong ↔ (SOURCE_LIMIT < length source) }
     {
-        if source.len() > SOURCE_LIMIT {
-            return Err(NewFault::SourceTooLong);
-        }
-        match Session::open(alloc, source.as_slice(), &settings) {
-            Ok(session) => Ok(session),
-            Err(_) => Err(NewFault::Memory),
-        }
+        let (session, _nobody) = Session::watched(alloc, source, settings, Nobody {})?;
+        Ok(session)
     }
 
     /// Goes on with an event. A session that has ended passes it over.
@@ -218,6 +299,44 @@ impl Session {
             &mut self.meter,
             &mut self.ready,
         );
+    }
+
+    /// Goes on with an event as `feed` does, and shows a watcher what is met on the way. The watcher is given back.
+    pub fn feed_watched<W: Watcher + Drop>(self, event: Event, watcher: W) -> (Session, W)
+        ensures fed { Fed self (event ∷ []) result.0 }
+        ensures seen { IsTrue result.0.lives → Sights W.sees (λ later. met_from self (event ∷ later)) watcher (met_from result.0) result.1 }
+    {
+        if !self.lives {
+            return (self, watcher);
+        }
+        if self.machine.is_over() {
+            return (self, watcher);
+        }
+        let Session {
+            alloc,
+            bound,
+            mut machine,
+            mut dialogue,
+            mut meter,
+            mut ready,
+            handed,
+            ..
+        } = self;
+        dialogue.offer(event);
+        let mut watched = Watched { dialogue, watcher };
+        let lives = go_on_watched(alloc, &mut machine, &mut watched, &mut meter, &mut ready);
+        let Watched { dialogue, watcher } = watched;
+        let session = Session {
+            alloc,
+            bound,
+            machine,
+            dialogue,
+            meter,
+            ready,
+            handed,
+            lives,
+        };
+        (session, watcher)
     }
 
     /// Goes on with events, one after another: the requests that they open lie ready behind the last one. A session that has ended passes
@@ -398,10 +517,26 @@ impl Session {
         }
     }
 
-    /// The same, for which the session is given up.
+    /// What came of it so far, for which the session is given up. Its transcript and its requests aren't copied.
+    #[tactic(auto, unfolding(crate::specs::Left::left))]
     pub fn into_report(self) -> Report
         ensures { Reports self result }
     {
-        self.report_or_memory()
+        let Session {
+            alloc,
+            bound,
+            machine,
+            mut dialogue,
+            meter,
+            lives,
+            ..
+        } = self;
+        if !lives {
+            return Report::of_memory(alloc);
+        }
+        match shown_last(alloc, bound, &machine, meter.left(), &mut dialogue) {
+            Ok(report) => report,
+            Err(_) => Report::of_memory(alloc),
+        }
     }
 }

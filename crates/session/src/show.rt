@@ -2,13 +2,14 @@
 
 ghost use Rattle.std.specs.Prelude.{◌≡◌, ◌-◌, map, IfOk};
 ghost use Rattle.tcl_subst.specs.Report.{values_of};
-ghost use Rattle.session.specs.Play.{ending_at as ending_told, ending_of as ending_meant, fault_at as fault_told, fault_of as fault_meant, said as said_of};
+ghost use Rattle.session.specs.Play.{ending_at as ending_told, ending_of as ending_meant, fault_at as fault_told, fault_of as fault_meant, trail_at as trail_told, trail_of as trail_meant, said as said_of};
 ghost use Rattle.session.specs.Shown.{shown as shown_of};
 
+use crate::place::Places;
 use crate::report::{Counts, Report};
 use expect_core::{Dialogue, Pairs};
 use std::alloc::{AllocError, Global};
-use tcl_eval::{Code, End, Ending, Machine};
+use tcl_eval::{Code, End, Ending, Machine, Origin};
 use tcl_subst::Vars;
 use tcl_values::Value;
 use tcl_words::Text;
@@ -64,19 +65,42 @@ fn fault_of(alloc: Global, end: &End) -> Result<Text, AllocError>
     }
 }
 
+/// Where the error came by that ended a script.
+fn trail_at(alloc: Global, code: Code, trail: &[Origin]) -> Result<Places, AllocError>
+    ensures { IfOk result (λ p. p ≡ trail_told code trail.now) }
+{
+    match code {
+        Code::Error => Places::of(alloc, trail),
+        _ => Ok(Places::new(alloc)),
+    }
+}
+
+fn trail_of(alloc: Global, end: &End, trail: &[Origin]) -> Result<Places, AllocError>
+    ensures { IfOk result (λ p. p ≡ trail_meant end.now trail.now) }
+{
+    match end {
+        End::Finished(code, _) => trail_at(alloc, *code, trail),
+        End::Stopped(_) => Ok(Places::new(alloc)),
+        End::StepLimit => Ok(Places::new(alloc)),
+        End::Memory => Ok(Places::new(alloc)),
+    }
+}
+
 fn said(
     alloc: Global,
     ending: Ending,
     fault: Text,
+    trail: Places,
     steps: u64,
     vars: &Vars,
     dialogue: &Dialogue,
 ) -> Result<Report, AllocError>
-    ensures { IfOk result (λ r. r ≡ said_of ending fault steps vars.now dialogue.now) }
+    ensures { IfOk result (λ r. r ≡ said_of ending fault trail steps vars.now dialogue.now) }
 {
     Ok(Report {
         ending,
         fault,
+        trail,
         transcript: Text::from_slice(alloc, dialogue.transcript())?,
         vars: Pairs {
             list: vars.globals()?,
@@ -105,6 +129,7 @@ pub(crate) fn shown(
             alloc,
             ending_of(end),
             fault_of(alloc, end)?,
+            trail_of(alloc, end, machine.trail())?,
             steps,
             machine.vars(),
             dialogue,
@@ -113,6 +138,67 @@ pub(crate) fn shown(
             alloc,
             Ending::Waiting,
             Text::new(alloc),
+            Places::new(alloc),
+            steps,
+            machine.vars(),
+            dialogue,
+        ),
+    }
+}
+
+/// The same as `said`, for which the dialogue gives up its transcript and its requests.
+fn said_last(
+    alloc: Global,
+    ending: Ending,
+    fault: Text,
+    trail: Places,
+    steps: u64,
+    vars: &Vars,
+    dialogue: &mut Dialogue,
+) -> Result<Report, AllocError>
+    ensures { IfOk result (λ r. r ≡ said_of ending fault trail steps vars.now dialogue.old) }
+{
+    let globals = vars.globals()?;
+    let counts = dialogue.sent(alloc)?;
+    let (transcript, requests) = dialogue.give_told();
+    Ok(Report {
+        ending,
+        fault,
+        trail,
+        transcript,
+        vars: Pairs { list: globals },
+        requests,
+        sent: Counts { list: counts },
+        steps,
+    })
+}
+
+/// The last report that a machine shows: the dialogue gives up its transcript and its requests.
+pub(crate) fn shown_last(
+    alloc: Global,
+    bound: u64,
+    machine: &Machine<Dialogue>,
+    left: u64,
+    dialogue: &mut Dialogue,
+) -> Result<Report, AllocError>
+    ensures { IfOk result (λ r. r ≡ shown_of bound machine.now.engine machine.now.mode left dialogue.old) }
+{
+    let steps = bound.saturating_sub(left);
+    match machine.end() {
+        Some(end) => said_last(
+            alloc,
+            ending_of(end),
+            fault_of(alloc, end)?,
+            trail_of(alloc, end, machine.trail())?,
+            steps,
+            machine.vars(),
+            dialogue,
+        ),
+        None => said_last(
+            alloc,
+            Ending::Waiting,
+            Text::new(alloc),
+            Places::new(alloc),
             steps,
             machine.vars(),
             dialogue,

@@ -34,8 +34,10 @@ use Rattle.tcl_eval.specs.declared.host.HostStep.{HostStep}
 use Rattle.tcl_eval.specs.declared.host.HostStep.TheVariants.{Done, Fail, Body, Words, Wait, Stop, Unknown, Memory}
 use Rattle.tcl_eval.specs.declared.frame.End.TheVariants.{Stopped}
 use Rattle.tcl_eval.specs.declared.procedure.Procedure.{Procedure}
+use Rattle.tcl_eval.specs.declared.trail.Origin.{Origin}
+use Rattle.tcl_eval.specs.declared.trail.Origin.TheVariants as origin
 use Rattle.tcl_eval.specs.Tree.{Begin, AfterWords, AfterBody, Knows, step_of, vars_of, known_of, State, Tree, Over, Ask}
-use Rattle.tcl_eval.specs.Meaning.{Next, Eval, on_ok, on_said, after, on_bool, tested, computed, turn_end, stepped, fill_word, fill_parts, spread, fill_words, value_from, expression, tree_of, condition, otherwise, arms, decided, advanced, one_turn, turned, turns, loop, each, digit, caught, left_scope, scope_end, invalid_name, called_as, called, reserved, defined, after_script, after_script_by, one_body, next_body, after_body, host_body, worded, host_words, begun, begin, while_command, for_command, new_proc, proc_command, catch_command, invoked, named, invoke, command, sequence, eval}
+use Rattle.tcl_eval.specs.Meaning.{Next, Eval, passed, taken, noting, on_ok, on_said, after, on_bool, tested, computed, turn_end, stepped, fill_word, fill_parts, spread, fill_words, value_from, expression, tree_of, condition, otherwise, arms, decided, advanced, one_turn, turned, turns, loop, each, digit, caught, left_scope, left_by_error, scope_end, invalid_name, called_as, called, reserved, defined, after_script, after_script_by, one_body, next_body, after_body, host_body, worded, host_words, begun, begin, while_command, for_command, new_proc, proc_command, catch_command, invoked, named, invoke, command, sequence, eval}
 use Rattle.tcl_eval.specs.Unrolled.{LoopsUnroll, BodiesUnroll}
 
 -- what a code has cost at least
@@ -62,7 +64,7 @@ AgreeSo b go go' = (st : State) → st.left ≤ b → go st ≡ go' st
 
 -- an evaluation hands on no more steps than it was given
 abbrev IsBounded : Eval → Type 0
-IsBounded ev = (script : List Reading) (k k' : Next) (st : State) → Agree st.left k k' → ev script k st ≡ ev script k' st
+IsBounded ev = (script : List ℕ) (k k' : Next) (st : State) → Agree st.left k k' → ev script k st ≡ ev script k' st
 
 -- at fewer steps
 fewer : (b c : ℕ) (k k' : Next) → b ≤ c → Agree c k k' → Agree b k k'
@@ -99,6 +101,15 @@ on_ok-agree b go go' k k' g h Break v st l = h Break v st l
 on_ok-agree b go go' k k' g h Continue v st l = h Continue v st l
 on_ok-agree b go go' k k' g h Again v st l = h Again v st l
 on_ok-agree b go go' k k' g h AgainLater v st l = h AgainLater v st l
+
+noting-agree : (o : Origin) (b : ℕ) (k k' : Next) → Agree b k k' → Agree b (noting o k) (noting o k')
+noting-agree o b k k' h Ok v st l = h Ok v st l
+noting-agree o b k k' h Error v st l = h Error v (passed o st) l
+noting-agree o b k k' h Return v st l = h Return v st l
+noting-agree o b k k' h Break v st l = h Break v st l
+noting-agree o b k k' h Continue v st l = h Continue v st l
+noting-agree o b k k' h Again v st l = h Again v st l
+noting-agree o b k k' h AgainLater v st l = h AgainLater v st l
 
 on_ok-agree_all : (b : ℕ) (go go' : List ℕ → State → Tree) (k k' : Next) → AgreeOn b go go' → AgreeAll b k k' → AgreeAll b (on_ok go k) (on_ok go' k')
 on_ok-agree_all b go go' k k' g h Ok v st l = g v st l
@@ -138,28 +149,28 @@ decided-agree : (b : Bool) (k k' : Next) (turn turn' : State → Tree) (st : Sta
 decided-agree false k k' turn turn' st h g = h Ok [] st (omega arith)
 decided-agree true k k' turn turn' st h g = stepped-agree st.left st turn turn' g
 
-scope_end-agree : (b : ℕ) (k k' : Next) → AgreeAll b k k' → AgreeAll b (scope_end k) (scope_end k')
-scope_end-agree b k k' h Ok v st l = h Ok v (left_scope st) l
-scope_end-agree b k k' h Error v st l = h Error v (left_scope st) l
-scope_end-agree b k k' h Return v st l = h Ok v (left_scope st) l
-scope_end-agree b k k' h Break v st l = h Error _ (left_scope st) l
-scope_end-agree b k k' h Continue v st l = h Error _ (left_scope st) l
-scope_end-agree b k k' h Again v st l = h Again v (left_scope st) l
-scope_end-agree b k k' h AgainLater v st l = h AgainLater v (left_scope st) l
+scope_end-agree : (words : List (List ℕ)) (b : ℕ) (k k' : Next) → AgreeAll b k k' → AgreeAll b (scope_end words k) (scope_end words k')
+scope_end-agree words b k k' h Ok v st l = h Ok v (left_scope st) l
+scope_end-agree words b k k' h Error v st l = h Error v (left_by_error words st) l
+scope_end-agree words b k k' h Return v st l = h Ok v (left_scope st) l
+scope_end-agree words b k k' h Break v st l = h Error _ (left_by_error words st) l
+scope_end-agree words b k k' h Continue v st l = h Error _ (left_by_error words st) l
+scope_end-agree words b k k' h Again v st l = h Again v (left_scope st) l
+scope_end-agree words b k k' h AgainLater v st l = h AgainLater v (left_scope st) l
 
 caught-agree : (o : Option (List ℕ)) (b : ℕ) (k k' : Next) → AgreeAll b k k' → AgreeAll b (caught o k) (caught o k')
-caught-agree None b k k' h c v st l = h Ok (digit c) st l
+caught-agree None b k k' h c v st l = h Ok (digit c) (taken st) l
 caught-agree (Some name) b k k' h c v st l =
-    on_said-agree (or_not_set name (with_value (set_to v) name st.vars)) k k' (λ vars st. k Ok (digit c) (record st { vars = vars })) (λ vars st. k' Ok (digit c) (record st { vars = vars })) st
-    (λ c' v' st' m. h c' v' st' (omega arith)) (λ vars. h Ok (digit c) (record st { vars = vars }) l)
+    on_said-agree (or_not_set name (with_value (set_to v) name st.vars)) k k' (λ vars st. k Ok (digit c) (record st { vars = vars })) (λ vars st. k' Ok (digit c) (record st { vars = vars })) (taken st)
+    (λ c' v' st' m. h c' v' st' (omega arith)) (λ vars. h Ok (digit c) (record (taken st) { vars = vars }) l)
 
 defined-agree : (name formals body : List ℕ) (b : Bool) (k k' : Next) (st : State) → AgreeAll st.left k k' → defined name formals body b k st ≡ defined name formals body b k' st
 defined-agree name formals body true k k' st h = h Error (reserved name) st (omega arith)
 defined-agree name formals body false k k' st h =
     on_said-agree (formals_of formals) k k'
-    (λ fs st. k Ok [] (record st { procs = with_entry name (record { formals = fs; body = commands body }) st.procs }))
-    (λ fs st. k' Ok [] (record st { procs = with_entry name (record { formals = fs; body = commands body }) st.procs })) st
-    (with_cost st.left k k' h) (λ fs. h Ok [] (record st { procs = with_entry name (record { formals = fs; body = commands body }) st.procs }) (omega arith))
+    (λ fs st. k Ok [] (record st { procs = with_entry name (record { formals = fs; body = body }) st.procs }))
+    (λ fs st. k' Ok [] (record st { procs = with_entry name (record { formals = fs; body = body }) st.procs })) st
+    (with_cost st.left k k' h) (λ fs. h Ok [] (record st { procs = with_entry name (record { formals = fs; body = body }) st.procs }) (omega arith))
 
 -- a reply: what comes after one more script matters at a code that has a cost alone
 after_script-agree : (c : Code) (s : HostStep) (k k' : Next) (more more' : List ℕ → State → Tree) (st : State) → AgreeAll st.left k k' → (0 < cost c → (t : List ℕ) → more t st ≡ more' t st) → after_script c s k more st ≡ after_script c s k' more' st
@@ -182,7 +193,7 @@ module _ (ev : Eval) (bounded : IsBounded ev) where
   word-agree : (f : Fill) (k k' : Next) (go go' : List ℕ → State → Tree) (st : State) → Agree st.left k k' → AgreeOn st.left go go' → fill_word ev f k go st ≡ fill_word ev f k' go' st
   word-agree (Full v) k k' go go' st h g = g v st (omega arith)
   word-agree (Asks text more) k k' go go' st h g =
-      bounded (commands text) (on_ok (λ v st. fill_word ev (more v st.vars) k go st) k) (on_ok (λ v st. fill_word ev (more v st.vars) k' go' st) k') st
+      bounded text (on_ok (λ v st. fill_word ev (more v st.vars) k go st) k) (on_ok (λ v st. fill_word ev (more v st.vars) k' go' st) k') st
       (on_ok-agree st.left (λ v st. fill_word ev (more v st.vars) k go st) (λ v st. fill_word ev (more v st.vars) k' go' st) k k'
       (λ v st' l. word-agree (more v st'.vars) k k' go go' st' (fewer st'.left st.left k k' l h) (λ v st'' m. g v st'' (omega arith))) h)
   word-agree (Failed f name) k k' go go' st h g = h Error (not_read name f) st (omega arith)
@@ -244,23 +255,23 @@ module _ (ev : Eval) (bounded : IsBounded ev) where
 
   otherwise-agree : (o : Option (List ℕ)) (k k' : Next) (st : State) → Agree st.left k k' → otherwise ev o k st ≡ otherwise ev o k' st
   otherwise-agree None k k' st h = h Ok [] st (omega arith)
-  otherwise-agree (Some body) k k' st h = bounded (commands body) k k' st h
+  otherwise-agree (Some body) k k' st h = bounded body k k' st h
 
   arms-agree : (list : List (List ℕ × List ℕ)) (o : Option (List ℕ)) (k k' : Next) (st : State) → Agree st.left k k' → arms ev list o k st ≡ arms ev list o k' st
   arms-agree [] o k k' st h = otherwise-agree o k k' st h
   arms-agree (a ∷ more) o k k' st h =
       on_said-agree (tree_of a.0) k k'
-      (λ t st. condition ev t k (λ b st. if b then ev (commands a.1) k st else arms ev more o k st) st)
-      (λ t st. condition ev t k' (λ b st. if b then ev (commands a.1) k' st else arms ev more o k' st) st) st h
-      (λ t. condition-agree t k k' (λ b st. if b then ev (commands a.1) k st else arms ev more o k st) (λ b st. if b then ev (commands a.1) k' st else arms ev more o k' st) st h
-      (λ b st' l. same_if b _ _ _ _ (bounded (commands a.1) k k' st' (fewer st'.left st.left k k' l h)) (arms-agree more o k k' st' (fewer st'.left st.left k k' l h))))
+      (λ t st. condition ev t k (λ b st. if b then ev a.1 k st else arms ev more o k st) st)
+      (λ t st. condition ev t k' (λ b st. if b then ev a.1 k' st else arms ev more o k' st) st) st h
+      (λ t. condition-agree t k k' (λ b st. if b then ev a.1 k st else arms ev more o k st) (λ b st. if b then ev a.1 k' st else arms ev more o k' st) st h
+      (λ b st' l. same_if b _ _ _ _ (bounded a.1 k k' st' (fewer st'.left st.left k k' l h)) (arms-agree more o k k' st' (fewer st'.left st.left k k' l h))))
 
-  advanced-agree : (next : Option (List Reading)) (k k' : Next) (more more' : State → Tree) (st : State) → Agree st.left k k' → AgreeSo st.left more more' → advanced ev next k more st ≡ advanced ev next k' more' st
+  advanced-agree : (next : Option (List ℕ)) (k k' : Next) (more more' : State → Tree) (st : State) → Agree st.left k k' → AgreeSo st.left more more' → advanced ev next k more st ≡ advanced ev next k' more' st
   advanced-agree None k k' more more' st h g = g st (omega arith)
   advanced-agree (Some next) k k' more more' st h g =
       bounded next (on_ok (λ v st. more st) k) (on_ok (λ v st. more' st) k') st (on_ok-agree st.left (λ v st. more st) (λ v st. more' st) k k' (λ v st' l. g st' l) h)
 
-  module _ (test : Expression) (body : List Reading) (next : Option (List Reading)) where
+  module _ (test : Expression) (body : List ℕ) (next : Option (List ℕ)) where
     -- enough turns are enough
     turned-agree : (n m : ℕ) (k k' : Next) (st : State) → st.left < n → st.left < m → Agree st.left k k' → turned ev test body next k n st ≡ turned ev test body next k' m st
     turned-agree zero m k k' st l l' h = absurd (omega arith)
@@ -309,7 +320,7 @@ module _ (ev : Eval) (bounded : IsBounded ev) where
     loop-agree : (k k' : Next) (st : State) → Agree st.left k k' → loop ev test body next k st ≡ loop ev test body next k' st
     loop-agree k k' st h = turns-agree st.left st.left k k' st (omega arith) (omega arith) h
 
-  each-agree : (names : List (List ℕ)) (left : List (List (List ℕ))) (body : List Reading) (k k' : Next) (st : State) → Agree st.left k k' → each ev names left body k st ≡ each ev names left body k' st
+  each-agree : (names : List (List ℕ)) (left : List (List (List ℕ))) (body : List ℕ) (k k' : Next) (st : State) → Agree st.left k k' → each ev names left body k st ≡ each ev names left body k' st
   each-agree names [] body k k' st h = h Ok [] st (omega arith)
   each-agree names (es ∷ left) body k k' st h =
       stepped-agree st.left st
@@ -329,8 +340,8 @@ module _ (ev : Eval) (bounded : IsBounded ev) where
   called_as-agree None name args k k' st h = h Error (invalid_name name) st (omega arith)
   called_as-agree (Some p) name args k k' st h =
       on_said-agree (entered name p.formals args st.vars) k k'
-      (λ vars st. ev p.body (scope_end k) (record st { vars = vars })) (λ vars st. ev p.body (scope_end k') (record st { vars = vars })) st (with_cost st.left k k' h)
-      (λ vars. bounded p.body (scope_end k) (scope_end k') (record st { vars = vars }) (with_cost st.left (scope_end k) (scope_end k') (scope_end-agree st.left k k' h)))
+      (λ vars st. ev p.body (scope_end (name ∷ args) k) (record st { vars = vars })) (λ vars st. ev p.body (scope_end (name ∷ args) k') (record st { vars = vars })) st (with_cost st.left k k' h)
+      (λ vars. bounded p.body (scope_end (name ∷ args) k) (scope_end (name ∷ args) k') (record st { vars = vars }) (with_cost st.left (scope_end (name ∷ args) k) (scope_end (name ∷ args) k') (scope_end-agree (name ∷ args) st.left k k' h)))
 
   called-agree : (words : List (List ℕ)) (k k' : Next) (st : State) → AgreeAll st.left k k' → called ev words k st ≡ called ev words k' st
   called-agree [] k k' st h = h Error (invalid_name []) st (omega arith)
@@ -346,25 +357,25 @@ module _ (ev : Eval) (bounded : IsBounded ev) where
       ap (Ask (AfterBody c v st.vars) st.left) (fun_ext (λ r. after_script-agree c (step_of r) k k' (next_body ev k (suc n)) (next_body ev k' zero) (record st { vars = vars_of r }) h (λ p t. absurd (omega arith))))
   after_body-agree (suc n) (suc m) k k' c v st l l' h =
       ap (Ask (AfterBody c v st.vars) st.left) (fun_ext (λ r. after_script-agree c (step_of r) k k' (next_body ev k (suc n)) (next_body ev k' (suc m)) (record st { vars = vars_of r }) h
-      (λ p t. bounded (commands t) (after_body ev k n) (after_body ev k' m) (record st { vars = vars_of r })
+      (λ p t. bounded t (after_body ev k n) (after_body ev k' m) (record st { vars = vars_of r })
       (λ c' v' st' d. after_body-agree n m k k' c' v' st' (omega arith) (omega arith) (λ c'' v'' st'' e. h c'' v'' st'' (omega arith))))))
 
   host_body-agree : (text : List ℕ) (k k' : Next) (st : State) → AgreeAll st.left k k' → host_body ev k text st ≡ host_body ev k' text st
   host_body-agree text k k' st h =
-      bounded (commands text) (after_body ev k st.left) (after_body ev k' st.left) st
+      bounded text (after_body ev k st.left) (after_body ev k' st.left) st
       (λ c v st' d. after_body-agree st.left st.left k k' c v st' d d (λ c' v' st'' e. h c' v' st'' (omega arith)))
 
   module _ (k : Next) where
     next_body_is : (n : ℕ) (text : List ℕ) (st : State) → st.left < n → next_body ev k n text st ≡ host_body ev k text st
     next_body_is zero text st l = absurd (omega arith)
     next_body_is (suc n) text st l =
-        bounded (commands text) (after_body ev k n) (after_body ev k st.left) st
+        bounded text (after_body ev k n) (after_body ev k st.left) st
         (λ c v st' d. after_body-agree n st.left k k c v st' (omega arith) d (λ c' v' st'' e. refl))
 
     -- behind a script the host is told, and may ask for one more
     host_body_is : (text : List ℕ) (st : State) → host_body ev k text st ≡ one_body ev k (host_body ev k) text st
     host_body_is text st =
-        bounded (commands text) (after_body ev k st.left) (λ c v st. Ask (AfterBody c v st.vars) st.left (λ r. after_script_by c r k (host_body ev k) st)) st
+        bounded text (after_body ev k st.left) (λ c v st. Ask (AfterBody c v st.vars) st.left (λ r. after_script_by c r k (host_body ev k) st)) st
         (λ c v st' d. ap (Ask (AfterBody c v st'.vars) st'.left) (fun_ext (λ r. after_script-agree c (step_of r) k k (next_body ev k st.left) (host_body ev k) (record st' { vars = vars_of r }) (λ c' v' st'' e. refl)
         (λ p t. next_body_is st.left t (record st' { vars = vars_of r }) (omega arith)))))
 
@@ -403,8 +414,8 @@ module _ (ev : Eval) (bounded : IsBounded ev) where
   while-agree name [] k k' st h = h Error (wrong_args name) st (omega arith)
   while-agree name (test ∷ []) k k' st h = h Error (wrong_args name) st (omega arith)
   while-agree name (test ∷ body ∷ []) k k' st h =
-      on_said-agree (tree_of test) k k' (λ t st. loop ev t (commands body) None k st) (λ t st. loop ev t (commands body) None k' st) st (with_cost st.left k k' h)
-      (λ t. loop-agree t (commands body) None k k' st (with_cost st.left k k' h))
+      on_said-agree (tree_of test) k k' (λ t st. loop ev t body None k st) (λ t st. loop ev t body None k' st) st (with_cost st.left k k' h)
+      (λ t. loop-agree t body None k k' st (with_cost st.left k k' h))
   while-agree name (test ∷ body ∷ other ∷ more) k k' st h = h Error (wrong_args name) st (omega arith)
 
   for-agree : (name : List ℕ) (args : List (List ℕ)) (k k' : Next) (st : State) → AgreeAll st.left k k' → for_command ev name args k st ≡ for_command ev name args k' st
@@ -413,14 +424,14 @@ module _ (ev : Eval) (bounded : IsBounded ev) where
   for-agree name (start ∷ test ∷ []) k k' st h = h Error (wrong_args name) st (omega arith)
   for-agree name (start ∷ test ∷ next ∷ []) k k' st h = h Error (wrong_args name) st (omega arith)
   for-agree name (start ∷ test ∷ next ∷ body ∷ []) k k' st h =
-      bounded (commands start)
-      (on_ok (λ v st. on_said (tree_of test) k (λ t st. loop ev t (commands body) (Some (commands next)) k st) st) k)
-      (on_ok (λ v st. on_said (tree_of test) k' (λ t st. loop ev t (commands body) (Some (commands next)) k' st) st) k') st
+      bounded start
+      (on_ok (λ v st. on_said (tree_of test) k (λ t st. loop ev t body (Some next) k st) st) k)
+      (on_ok (λ v st. on_said (tree_of test) k' (λ t st. loop ev t body (Some next) k' st) st) k') st
       (on_ok-agree st.left
-      (λ v st. on_said (tree_of test) k (λ t st. loop ev t (commands body) (Some (commands next)) k st) st)
-      (λ v st. on_said (tree_of test) k' (λ t st. loop ev t (commands body) (Some (commands next)) k' st) st) k k'
-      (λ v st' l. on_said-agree (tree_of test) k k' (λ t st. loop ev t (commands body) (Some (commands next)) k st) (λ t st. loop ev t (commands body) (Some (commands next)) k' st) st' (λ c v st'' m. h c v st'' (omega arith))
-      (λ t. loop-agree t (commands body) (Some (commands next)) k k' st' (λ c v st'' m. h c v st'' (omega arith))))
+      (λ v st. on_said (tree_of test) k (λ t st. loop ev t body (Some next) k st) st)
+      (λ v st. on_said (tree_of test) k' (λ t st. loop ev t body (Some next) k' st) st) k k'
+      (λ v st' l. on_said-agree (tree_of test) k k' (λ t st. loop ev t body (Some next) k st) (λ t st. loop ev t body (Some next) k' st) st' (λ c v st'' m. h c v st'' (omega arith))
+      (λ t. loop-agree t body (Some next) k k' st' (λ c v st'' m. h c v st'' (omega arith))))
       (with_cost st.left k k' h))
   for-agree name (start ∷ test ∷ next ∷ body ∷ other ∷ more) k k' st h = h Error (wrong_args name) st (omega arith)
 
@@ -439,9 +450,9 @@ module _ (ev : Eval) (bounded : IsBounded ev) where
   catch-agree : (name : List ℕ) (args : List (List ℕ)) (k k' : Next) (st : State) → AgreeAll st.left k k' → catch_command ev name args k st ≡ catch_command ev name args k' st
   catch-agree name [] k k' st h = h Error (wrong_args name) st (omega arith)
   catch-agree name (script ∷ []) k k' st h =
-      bounded (commands script) (caught None k) (caught None k') st (with_cost st.left (caught None k) (caught None k') (caught-agree None st.left k k' h))
+      bounded script (caught None k) (caught None k') st (with_cost st.left (caught None k) (caught None k') (caught-agree None st.left k k' h))
   catch-agree name (script ∷ variable ∷ []) k k' st h =
-      bounded (commands script) (caught (Some variable) k) (caught (Some variable) k') st (with_cost st.left (caught (Some variable) k) (caught (Some variable) k') (caught-agree (Some variable) st.left k k' h))
+      bounded script (caught (Some variable) k) (caught (Some variable) k') st (with_cost st.left (caught (Some variable) k) (caught (Some variable) k') (caught-agree (Some variable) st.left k k' h))
   catch-agree name (script ∷ variable ∷ other ∷ more) k k' st h = h Error (wrong_args name) st (omega arith)
 
   invoked-agree : (verb : Verb) (name : List ℕ) (args : List (List ℕ)) (k k' : Next) (st : State) → AgreeAll st.left k k' → invoked ev verb name args k st ≡ invoked ev verb name args k' st
@@ -451,8 +462,8 @@ module _ (ev : Eval) (bounded : IsBounded ev) where
   invoked-agree While name args k k' st h = while-agree name args k k' st h
   invoked-agree For name args k k' st h = for-agree name args k k' st h
   invoked-agree Foreach name args k k' st h =
-      on_said-agree (each_of name args) k k' (λ e st. each ev e.0.names e.0.left (commands e.1) k st) (λ e st. each ev e.0.names e.0.left (commands e.1) k' st) st (with_cost st.left k k' h)
-      (λ e. each-agree e.0.names e.0.left (commands e.1) k k' st (with_cost st.left k k' h))
+      on_said-agree (each_of name args) k k' (λ e st. each ev e.0.names e.0.left e.1 k st) (λ e st. each ev e.0.names e.0.left e.1 k' st) st (with_cost st.left k k' h)
+      (λ e. each-agree e.0.names e.0.left e.1 k k' st (with_cost st.left k k' h))
   invoked-agree Proc name args k k' st h = proc-agree name args k k' st h
   invoked-agree Expr name args k k' st h =
       on_said-agree (expr_text name args) k k'
@@ -461,8 +472,8 @@ module _ (ev : Eval) (bounded : IsBounded ev) where
       (λ text. on_said-agree (tree_of text) k k' (λ t st. expression ev t k (λ v st. k Ok v st) st) (λ t st. expression ev t k' (λ v st. k' Ok v st) st) st (with_cost st.left k k' h)
       (λ t. expression-agree t k k' (λ v st. k Ok v st) (λ v st. k' Ok v st) st (with_cost st.left k k' h) (λ v st' l. h Ok v st' l)))
   invoked-agree EvalCommand name args k k' st h =
-      on_said-agree (eval_text name args) k k' (λ text st. ev (commands text) k st) (λ text st. ev (commands text) k' st) st (with_cost st.left k k' h)
-      (λ text. bounded (commands text) k k' st (with_cost st.left k k' h))
+      on_said-agree (eval_text name args) k k' (λ text st. ev text k st) (λ text st. ev text k' st) st (with_cost st.left k k' h)
+      (λ text. bounded text k k' st (with_cost st.left k k' h))
   invoked-agree Catch name args k k' st h = catch-agree name args k k' st h
   invoked-agree Exit name args k k' st h =
       on_said-agree (exit_status name args) k k' (λ n st. Over (Stopped (ending.Exit n)) st) (λ n st. Over (Stopped (ending.Exit n)) st) st (with_cost st.left k k' h) (λ n. refl)
@@ -481,16 +492,18 @@ module _ (ev : Eval) (bounded : IsBounded ev) where
       (λ words st' l. stepped-agree st'.left st' (λ st. invoke ev words k st) (λ st. invoke ev words k' st)
       (λ st'' m. invoke-agree words k k' st'' (behind_step st''.left st.left k k' (omega arith) h)))
 
-  sequence-agree : (rs : List Reading) (k k' : Next) (last : List ℕ) (st : State) → Agree st.left k k' → sequence ev rs k last st ≡ sequence ev rs k' last st
-  sequence-agree [] k k' last st h = h Ok last st (omega arith)
-  sequence-agree (Malformed f ∷ rs) k k' last st h = h Error (word_fault f) st (omega arith)
-  sequence-agree (Command words ∷ rs) k k' last st h =
-      command-agree words (on_ok (λ v st. sequence ev rs k v st) k) (on_ok (λ v st. sequence ev rs k' v st) k') st
-      (on_ok-agree st.left (λ v st. sequence ev rs k v st) (λ v st. sequence ev rs k' v st) k k' (λ v st' l. sequence-agree rs k k' v st' (fewer st'.left st.left k k' l h)) h)
+  sequence-agree : (script : List ℕ) (rs : List Reading) (k k' : Next) (last : List ℕ) (st : State) → Agree st.left k k' → sequence ev script rs k last st ≡ sequence ev script rs k' last st
+  sequence-agree script [] k k' last st h = h Ok last st (omega arith)
+  sequence-agree script (Malformed at f ∷ rs) k k' last st h = h Error (word_fault f) (passed (origin.Command script at) st) (omega arith)
+  sequence-agree script (Command at words ∷ rs) k k' last st h =
+      let o : Origin = origin.Command script at in
+      command-agree words (on_ok (λ v st. sequence ev script rs k v st) (noting o k)) (on_ok (λ v st. sequence ev script rs k' v st) (noting o k')) st
+      (on_ok-agree st.left (λ v st. sequence ev script rs k v st) (λ v st. sequence ev script rs k' v st) (noting o k) (noting o k')
+      (λ v st' l. sequence-agree script rs k k' v st' (fewer st'.left st.left k k' l h)) (noting-agree o st.left k k' h))
 
 eval-bounded : (depth : ℕ) → IsBounded (eval depth)
 eval-bounded zero script k k' st h = h Error too_deep st (omega arith)
-eval-bounded (suc depth) script k k' st h = sequence-agree (eval depth) (eval-bounded depth) script k k' [] st h
+eval-bounded (suc depth) script k k' st h = sequence-agree (eval depth) (eval-bounded depth) script (commands script) k k' [] st h
 
 pub loops_unroll : LoopsUnroll
 loops_unroll depth test body next k st = loop_is (eval depth) (eval-bounded depth) test body next k st

@@ -1,5 +1,5 @@
 -- The meaning of scripts (Tcl(n)). A construct is handed what follows it; a stop follows nothing.
-use Rattle.std.specs.Prelude.{ℕ, zero, suc, Bool, true, false, Option, Some, None, List, [], ◌∷◌, ◌++◌, drop, codes, Result, Ok as Fine, Err, ℤ, if◌then◌else◌}
+use Rattle.std.specs.Prelude.{ℕ, zero, suc, Bool, true, false, Option, Some, None, List, [], ◌∷◌, ◌++◌, drop, take, codes, Result, Ok as Fine, Err, ℤ, if◌then◌else◌}
 use Rattle.tcl_words.specs.Bytes as ascii
 use Rattle.tcl_words.specs.declared.faults.WordFault.{WordFault}
 use Rattle.tcl_words.specs.Pieces.{Spelled}
@@ -34,6 +34,8 @@ use Rattle.tcl_eval.specs.declared.host.HostStep.{HostStep}
 use Rattle.tcl_eval.specs.declared.host.HostStep.TheVariants.{Done, Fail, Body, Words, Wait, Stop, Unknown, Memory}
 use Rattle.tcl_eval.specs.declared.frame.End.TheVariants.{Stopped, StepLimit, Memory as NoMemory}
 use Rattle.tcl_eval.specs.declared.procedure.Procedure.{Procedure}
+use Rattle.tcl_eval.specs.declared.trail.Origin.{Origin}
+use Rattle.tcl_eval.specs.declared.trail.Origin.TheVariants as origin
 use Rattle.tcl_eval.specs.Tree.{Begin, AfterWords, AfterBody, Knows, Reply, step_of, vars_of, known_of, State, Tree, Over, Ask}
 
 -- ---- what follows
@@ -45,11 +47,29 @@ To A = Code → List ℕ → State → A
 abbrev pub Next : Type 0
 Next = To Tree
 
--- the evaluation of a script, by what was read of it
+-- the evaluation of a script
 abbrev pub Eval : Type 0
-Eval = List Reading → Next → State → Tree
+Eval = List ℕ → Next → State → Tree
+
+-- An error is handed on by this, after what handed it on so far; of more than 32 the first 31 and the last are kept.
+abbrev pub passed : Origin → State → State
+passed o st = record st { trail = take 31 st.trail ++ o ∷ [] }
+
+-- an error is over
+abbrev pub taken : State → State
+taken st = record st { trail = [] }
 
 module _ {A : Type 0} where
+  -- hands a code on, and notes by what an error is handed on
+  abbrev pub noting : Origin → To A → To A
+  noting o k Ok v st = k Ok v st
+  noting o k Error v st = k Error v (passed o st)
+  noting o k Return v st = k Return v st
+  noting o k Break v st = k Break v st
+  noting o k Continue v st = k Continue v st
+  noting o k Again v st = k Again v st
+  noting o k AgainLater v st = k AgainLater v st
+
   -- goes on at `Ok`, and hands any other code on
   abbrev pub on_ok : (List ℕ → State → A) → To A → To A
   on_ok go k Ok v st = go v st
@@ -99,11 +119,11 @@ stepped (suc n) st go = go (record st { left = n })
 
 -- ---- words
 
-module _ {A : Type 0} (ev : List Reading → To A → State → A) where
+module _ {A : Type 0} (ev : List ℕ → To A → State → A) where
   -- a word by what filling it comes to; a code other than `Ok` in a bracket is the whole command's
   abbrev pub fill_word : Fill → To A → (List ℕ → State → A) → State → A
   fill_word (Full v) k go st = go v st
-  fill_word (Asks text more) k go st = ev (commands text) (on_ok (λ v st. fill_word (more v st.vars) k go st) k) st
+  fill_word (Asks text more) k go st = ev text (on_ok (λ v st. fill_word (more v st.vars) k go st) k) st
   fill_word (Failed f name) k go st = k Error (not_read name f) st
 
 -- a word by its parts
@@ -170,14 +190,14 @@ condition ev t k go st = expression ev t k (λ v st. tested v k go st) st
 
 abbrev pub otherwise : Eval → Option (List ℕ) → Next → State → Tree
 otherwise ev None k st = k Ok [] st
-otherwise ev (Some body) k st = ev (commands body) k st
+otherwise ev (Some body) k st = ev body k st
 
 -- conditions in turn, up to one that holds
 abbrev pub arms : Eval → List (List ℕ × List ℕ) → Option (List ℕ) → Next → State → Tree
 arms ev [] other k st = otherwise ev other k st
 arms ev (a ∷ more) other k st =
     on_said (tree_of a.0) k
-    (λ t st. condition ev t k (λ b st. if b then ev (commands a.1) k st else arms ev more other k st) st) st
+    (λ t st. condition ev t k (λ b st. if b then ev a.1 k st else arms ev more other k st) st) st
 
 -- ---- while, for, foreach (while(n), for(n), foreach(n))
 
@@ -187,33 +207,33 @@ decided false k turn st = k Ok [] st
 decided true k turn st = stepped st.left st turn
 
 -- the script behind each turn of a `for`
-abbrev pub advanced : Eval → Option (List Reading) → Next → (State → Tree) → State → Tree
+abbrev pub advanced : Eval → Option (List ℕ) → Next → (State → Tree) → State → Tree
 advanced ev None k more st = more st
 advanced ev (Some next) k more st = ev next (on_ok (λ v st. more st) k) st
 
 -- A loop is this, with the loop itself as what comes again (`Unrolled`): its condition and, where that holds, a turn, which is the body, the
 -- script behind it, and then the loop.
-abbrev pub one_turn : Eval → Expression → List Reading → Option (List Reading) → Next → (State → Tree) → State → Tree
+abbrev pub one_turn : Eval → Expression → List ℕ → Option (List ℕ) → Next → (State → Tree) → State → Tree
 one_turn ev test body next k again st =
     condition ev test k (λ b st. decided b k (λ st. ev body (turn_end k (λ st. advanced ev next k again st)) st) st) st
 
 -- A turn that was begun, and at most n more. Each turn takes a step, so there are no more of them than steps are left.
-abbrev pub turned : Eval → Expression → List Reading → Option (List Reading) → Next → ℕ → State → Tree
+abbrev pub turned : Eval → Expression → List ℕ → Option (List ℕ) → Next → ℕ → State → Tree
 turned ev test body next k zero st = Over StepLimit st
 turned ev test body next k (suc n) st =
     ev body
     (turn_end k (λ st. advanced ev next k (λ st. condition ev test k (λ b st. decided b k (turned ev test body next k n) st) st) st)) st
 
 -- at most n turns
-abbrev pub turns : Eval → Expression → List Reading → Option (List Reading) → Next → ℕ → State → Tree
+abbrev pub turns : Eval → Expression → List ℕ → Option (List ℕ) → Next → ℕ → State → Tree
 turns ev test body next k n st = condition ev test k (λ b st. decided b k (turned ev test body next k n) st) st
 
 -- a loop
-abbrev pub loop : Eval → Expression → List Reading → Option (List Reading) → Next → State → Tree
+abbrev pub loop : Eval → Expression → List ℕ → Option (List ℕ) → Next → State → Tree
 loop ev test body next k st = turns ev test body next k st.left st
 
 -- a turn for each group of elements
-abbrev pub each : Eval → List (List ℕ) → List (List (List ℕ)) → List Reading → Next → State → Tree
+abbrev pub each : Eval → List (List ℕ) → List (List (List ℕ)) → List ℕ → Next → State → Tree
 each ev names [] body k st = k Ok [] st
 each ev names (es ∷ left) body k st =
     stepped st.left st
@@ -231,11 +251,11 @@ digit Again = ascii.digit_5 ∷ []
 digit AgainLater = ascii.digit_6 ∷ []
 
 module _ {A : Type 0} where
-  -- the code is the result, and a variable gets the value
+  -- the code is the result, a variable gets the value, and an error is over
   abbrev pub caught : Option (List ℕ) → To A → To A
-  caught None k c v st = k Ok (digit c) st
+  caught None k c v st = k Ok (digit c) (taken st)
   caught (Some name) k c v st =
-      on_said (or_not_set name (with_value (set_to v) name st.vars)) k (λ vars st. k Ok (digit c) (record st { vars = vars })) st
+      on_said (or_not_set name (with_value (set_to v) name st.vars)) k (λ vars st. k Ok (digit c) (record st { vars = vars })) (taken st)
 
 -- ---- procedures (proc(n))
 
@@ -246,16 +266,20 @@ outside_loop name = quoted (codes "invoked ") name ++ codes " outside of a loop"
 abbrev pub left_scope : State → State
 left_scope st = record st { vars = record { globals = st.vars.globals; locals = drop 1 st.vars.locals } }
 
+-- an error leaves a procedure that these words called
+abbrev pub left_by_error : List (List ℕ) → State → State
+left_by_error words st = passed (origin.Procedure words) (left_scope st)
+
 module _ {A : Type 0} where
   -- at a procedure's end a `return` is its value, and a loop's codes are astray
-  abbrev pub scope_end : To A → To A
-  scope_end k Ok v st = k Ok v (left_scope st)
-  scope_end k Error v st = k Error v (left_scope st)
-  scope_end k Return v st = k Ok v (left_scope st)
-  scope_end k Break v st = k Error (outside_loop (codes "break")) (left_scope st)
-  scope_end k Continue v st = k Error (outside_loop (codes "continue")) (left_scope st)
-  scope_end k Again v st = k Again v (left_scope st)
-  scope_end k AgainLater v st = k AgainLater v (left_scope st)
+  abbrev pub scope_end : List (List ℕ) → To A → To A
+  scope_end words k Ok v st = k Ok v (left_scope st)
+  scope_end words k Error v st = k Error v (left_by_error words st)
+  scope_end words k Return v st = k Ok v (left_scope st)
+  scope_end words k Break v st = k Error (outside_loop (codes "break")) (left_by_error words st)
+  scope_end words k Continue v st = k Error (outside_loop (codes "continue")) (left_by_error words st)
+  scope_end words k Again v st = k Again v (left_scope st)
+  scope_end words k AgainLater v st = k AgainLater v (left_scope st)
 
 abbrev pub invalid_name : List ℕ → List ℕ
 invalid_name name = quoted (codes "invalid command name ") name
@@ -263,7 +287,7 @@ invalid_name name = quoted (codes "invalid command name ") name
 abbrev pub called_as : Eval → Option Procedure → List ℕ → List (List ℕ) → Next → State → Tree
 called_as ev None name args k st = k Error (invalid_name name) st
 called_as ev (Some p) name args k st =
-    on_said (entered name p.formals args st.vars) k (λ vars st. ev p.body (scope_end k) (record st { vars = vars })) st
+    on_said (entered name p.formals args st.vars) k (λ vars st. ev p.body (scope_end (name ∷ args) k) (record st { vars = vars })) st
 
 -- a procedure by its name, with its arguments
 abbrev pub called : Eval → List (List ℕ) → Next → State → Tree
@@ -278,7 +302,7 @@ abbrev pub defined : List ℕ → List ℕ → List ℕ → Bool → Next → St
 defined name formals body true k st = k Error (reserved name) st
 defined name formals body false k st =
     on_said (formals_of formals) k
-    (λ fs st. k Ok [] (record st { procs = with_entry name (record { formals = fs; body = commands body }) st.procs })) st
+    (λ fs st. k Ok [] (record st { procs = with_entry name (record { formals = fs; body = body }) st.procs })) st
 
 abbrev pub define : List ℕ → List ℕ → List ℕ → Next → State → Tree
 define name formals body k st = Ask (Knows name) st.left (λ r. defined name formals body (known_of r) k st)
@@ -305,14 +329,14 @@ after_script_by c r k more st = after_script c (step_of r) k more (record st { v
 -- how it ended, and may ask for one more.
 abbrev pub one_body : Eval → Next → (List ℕ → State → Tree) → List ℕ → State → Tree
 one_body ev k again text st =
-    ev (commands text) (λ c v st. Ask (AfterBody c v st.vars) st.left (λ r. after_script_by c r k again st)) st
+    ev text (λ c v st. Ask (AfterBody c v st.vars) st.left (λ r. after_script_by c r k again st)) st
 
 -- One more script of the host, and at most n behind it. Each is asked for at a code that took a step, so there are no more of them than steps
 -- are left.
 abbrev pub next_body : Eval → Next → ℕ → List ℕ → State → Tree
 next_body ev k zero text st = Over StepLimit st
 next_body ev k (suc n) text st =
-    ev (commands text)
+    ev text
     (λ c v st. Ask (AfterBody c v st.vars) st.left (λ r. after_script_by c r k (next_body ev k n) st)) st
 
 -- what follows a script that the host asked for, with at most n more of them
@@ -321,7 +345,7 @@ after_body ev k n c v st = Ask (AfterBody c v st.vars) st.left (λ r. after_scri
 
 -- a script that the host asks for
 abbrev pub host_body : Eval → Next → List ℕ → State → Tree
-host_body ev k text st = ev (commands text) (after_body ev k st.left) st
+host_body ev k text st = ev text (after_body ev k st.left) st
 
 -- what a reply to words that the host asked for makes of the command
 abbrev pub worded : Eval → HostStep → Next → State → Tree
@@ -362,13 +386,13 @@ begin ev words k st = Ask (Begin words st.vars) st.left (λ r. begun_by ev words
 -- ---- commands of the language
 
 abbrev pub while_command : Eval → List ℕ → List (List ℕ) → Next → State → Tree
-while_command ev name (test ∷ body ∷ []) k st = on_said (tree_of test) k (λ t st. loop ev t (commands body) None k st) st
+while_command ev name (test ∷ body ∷ []) k st = on_said (tree_of test) k (λ t st. loop ev t body None k st) st
 while_command ev name args k st = k Error (wrong_args name) st
 
 abbrev pub for_command : Eval → List ℕ → List (List ℕ) → Next → State → Tree
 for_command ev name (start ∷ test ∷ next ∷ body ∷ []) k st =
-    ev (commands start)
-    (on_ok (λ v st. on_said (tree_of test) k (λ t st. loop ev t (commands body) (Some (commands next)) k st) st) k) st
+    ev start
+    (on_ok (λ v st. on_said (tree_of test) k (λ t st. loop ev t body (Some next) k st) st) k) st
 for_command ev name args k st = k Error (wrong_args name) st
 
 -- no procedure has the name of a command of the language
@@ -381,8 +405,8 @@ proc_command name (new ∷ formals ∷ body ∷ []) k st = new_proc (verb_of new
 proc_command name args k st = k Error (wrong_args name) st
 
 abbrev pub catch_command : Eval → List ℕ → List (List ℕ) → Next → State → Tree
-catch_command ev name (script ∷ []) k st = ev (commands script) (caught None k) st
-catch_command ev name (script ∷ variable ∷ []) k st = ev (commands script) (caught (Some variable) k) st
+catch_command ev name (script ∷ []) k st = ev script (caught None k) st
+catch_command ev name (script ∷ variable ∷ []) k st = ev script (caught (Some variable) k) st
 catch_command ev name args k st = k Error (wrong_args name) st
 
 -- a command by its name and its arguments
@@ -391,11 +415,11 @@ invoked ev (Plain p) name args k st = after (plain p name args st.vars) k st
 invoked ev If name args k st = on_said (arms_of name args) k (λ a st. arms ev a.0 a.1 k st) st
 invoked ev While name args k st = while_command ev name args k st
 invoked ev For name args k st = for_command ev name args k st
-invoked ev Foreach name args k st = on_said (each_of name args) k (λ e st. each ev e.0.names e.0.left (commands e.1) k st) st
+invoked ev Foreach name args k st = on_said (each_of name args) k (λ e st. each ev e.0.names e.0.left e.1 k st) st
 invoked ev Proc name args k st = proc_command name args k st
 invoked ev Expr name args k st =
     on_said (expr_text name args) k (λ text st. on_said (tree_of text) k (λ t st. expression ev t k (λ v st. k Ok v st) st) st) st
-invoked ev EvalCommand name args k st = on_said (eval_text name args) k (λ text st. ev (commands text) k st) st
+invoked ev EvalCommand name args k st = on_said (eval_text name args) k (λ text st. ev text k st) st
 invoked ev Catch name args k st = catch_command ev name args k st
 invoked ev Exit name args k st = on_said (exit_status name args) k (λ n st. Over (Stopped (ending.Exit n)) st) st
 
@@ -413,13 +437,14 @@ invoke ev (name ∷ args) k st = named ev (verb_of name) name args k st
 abbrev pub command : Eval → List Spelled → Next → State → Tree
 command ev words k st = fill_words ev words [] k (λ words st. stepped st.left st (λ st. invoke ev words k st)) st
 
--- commands, one after another
-abbrev pub sequence : Eval → List Reading → Next → List ℕ → State → Tree
-sequence ev [] k last st = k Ok last st
-sequence ev (Malformed f ∷ rs) k last st = k Error (word_fault f) st
-sequence ev (Command words ∷ rs) k last st = command ev words (on_ok (λ v st. sequence ev rs k v st) k) st
+-- the commands of a script, one after another
+abbrev pub sequence : Eval → List ℕ → List Reading → Next → List ℕ → State → Tree
+sequence ev script [] k last st = k Ok last st
+sequence ev script (Malformed at f ∷ rs) k last st = k Error (word_fault f) (passed (origin.Command script at) st)
+sequence ev script (Command at words ∷ rs) k last st =
+    command ev words (on_ok (λ v st. sequence ev script rs k v st) (noting (origin.Command script at) k)) st
 
 -- a script, with so many levels of scripts left
 abbrev pub eval : ℕ → Eval
 eval zero script k st = k Error too_deep st
-eval (suc depth) script k st = sequence (eval depth) script k [] st
+eval (suc depth) script k st = sequence (eval depth) script (commands script) k [] st

@@ -13,17 +13,18 @@ use Rattle.tcl_eval.specs.declared.frame.Turning.{Turning}
 use Rattle.tcl_eval.specs.declared.frame.Goal.{Goal}
 use Rattle.tcl_eval.specs.declared.frame.Goal.TheVariants.{Result as ResultGoal, Turn as TurnGoal, Arm}
 use Rattle.tcl_eval.specs.declared.frame.Frame.{Frame}
-use Rattle.tcl_eval.specs.declared.frame.Frame.TheVariants.{Onward as OnwardFrame, Catch, Turn, Each, Scope, HostBody}
+use Rattle.tcl_eval.specs.declared.frame.Frame.TheVariants.{Sequence, Onward as OnwardFrame, Catch, Turn, Each, Scope, HostBody}
 use Rattle.tcl_eval.specs.declared.frame.Onward.{Onward}
-use Rattle.tcl_eval.specs.declared.frame.Onward.TheVariants.{Seq, Fill, Operand, Arms, Next as NextTurn, Start}
+use Rattle.tcl_eval.specs.declared.frame.Onward.TheVariants.{Fill, Operand, Arms, Next as NextTurn, Start}
 use Rattle.tcl_eval.specs.declared.frame.Mode.{Mode}
 use Rattle.tcl_eval.specs.declared.frame.Mode.TheVariants.{Give, Invoke, Run, Begin, AfterWords, AfterBody, Define, Ended}
 use Rattle.tcl_eval.specs.declared.engine.Engine.{Engine}
+use Rattle.tcl_eval.specs.declared.trail.Origin.TheVariants as origin
 use Rattle.tcl_eval.specs.declared.meter.Meter.{Meter}
 use Rattle.tcl_eval.specs.Evaluated.{Evaluated, with_operand}
 use Rattle.tcl_eval.specs.Steps.{left_of}
 use Rattle.tcl_eval.specs.Tree.{Call, Begin as BeginCall, AfterWords as WordsCall, AfterBody as AfterCall, Knows, Resume, known_of, State, Tree, Over, Ask}
-use Rattle.tcl_eval.specs.Meaning.{Next, on_ok, on_said, tested, turn_end, stepped, fill_word, fill_parts, fill_words, spread, value_from, tree_of, arms, decided, advanced, turned, turns, loop, each, caught, scope_end, defined, after_script_by, next_body, after_body, worded_by, host_words, begun_by, invoke, sequence, eval}
+use Rattle.tcl_eval.specs.Meaning.{Next, noting, on_ok, on_said, tested, turn_end, stepped, fill_word, fill_parts, fill_words, spread, value_from, tree_of, arms, decided, advanced, turned, turns, loop, each, caught, scope_end, defined, after_script_by, next_body, after_body, worded_by, host_words, begun_by, invoke, sequence, eval}
 
 -- what follows the words
 abbrev pub then_rest : ℕ → Then → Next → List (List ℕ) → State → Tree
@@ -39,7 +40,7 @@ abbrev pub goal_rest : ℕ → Goal → Next → List ℕ → State → Tree
 goal_rest depth ResultGoal k v st = k Ok v st
 goal_rest depth (TurnGoal t) k v st = tested v k (turns_left depth t k) st
 goal_rest depth (Arm body arms') k v st =
-    tested v k (λ b st. if b then eval depth (commands body) k st else arms (eval depth) arms'.0 arms'.1 k st) st
+    tested v k (λ b st. if b then eval depth body k st else arms (eval depth) arms'.0 arms'.1 k st) st
 
 -- an expression that was evaluated so far
 abbrev pub evaluated : ℕ → Evaluated → Goal → Next → State → Tree
@@ -51,7 +52,6 @@ looped depth t k st = turns (eval depth) t.test t.body t.next k t.bound st
 
 -- what goes on behind `Ok`
 abbrev pub onward_rest : Onward → Next → List ℕ → State → Tree
-onward_rest (Seq script next depth) k v st = sequence (eval depth) (drop next script) k v st
 onward_rest (Fill words next expand filler done to depth) k v st =
     fill_word (eval depth) (rest (given v filler) st.vars) k
     (λ v st. on_said (spread expand v done) k (λ done st. fill_words (eval depth) (drop next words) done k (then_rest depth to k) st) st) st
@@ -60,15 +60,17 @@ onward_rest (Operand evaluation filler goal depth) k v st =
 onward_rest (Arms arms' depth) k v st = arms (eval depth) arms'.0 arms'.1 k st
 onward_rest (NextTurn t depth) k v st = looped depth t k st
 onward_rest (Start test next body depth) k v st =
-    on_said (tree_of test) k (λ t st. loop (eval depth) t (commands body) (Some (commands next)) k st) st
+    on_said (tree_of test) k (λ t st. loop (eval depth) t body (Some next) k st) st
 
 -- what a frame does with the code and the value that it is handed
 abbrev pub frame_rest : Frame → Next → Next
+frame_rest (Sequence script at next depth) k =
+    on_ok (λ v st. sequence (eval depth) script (drop next (commands script)) k v st) (noting (origin.Command script at) k)
 frame_rest (OnwardFrame o) k = on_ok (onward_rest o k) k
 frame_rest (Catch name) k = caught name k
 frame_rest (Turn t depth) k = turn_end k (λ st. advanced (eval depth) t.next k (λ st. looped depth t k st) st)
 frame_rest (Each groups body depth) k = turn_end k (λ st. each (eval depth) groups.names groups.left body k st)
-frame_rest Scope k = scope_end k
+frame_rest (Scope words) k = scope_end words k
 frame_rest (HostBody bound depth) k = after_body (eval depth) k bound
 
 -- what the frames do, the top first; below the last the run is over
@@ -102,7 +104,7 @@ mode_rest (Define name formals body) k st = Ask (Knows name) st.left (λ r. defi
 mode_rest (Ended end) k st = Over end st
 
 abbrev pub state_of : Engine → ℕ → State
-state_of m left = record { vars = m.vars; procs = m.procs; left = left }
+state_of m left = record { vars = m.vars; procs = m.procs; left = left; trail = m.trail }
 
 -- what is left of a run, where the meter has so many steps left and this is next
 abbrev pub engine_rest : Engine → ℕ → Mode → Tree

@@ -7,6 +7,7 @@ use Rattle.tcl_eval.specs.declared.host.HostStep.{HostStep}
 use Rattle.tcl_eval.specs.declared.host.HostStep.TheVariants.{Done, Fail, Body, Words, Wait, Stop, Unknown, Memory}
 use Rattle.tcl_eval.specs.declared.frame.End.{End}
 use Rattle.tcl_eval.specs.declared.procedure.Procedure.{Procedure}
+use Rattle.tcl_eval.specs.declared.trail.Origin.{Origin}
 
 -- a call of the host, with the variables that it is lent
 pub data Call : Type 0 where
@@ -35,11 +36,12 @@ abbrev pub known_of : Reply → Bool
 known_of (Stepped step vars) = true
 known_of (Known b) = b
 
--- the variables, the procedures and the steps left
+-- the variables, the procedures, the steps left, and what handed on the error that is under way, the innermost first
 pub record State : Type 0 where
   pub vars : Variables
   pub procs : Entries Procedure
   pub left : ℕ
+  pub trail : List Origin
 
 -- Either it is over, by this end, with this state; or this call is needed, with so many steps left, and what follows depends on the reply.
 pub data Tree : Type 0 where

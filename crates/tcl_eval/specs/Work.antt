@@ -18,17 +18,18 @@ use Rattle.tcl_eval.specs.declared.frame.Then.TheVariants.{Command, List as Host
 use Rattle.tcl_eval.specs.declared.frame.Goal.{Goal}
 use Rattle.tcl_eval.specs.declared.frame.Goal.TheVariants.{Result as ResultGoal, Turn as TurnGoal, Arm}
 use Rattle.tcl_eval.specs.declared.frame.Frame.{Frame}
-use Rattle.tcl_eval.specs.declared.frame.Frame.TheVariants.{Onward as OnwardFrame, Catch, Turn, Each, Scope, HostBody}
+use Rattle.tcl_eval.specs.declared.frame.Frame.TheVariants.{Sequence, Onward as OnwardFrame, Catch, Turn, Each, Scope, HostBody}
 use Rattle.tcl_eval.specs.declared.frame.Onward.{Onward}
-use Rattle.tcl_eval.specs.declared.frame.Onward.TheVariants.{Seq, Fill, Operand, Arms, Next as NextTurn, Start}
+use Rattle.tcl_eval.specs.declared.frame.Onward.TheVariants.{Fill, Operand, Arms, Next as NextTurn, Start}
 use Rattle.tcl_eval.specs.declared.frame.Mode.{Mode}
 use Rattle.tcl_eval.specs.declared.frame.Mode.TheVariants.{Give, Invoke, Run, Begin, AfterWords, AfterBody, Define, Ended}
 use Rattle.tcl_eval.specs.declared.engine.Engine.{Engine}
+use Rattle.tcl_eval.specs.declared.trail.Origin.TheVariants as origin
 use Rattle.tcl_eval.specs.declared.meter.Meter.{Meter}
 use Rattle.tcl_eval.specs.Evaluated.{Evaluated, with_operand}
 use Rattle.tcl_eval.specs.Steps.{left_of}
 use Rattle.tcl_eval.specs.Tree.{State}
-use Rattle.tcl_eval.specs.Meaning.{To, after, on_ok, on_said, tested, turn_end, fill_word, value_from, spread, tree_of, caught, scope_end}
+use Rattle.tcl_eval.specs.Meaning.{To, passed, noting, after, on_ok, on_said, tested, turn_end, fill_word, value_from, spread, tree_of, caught, scope_end}
 use Rattle.tcl_eval.specs.Rest.{state_of}
 
 -- so many transitions
@@ -44,7 +45,7 @@ abbrev pub Work : Type 0
 Work = To Ticks
 
 abbrev pub EvalWork : Type 0
-EvalWork = List Reading → Work → State → Ticks
+EvalWork = List ℕ → Work → State → Ticks
 
 -- a frame is handed the code in one transition
 abbrev pub one_more : Work → Work
@@ -69,13 +70,13 @@ condition_work ev t k go st = value_work ev t [] k (λ v vs st. tested v k go st
 
 abbrev pub otherwise_work : EvalWork → Option (List ℕ) → Work → State → Ticks
 otherwise_work ev None k st = k Ok [] st
-otherwise_work ev (Some body) k st = ev (commands body) k st
+otherwise_work ev (Some body) k st = ev body k st
 
 abbrev pub arms_work : EvalWork → List (List ℕ × List ℕ) → Option (List ℕ) → Work → State → Ticks
 arms_work ev [] other k st = otherwise_work ev other k st
 arms_work ev (a ∷ more) other k st =
     on_said (tree_of a.0) k
-    (λ t st. condition_work ev t k (λ b st. if b then ev (commands a.1) k st else Tick (arms_work ev more other k st)) st) st
+    (λ t st. condition_work ev t k (λ b st. if b then ev a.1 k st else Tick (arms_work ev more other k st)) st) st
 
 abbrev pub decided_work : Bool → Work → State → Ticks
 decided_work false k st = k Ok [] st
@@ -90,7 +91,7 @@ abbrev pub goal_work : EvalWork → Goal → Work → List ℕ → State → Tic
 goal_work ev ResultGoal k v st = k Ok v st
 goal_work ev (TurnGoal t) k v st = tested v k (λ b st. decided_work b k st) st
 goal_work ev (Arm body arms) k v st =
-    tested v k (λ b st. if b then ev (commands body) k st else Tick (arms_work ev arms.0 arms.1 k st)) st
+    tested v k (λ b st. if b then ev body k st else Tick (arms_work ev arms.0 arms.1 k st)) st
 
 abbrev pub evaluated_work : EvalWork → Evaluated → Goal → Work → State → Ticks
 evaluated_work ev e goal k st = value_work ev e.tree e.given k (λ v vs st. goal_work ev goal k v st) st
@@ -98,7 +99,7 @@ evaluated_work ev e goal k st = value_work ev e.tree e.given k (λ v vs st. goal
 abbrev pub loop_work : EvalWork → Expression → Work → State → Ticks
 loop_work ev test k st = condition_work ev test k (λ b st. decided_work b k st) st
 
-abbrev pub next_work : EvalWork → Option (List Reading) → Work → (State → Ticks) → State → Ticks
+abbrev pub next_work : EvalWork → Option (List ℕ) → Work → (State → Ticks) → State → Ticks
 next_work ev None k more st = more st
 next_work ev (Some next) k more st = ev next (one_more (on_ok (λ v st. more st) k)) st
 
@@ -113,17 +114,17 @@ each_work names (es ∷ left) k st = stepped_work st.left st (λ st. after (assi
 abbrev pub command_work : EvalWork → List Spelled → Work → State → Ticks
 command_work ev words k st = words_work ev words [] k (then_work Command k) st
 
-abbrev pub sequence_work : EvalWork → List Reading → Work → List ℕ → State → Ticks
-sequence_work ev [] k last st = k Ok last st
-sequence_work ev (Malformed f ∷ rs) k last st = k Error (word_fault f) st
-sequence_work ev (Words words ∷ rs) k last st = command_work ev words (one_more (on_ok (λ v st. sequence_work ev rs k v st) k)) st
+abbrev pub sequence_work : EvalWork → List ℕ → List Reading → Work → List ℕ → State → Ticks
+sequence_work ev script [] k last st = k Ok last st
+sequence_work ev script (Malformed at f ∷ rs) k last st = k Error (word_fault f) (passed (origin.Command script at) st)
+sequence_work ev script (Words at words ∷ rs) k last st =
+    command_work ev words (one_more (on_ok (λ v st. sequence_work ev script rs k v st) (noting (origin.Command script at) k))) st
 
 abbrev pub eval_work : ℕ → EvalWork
 eval_work zero script k st = k Error too_deep st
-eval_work (suc depth) script k st = Tick (sequence_work (eval_work depth) script k [] st)
+eval_work (suc depth) script k st = Tick (sequence_work (eval_work depth) script (commands script) k [] st)
 
 abbrev pub onward_work : Onward → Work → List ℕ → State → Ticks
-onward_work (Seq script next depth) k v st = sequence_work (eval_work depth) (drop next script) k v st
 onward_work (Fill words next expand filler done to depth) k v st =
     word_work (eval_work depth) (rest (given v filler) st.vars) k
     (λ v st. on_said (spread expand v done) k (λ done st. words_work (eval_work depth) (drop next words) done k (then_work to k) st) st) st
@@ -135,11 +136,13 @@ onward_work (NextTurn t depth) k v st = loop_work (eval_work depth) t.test k st
 onward_work (Start test next body depth) k v st = on_said (tree_of test) k (λ t st. loop_work (eval_work depth) t k st) st
 
 abbrev pub frame_work : Frame → Work → Work
+frame_work (Sequence script at next depth) k =
+    on_ok (λ v st. sequence_work (eval_work depth) script (drop next (commands script)) k v st) (noting (origin.Command script at) k)
 frame_work (OnwardFrame o) k = on_ok (onward_work o k) k
 frame_work (Catch name) k = caught name k
 frame_work (Turn t depth) k = turn_end k (λ st. next_work (eval_work depth) t.next k (λ st. loop_work (eval_work depth) t.test k st) st)
 frame_work (Each groups body depth) k = turn_end k (λ st. each_work groups.names groups.left k st)
-frame_work Scope k = scope_end k
+frame_work (Scope words) k = scope_end words k
 frame_work (HostBody bound depth) k = λ c v st. Now
 
 abbrev pub frames_work : List Frame → Work

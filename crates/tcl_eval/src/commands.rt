@@ -1,7 +1,6 @@
 //! Commands whose words are filled.
 
 ghost use Rattle.std.specs.Prelude.{◌≡◌, ◌+◌, ◌<◌, ◌≤◌, ◌*◌, ◌∷◌, [], Some, IfOk};
-ghost use Rattle.tcl_scripts.specs.Commands.{commands};
 ghost use Rattle.tcl_commands.specs.Texts.{wrong_args};
 ghost use Rattle.tcl_eval.specs.Steps.{left_of};
 ghost use Rattle.tcl_eval.specs.Meaning.{eval, invoke, invoked, while_command, for_command, proc_command, catch_command, on_ok, on_said, tree_of, loop as loop_of, new_proc};
@@ -13,7 +12,7 @@ ghost use Rattle.tcl_eval.specs.Rest.{AnyRestIs, RestIs};
 ghost use Rattle.tcl_eval.specs.Work.{bodies, credit, potential};
 
 use crate::ending::Ending;
-use crate::engine::Engine;
+use crate::engine::{Engine, script_of};
 use crate::exprs::read_test;
 use crate::frame::{End, Frame, Goal, Mode, Onward};
 use crate::meter::Meter;
@@ -126,7 +125,7 @@ impl Engine {
         };
         match said(self.alloc, read_test(self.alloc, test))? {
             Ok(test) => {
-                let body = Script::read(self.alloc, body.as_slice())?;
+                let body = Script::read(self.alloc, body.shared(self.alloc)?)?;
                 self.begin_loop(meter, test, body, None, depth)
             }
             Err(text) => Ok(Mode::Give(Code::Error, text)),
@@ -153,10 +152,10 @@ impl Engine {
         body: &Value,
         depth: u32,
     ) -> Result<Mode, AllocError>
-        ensures rest { AnyRestIs self.old result self.new (λ k st. eval depth (commands start.now) (on_ok (λ v st. on_said (tree_of test.now) k (λ t st. loop_of (eval depth) t (commands body.now) (Some (commands next.now)) k st) st) k) st) }
+        ensures rest { AnyRestIs self.old result self.new (λ k st. eval depth start.now (on_ok (λ v st. on_said (tree_of test.now) k (λ t st. loop_of (eval depth) t body.now (Some next.now) k st) st) k) st) }
         ensures potential { IfOk result (λ mode. bodies self.new.stack + credit mode ≤ bodies self.old.stack + 1) }
     {
-        let script = Script::read(self.alloc, start.as_slice())?;
+        let script = script_of(self.alloc, start)?;
         let test = test.shared(self.alloc)?;
         let next = next.shared(self.alloc)?;
         let body = body.shared(self.alloc)?;
@@ -183,7 +182,7 @@ impl Engine {
     {
         match said(self.alloc, each_of(self.alloc, name, args))? {
             Ok((groups, body)) => {
-                let body = Script::read(self.alloc, body.as_slice())?;
+                let body = Script::read(self.alloc, body)?;
                 self.each(meter, groups, body, depth)
             }
             Err(text) => Ok(Mode::Give(Code::Error, text)),
@@ -249,7 +248,7 @@ impl Engine {
     {
         match said(self.alloc, eval_text(self.alloc, name, args))? {
             Ok(text) => {
-                let script = Script::read(self.alloc, text.as_slice())?;
+                let script = Script::read(self.alloc, text)?;
                 Ok(Mode::Run { script, depth })
             }
             Err(text) => Ok(Mode::Give(Code::Error, text)),
@@ -268,7 +267,7 @@ impl Engine {
                 return self.wrong(name);
             }
         };
-        let script = Script::read(self.alloc, script.as_slice())?;
+        let script = Script::read(self.alloc, script.shared(self.alloc)?)?;
         self.stack.push(Frame::Catch { name: variable })?;
         Ok(Mode::Run { script, depth })
     }

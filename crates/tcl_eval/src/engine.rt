@@ -3,7 +3,7 @@
 ghost use Rattle.std.specs.Prelude.{◌≡◌, ◌+◌, ◌≤◌, ◌*◌, ◌∷◌, drop, IfOk};
 ghost use Rattle.tcl_scripts.specs.Commands.{commands};
 ghost use Rattle.tcl_eval.specs.Steps.{left_of};
-ghost use Rattle.tcl_eval.specs.Meaning.{eval, command, on_ok, sequence};
+ghost use Rattle.tcl_eval.specs.Meaning.{eval, command, noting, on_ok, passed, sequence};
 ghost use Rattle.tcl_eval.specs.Rest.{onward_rest, frame_rest, state_of, AnyRestIs, RestIs};
 ghost use Rattle.tcl_eval.specs.Work.{engine_work, onward_work, frame_work, frames_work, eval_work, command_work, sequence_work, one_more, Tick, onward_weight, bodies, credit, potential, again, AnyWorkIs, WorkIs};
 
@@ -11,6 +11,7 @@ use crate::frame::{End, Frame, Mode, Onward, Then};
 use crate::meter::Meter;
 use crate::pile::Pile;
 use crate::procedure::Procedure;
+use crate::trail::{Origin, Trail};
 use crate::values::Values;
 use std::alloc::{AllocError, Global};
 use tcl_commands::{Code, too_deep, word_fault};
@@ -29,6 +30,15 @@ pub struct Engine {
     pub vars: Vars,
     /// The procedures.
     pub(crate) procs: Names<Procedure>,
+    /// What handed on the error that is under way.
+    pub(crate) trail: Trail,
+}
+
+/// The script that a text is, whose owner keeps it.
+pub(crate) fn script_of(alloc: Global, text: &Value) -> Result<Script, AllocError>
+    ensures { IfOk result (λ s. s ≡ text.now) }
+{
+    Script::read(alloc, text.shared(alloc)?)
 }
 
 impl Engine {
@@ -48,22 +58,33 @@ impl Engine {
         if depth == 0 {
             return Ok(Mode::Give(Code::Error, self.value(too_deep())?));
         }
-        self.stack.push(Frame::Onward(Onward::Seq {
+        self.stack.push(Frame::Sequence {
             script,
+            at: 0,
             next: 0,
             depth: depth - 1,
-        }))?;
+        })?;
         Ok(Mode::Give(Code::Ok, Value::new(self.alloc)))
     }
 
     /// Starts the script that a text is.
-    pub(crate) fn start_text(&mut self, text: &[u8], depth: u32) -> Result<Mode, AllocError>
-        ensures rest { AnyRestIs self.old result self.new (λ k st. eval depth (commands text.now) k st) }
-        ensures work { AnyWorkIs self.old result self.new (λ k st. eval_work depth (commands text.now) k st) }
+    pub(crate) fn start_text(&mut self, text: Value, depth: u32) -> Result<Mode, AllocError>
+        ensures rest { AnyRestIs self.old result self.new (λ k st. eval depth text k st) }
+        ensures work { AnyWorkIs self.old result self.new (λ k st. eval_work depth text k st) }
         ensures potential { IfOk result (λ mode. bodies self.new.stack + credit mode ≤ bodies self.old.stack) }
     {
         let script = Script::read(self.alloc, text)?;
         self.start(script, depth)
+    }
+
+    /// Hands an error on, and notes by what.
+    pub(crate) fn hand_on(&mut self, origin: Origin, text: Value) -> Result<Mode, AllocError>
+        ensures rest { AnyRestIs self.old result self.new (λ k st. k Code.Error text (passed origin st)) }
+        ensures work { AnyWorkIs self.old result self.new (λ k st. k Code.Error text (passed origin st)) }
+        ensures potential { IfOk result (λ mode. bodies self.new.stack + credit mode ≤ bodies self.old.stack) }
+    {
+        self.trail.push(origin)?;
+        Ok(Mode::Give(Code::Error, text))
     }
 
     /// Goes on with a script, behind a command with this value.
@@ -75,45 +96,49 @@ impl Engine {
         depth: u32,
         value: Value,
     ) -> Result<Mode, AllocError>
-        ensures rest { RestIs self.old meter.old result self.new meter.new (λ k st. sequence (eval depth) (drop next script) k value st) }
-        ensures work { WorkIs self.old meter.old result self.new meter.new (λ k st. sequence_work (eval_work depth) (drop next script) k value st) }
+        ensures rest { RestIs self.old meter.old result self.new meter.new (λ k st. sequence (eval depth) script (drop next (commands script)) k value st) }
+        ensures work { WorkIs self.old meter.old result self.new meter.new (λ k st. sequence_work (eval_work depth) script (drop next (commands script)) k value st) }
         ensures potential { IfOk result (λ mode. potential self.new (left_of meter.new) mode ≤ 8 * left_of meter.old + bodies self.old.stack) }
         ensures bound { meter.new.bound ≡ meter.old.bound }
     {
         match script.next(next) {
             None => Ok(Mode::Give(Code::Ok, value)),
-            Some((Reading::Malformed(fault), _)) => {
-                Ok(Mode::Give(Code::Error, self.value(word_fault(*fault))?))
+            Some((Reading::Malformed { at, fault }, _)) => {
+                let at = *at;
+                let text = self.value(word_fault(*fault))?;
+                self.hand_on(Origin::Command { script, at }, text)
             }
-            Some((Reading::Command(words), to)) => {
+            Some((Reading::Command { at, words }, to)) => {
                 drop(value);
-                let mode = self.begin_command(meter, words, &script, to, depth)?;
+                let mode = self.begin_command(meter, words, &script, *at, to, depth)?;
                 Ok(mode)
             }
         }
     }
 
-    /// Begins to fill the words of a command, and goes on behind it with the script from a place on.
+    /// Begins to fill the words of a command that was read from a place of a script on, and goes on behind it with the next one.
     fn begin_command(
         &mut self,
         meter: &mut Meter,
         words: &Words,
         script: &Script,
+        at: usize,
         next: usize,
         depth: u32,
     ) -> Result<Mode, AllocError>
-        ensures rest { RestIs self.old meter.old result self.new meter.new (λ k st. command (eval depth) words.now (on_ok (sequence (eval depth) (drop next script.now) k) k) st) }
-        ensures work { WorkIs self.old meter.old result self.new meter.new (λ k st. command_work (eval_work depth) words.now (one_more (on_ok (sequence_work (eval_work depth) (drop next script.now) k) k)) st) }
+        ensures rest { RestIs self.old meter.old result self.new meter.new (λ k st. command (eval depth) words.now (on_ok (sequence (eval depth) script.now (drop next (commands script.now)) k) (noting (Origin.Command script.now at) k)) st) }
+        ensures work { WorkIs self.old meter.old result self.new meter.new (λ k st. command_work (eval_work depth) words.now (one_more (on_ok (sequence_work (eval_work depth) script.now (drop next (commands script.now)) k) (noting (Origin.Command script.now at) k))) st) }
         ensures potential { IfOk result (λ mode. potential self.new (left_of meter.new) mode ≤ 8 * left_of meter.old + bodies self.old.stack) }
         ensures bound { meter.new.bound ≡ meter.old.bound }
     {
         let words = words.shared()?;
         let script = script.shared()?;
-        self.stack.push(Frame::Onward(Onward::Seq {
+        self.stack.push(Frame::Sequence {
             script,
+            at,
             next,
             depth,
-        }))?;
+        })?;
         let done = Values::new(self.alloc);
         let mode = self.fill(meter, words, 0, done, Then::Command, depth)?;
         Ok(mode)
@@ -151,6 +176,12 @@ impl Engine {
         ensures bound { meter.new.bound ≡ meter.old.bound }
     {
         match frame {
+            Frame::Sequence {
+                script,
+                at,
+                next,
+                depth,
+            } => self.command_end(meter, script, at, next, depth, code, value),
             Frame::Onward(onward) => self.on_ok(meter, onward, code, value),
             Frame::Catch { name } => self.caught(name, code, value),
             Frame::Turn { turning, depth } => self.turn_end(meter, turning, depth, code, value),
@@ -159,7 +190,7 @@ impl Engine {
                 body,
                 depth,
             } => self.each_end(meter, groups, body, depth, code, value),
-            Frame::Scope => self.scope_end(code, value),
+            Frame::Scope { words } => self.scope_end(words, code, value),
             Frame::HostBody { bound, depth } => Ok(Mode::AfterBody {
                 code,
                 value,
@@ -167,6 +198,32 @@ impl Engine {
                 depth,
                 resumed: false,
             }),
+        }
+    }
+
+    /// Goes on behind a command that was read from a place of a script on, and notes that it handed on an error.
+    fn command_end(
+        &mut self,
+        meter: &mut Meter,
+        script: Script,
+        at: usize,
+        next: usize,
+        depth: u32,
+        code: Code,
+        value: Value,
+    ) -> Result<Mode, AllocError>
+        ensures rest { RestIs self.old meter.old result self.new meter.new (λ k st. on_ok (sequence (eval depth) script (drop next (commands script)) k) (noting (Origin.Command script at) k) code value st) }
+        ensures work { WorkIs self.old meter.old result self.new meter.new (λ k st. on_ok (sequence_work (eval_work depth) script (drop next (commands script)) k) (noting (Origin.Command script at) k) code value st) }
+        ensures potential { IfOk result (λ mode. potential self.new (left_of meter.new) mode ≤ 8 * left_of meter.old + bodies self.old.stack + again code) }
+        ensures bound { meter.new.bound ≡ meter.old.bound }
+    {
+        match code {
+            Code::Ok => self.go_on(meter, script, next, depth, value),
+            Code::Error => self.hand_on(Origin::Command { script, at }, value),
+            _ => {
+                drop(script);
+                Ok(Mode::Give(code, value))
+            }
         }
     }
 
@@ -205,11 +262,6 @@ impl Engine {
         ensures bound { meter.new.bound ≡ meter.old.bound }
     {
         match onward {
-            Onward::Seq {
-                script,
-                next,
-                depth,
-            } => self.go_on(meter, script, next, depth, value),
             Onward::Fill {
                 words,
                 next,

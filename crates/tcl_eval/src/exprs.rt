@@ -173,7 +173,7 @@ impl Engine {
             goal,
             depth,
         }))?;
-        let mode = self.start_text(text?.as_slice(), depth)?;
+        let mode = self.start_text(text?, depth)?;
         Ok(mode)
     }
 
@@ -211,7 +211,10 @@ impl Engine {
         ensures bound { meter.new.bound ≡ meter.old.bound }
     {
         match read_truth(value.as_slice()) {
-            None => self.no_truth(value),
+            None => {
+                drop(turning);
+                self.no_truth(value)
+            }
             Some(holds) => self.turn_or_end(meter, turning, holds, depth),
         }
     }
@@ -230,7 +233,7 @@ impl Engine {
     {
         match read_truth(value.as_slice()) {
             None => self.no_truth(value),
-            Some(true) => self.start_text(body.as_slice(), depth),
+            Some(true) => self.start_text(body, depth),
             Some(false) => self.begin_arms(arms, depth),
         }
     }
@@ -311,7 +314,7 @@ impl Engine {
         match left.take() {
             None => match left.otherwise() {
                 None => Ok(Mode::Give(Code::Ok, Value::new(self.alloc))),
-                Some(body) => self.start_text(body.as_slice(), depth),
+                Some(body) => self.start_text(body, depth),
             },
             Some((test, body)) => {
                 let mode = self.arm(meter, test, Goal::Arm { body, arms: left }, depth)?;

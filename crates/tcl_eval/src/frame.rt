@@ -58,12 +58,6 @@ pub enum Goal {
 /// What is still to be done behind the code `Ok`.
 #[derive(Drop)]
 pub enum Onward {
-    /// The commands of a script from a place on.
-    Seq {
-        script: Script,
-        next: usize,
-        depth: u32,
-    },
     /// Words to be filled: the words and the place behind the current one, the current one, and the values that are done.
     Fill {
         words: Words,
@@ -103,6 +97,13 @@ pub enum Onward {
 /// What is still to be done with the code and the value of what stands above.
 #[derive(Drop)]
 pub enum Frame {
+    /// The end of a command that was read from a place of a script on, and the number of the one behind it.
+    Sequence {
+        script: Script,
+        at: usize,
+        next: usize,
+        depth: u32,
+    },
     /// It goes on at `Ok`, and hands any other code on.
     Onward(Onward),
     /// The end of a `catch`, and the variable that gets the value.
@@ -120,8 +121,10 @@ pub enum Frame {
         body: Script,
         depth: u32,
     },
-    /// The end of a procedure.
-    Scope,
+    /// The end of a procedure that these words called.
+    Scope {
+        words: Values,
+    },
     /// The end of a script that the host asked for, with at most so many more.
     HostBody {
         bound: u64,

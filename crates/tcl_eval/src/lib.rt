@@ -26,6 +26,7 @@ mod procedure;
 mod procs;
 mod reached;
 mod replies;
+mod trail;
 mod values;
 mod words;
 
@@ -37,4 +38,5 @@ pub use machine::{Machine, Pause};
 pub use meter::Meter;
 pub use pile::Pile;
 pub use tcl_commands::Code;
+pub use trail::{Origin, Trail};
 pub use values::Values;

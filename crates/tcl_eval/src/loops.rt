@@ -1,7 +1,6 @@
 //! Loops: `while`, `for` and `foreach`.
 
 ghost use Rattle.std.specs.Prelude.{◌≡◌, ◌+◌, ◌≤◌, ◌*◌, ◌∷◌, [], Some, IfOk};
-ghost use Rattle.tcl_scripts.specs.Commands.{commands};
 ghost use Rattle.tcl_eval.specs.Steps.{left_of};
 ghost use Rattle.tcl_eval.specs.Meaning.{eval, on_ok, turn_end, advanced, loop as loop_of, each, tree_of, on_said};
 ghost use Rattle.tcl_eval.specs.Rest.{looped, AnyRestIs, RestIs};
@@ -113,7 +112,7 @@ impl Engine {
         body: Value,
         depth: u32,
     ) -> Result<Mode, AllocError>
-        ensures rest { RestIs self.old meter.old result self.new meter.new (λ k st. on_said (tree_of test) k (λ t st. loop_of (eval depth) t (commands body) (Some (commands next)) k st) st) }
+        ensures rest { RestIs self.old meter.old result self.new meter.new (λ k st. on_said (tree_of test) k (λ t st. loop_of (eval depth) t body (Some next) k st) st) }
         ensures work { WorkIs self.old meter.old result self.new meter.new (λ k st. on_said (tree_of test) k (λ t st. loop_work (eval_work depth) t k st) st) }
         ensures potential { IfOk result (λ mode. potential self.new (left_of meter.new) mode ≤ 8 * left_of meter.old + bodies self.old.stack) }
         ensures bound { meter.new.bound ≡ meter.old.bound }
@@ -130,15 +129,15 @@ impl Engine {
         body: &Value,
         depth: u32,
     ) -> Result<Mode, AllocError>
-        ensures rest { RestIs self.old meter.old result self.new meter.new (λ k st. on_said (tree_of test.now) k (λ t st. loop_of (eval depth) t (commands body.now) (Some (commands next.now)) k st) st) }
+        ensures rest { RestIs self.old meter.old result self.new meter.new (λ k st. on_said (tree_of test.now) k (λ t st. loop_of (eval depth) t body.now (Some next.now) k st) st) }
         ensures work { WorkIs self.old meter.old result self.new meter.new (λ k st. on_said (tree_of test.now) k (λ t st. loop_work (eval_work depth) t k st) st) }
         ensures potential { IfOk result (λ mode. potential self.new (left_of meter.new) mode ≤ 8 * left_of meter.old + bodies self.old.stack) }
         ensures bound { meter.new.bound ≡ meter.old.bound }
     {
         match said(self.alloc, read_test(self.alloc, test))? {
             Ok(test) => {
-                let body = Script::read(self.alloc, body.as_slice())?;
-                let next = Script::read(self.alloc, next.as_slice())?;
+                let body = Script::read(self.alloc, body.shared(self.alloc)?)?;
+                let next = Script::read(self.alloc, next.shared(self.alloc)?)?;
                 self.begin_loop(meter, test, body, Some(next), depth)
             }
             Err(text) => Ok(Mode::Give(Code::Error, text)),

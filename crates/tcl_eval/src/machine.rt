@@ -1,7 +1,6 @@
 //! A machine that is run again.
 
 ghost use Rattle.std.specs.Prelude.{◌≡◌, ◌≢◌, ◌↔◌, ℕ, ◌+◌, List, IfOk, IsTrue, option_map, []};
-ghost use Rattle.tcl_scripts.specs.Commands.{commands};
 ghost use Rattle.tcl_eval.specs.Meaning.{eval};
 ghost use Rattle.tcl_eval.specs.Rest.{engine_rest};
 ghost use Rattle.tcl_eval.specs.Steps.{left_of};
@@ -14,6 +13,7 @@ use crate::frame::{End, Mode};
 use crate::host::Host;
 use crate::meter::Meter;
 use crate::pile::Pile;
+use crate::trail::{Origin, Trail};
 use std::alloc::{AllocError, Global};
 use std::marker::PhantomData;
 use std::mem;
@@ -50,23 +50,39 @@ pub struct Machine<H: Host> {
     host: PhantomData<H>,
 }
 
+/// What is kept, and what is done first, where a source is to be evaluated.
+#[derive(Drop)]
+struct Beginning {
+    engine: Engine,
+    mode: Mode,
+}
+
+/// The evaluation of a source is to begin.
+fn begin(alloc: Global, source: &[u8], vars: Vars, depth: u32) -> Result<Beginning, AllocError>
+    ensures { IfOk result (λ b. (left : ℕ) → engine_rest b.engine left b.mode ≡ eval depth source.now at_the_end (record { vars = vars; procs = []; left = left; trail = [] })) }
+{
+    let script = Script::read(alloc, Value::from_slice(alloc, source)?)?;
+    Ok(Beginning {
+        engine: Engine {
+            alloc,
+            stack: Pile::new(alloc),
+            vars,
+            procs: Names::new(alloc),
+            trail: Trail::new(alloc),
+        },
+        mode: Mode::Run { script, depth },
+    })
+}
+
 impl<H: Host> Machine<H> {
     /// A machine that is to evaluate a source, with these variables and no procedures.
     pub fn new(alloc: Global, source: &[u8], vars: Vars) -> Result<Machine<H>, AllocError>
-        ensures { IfOk result (λ m. (left : ℕ) → engine_rest m.engine left m.mode ≡ eval 200 (commands source.now) at_the_end (record { vars = vars; procs = []; left = left })) }
+        ensures { IfOk result (λ m. (left : ℕ) → engine_rest m.engine left m.mode ≡ eval 200 source.now at_the_end (record { vars = vars; procs = []; left = left; trail = [] })) }
     {
-        let script = Script::read(alloc, source)?;
+        let Beginning { engine, mode } = begin(alloc, source, vars, DEEPEST)?;
         Ok(Machine {
-            engine: Engine {
-                alloc,
-                stack: Pile::new(alloc),
-                vars,
-                procs: Names::new(alloc),
-            },
-            mode: Mode::Run {
-                script,
-                depth: DEEPEST,
-            },
+            engine,
+            mode,
             host: PhantomData,
         })
     }
@@ -76,6 +92,13 @@ impl<H: Host> Machine<H> {
         ensures { result.now ≡ self.now.engine.vars }
     {
         &self.engine.vars
+    }
+
+    /// What handed on the error that is under way, the innermost first: at the end of a script by an error, where that came from.
+    pub fn trail(&self) -> &[Origin]
+        ensures { result.now ≡ self.now.engine.trail }
+    {
+        self.engine.trail.as_slice()
     }
 
     /// How it ended, where it is over.
@@ -119,6 +142,19 @@ impl<H: Host> Machine<H> {
     /// copy of its text was refused. Behind `Memory` it is over.
     pub fn run(&mut self, host: &mut H, meter: &mut Meter) -> Pause
         ensures leads { result ≢ Pause.Memory → (replies : List Reply) × Leads H.answers replies (engine_rest self.old.engine (left_of meter.old) self.old.mode) host.old (engine_rest self.new.engine (left_of meter.new) self.new.mode) host.new × IsPauseOf result self.new.mode replies }
+        ensures shown { IsShownBy result self.new.mode }
+        ensures over { IsOver self.old.mode → self.new ≡ self.old }
+        ensures host { IsOver self.old.mode → host.new ≡ host.old }
+        ensures meter { IsOver self.old.mode → meter.new ≡ meter.old }
+        ensures bound { meter.new.bound ≡ meter.old.bound }
+        ensures counted { result ≢ Pause.Memory → meter.new.count + left_at (engine_rest self.new.engine (left_of meter.new) self.new.mode) ≡ meter.old.count + left_of meter.old }
+    {
+        self.run_over(host, meter)
+    }
+
+    /// Runs on as `run` does, over another host: such as one that carries out the same commands, and tells of them.
+    pub fn run_over<G: Host>(&mut self, host: &mut G, meter: &mut Meter) -> Pause
+        ensures leads { result ≢ Pause.Memory → (replies : List Reply) × Leads G.answers replies (engine_rest self.old.engine (left_of meter.old) self.old.mode) host.old (engine_rest self.new.engine (left_of meter.new) self.new.mode) host.new × IsPauseOf result self.new.mode replies }
         ensures shown { IsShownBy result self.new.mode }
         ensures over { IsOver self.old.mode → self.new ≡ self.old }
         ensures host { IsOver self.old.mode → host.new ≡ host.old }

@@ -2,14 +2,14 @@
 
 ghost use Rattle.std.specs.Prelude.{◌≡◌, ◌+◌, ◌≤◌, ◌*◌, ◌∷◌, [], drop, IfOk, ◌≢◌};
 ghost use Rattle.tcl_commands.specs.Texts.{quoted, not_set};
-ghost use Rattle.tcl_eval.specs.Meaning.{eval, caught, digit, scope_end, outside_loop, reserved, called, called_as, defined};
+ghost use Rattle.tcl_eval.specs.Meaning.{eval, caught, digit, invalid_name, scope_end, outside_loop, reserved, called, defined};
 ghost use Rattle.tcl_eval.specs.Rest.{AnyRestIs};
 ghost use Rattle.tcl_eval.specs.Work.{bodies, credit, again, AnyWorkIs};
-ghost use Rattle.tcl_subst.specs.Entries.{find};
 
 use crate::engine::Engine;
 use crate::frame::{Frame, Mode};
 use crate::procedure::Procedure;
+use crate::trail::Origin;
 use crate::values::Values;
 use std::alloc::{AllocError, Global};
 use tcl_commands::{Code, Complaint, enter, formals_of, not_set, quoted, said};
@@ -61,6 +61,7 @@ impl Engine {
         ensures work { AnyWorkIs self.old result self.new (λ k st. caught name k code value st) }
         ensures potential { IfOk result (λ mode. bodies self.new.stack + credit mode ≤ bodies self.old.stack) }
     {
+        self.trail.clear();
         let Some(name) = name else {
             return Ok(Mode::Give(Code::Ok, self.value(digit(code))?));
         };
@@ -73,22 +74,28 @@ impl Engine {
         }
     }
 
-    /// Goes on behind the body of a procedure.
-    pub(crate) fn scope_end(&mut self, code: Code, value: Value) -> Result<Mode, AllocError>
-        ensures rest { AnyRestIs self.old result self.new (λ k st. scope_end k code value st) }
-        ensures work { AnyWorkIs self.old result self.new (λ k st. scope_end k code value st) }
+    /// Goes on behind the body of a procedure that these words called.
+    pub(crate) fn scope_end(
+        &mut self,
+        words: Values,
+        code: Code,
+        value: Value,
+    ) -> Result<Mode, AllocError>
+        ensures rest { AnyRestIs self.old result self.new (λ k st. scope_end words k code value st) }
+        ensures work { AnyWorkIs self.old result self.new (λ k st. scope_end words k code value st) }
         ensures potential { IfOk result (λ mode. bodies self.new.stack + credit mode ≤ bodies self.old.stack + again code) }
     {
         self.leave();
         match code {
+            Code::Error => self.hand_on(Origin::Procedure { words }, value),
             Code::Return => Ok(Mode::Give(Code::Ok, value)),
             Code::Break => {
                 let text = outside_loop(self.alloc, b"break")?;
-                Ok(Mode::Give(Code::Error, text))
+                self.hand_on(Origin::Procedure { words }, text)
             }
             Code::Continue => {
                 let text = outside_loop(self.alloc, b"continue")?;
-                Ok(Mode::Give(Code::Error, text))
+                self.hand_on(Origin::Procedure { words }, text)
             }
             _ => Ok(Mode::Give(code, value)),
         }
@@ -103,6 +110,14 @@ impl Engine {
         }
     }
 
+    /// There is no procedure of a name.
+    fn no_procedure(&self, name: &[u8]) -> Result<Mode, AllocError>
+        ensures { IfOk result (λ mode. mode ≡ Mode.Give Code.Error (invalid_name name.now)) }
+    {
+        let text = named(self.alloc, b"invalid command name ", name)?;
+        Ok(Mode::Give(Code::Error, text))
+    }
+
     /// Calls the procedure of a name.
     pub(crate) fn call(&mut self, words: Values, depth: u32) -> Result<Mode, AllocError>
         ensures rest { AnyRestIs self.old result self.new (λ k st. called (eval depth) words k st) }
@@ -112,22 +127,14 @@ impl Engine {
             let text = named(self.alloc, b"invalid command name ", &[])?;
             return Ok(Mode::Give(Code::Error, text));
         };
-        self.call_as(name.as_slice(), args, depth)
-    }
-
-    /// Calls the procedure of a name with these arguments.
-    fn call_as(&mut self, name: &[u8], args: &[Value], depth: u32) -> Result<Mode, AllocError>
-        ensures rest { AnyRestIs self.old result self.new (λ k st. called_as (eval depth) (find name.now self.old.procs) name.now args.now k st) }
-        ensures potential { IfOk result (λ mode. bodies self.new.stack + credit mode ≤ bodies self.old.stack + 1) }
-    {
+        let name = name.as_slice();
         let Some(procedure) = self.procs.get(name) else {
-            let text = named(self.alloc, b"invalid command name ", name)?;
-            return Ok(Mode::Give(Code::Error, text));
+            return self.no_procedure(name);
         };
         let script = procedure.body.shared()?;
         match enter(self.alloc, name, &procedure.formals, args, &mut self.vars) {
             Ok(()) => {
-                self.stack.push(Frame::Scope)?;
+                self.stack.push(Frame::Scope { words })?;
                 Ok(Mode::Run { script, depth })
             }
             Err(Complaint::Said(text)) => {
@@ -169,7 +176,7 @@ impl Engine {
         }
         match said(self.alloc, formals_of(self.alloc, formals))? {
             Ok(formals) => {
-                let body = Script::read(self.alloc, body.as_slice())?;
+                let body = Script::read(self.alloc, body.shared(self.alloc)?)?;
                 let procedure = Procedure { formals, body };
                 self.procs.insert(self.alloc, name.as_slice(), procedure)?;
                 Ok(Mode::Give(Code::Ok, Value::new(self.alloc)))

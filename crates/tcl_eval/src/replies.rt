@@ -7,7 +7,6 @@ ghost use Rattle.tcl_eval.specs.Steps.{left_of};
 ghost use Rattle.tcl_eval.specs.Tree.{Stepped, follow};
 ghost use Rattle.tcl_eval.specs.Work.{potential, bodies, credit, again};
 ghost use Rattle.tcl_eval.specs.Meaning.{eval, after_body, begun, after_script, next_body};
-ghost use Rattle.tcl_scripts.specs.Commands.{commands};
 
 use crate::engine::Engine;
 use crate::frame::{Asked, End, Frame, Mode, Then};
@@ -31,27 +30,22 @@ pub(crate) fn on(mode: Mode) -> Asked
 
 impl Engine {
     /// Begins a script that the host asked for, with at most so many more.
-    fn host_body(&mut self, text: &Value, bound: u64, depth: u32) -> Result<Mode, AllocError>
-        ensures rest { AnyRestIs self.old result self.new (λ k st. eval depth (commands text.now) (after_body (eval depth) k bound) st) }
+    fn host_body(&mut self, text: Value, bound: u64, depth: u32) -> Result<Mode, AllocError>
+        ensures rest { AnyRestIs self.old result self.new (λ k st. eval depth text (after_body (eval depth) k bound) st) }
         ensures potential { IfOk result (λ mode. bodies self.new.stack + credit mode ≤ bodies self.old.stack + 4) }
     {
-        let script = Script::read(self.alloc, text.as_slice())?;
+        let script = Script::read(self.alloc, text)?;
         self.stack.push(Frame::HostBody { bound, depth })?;
         Ok(Mode::Run { script, depth })
     }
 
     /// Begins to fill the words of a text that the host asked for.
-    fn host_words(
-        &mut self,
-        meter: &mut Meter,
-        text: &Value,
-        depth: u32,
-    ) -> Result<Mode, AllocError>
-        ensures rest { RestIs self.old meter.old result self.new meter.new (λ k st. begun (eval depth) [] (HostStep.Words text.now) k st) }
+    fn host_words(&mut self, meter: &mut Meter, text: Value, depth: u32) -> Result<Mode, AllocError>
+        ensures rest { RestIs self.old meter.old result self.new meter.new (λ k st. begun (eval depth) [] (HostStep.Words text) k st) }
         ensures potential { IfOk result (λ mode. potential self.new (left_of meter.new) mode ≤ 8 * left_of meter.old + bodies self.old.stack + 5) }
         ensures bound { meter.new.bound ≡ meter.old.bound }
     {
-        let script = Script::read(self.alloc, text.as_slice())?;
+        let script = Script::read(self.alloc, text)?;
         let (words, fault) = script.all_words(self.alloc)?;
         let done = Values::new(self.alloc);
         let mode = self.fill(meter, words, 0, done, Then::List(fault), depth)?;
@@ -76,11 +70,11 @@ impl Engine {
             HostStep::Done(code, value) => Ok(on(Mode::Give(code, value))),
             HostStep::Fail(text) => Ok(on(Mode::Give(Code::Error, text))),
             HostStep::Body(text) => {
-                let mode = self.host_body(&text, meter.left(), depth)?;
+                let mode = self.host_body(text, meter.left(), depth)?;
                 Ok(on(mode))
             }
             HostStep::Words(text) => {
-                let mode = self.host_words(meter, &text, depth)?;
+                let mode = self.host_words(meter, text, depth)?;
                 Ok(on(mode))
             }
             HostStep::Wait => Ok(Asked {
@@ -117,7 +111,7 @@ impl Engine {
             HostStep::Done(code, value) => Ok(on(Mode::Give(code, value))),
             HostStep::Fail(text) => Ok(on(Mode::Give(Code::Error, text))),
             HostStep::Body(text) => {
-                let mode = self.host_body(&text, meter.left(), depth)?;
+                let mode = self.host_body(text, meter.left(), depth)?;
                 Ok(on(mode))
             }
             HostStep::Words(text) => Ok(on(Mode::Give(Code::Error, text))),
@@ -185,15 +179,15 @@ impl Engine {
         ensures potential { IfOk result (λ mode. bodies self.new.stack + credit mode < bodies self.old.stack + 3 + again code) }
     {
         match code {
-            Code::Again => self.next_body(&text, bound, depth),
-            Code::AgainLater => self.next_body(&text, bound, depth),
+            Code::Again => self.next_body(text, bound, depth),
+            Code::AgainLater => self.next_body(text, bound, depth),
             _ => Ok(Mode::Give(Code::Error, text)),
         }
     }
 
     /// One more script of the host, where one is left.
-    fn next_body(&mut self, text: &Value, bound: u64, depth: u32) -> Result<Mode, AllocError>
-        ensures rest { AnyRestIs self.old result self.new (λ k st. next_body (eval depth) k bound text.now st) }
+    fn next_body(&mut self, text: Value, bound: u64, depth: u32) -> Result<Mode, AllocError>
+        ensures rest { AnyRestIs self.old result self.new (λ k st. next_body (eval depth) k bound text st) }
         ensures potential { IfOk result (λ mode. bodies self.new.stack + credit mode ≤ bodies self.old.stack + 4) }
     {
         if bound == 0 {

@@ -182,7 +182,7 @@ impl Engine {
             then,
             depth,
         }))?;
-        let mode = self.start_text(text?.as_slice(), depth)?;
+        let mode = self.start_text(text?, depth)?;
         Ok(mode)
     }
 
@@ -283,12 +283,16 @@ pub(crate) fn resumed(
 }
 
 /// The text of the script that a filler needs.
-pub(crate) fn script_text(alloc: Global, filler: &Filler, number: usize) -> Result<Text, AllocError>
-    ensures { IfOk result (λ t. t ≡ unwrap_or (script_at number filler.now.steps) []) }
+pub(crate) fn script_text(
+    alloc: Global,
+    filler: &Filler,
+    number: usize,
+) -> Result<Value, AllocError>
+    ensures { IfOk result (λ v. v ≡ unwrap_or (script_at number filler.now.steps) []) }
 {
     match filler.recipe().script(number) {
-        None => Ok(Text::new(alloc)),
-        Some(text) => text.copied(alloc),
+        None => Ok(Value::new(alloc)),
+        Some(text) => Value::from_slice(alloc, text.as_slice()),
     }
 }
 

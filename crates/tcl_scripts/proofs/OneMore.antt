@@ -9,20 +9,20 @@ use Rattle.tcl_scripts.specs.declared.script.Reading.TheVariants.{Command, Malfo
 use Rattle.tcl_scripts.specs.Commands.{and_more, commands_within, commands}
 
 module _ (read all : List Reading) (source : List ℕ) (at : ℕ) where
-  on : (n : ℕ) → at ≤ length source → length source < n + at → all ≡ read ++ commands_within n source at → (r : Result (Option (List Spelled × ℕ)) WordFault) → next_command source at ≡ r → (m : ℕ) × (n ≡ suc m) × (all ≡ read ++ and_more r (λ next. commands_within m source next))
+  on : (n : ℕ) → at ≤ length source → length source < n + at → all ≡ read ++ commands_within n source at → (r : Result (Option (List Spelled × ℕ)) WordFault) → next_command source at ≡ r → (m : ℕ) × (n ≡ suc m) × (all ≡ read ++ and_more at r (λ next. commands_within m source next))
   on zero w l e r q = absurd (omega arith)
-  on (suc m) w l e r q = (m, refl, e ∙ ap (λ (r : Result (Option (List Spelled × ℕ)) WordFault). read ++ and_more r (λ next. commands_within m source next)) q)
+  on (suc m) w l e r q = (m, refl, e ∙ ap (λ (r : Result (Option (List Spelled × ℕ)) WordFault). read ++ and_more at r (λ next. commands_within m source next)) q)
 
-  pub one_more : (n : ℕ) → at ≤ length source → length source < n + at → all ≡ read ++ commands_within n source at → (words : List Spelled) (to : ℕ) → next_command source at ≡ Ok (Some (words, to)) → at < to → (m : ℕ) × (length source < m + to) × (all ≡ (read ++ Command words ∷ []) ++ commands_within m source to)
+  pub one_more : (n : ℕ) → at ≤ length source → length source < n + at → all ≡ read ++ commands_within n source at → (words : List Spelled) (to : ℕ) → next_command source at ≡ Ok (Some (words, to)) → at < to → (m : ℕ) × (length source < m + to) × (all ≡ (read ++ Command at words ∷ []) ++ commands_within m source to)
   one_more n w l e words to q lt =
       let o = on n w l e _ q in
       let s : n ≡ suc o.0 = o.1 in
-      (o.0, omega arith, o.2 ∙ sym (append_assoc read (Command words ∷ []) (commands_within o.0 source to)))
+      (o.0, omega arith, o.2 ∙ sym (append_assoc read (Command at words ∷ []) (commands_within o.0 source to)))
 
   pub no_more : (n : ℕ) → at ≤ length source → length source < n + at → all ≡ read ++ commands_within n source at → next_command source at ≡ Ok None → all ≡ read
   no_more n w l e q = let o = on n w l e _ q in o.2 ∙ append-nil read
 
-  pub malformed : (n : ℕ) → at ≤ length source → length source < n + at → all ≡ read ++ commands_within n source at → (f : WordFault) → next_command source at ≡ Err f → all ≡ read ++ Malformed f ∷ []
+  pub malformed : (n : ℕ) → at ≤ length source → length source < n + at → all ≡ read ++ commands_within n source at → (f : WordFault) → next_command source at ≡ Err f → all ≡ read ++ Malformed at f ∷ []
   malformed n w l e f q = let o = on n w l e _ q in o.2
 
 -- the bound at the start

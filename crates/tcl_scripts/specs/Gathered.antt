@@ -8,5 +8,5 @@ use Rattle.tcl_scripts.specs.declared.script.Reading.TheVariants.{Command, Malfo
 -- the words in order, up to a malformed command, and its fault
 abbrev pub all_words : List Reading → List Spelled × Option WordFault
 all_words [] = ([], None)
-all_words (Malformed f ∷ rs) = ([], Some f)
-all_words (Command words ∷ rs) = (words ++ (all_words rs).0, (all_words rs).1)
+all_words (Malformed at f ∷ rs) = ([], Some f)
+all_words (Command at words ∷ rs) = (words ++ (all_words rs).0, (all_words rs).1)

@@ -10,34 +10,40 @@ use crate::words::Words;
 use std::alloc::{AllocError, Global};
 use std::marker::Model;
 use std::rc::Rc;
+use tcl_values::Value;
 use tcl_words::{WordFault, next_command};
 
-/// What was read at a place of a script.
+/// What was read at a place of a script: behind the command before it.
 #[derive(Drop)]
 pub enum Reading {
     /// A command by its words, at least one.
-    Command(Words),
+    Command { at: usize, words: Words },
     /// A malformed command. It is the last that was read.
-    Malformed(WordFault),
+    Malformed { at: usize, fault: WordFault },
 }
 
-/// A script by its commands, shared. A contract sees the list of what was read.
+/// A text with its commands.
+#[derive(Drop)]
+pub struct ReadText {
+    text: Value,
+    readings: Vec<Reading>,
+}
+
+/// A script with its commands, shared. A contract sees its text.
 #[derive(Drop)]
 pub struct Script {
-    readings: Rc<Vec<Reading>>,
+    read: Rc<ReadText>,
 }
 
 impl Model for Script {
-    ghost use Rattle.std.specs.Prelude.{List};
-    ghost use Rattle.tcl_scripts.specs.declared.script.Reading.{Reading};
-    ghost use Rattle.std.specs.Coded.{codes};
-    ghost use Rattle.tcl_expr.specs.Codes.{coded_pieces};
+    ghost use Rattle.std.specs.Prelude.{◌≡◌, List, ℕ};
+    ghost use Rattle.tcl_scripts.specs.Commands.{commands};
 
-    ghost Value = { List Reading };
+    ghost Value = { List ℕ };
 
-    ghost coded = { Prim.hlevel (codes, coded_pieces) };
+    ghost view = { λ s. s.read.value.text };
 
-    ghost view = { λ s. s.readings.value.items };
+    ghost invariant = { λ s. s.read.value.readings.items ≡ commands s.read.value.text };
 }
 
 /// A fault that says something of the text.
@@ -56,43 +62,52 @@ fn told(fault: WordFault) -> Result<WordFault, AllocError>
     }
 }
 
-/// What was read, as a script.
-fn kept(alloc: Global, readings: Vec<Reading>) -> Result<Script, AllocError>
-    ensures { IfOk result (λ s. s ≡ readings.items) }
+/// The commands of a text, in time linear in its length but for brackets in one another.
+fn readings(alloc: Global, source: &[u8]) -> Result<Vec<Reading>, AllocError>
+    ensures { IfOk result (λ rs. rs.items ≡ commands source.now) }
 {
-    Ok(Script {
-        readings: Rc::new(alloc, readings)?,
-    })
+    let mut readings = Vec::new(alloc);
+    let mut at = 0;
+    'commands: loop {
+        match next_command(alloc, source, at) {
+            Ok(Some((command, to))) => {
+                let words = Words::new(alloc, command.words.as_slice())?;
+                readings.push(Reading::Command { at, words })?;
+                at = to;
+            }
+            Ok(None) => return Ok(readings),
+            Err(fault) => {
+                let fault = told(fault)?;
+                readings.push(Reading::Malformed { at, fault })?;
+                return Ok(readings);
+            }
+        }
+    }
 }
 
 impl Script {
-    /// The commands of a text, in time linear in its length but for brackets in one another.
-    pub fn read(alloc: Global, source: &[u8]) -> Result<Script, AllocError>
-        ensures { IfOk result (λ s. s ≡ commands source.now) }
+    /// A text with its commands, in time linear in its length but for brackets in one another.
+    pub fn read(alloc: Global, text: Value) -> Result<Script, AllocError>
+        ensures { IfOk result (λ s. s ≡ text) }
     {
-        let mut readings = Vec::new(alloc);
-        let mut at = 0;
-        'commands: loop {
-            match next_command(alloc, source, at) {
-                Ok(Some((command, to))) => {
-                    let words = Words::new(alloc, command.words.as_slice())?;
-                    readings.push(Reading::Command(words))?;
-                    at = to;
-                }
-                Ok(None) => return kept(alloc, readings),
-                Err(fault) => {
-                    readings.push(Reading::Malformed(told(fault)?))?;
-                    return kept(alloc, readings);
-                }
-            }
-        }
+        let readings = readings(alloc, text.as_slice())?;
+        Ok(Script {
+            read: Rc::new(alloc, ReadText { text, readings })?,
+        })
+    }
+
+    /// The text.
+    pub fn text(&self) -> &[u8]
+        ensures { result.now ≡ self.now }
+    {
+        self.read.text.as_slice()
     }
 
     /// What was read at a place, where anything was, and the place behind it.
     pub fn next(&self, at: usize) -> Option<(&Reading, usize)>
-        ensures { MatchOption result (drop at self.now ≡ []) (λ p. drop at self.now ≡ p.0.now ∷ drop p.1 self.now) }
+        ensures { MatchOption result (drop at (commands self.now) ≡ []) (λ p. drop at (commands self.now) ≡ p.0.now ∷ drop p.1 (commands self.now)) }
     {
-        match self.readings.get(at) {
+        match self.read.readings.get(at) {
             None => None,
             Some(reading) => Some((reading, at + 1)),
         }
@@ -100,17 +115,17 @@ impl Script {
 
     /// The words of all commands in order, up to a malformed one, and its fault.
     pub fn all_words(&self, alloc: Global) -> Result<(Words, Option<WordFault>), AllocError>
-        ensures { IfOk result (λ r. all_words self.now ≡ (r.0, r.1)) }
+        ensures { IfOk result (λ r. all_words (commands self.now) ≡ (r.0, r.1)) }
     {
         let mut list = Vec::new(alloc);
         let mut at = 0;
         'commands: loop {
             match self.next(at) {
                 None => return Ok((Words::of(alloc, list)?, None)),
-                Some((Reading::Malformed(fault), _)) => {
+                Some((Reading::Malformed { fault, .. }, _)) => {
                     return Ok((Words::of(alloc, list)?, Some(*fault)));
                 }
-                Some((Reading::Command(words), to)) => {
+                Some((Reading::Command { words, .. }, to)) => {
                     words.copy_to(&mut list)?;
                     at = to;
                 }
@@ -120,9 +135,9 @@ impl Script {
 
     /// How many commands were read, a malformed one with them.
     pub fn len(&self) -> usize
-        ensures { result ≡ length self.now }
+        ensures { result ≡ length (commands self.now) }
     {
-        self.readings.len()
+        self.read.readings.len()
     }
 
     /// The same script. Nothing is copied.
@@ -130,7 +145,7 @@ impl Script {
         ensures { IfOk result (λ s. s ≡ self.now) }
     {
         Ok(Script {
-            readings: self.readings.clone()?,
+            read: self.read.clone()?,
         })
     }
 }

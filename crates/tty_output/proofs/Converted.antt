@@ -61,10 +61,10 @@ plain_before (suc i) [] h = tt
 plain_before (suc i) (b ∷ bs) h = (is_false (b == 10 || b == 0) (h 0 (omega arith)), plain_before i bs (λ k lt. h (suc k) (omega (arith, lt))))
 
 -- what is seen up to such a byte, it and the others
-pub seen_to : (remove : Bool) (m : Modes) (out bytes rest : List ℕ) (i : ℕ) → i < length rest → ((k : ℕ) → k < i → (slice_index rest k == 10 || slice_index rest k == 0) ≡ true → ⊥) →
-    out ++ convert remove m rest ≡ convert remove m bytes →
-    ((out ++ take i rest) ++ convert remove m (slice_index rest i ∷ [])) ++ convert remove m (drop (i + 1) rest) ≡ convert remove m bytes
-seen_to remove m out bytes rest i lt none so =
+pub seen_to : (remove : Bool) (m : Modes) (out whole rest : List ℕ) (i : ℕ) → i < length rest → ((k : ℕ) → k < i → (slice_index rest k == 10 || slice_index rest k == 0) ≡ true → ⊥) →
+    out ++ convert remove m rest ≡ whole →
+    ((out ++ take i rest) ++ convert remove m (slice_index rest i ∷ [])) ++ convert remove m (drop (i + 1) rest) ≡ whole
+seen_to remove m out whole rest i lt none so =
     let b = slice_index rest i in
     let behind = drop (i + 1) rest in
     let around : rest ≡ take i rest ++ b ∷ behind = sym (take-append-drop i rest) ∙ ap (λ (r : List ℕ). take i rest ++ r) (drop_more rest i 0 lt) in
@@ -78,9 +78,9 @@ seen_to remove m out bytes rest i lt none so =
     ∙ so
 
 -- or to the end
-pub seen_all : (remove : Bool) (m : Modes) (out bytes rest : List ℕ) → ((k : ℕ) → k < length rest → (slice_index rest k == 10 || slice_index rest k == 0) ≡ true → ⊥) →
-    out ++ convert remove m rest ≡ convert remove m bytes → out ++ rest ≡ convert remove m bytes
-seen_all remove m out bytes rest none so =
+pub seen_all : (remove : Bool) (m : Modes) (out whole rest : List ℕ) → ((k : ℕ) → k < length rest → (slice_index rest k == 10 || slice_index rest k == 0) ≡ true → ⊥) →
+    out ++ convert remove m rest ≡ whole → out ++ rest ≡ whole
+seen_all remove m out whole rest none so =
     let all : take (length rest) rest ≡ rest = take_all (length rest) rest (omega arith) in
     let plain : AllByRecursion IsPlain rest = subst (AllByRecursion IsPlain) all (plain_before (length rest) rest none) in
     ap (λ (seen : List ℕ). out ++ seen) (

@@ -7,4 +7,4 @@ mod modes;
 mod output;
 
 pub use modes::{BadMode, Modes};
-pub use output::convert;
+pub use output::{convert, convert_behind};

@@ -40,17 +40,46 @@ fn most_seen(modes: Modes, bytes: &[u8]) -> usize {
     bytes.len().saturating_add(newlines)
 }
 
-/// Output as it is seen: without NUL bytes where they are removed, and with a carriage return before each newline where `opost` and `onlcr` are on.
-pub fn convert(alloc: Global, remove: bool, modes: Modes, bytes: &[u8]) -> Result<Text, AllocError>
-    ensures { IfOk result (λ t. t ≡ convert remove modes bytes.now) }
+/// Puts output at the end as it is seen.
+fn put_converted(
+    out: &mut Vec<u8>,
+    remove: bool,
+    modes: Modes,
+    bytes: &[u8],
+) -> Result<(), AllocError>
+    ensures { OnOk result (out.new.items ≡ out.old.items ++ convert remove modes bytes.now) }
 {
-    let mut out = Vec::with_capacity(alloc, most_seen(modes, bytes))?;
     let mut rest = bytes;
     'pieces: while let Some(at) = memchr2(b'\n', 0, rest) {
         out.extend_from_slice(&rest[..at])?;
-        push_converted(&mut out, remove, modes, rest[at])?;
+        push_converted(out, remove, modes, rest[at])?;
         rest = &rest[at + 1..];
     }
     out.extend_from_slice(rest)?;
-    Ok(Text { bytes: out })
+    Ok(())
+}
+
+/// A text with output behind it as it is seen: without NUL bytes where they are removed, and with a carriage return before each newline where
+/// `opost` and `onlcr` are on.
+pub fn convert_behind(
+    text: Text,
+    remove: bool,
+    modes: Modes,
+    bytes: &[u8],
+) -> Result<Text, AllocError>
+    ensures { IfOk result (λ t. t ≡ text ++ convert remove modes bytes.now) }
+{
+    let mut seen = text;
+    put_converted(&mut seen.bytes, remove, modes, bytes)?;
+    Ok(seen)
+}
+
+/// Output as it is seen.
+pub fn convert(alloc: Global, remove: bool, modes: Modes, bytes: &[u8]) -> Result<Text, AllocError>
+    ensures { IfOk result (λ t. t ≡ convert remove modes bytes.now) }
+{
+    let room = Text {
+        bytes: Vec::with_capacity(alloc, most_seen(modes, bytes))?,
+    };
+    convert_behind(room, remove, modes, bytes)
 }

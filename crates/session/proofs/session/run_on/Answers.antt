@@ -1,14 +1,9 @@
-use Rattle.std.proofs.Common.{◌≡◌, ◌≢◌, Bool, true, false, subst}
+use Rattle.std.proofs.Common.{◌≢◌, Bool, subst}
 use Rattle.std.specs.Prelude.{IsTrue}
-use Rattle.std.specs.Bool.{OnFalse}
 use Rattle.tcl_eval.specs.Steps.{left_of}
 use Rattle.tcl_eval.specs.declared.machine.Pause.TheVariants as pause
-use Rattle.session.proofs.Suspending.{ran}
+use Rattle.session.proofs.Suspending.{ran, unless}
 use Rattle.session.proofs.session.run_on.Goals as goal
-
-unless : {P : Type 0} (b : Bool) → b ≡ false → OnFalse b P → P
-unless true h p = cc
-unless false h p = p
 
 pub returns : goal.returns
 returns c = λ h.

@@ -19,7 +19,7 @@ returns-clause-rest c =
     let k = frames_rest c.args.self.now.stack in
     let n = left_of c.begin.new.self in
     c.in_ok-mode.ensures.rest n
-    ∙ ap (λ (g : Turns). on_ok (λ v st. ev c.args.body (turn_end k (λ st. each ev g.names g.left c.args.body k st)) st) k c.in_ok-code.code c.in_ok-code.value (record { vars = c.assign.new.vars; procs = c.args.self.now.procs; left = n })) c.in_ok-code.ensures.left
+    ∙ ap (λ (g : Turns). on_ok (λ v st. ev c.args.body (turn_end k (λ st. each ev g.names g.left c.args.body k st)) st) k c.in_ok-code.code c.in_ok-code.value (record { vars = c.assign.new.vars; procs = c.args.self.now.procs; left = n; trail = c.args.self.now.trail })) c.in_ok-code.ensures.left
     ∙ each_turn c.args.groups.names (state_of c.args.self.now (left_of c.args.meter.now)) n c.in_ok-code.code c.in_ok-code.value c.assign.new.vars ev c.args.groups.left c.args.body k
     (sym c.is_done.ensures ∙ c.if-is_done.false) c.if-not-begin.ensures.begun c.in_ok-code.ensures.set
 

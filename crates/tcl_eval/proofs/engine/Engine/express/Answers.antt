@@ -12,7 +12,7 @@ returns-clause-rest c =
     let k = frames_rest c.args.self.now.stack in
     let st = state_of c.args.self.now (left_of c.args.meter.now) in
     c.in_ok-mode.ensures.rest
-    ∙ ap (λ (vs : Variables). halted_rest c.args.depth c.in_ok-halt.halt c.advance.new.self c.args.goal k (record { vars = vs; procs = c.args.self.now.procs; left = left_of c.args.meter.now })) c.in_ok-halt.ensures.same
+    ∙ ap (λ (vs : Variables). halted_rest c.args.depth c.in_ok-halt.halt c.advance.new.self c.args.goal k (record { vars = vs; procs = c.args.self.now.procs; left = left_of c.args.meter.now; trail = c.args.self.now.trail })) c.in_ok-halt.ensures.same
     ∙ halted_is c.args.depth c.in_ok-halt.halt c.advance.new.self c.args.goal k st c.in_ok-halt.ensures.halts ∙ c.in_ok-halt.ensures.alike c.args.depth c.args.goal k st refl
 
 pub returns-clause-work : goal.returns-clause-work
@@ -21,5 +21,5 @@ returns-clause-work c =
     let k = frames_work c.args.self.now.stack in
     let st = state_of c.args.self.now (left_of c.args.meter.now) in
     c.in_ok-mode.ensures.work
-    ∙ ap (λ (vs : Variables). halted_work ev c.in_ok-halt.halt c.advance.new.self c.args.goal k (record { vars = vs; procs = c.args.self.now.procs; left = left_of c.args.meter.now })) c.in_ok-halt.ensures.same
+    ∙ ap (λ (vs : Variables). halted_work ev c.in_ok-halt.halt c.advance.new.self c.args.goal k (record { vars = vs; procs = c.args.self.now.procs; left = left_of c.args.meter.now; trail = c.args.self.now.trail })) c.in_ok-halt.ensures.same
     ∙ halted_work_is ev c.in_ok-halt.halt c.advance.new.self c.args.goal k st c.in_ok-halt.ensures.halts ∙ c.in_ok-halt.ensures.work ev c.args.goal k st refl

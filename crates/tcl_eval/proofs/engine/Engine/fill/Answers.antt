@@ -14,7 +14,7 @@ returns-clause-rest c =
     let go = then_rest c.args.depth c.args.then k in
     let st = state_of c.args.self.now (left_of c.args.meter.now) in
     c.in_ok-mode.ensures.rest
-    ∙ ap (λ (vs : Variables). reached_rest ev c.args.words c.in_ok-reached.reached k go (record { vars = vs; procs = c.args.self.now.procs; left = left_of c.args.meter.now })) c.in_ok-reached.ensures.same
+    ∙ ap (λ (vs : Variables). reached_rest ev c.args.words c.in_ok-reached.reached k go (record { vars = vs; procs = c.args.self.now.procs; left = left_of c.args.meter.now; trail = c.args.self.now.trail })) c.in_ok-reached.ensures.same
     ∙ c.in_ok-reached.ensures.rest ev k go st refl
 
 pub returns-clause-work : goal.returns-clause-work
@@ -24,5 +24,5 @@ returns-clause-work c =
     let go = then_work c.args.then k in
     let st = state_of c.args.self.now (left_of c.args.meter.now) in
     c.in_ok-mode.ensures.work
-    ∙ ap (λ (vs : Variables). reached_work ev c.args.words c.in_ok-reached.reached k go (record { vars = vs; procs = c.args.self.now.procs; left = left_of c.args.meter.now })) c.in_ok-reached.ensures.same
+    ∙ ap (λ (vs : Variables). reached_work ev c.args.words c.in_ok-reached.reached k go (record { vars = vs; procs = c.args.self.now.procs; left = left_of c.args.meter.now; trail = c.args.self.now.trail })) c.in_ok-reached.ensures.same
     ∙ c.in_ok-reached.ensures.work ev k go st refl

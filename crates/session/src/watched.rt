@@ -1,0 +1,68 @@
+//! A dialogue of which someone sees what its expects meet.
+
+ghost use Rattle.std.specs.Prelude.{◌≡◌};
+ghost use Rattle.session.specs.Watching.{Sees, met_by};
+
+use crate::watcher::Watcher;
+use expect_core::Dialogue;
+use tcl_commands::Code;
+use tcl_eval::{Host, HostStep, Values};
+use tcl_subst::Vars;
+use tcl_values::Value;
+
+/// A dialogue, and who sees what its expects meet. It answers as the dialogue does.
+#[derive(Drop)]
+pub(crate) struct Watched<W: Watcher + Drop> {
+    pub dialogue: Dialogue,
+    pub watcher: W,
+}
+
+impl<W: Watcher + Drop> Watched<W> {
+    /// Shows what was met, where this step asks for the action of an expect.
+    fn show(&mut self, vars: &Vars, step: &HostStep)
+        ensures same { self.new.dialogue ≡ self.old.dialogue }
+        ensures seen { Sees W.sees (met_by step.now vars.now self.old.dialogue.own) self.old.watcher self.new.watcher }
+    {
+        let HostStep::Body(_) = step else {
+            return;
+        };
+        if let Some(plan) = self.dialogue.acting() {
+            self.watcher.met(plan, vars, self.dialogue.requests());
+        }
+    }
+}
+
+impl<W: Watcher + Drop> Host for Watched<W> {
+    ghost use Rattle.expect_core.specs.Calls.{IsReply};
+    ghost use Rattle.session.specs.Watching.{Sees, met_in};
+
+    ghost answers = { λ old call reply new. IsReply old.dialogue call reply new.dialogue × Sees W.sees (met_in reply new.dialogue.own) old.watcher new.watcher };
+
+    fn knows(&self, name: &[u8]) -> bool {
+        self.dialogue.knows(name)
+    }
+
+    fn begin(&mut self, vars: &mut Vars, words: &Values) -> HostStep {
+        let step = self.dialogue.begin(vars, words);
+        self.show(vars, &step);
+        step
+    }
+
+    fn resume(&mut self, vars: &mut Vars) -> HostStep {
+        let step = self.dialogue.resume(vars);
+        self.show(vars, &step);
+        step
+    }
+
+    fn after_words(&mut self, vars: &mut Vars, words: &Values) -> HostStep {
+        let step = self.dialogue.after_words(vars, words);
+        self.show(vars, &step);
+        step
+    }
+
+    fn after_body(&mut self, vars: &mut Vars, code: Code, value: &Value) -> HostStep {
+        let step = self.dialogue.after_body(vars, code, value);
+        self.show(vars, &step);
+        step
+    }
+}
