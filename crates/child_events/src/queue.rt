@@ -64,11 +64,15 @@ fn latest(slots: &VecDeque<Slot>) -> u64
     }
 }
 
-/// Where the first item of the child stands that came at a moment or later; behind all where none did.
+/// Where the first item of the child stands that came at a moment or later; behind all where none did. Mostly it is the first one, or none: both
+/// cost the same however many there are.
 fn place(slots: &VecDeque<Slot>, clock: u64) -> usize
     requires { Rises 0 slots.now.items }
     ensures { result ≡ place clock slots.now.items }
 {
+    if 0 < slots.len() && clock <= slots[0].moment {
+        return 0;
+    }
     let mut at = slots.len();
     'later: while 0 < at && clock <= slots[at - 1].moment {
         at -= 1;

@@ -1,10 +1,13 @@
 -- A match that ends behind a place has the last run's literal near that place or behind it.
-use Rattle.std.proofs.Common.{◌≡◌, inl, inr, ⊎_elim, ℕ, ◌+◌, ◌-◌, ◌<◌, ◌≤◌, drop, take, get_or-drop, get_or-take, length-drop, Bool, true, List, [], ◌∷◌, ◌++◌, length, None, refl, sym, ap, subst, arith}
+use Rattle.std.proofs.Common.{◌≡◌, inl, inr, ⊎_elim, ℕ, ◌+◌, ◌-◌, ◌<◌, ◌≤◌, drop, take, get_or-drop, get_or-take, length-drop, Bool, true, false, List, [], ◌∷◌, ◌++◌, length, None, refl, sym, ap, subst, arith}
+use Rattle.std.specs.Prelude.{Option, Some, MatchOption}
+use Rattle.std.specs.Option.{is_some}
 use Rattle.std.proofs.lemmas.Bool.{cases_lt}
-use Rattle.std.proofs.lemmas.List.{length-take-le}
+use Rattle.std.proofs.lemmas.List.{length-take-le, take_all}
 use Rattle.exp_glob.specs.declared.element.Element.{Element}
 use Rattle.exp_glob.specs.declared.element.Element.TheVariants.{Star, One, End}
-use Rattle.exp_glob.specs.Spans.{takes, Spans}
+use Rattle.exp_glob.specs.declared.pattern.Glob.{Glob}
+use Rattle.exp_glob.specs.Spans.{takes, Spans, GlobSpan, FindsFirst}
 use Rattle.exp_glob.specs.Stars.{behind_star}
 use Rattle.exp_glob.specs.Literals.{IsLiteral}
 use Rattle.exp_glob.specs.Endings.{IsEnding, AreStars, HasNoStar}
@@ -44,6 +47,16 @@ module _ (nocase : Bool) (s : List ℕ) where
   no_star (Star ∷ es) none = absurd (cc)
   no_star (One single ∷ es) none = no_star es none.1
   no_star (End ∷ es) none = no_star es none.1
+
+  pub starless : (es : List Element) → behind_star es ≡ None → HasNoStar es
+  starless [] none = tt
+  starless (Star ∷ es) none = absurd (cc)
+  starless (One single ∷ es) none = (refl, starless es none)
+  starless (End ∷ es) none = (refl, starless es none)
+
+  pub no_end : (es : List Element) (Rest : ℕ → Type 0) (end : Option ℕ) → MatchOption end (behind_star es ≡ None) Rest → is_some end ≡ false → behind_star es ≡ None
+  no_end es Rest None is none = is
+  no_end es Rest (Some n) is none = absurd (cc)
 
   -- a match that ends within the front of a text is one of that front
   pub of_front : (es : List Element) (a b n : ℕ) → a ≤ length s → Spans nocase es s a b → b ≤ n → n < length s → Spans nocase es (take n s) a b
@@ -90,3 +103,17 @@ ends_with nocase front run stars offset bytes none all literal some s a b n h =
     (λ (behind : n < p.0). inr (q.0 + offset, omega arith, at))
     (λ (before : p.0 ≤ n). inl (p.0, before, join nocase s (front ++ run) stars a p.0 p.0 p.1 (empty nocase s stars p.0 within all)))
     (cases_lt n p.0)
+
+-- Where a front of a text has no match, one run matches no further before that front's end than it has elements.
+pub none_before : (nocase : Bool) (s : List ℕ) (g : Glob) (n : ℕ) → g.anchored ≡ false → behind_star g.elements ≡ None → (0 < n → FindsFirst g nocase (take n s) None)
+    → (a b : ℕ) → a < n - length g.elements → ¬ GlobSpan g nocase s a b
+none_before nocase s g n free alone none a b lt h =
+    let es : List Element = g.elements in
+    let some : 0 < n = omega arith in
+    let ends : b ≤ a + length es = short nocase s es a b (starless nocase s es alone) h.2 in
+    ⊎_elim
+    (λ (fits : n < length s).
+    let w = span_within nocase s es a b h.0 h.2 in
+    none some a b (omega (arith, w.0, length-take-le n s (omega arith)), (λ anchored. absurd (cc)), of_front nocase s es a b n h.0 h.2 (omega arith) fits))
+    (λ (whole : length s ≤ n). subst (λ (t : List ℕ). FindsFirst g nocase t None) (take_all n s whole) (none some) a b h)
+    (cases_lt n (length s))

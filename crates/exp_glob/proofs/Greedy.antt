@@ -1,5 +1,6 @@
 -- Taking each run but the last at its least place, and the last at its greatest, finds the match that is meant.
 use Rattle.std.proofs.Common.{◌≡◌, ℕ, ◌+◌, ◌<◌, ◌≤◌, Bool, true, false, cond, ltb, List, [], ◌∷◌, length, get_or, Option, Some, None, lt-ltb, ltb-true, eq-eqb, eqb-true, refl, sym, subst, ◌∙◌, ⊎_elim, arith}
+use Rattle.std.specs.Prelude.{IfSome}
 use Rattle.std.proofs.lemmas.Bool.{and_from, and_parts, cond-true, cases_lt}
 use Rattle.exp_glob.specs.declared.element.Element.{Element}
 use Rattle.exp_glob.specs.declared.element.Element.TheVariants.{Star, One, End}
@@ -147,6 +148,27 @@ module _ (nocase : Bool) (s : List ℕ) where
         by true is = let at : bound ≡ 1 = one is in omega arith
         by false is = let at : bound ≡ length s + 1 = free is in omega arith
 
+    -- what is sought from a place before which no match of one run begins is the least there is
+    pub least_of_all : (from : ℕ) (found : Option (ℕ × ℕ)) → behind_star g.elements ≡ None → ((a b : ℕ) → a < from → ¬ GlobSpan g nocase s a b)
+        → IsLeastRun nocase g.elements s from bound found → IsLeastRun nocase g.elements s 0 bound found
+    least_of_all from found alone none least = by found least
+      where
+        none_at : (k : ℕ) → k < bound → k < from → run_end nocase g.elements s k ≡ None
+        none_at k within before = of (run_end nocase g.elements s k) refl
+          where
+            of : (o : Option ℕ) → run_end nocase g.elements s k ≡ o → run_end nocase g.elements s k ≡ None
+            of None is = is
+            of (Some m) is =
+                let may = start_may k within in
+                absurd (none k m before (may.0, may.1, run_back g.elements k m m is (subst (λ (o : Option (List Element)). Behind o m m) (sym alone) refl)))
+
+        all_below : (n : ℕ) → n ≤ bound → ((k : ℕ) → from ≤ k → k < n → run_end nocase g.elements s k ≡ None) → (k : ℕ) → 0 ≤ k → k < n → run_end nocase g.elements s k ≡ None
+        all_below n within later k above lt = ⊎_elim (λ (before : k < from). none_at k (omega arith) before) (λ (behind : from ≤ k). later k behind lt) (cases_lt k from)
+
+        by : (found : Option (ℕ × ℕ)) → IsLeastRun nocase g.elements s from bound found → IsLeastRun nocase g.elements s 0 bound found
+        by None later = all_below bound (omega arith) later
+        by (Some p) l = (above_zero p.0, l.1, l.2, let lt : p.0 < bound = l.1 in all_below p.0 (omega arith) l.3)
+
     pub find_no_start : IsLeastRun nocase g.elements s 0 bound None → FindsFirst g nocase s None
     find_no_start none = λ a b h.
         let p = run_first g.elements a b h.2 in
@@ -190,3 +212,19 @@ module _ (nocase : Bool) (s : List ℕ) where
             let w = span_within (Star ∷ more) m b find_within.1 h.0 in
             let le : start ≤ m = find_within.0 in
             (omega (arith, w.0), w.1)
+
+-- the match of a pattern without a star that may begin anywhere, sought from a place before which none begins
+module _ (nocase : Bool) (s : List ℕ) (g : Glob) (from : ℕ) (free : g.anchored ≡ false) (alone : behind_star g.elements ≡ None) (none : (a b : ℕ) → a < from → ¬ GlobSpan g nocase s a b) where
+  one : g.anchored ≡ true → length s + 1 ≡ 1
+  one anchored = absurd (cc)
+
+  all : g.anchored ≡ false → length s + 1 ≡ length s + 1
+  all is = refl
+
+  pub run_found : (found : Option (ℕ × ℕ)) → IsLeastRun nocase g.elements s from (length s + 1) found → FindsFirst g nocase s found
+  run_found None l = find_no_start nocase s g (length s + 1) one all (least_of_all nocase s g (length s + 1) one all from None alone none l)
+  run_found (Some p) l = find_alone nocase s g (length s + 1) one all p.0 p.1 (least_of_all nocase s g (length s + 1) one all from (Some p) alone none l) alone
+
+  pub run_in : (found : Option (ℕ × ℕ)) → IsLeastRun nocase g.elements s from (length s + 1) found → IfSome found (λ r. (r.0 ≤ r.1) × (r.1 ≤ length s))
+  run_in None l = tt
+  run_in (Some p) l = find_within nocase s g (length s + 1) one all p.0 p.1 (least_of_all nocase s g (length s + 1) one all from (Some p) alone none l)

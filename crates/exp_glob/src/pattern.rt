@@ -1,10 +1,11 @@
 //! A pattern and its search.
 
-ghost use Rattle.std.specs.Prelude.{◌≡◌, ◌≤◌, ◌+◌, ◌<◌, true, false, take, length, None, IfOk, IfSome};
+ghost use Rattle.std.specs.Prelude.{◌≡◌, ◌≤◌, ◌+◌, ◌<◌, ℕ, true, false, take, length, None, IfOk, IfSome};
 ghost use Rattle.exp_glob.specs.Elements.{glob_of};
 ghost use Rattle.exp_glob.specs.Endings.{CouldEndBefore};
 ghost use Rattle.exp_glob.specs.Search.{first_span};
-ghost use Rattle.exp_glob.specs.Spans.{FindsFirst};
+ghost use Rattle.exp_glob.specs.Spans.{GlobSpan, FindsFirst};
+ghost use Rattle.exp_glob.specs.Stars.{behind_star};
 
 use crate::element::Elements;
 use crate::literal::{lacks_literal, later_literals};
@@ -95,17 +96,42 @@ impl Glob {
     }
 
     /// The same, where nothing was found in so many bytes of the text's front, or none were sought. A pattern that may begin anywhere is sought
-    /// there no more, unless the bytes behind them have what a match ends with.
+    /// there no more: one without a star is sought behind those bytes and in as many before them as it has elements, any other in the whole text
+    /// where the bytes behind have what a match ends with.
     pub fn find_on(&self, text: &[u8], sought: usize, nocase: bool) -> Option<(usize, usize)>
         requires { self.now.anchored ≡ false → 0 < sought → FindsFirst self.now nocase (take sought text.now) None }
         ensures first { FindsFirst self.now nocase text.now result }
         ensures value { result ≡ first_span self.now nocase text.now }
         ensures within { IfSome result (λ r. (r.0 ≤ r.1) × (r.1 ≤ length text.now)) }
     {
+        let elements = self.elements.as_slice();
+        if !self.anchored && star_end(elements).is_none() {
+            return self.find_run(text, sought.saturating_sub(elements.len()), nocase);
+        }
         if self.has_none_behind(text, sought, nocase) {
             return None;
         }
         self.find(text, nocase)
+    }
+
+    /// The match of a pattern without a star, where none begins before a place.
+    fn find_run(&self, text: &[u8], from: usize, nocase: bool) -> Option<(usize, usize)>
+        requires anywhere { self.now.anchored ≡ false }
+        requires one_run { behind_star self.now.elements ≡ None }
+        requires none_before { (a b : ℕ) → a < from → ¬ GlobSpan self.now nocase text.now a b }
+        ensures first { FindsFirst self.now nocase text.now result }
+        ensures value { result ≡ first_span self.now nocase text.now }
+        ensures within { IfSome result (λ r. (r.0 ≤ r.1) × (r.1 ≤ length text.now)) }
+    {
+        let runs = self.elements.literals(nocase).runs.as_slice();
+        least_run(
+            self.elements.as_slice(),
+            runs,
+            text,
+            from,
+            text.len() + 1,
+            nocase,
+        )
     }
 
     /// Whether a match that begins anywhere can't end behind a place.

@@ -1,19 +1,27 @@
 -- How a course is told, event by event, and courses script by script.
 use Rattle.std.proofs.Common.{◌≡◌, ℕ, suc, ◌+◌, ◌-◌, ◌<◌, Bool, true, false, List, [], ◌∷◌, ◌++◌, length, take, drop, ◌==◌, Option, Some, None, Result, Ok, Err, slice_index_or, refl, sym, ap, subst, ◌∙◌, arith, append_assoc, append-nil}
-use Rattle.std.specs.Prelude.{IfSome}
+use Rattle.std.specs.Prelude.{if◌then◌else◌, IfSome}
 use Rattle.std.specs.List.{slice_get}
 use Rattle.std.specs.Io.KnownBytes.{Appends}
 use Rattle.child_events.specs.declared.event.Event.{Event}
 use Rattle.child_events.specs.declared.event.HallEvent.{HallEvent}
 use Rattle.child_events.specs.Log.{LogText}
 use Rattle.child_events.specs.World.{own_of}
-use Rattle.session.specs.Left.{Kept}
+use Rattle.expect_core.specs.declared.request.Request.{Request}
+use Rattle.session.specs.Left.{Kept, Fed, HasAsked, HasBegun}
+use Rattle.session.specs.Watching.{Sights, met_from, met_over}
 use Rattle.dialogue_sched.specs.declared.script.Script.{Script}
+use Rattle.dialogue_sched.specs.Hall.{Begins}
 use Rattle.expect_prog.specs.declared.explaining.ExplainFault.{ExplainFault}
 use Rattle.expect_prog.specs.declared.explaining.ExplainFault.TheVariants.{Read, Log, TooManyScripts, SourceTooLong, Write, Memory}
 use Rattle.expect_prog.specs.Devices.{WasPut}
-use Rattle.expect_prog.specs.Explain.{Told, Explained, at_first, no_script, others, own, silent, told, StepOf, StepTold, OwnTold, TellsBehind, step_text, is_told, Course, Courses, IsTooLong, Explains, Tells, TellsOne}
+use Rattle.expect_prog.specs.Explain.{Told, Explained, no_script, others, own, silent, told, StepOf, StepTold, OwnTold, TellsBehind, is_quiet, step_text, heading, Starts, is_told, Course, Courses, Explains, Tells, TellsOne}
+use Rattle.expect_prog.specs.declared.meetings.Teller.{Teller}
+use Rattle.expect_prog.specs.Show.{event_line}
+use Rattle.expect_prog.specs.Waits.{request_lines, wait_lines}
+use Rattle.expect_prog.specs.Meetings.{course_text, Writes}
 use Rattle.expect_prog.proofs.Carried.{carried}
+use Rattle.expect_prog.proofs.Meeting.{writes_all}
 use Rattle.expect_prog.proofs.Series.{take_more}
 
 -- what writing a text leaves
@@ -22,14 +30,66 @@ Writing old new text (Ok done) = Appends old new text
 Writing old new text (Err Write) = WasPut old new text
 Writing old new text (Err _) = ⊥
 
+-- what is told of a script's own event
+pub own_told : (e : HallEvent) (event : Event) (old new : Kept) (text put written text' : List ℕ) (a b : Teller) (before after : List Request) (begun steps : ℕ) (quiet : Bool)
+    → HasAsked old before → HasBegun old begun → Fed old (event ∷ []) new → HasBegun new steps
+    → put ≡ text ++ event_line e → a.text ≡ put → a.told ≡ length before
+    → Sights Writes (λ later. met_from old (event ∷ later)) a (met_from new) b → b.refused ≡ false → HasAsked new after → written ≡ b.text ++ request_lines (drop b.told after)
+    → quiet ≡ is_quiet e (begun == steps) → text' ≡ written ++ (if quiet then [] else wait_lines new) → OwnTold e event old new text text'
+own_told e event old new text put written text' a b before after begun steps quiet asked began fed begins line front count saw well asks wrote is behind =
+    let c : List ℕ = course_text (length before) saw.met after in
+    let w : List ℕ = (if is_quiet e (begun == steps) then [] else wait_lines new) in
+    record {
+      before = before;
+      after = after;
+      met = saw.met;
+      begun = begun;
+      steps = steps;
+      asked = asked;
+      began = began;
+      fed = fed;
+      asks = asks;
+      begins = begins;
+      meets = saw.each;
+      told =
+          behind
+          ∙ ap (λ (q : Bool). written ++ (if q then [] else wait_lines new)) is
+          ∙ ap (λ (t : List ℕ). t ++ w) (
+          wrote ∙ (writes_all saw.met a b after saw.seen well).1 ∙ ap (λ (n : ℕ). a.text ++ course_text n saw.met after) count ∙ ap (λ (t : List ℕ). t ++ c) (front ∙ line)
+          )
+          ∙ append_assoc (text ++ event_line e) c w
+          ∙ append_assoc text (event_line e) (c ++ w);
+    }
+
+-- how a course begins
+pub started : (n : ℕ) (script : Script) (k : Kept) (front written text : List ℕ) (a b : Teller) (asked : List Request)
+    → Begins script k → front ≡ heading n → a.text ≡ front → a.told ≡ 0
+    → Sights Writes (met_over script.source script.settings) a (met_from k) b → b.refused ≡ false → HasAsked k asked → written ≡ b.text ++ request_lines (drop b.told asked)
+    → text ≡ written ++ wait_lines k → Starts n script k text
+started n script k front written text a b asked begins head at count saw well asks wrote behind =
+    let c : List ℕ = course_text 0 saw.met asked in
+    record {
+      asked = asked;
+      met = saw.met;
+      begins = begins;
+      asks = asks;
+      meets = saw.each;
+      is =
+          behind
+          ∙ ap (λ (t : List ℕ). t ++ wait_lines k) (
+          wrote ∙ (writes_all saw.met a b asked saw.seen well).1 ∙ ap (λ (m : ℕ). a.text ++ course_text m saw.met asked) count ∙ ap (λ (t : List ℕ). t ++ c) (at ∙ head)
+          )
+          ∙ append_assoc (heading n) c (wait_lines k);
+    }
+
 by_own : (n : ℕ) (first k l : Kept) (es : List HallEvent) (e : HallEvent) (before text text' : List ℕ) (o : Option Event)
     → own_of n e ≡ o → StepOf o e k l text text' → TellsBehind n first es before k text → TellsBehind n first (es ++ e ∷ []) before l text'
 by_own n first k l es e before text text' None is (same, still) (so_far, goes, at) =
     (so_far, subst (λ (m : Kept). Told n first (es ++ e ∷ []) so_far m) (sym same) (others es so_far k e is goes), still ∙ at)
 by_own n first k l es e before text text' (Some event) is step (so_far, goes, at) =
-    let more = step_text e (drop (length step.before) step.after) (step.begun == step.steps) l in (
+    let more = step_text e (length step.before) step.met step.after (step.begun == step.steps) l in (
       so_far ++ more,
-      own es so_far k l e event step.before step.after step.begun step.steps is step.asked step.began step.fed step.asks step.begins goes,
+      own es so_far k l e event step.before step.after step.met step.begun step.steps is step.asked step.began step.fed step.asks step.begins step.meets goes,
       step.told ∙ ap (λ (t : List ℕ). t ++ more) at ∙ append_assoc before so_far more,
     )
 

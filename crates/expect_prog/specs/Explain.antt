@@ -1,5 +1,5 @@
 -- The courses of scripts over a log: each event of a script, what it asks for then, and what it waits for.
-use Rattle.std.specs.Prelude.{◌≡◌, ◌≢◌, ℕ, ◌+◌, ◌-◌, ◌<◌, List, [], ◌∷◌, ◌++◌, length, drop, codes, Bool, true, false, ◌==◌, if◌then◌else◌, Option, Some, None, Result, Ok, Err, IsSomeAnd}
+use Rattle.std.specs.Prelude.{◌≡◌, ◌≢◌, ℕ, ◌+◌, ◌-◌, ◌<◌, List, [], ◌∷◌, ◌++◌, length, drop, codes, Bool, true, false, ◌==◌, if◌then◌else◌, Option, Some, None, Result, Ok, Err, IsSomeAnd, IsTrue}
 use Rattle.std.specs.List.{slice_get}
 use Rattle.std.specs.Io.KnownBytes.{Appends}
 use Rattle.child_events.specs.declared.event.Event.{Event}
@@ -15,6 +15,7 @@ use Rattle.expect_core.specs.declared.request.Request.{Request}
 use Rattle.session.specs.declared.report.Report.{Report}
 use Rattle.session.specs.Left.{Kept, Fed, HasAsked, HasBegun}
 use Rattle.session.specs.Spent.{Reports}
+use Rattle.session.specs.Watching.{Meeting, met_from, met_over}
 use Rattle.dialogue_sched.specs.declared.script.Script.{Script}
 use Rattle.dialogue_sched.specs.Hall.{Begins}
 use Rattle.expect_prog.specs.declared.explaining.ExplainFault.{ExplainFault}
@@ -25,28 +26,37 @@ use Rattle.expect_prog.specs.Devices.{WasPut}
 use Rattle.expect_prog.specs.Show.{event_line}
 use Rattle.expect_prog.specs.Trail.{place_lines}
 use Rattle.expect_prog.specs.Waits.{request_lines, wait_lines}
+use Rattle.expect_prog.specs.Meetings.{course_text}
+use Rattle.expect_prog.specs.declared.meetings.Teller.{Teller}
+
+-- all that a teller wrote, and what the session asked for behind that
+abbrev pub SaysAll : Teller → Kept → List ℕ → Type 0
+SaysAll t k text = IsTrue k.lives × (t.refused ≡ false) × ((asked : List Request) × HasAsked k asked × (text ≡ t.text ++ request_lines (drop t.told asked)))
 
 -- a tick behind which a script has begun no step more
 abbrev pub is_quiet : HallEvent → Bool → Bool
 is_quiet (hall.Child s c m w) still = false
 is_quiet (hall.Tick m) still = still
 
--- what the script asked for at an event, and what it waits for then; a tick that changed nothing is told alone
-abbrev pub step_text : HallEvent → List Request → Bool → Kept → List ℕ
-step_text e asked still k = event_line e ++ (request_lines asked ++ (if is_quiet e still then [] else wait_lines k))
+-- What the script asked for and met at an event, behind its first requests, and what it waits for then. A tick that changed nothing is told
+-- alone.
+abbrev pub step_text : HallEvent → ℕ → List Meeting → List Request → Bool → Kept → List ℕ
+step_text e n met asked still k = event_line e ++ (course_text n met asked ++ (if is_quiet e still then [] else wait_lines k))
 
 -- The text of a script's events, from how it began to where it stands. Events of others are not told.
 pub data Told (n : ℕ) (first : Kept) : List HallEvent → List ℕ → Kept → Type 0 where
   at_first : Told n first [] [] first
   others : (es : List HallEvent) (text : List ℕ) (k : Kept) (e : HallEvent) → own_of n e ≡ None → Told n first es text k → Told n first (es ++ e ∷ []) text k
-  own : (es : List HallEvent) (text : List ℕ) (k l : Kept) (e : HallEvent) (event : Event) (before after : List Request) (begun steps : ℕ)
+  own : (es : List HallEvent) (text : List ℕ) (k l : Kept) (e : HallEvent) (event : Event) (before after : List Request) (met : List Meeting) (begun steps : ℕ)
       → own_of n e ≡ Some event → HasAsked k before → HasBegun k begun → Fed k (event ∷ []) l → HasAsked l after → HasBegun l steps
-      → Told n first es text k → Told n first (es ++ e ∷ []) (text ++ step_text e (drop (length before) after) (begun == steps) l) l
+      → ((later : List Event) → met_from k (event ∷ later) ≡ met ++ met_from l later)
+      → Told n first es text k → Told n first (es ++ e ∷ []) (text ++ step_text e (length before) met after (begun == steps) l) l
 
 -- what an event of a script's own leaves, and what is told of it
 pub record OwnTold (e : HallEvent) (event : Event) (old new : Kept) (text text' : List ℕ) : Type 0 where
   pub before : List Request
   pub after : List Request
+  pub met : List Meeting
   pub begun : ℕ
   pub steps : ℕ
   pub asked : HasAsked old before
@@ -54,7 +64,8 @@ pub record OwnTold (e : HallEvent) (event : Event) (old new : Kept) (text text' 
   pub fed : Fed old (event ∷ []) new
   pub asks : HasAsked new after
   pub begins : HasBegun new steps
-  pub told : text' ≡ text ++ step_text e (drop (length before) after) (begun == steps) new
+  pub meets : (later : List Event) → met_from old (event ∷ later) ≡ met ++ met_from new later
+  pub told : text' ≡ text ++ step_text e (length before) met after (begun == steps) new
 
 -- the same of any event
 abbrev pub StepOf : Option Event → HallEvent → Kept → Kept → List ℕ → List ℕ → Type 0
@@ -68,9 +79,30 @@ StepTold n e old new text text' = StepOf (own_of n e) e old new text text'
 abbrev pub TellsBehind : ℕ → Kept → List HallEvent → List ℕ → Kept → List ℕ → Type 0
 TellsBehind n first es before k text = (told : List ℕ) × Told n first es told k × (text ≡ before ++ told)
 
+unfoldable pub heading : ℕ → List ℕ
+heading n = labelled (codes "script ") n ++ codes "\n"
+
 -- how a course begins
-unfoldable pub start_text : ℕ → List Request → Kept → List ℕ
-start_text n asked k = labelled (codes "script ") n ++ codes "\n" ++ request_lines asked ++ wait_lines k
+abbrev pub start_text : ℕ → List Meeting → List Request → Kept → List ℕ
+start_text n met asked k = heading n ++ (course_text 0 met asked ++ wait_lines k)
+
+-- the session of the script of a number at its first wait, and its text
+pub record Starts (n : ℕ) (script : Script) (k : Kept) (text : List ℕ) : Type 0 where
+  pub asked : List Request
+  pub met : List Meeting
+  pub begins : Begins script k
+  pub asks : HasAsked k asked
+  pub meets : (later : List Event) → met_over script.source script.settings later ≡ met ++ met_from k later
+  pub is : text ≡ start_text n met asked k
+
+abbrev pub StartsOne : ℕ → Script → Result (Kept × List ℕ) ExplainFault → Type 0
+StartsOne n script (Ok r) = Starts n script r.0 r.1
+StartsOne n script (Err Read) = ⊥
+StartsOne n script (Err (Log f)) = ⊥
+StartsOne n script (Err TooManyScripts) = ⊥
+StartsOne n script (Err (SourceTooLong at)) = (at ≡ n) × (1048576 < length script.source)
+StartsOne n script (Err Write) = ⊥
+StartsOne n script (Err Memory) = Unit {0}
 
 -- the text of an error
 abbrev pub fault_line : Ending → List ℕ → List ℕ
@@ -88,15 +120,14 @@ end_text n r = head_line n r ++ fault_line r.ending r.fault ++ place_lines r.tra
 -- the course of the script of a number over events
 pub record Course (n : ℕ) (script : Script) (events : List HallEvent) (text : List ℕ) : Type 0 where
   pub first : Kept
-  pub asked : List Request
+  pub start : List ℕ
   pub told : List ℕ
   pub last : Kept
   pub report : Report
-  pub begins : Begins script first
-  pub asks : HasAsked first asked
+  pub starts : Starts n script first start
   pub goes : Told n first events told last
   pub ends : Reports last report
-  pub is : text ≡ start_text n asked first ++ (told ++ end_text n report)
+  pub is : text ≡ start ++ (told ++ end_text n report)
 
 -- all scripts are told, or one alone
 abbrev pub is_told : Option ℕ → ℕ → Bool

@@ -14,6 +14,7 @@ pub mod Drive
 pub mod Show
 pub mod Patterns
 pub mod Waits
+pub mod Meetings
 pub mod Trail
 pub mod Explain
 pub mod Planning

@@ -1,24 +1,25 @@
 //! The courses of scripts over a log, told event by event, from any reader to any writer.
 
-ghost use Rattle.std.specs.Prelude.{◌≡◌, ◌≢◌, ◌≤◌, ◌++◌, ◌==◌, drop, length, List, ℕ, ◌∷◌, vec_len, IfOk, IfErr, IfSome, OnOk, OnErr, Some, Err};
+ghost use Rattle.std.specs.Prelude.{◌≡◌, ◌≢◌, ◌≤◌, ◌++◌, [], ◌==◌, length, vec_len, false, if◌then◌else◌, IfOk, IfErr, IfSome, IsTrue, OnOk, OnErr, Some, Err};
 ghost use Rattle.child_events.specs.Log.{LogText};
 ghost use Rattle.child_events.specs.Reading.{Refused};
-ghost use Rattle.expect_core.specs.declared.request.Request.{Request as RequestOf};
-ghost use Rattle.session.specs.Left.{HasAsked};
 ghost use Rattle.expect_prog.specs.Devices.{GaveUp};
-ghost use Rattle.expect_prog.specs.Explain.{is_quiet as is_quiet_of, step_text, TellsBehind, start_text as start_text_of, fault_line, end_text, is_told as is_told_of, Explains, Tells, TellsOne, StepTold, Judged, IsNoWant};
+ghost use Rattle.expect_prog.specs.Waits.{wait_lines};
+ghost use Rattle.expect_prog.specs.Explain.{is_quiet as is_quiet_of, SaysAll, TellsBehind, heading as heading_of, StartsOne, fault_line, end_text, is_told as is_told_of, Explains, Tells, TellsOne, StepTold, Judged, IsNoWant};
 
 use crate::devices::{ReadFault, read_all, write_all};
 use crate::escape::push_quoted;
 use crate::events::push_line;
+use crate::meetings::{Teller, rest_of};
 use crate::texts::{push_head, push_labelled};
 use crate::trail::push_places;
 use crate::waits::{push_requests, push_waits};
 use child_events::{Counted, HallEvent, HallEvents, LogFault, LogReader, own_event};
 use dialogue_sched::{MOST_SCRIPTS, Script};
-use session::{Ending, NewFault, Report, Request, Session};
+use session::{Ending, NewFault, Report, Session};
 use std::alloc::{AllocError, Global};
 use std::io::{Read, Write};
+use std::mem;
 use tcl_words::Text;
 
 /// Why not all courses were told.
@@ -49,16 +50,6 @@ impl From<AllocError> for ExplainFault {
     }
 }
 
-/// The requests from a place on.
-fn rest_of(requests: &[Request], from: usize) -> &[Request]
-    ensures { result.now ≡ drop from requests.now }
-{
-    if requests.len() <= from {
-        return &[];
-    }
-    &requests[from..]
-}
-
 /// Whether it is a tick behind which a script has begun no step more.
 fn is_quiet(event: &HallEvent, still: bool) -> bool
     ensures { result ≡ is_quiet_of event.now still }
@@ -69,20 +60,36 @@ fn is_quiet(event: &HallEvent, still: bool) -> bool
     }
 }
 
-/// Puts an event behind a text, with what the session asked for, and what it waits for, unless that is `quiet`.
-fn push_told(
+/// Whether memory was refused to a session.
+fn is_spent(session: &Session) -> bool
+    ensures { result ≡ false → IsTrue session.now.lives }
+{
+    matches!(session.ending(), Ending::Memory)
+}
+
+/// What a teller wrote of a session, and what the session asked for behind that.
+fn told(alloc: Global, teller: Teller, session: &Session) -> Result<Text, AllocError>
+    ensures { IfOk result (λ t. SaysAll teller session.now t) }
+{
+    if teller.is_refused() || is_spent(session) {
+        return Err(AllocError);
+    }
+    let told = teller.told();
+    let mut text = teller.into_text();
+    push_requests(alloc, &mut text, rest_of(session.requests(), told))?;
+    Ok(text)
+}
+
+/// Puts what a session waits for behind a text, unless that is `quiet`.
+fn push_unless(
     alloc: Global,
     text: &mut Text,
-    event: &HallEvent,
-    asked: &[Request],
-    still: bool,
+    quiet: bool,
     session: &Session,
 ) -> Result<(), AllocError>
-    ensures { OnOk result (text.new ≡ text.old ++ step_text event.now asked.now still session.now) }
+    ensures { OnOk result (text.new ≡ text.old ++ (if quiet then [] else wait_lines session.now)) }
 {
-    push_line(alloc, text, event)?;
-    push_requests(alloc, text, asked)?;
-    if is_quiet(event, still) {
+    if quiet {
         return Ok(());
     }
     push_waits(alloc, text, session)
@@ -101,18 +108,15 @@ fn step(
     let Some(own) = own_event(alloc, number, event)? else {
         return Ok(());
     };
+    push_line(alloc, text, event)?;
     let asked = session.requests().len();
     let begun = session.steps();
-    session.feed(own);
-    let steps = session.steps();
-    push_told(
-        alloc,
-        text,
-        event,
-        rest_of(session.requests(), asked),
-        begun == steps,
-        session,
-    )
+    let front = mem::replace(text, Text::new(alloc));
+    let teller = session.feed_watched(own, Teller::new(alloc, front, asked));
+    let told = told(alloc, teller, session)?;
+    drop(mem::replace(text, told));
+    let quiet = is_quiet(event, begun == session.steps());
+    push_unless(alloc, text, quiet, session)
 }
 
 /// Puts the course of a session over events behind a text.
@@ -131,17 +135,33 @@ fn push_course(
     Ok(())
 }
 
-/// How the course of script `number` begins.
-#[tactic(auto, unfolding(crate::specs::Explain::start_text))]
-fn start_text(alloc: Global, number: u8, session: &Session) -> Result<Text, AllocError>
-    ensures { IfOk result (λ t. (asked : List RequestOf) × HasAsked session.now asked × (t ≡ start_text_of number asked session.now)) }
+/// The heading of the course of script `number`.
+#[tactic(auto, unfolding(crate::specs::Explain::heading))]
+fn heading(alloc: Global, number: u8) -> Result<Text, AllocError>
+    ensures { IfOk result (λ t. t ≡ heading_of number) }
 {
     let mut text = Text::new(alloc);
     push_labelled(alloc, &mut text, b"script ", u128::from(number))?;
     text.extend(b"\n")?;
-    push_requests(alloc, &mut text, session.requests())?;
-    push_waits(alloc, &mut text, session)?;
     Ok(text)
+}
+
+/// The session of script `number` at its first wait, and how its course begins.
+fn begun(alloc: Global, number: u8, script: Script) -> Result<(Session, Text), ExplainFault>
+    ensures { StartsOne number script result }
+{
+    let Script { source, settings } = script;
+    let teller = Teller::new(alloc, heading(alloc, number)?, 0);
+    let (session, teller) = match Session::watched(alloc, source, settings, teller) {
+        Ok(begun) => begun,
+        Err(NewFault::SourceTooLong) => {
+            return Err(ExplainFault::SourceTooLong(usize::from(number)));
+        }
+        Err(NewFault::Memory) => return Err(ExplainFault::Memory),
+    };
+    let mut text = told(alloc, teller, &session)?;
+    push_waits(alloc, &mut text, &session)?;
+    Ok((session, text))
 }
 
 fn push_fault(
@@ -186,15 +206,10 @@ fn course(
 ) -> Result<Text, ExplainFault>
     ensures { TellsOne number script events.now result }
 {
-    let Script { source, settings } = script;
-    let mut session = match Session::new(alloc, source, settings) {
-        Ok(session) => session,
-        Err(NewFault::SourceTooLong) => {
-            return Err(ExplainFault::SourceTooLong(usize::from(number)));
-        }
-        Err(NewFault::Memory) => return Err(ExplainFault::Memory),
+    let (mut session, mut text) = match begun(alloc, number, script) {
+        Ok(begun) => begun,
+        Err(fault) => return Err(fault),
     };
-    let mut text = start_text(alloc, number, &session)?;
     push_course(alloc, &mut text, number, &mut session, events)?;
     let report = session.into_report();
     push_end(alloc, &mut text, number, &report)?;

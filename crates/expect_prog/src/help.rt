@@ -229,6 +229,8 @@ For each script its events are told in order, and behind each
     child C has N bytes, the last are ..
                           output of the child that no pattern has taken
     -ex, -gl, -re ..  no  a pattern of it, which doesn't match there
+    .. was met by child C
+                          what ended a wait, and below it what expect_out has then
 
 A pattern is told as it can be written, so that one that was made from variables
 is seen as it came out. Behind a tick nothing is told of a script that it did

@@ -20,6 +20,7 @@ mod form;
 mod help;
 mod json;
 mod line;
+mod meetings;
 mod outcome;
 mod patterns;
 mod planning;

@@ -16,11 +16,11 @@ use std::alloc::{AllocError, Global};
 use tcl_words::Text;
 
 /// How many of the last bytes of a child are shown.
-const SHOWN: usize = 64;
+pub(crate) const SHOWN: usize = 64;
 
 /// Puts the columns in which an event has its moment behind a text.
 #[tactic(auto, unfolding(crate::specs::Waits::margin))]
-fn push_margin(text: &mut Text) -> Result<(), AllocError>
+pub(crate) fn push_margin(text: &mut Text) -> Result<(), AllocError>
     ensures { OnOk result (text.new ≡ text.old ++ margin) }
 {
     text.extend(b"             ")
@@ -126,7 +126,7 @@ fn push_entries(
 }
 
 /// The last bytes of a text, `SHOWN` at the most.
-fn tail(bytes: &[u8]) -> &[u8]
+pub(crate) fn tail(bytes: &[u8]) -> &[u8]
     ensures { result.now ≡ tail_of bytes.now }
 {
     &bytes[bytes.len().saturating_sub(SHOWN)..]

@@ -22,10 +22,11 @@ use crate::show::{ending_of, shown, shown_last};
 use crate::watched::Watched;
 use crate::watcher::{Nobody, Watcher};
 use child_events::Event;
-use expect_core::{Dialogue, Plan, Request, Settings};
+use expect_core::{Dialogue, Pairs, Plan, Request, Settings};
 use std::alloc::{AllocError, Global};
 use std::collections::VecDeque;
 use std::marker::Model;
+use std::mem;
 use tcl_eval::{Ending, Machine, Meter, Pause};
 use tcl_words::Text;
 
@@ -137,8 +138,8 @@ fn go_on(
     lay_behind(alloc, ready, dialogue, asked, ran)
 }
 
-/// Runs on as `run_on` does, and shows a watcher what is met on the way.
-fn run_watched<W: Watcher + Drop>(
+/// Runs on to the next pause, where a dialogue is watched, and says whether no memory was refused.
+fn run_over_watched<W: Watcher + Drop>(
     machine: &mut Machine<Dialogue>,
     watched: &mut Watched<W>,
     meter: &mut Meter,
@@ -154,23 +155,63 @@ fn run_watched<W: Watcher + Drop>(
     watched.dialogue.lives()
 }
 
-/// Runs on as `go_on` does, and shows a watcher what is met on the way.
+/// A dialogue to which nothing comes, for the place of one that is lent.
+fn nothing(alloc: Global) -> Result<Dialogue, AllocError> {
+    let settings = Settings {
+        steps: 0,
+        limit_ms: None,
+        env: Pairs::new(alloc),
+    };
+    Dialogue::new(alloc, &settings)
+}
+
+/// Runs on as `run_on` does, and shows a watcher what is met on the way. The watcher is given back.
+fn run_watched<W: Watcher + Drop>(
+    alloc: Global,
+    machine: &mut Machine<Dialogue>,
+    dialogue: &mut Dialogue,
+    meter: &mut Meter,
+    watcher: W,
+) -> (bool, W)
+    requires { IsTrue dialogue.old.lives → Good dialogue.old }
+    ensures ran { IsTrue result.0 → Ran machine.old.engine machine.old.mode (left_of meter.old) dialogue.old machine.new.engine machine.new.mode (left_of meter.new) dialogue.new }
+    ensures seen { IsTrue result.0 → Sights W.sees (met_by_run machine.old.engine (left_of meter.old) machine.old.mode dialogue.old) watcher (met_by_run machine.new.engine (left_of meter.new) machine.new.mode dialogue.new) result.1 }
+{
+    let Ok(none) = nothing(alloc) else {
+        return (false, watcher);
+    };
+    let mut watched = Watched {
+        dialogue: mem::replace(dialogue, none),
+        watcher,
+    };
+    let ran = run_over_watched(machine, &mut watched, meter);
+    let Watched {
+        dialogue: behind,
+        watcher,
+    } = watched;
+    drop(mem::replace(dialogue, behind));
+    (ran, watcher)
+}
+
+/// Runs on as `go_on` does, and shows a watcher what is met on the way. The watcher is given back.
 fn go_on_watched<W: Watcher + Drop>(
     alloc: Global,
     machine: &mut Machine<Dialogue>,
-    watched: &mut Watched<W>,
+    dialogue: &mut Dialogue,
     meter: &mut Meter,
     ready: &mut VecDeque<Request>,
-) -> bool
-    requires { IsTrue watched.old.dialogue.lives → Good watched.old.dialogue }
-    ensures ran { IsTrue result → Ran machine.old.engine machine.old.mode (left_of meter.old) watched.old.dialogue machine.new.engine machine.new.mode (left_of meter.new) watched.new.dialogue }
-    ensures ready { IsTrue result → ready.new.items ≡ ready.old.items ++ drop (length watched.old.dialogue.own.requests) watched.new.dialogue.own.requests }
-    ensures spent { result ≡ false → ready.new.items ≡ [] }
-    ensures seen { IsTrue result → Sights W.sees (met_by_run machine.old.engine (left_of meter.old) machine.old.mode watched.old.dialogue) watched.old.watcher (met_by_run machine.new.engine (left_of meter.new) machine.new.mode watched.new.dialogue) watched.new.watcher }
+    watcher: W,
+) -> (bool, W)
+    requires { IsTrue dialogue.old.lives → Good dialogue.old }
+    ensures ran { IsTrue result.0 → Ran machine.old.engine machine.old.mode (left_of meter.old) dialogue.old machine.new.engine machine.new.mode (left_of meter.new) dialogue.new }
+    ensures ready { IsTrue result.0 → ready.new.items ≡ ready.old.items ++ drop (length dialogue.old.own.requests) dialogue.new.own.requests }
+    ensures spent { result.0 ≡ false → ready.new.items ≡ [] }
+    ensures seen { IsTrue result.0 → Sights W.sees (met_by_run machine.old.engine (left_of meter.old) machine.old.mode dialogue.old) watcher (met_by_run machine.new.engine (left_of meter.new) machine.new.mode dialogue.new) result.1 }
 {
-    let asked = watched.dialogue.requests().len();
-    let ran = run_watched(machine, watched, meter);
-    lay_behind(alloc, ready, &watched.dialogue, asked, ran)
+    let asked = dialogue.requests().len();
+    let (ran, watcher) = run_watched(alloc, machine, dialogue, meter, watcher);
+    let lives = lay_behind(alloc, ready, dialogue, asked, ran);
+    (lives, watcher)
 }
 
 /// Puts events behind what came, one after another.
@@ -230,13 +271,18 @@ impl Session {
     {
         let vars = first_variables(alloc, settings.env.as_slice())?;
         let mut machine = Machine::new(alloc, source, vars)?;
-        let dialogue = Dialogue::new(alloc, settings)?;
-        let mut watched = Watched { dialogue, watcher };
+        let mut dialogue = Dialogue::new(alloc, settings)?;
         let bound = bounded(settings.steps);
         let mut meter = Meter::new(bound);
         let mut ready = VecDeque::new(alloc);
-        let lives = go_on_watched(alloc, &mut machine, &mut watched, &mut meter, &mut ready);
-        let Watched { dialogue, watcher } = watched;
+        let (lives, watcher) = go_on_watched(
+            alloc,
+            &mut machine,
+            &mut dialogue,
+            &mut meter,
+            &mut ready,
+            watcher,
+        );
         let session = Session {
             alloc,
             bound,
@@ -302,41 +348,27 @@ impl Session {
     }
 
     /// Goes on with an event as `feed` does, and shows a watcher what is met on the way. The watcher is given back.
-    pub fn feed_watched<W: Watcher + Drop>(self, event: Event, watcher: W) -> (Session, W)
-        ensures fed { Fed self (event ∷ []) result.0 }
-        ensures seen { IsTrue result.0.lives → Sights W.sees (λ later. met_from self (event ∷ later)) watcher (met_from result.0) result.1 }
+    pub fn feed_watched<W: Watcher + Drop>(&mut self, came: Event, watcher: W) -> W
+        ensures fed { Fed self.old (came ∷ []) self.new }
+        ensures seen { IsTrue self.new.lives → Sights W.sees (λ later. met_from self.old (came ∷ later)) watcher (met_from self.new) result }
     {
         if !self.lives {
-            return (self, watcher);
+            return watcher;
         }
         if self.machine.is_over() {
-            return (self, watcher);
+            return watcher;
         }
-        let Session {
-            alloc,
-            bound,
-            mut machine,
-            mut dialogue,
-            mut meter,
-            mut ready,
-            handed,
-            ..
-        } = self;
-        dialogue.offer(event);
-        let mut watched = Watched { dialogue, watcher };
-        let lives = go_on_watched(alloc, &mut machine, &mut watched, &mut meter, &mut ready);
-        let Watched { dialogue, watcher } = watched;
-        let session = Session {
-            alloc,
-            bound,
-            machine,
-            dialogue,
-            meter,
-            ready,
-            handed,
-            lives,
-        };
-        (session, watcher)
+        self.dialogue.offer(came);
+        let (lives, watcher) = go_on_watched(
+            self.alloc,
+            &mut self.machine,
+            &mut self.dialogue,
+            &mut self.meter,
+            &mut self.ready,
+            watcher,
+        );
+        self.lives = lives;
+        watcher
     }
 
     /// Goes on with events, one after another: the requests that they open lie ready behind the last one. A session that has ended passes

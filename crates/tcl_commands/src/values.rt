@@ -4,13 +4,15 @@ ghost use Rattle.std.specs.Prelude.{◌≡◌, IfOk};
 ghost use Rattle.tcl_commands.specs.Said.{limited, list_of, as_number};
 ghost use Rattle.tcl_commands.specs.Says.{Says};
 ghost use Rattle.tcl_commands.specs.Strings.{count_text};
+ghost use Rattle.tcl_expr.specs.Number.{number_text};
 ghost use Rattle.tcl_subst.specs.Faults.{is_too_long};
 ghost use Rattle.tcl_words.specs.Lists.{written};
 
 use crate::complaint::Complaint;
 use crate::texts::{expected_number, no_list, too_long};
+use itoa::Buffer;
 use std::alloc::{AllocError, Global};
-use tcl_expr::{read_number, write_number};
+use tcl_expr::read_number;
 use tcl_subst::VALUE_LIMIT;
 use tcl_values::{Elements, Value};
 use tcl_words::{ListFault, Text, Texts};
@@ -72,14 +74,18 @@ pub(crate) fn listed(alloc: Global, texts: Texts) -> Result<Value, AllocError>
     Value::written(alloc, list)
 }
 
+/// The text of a number.
+pub(crate) fn number_text(alloc: Global, number: i64) -> Result<Value, AllocError>
+    ensures { IfOk result (λ v. v ≡ number_text number) }
+{
+    let mut digits = Buffer::new();
+    Value::from_slice(alloc, digits.format(number).as_bytes())
+}
+
 /// The text of a count.
 pub(crate) fn count_text(alloc: Global, count: usize) -> Result<Value, AllocError>
     ensures { IfOk result (λ v. v ≡ count_text count) }
 {
-    Value::from_text(
-        alloc,
-        Text {
-            bytes: format!(in alloc; "{count}")?.into_bytes(),
-        },
-    )
+    let mut digits = Buffer::new();
+    Value::from_slice(alloc, digits.format(count).as_bytes())
 }

@@ -14,9 +14,8 @@ use crate::complaint::Complaint;
 use crate::strings::bit_text;
 use crate::texts::{bad_option, is, is_missing, not_read, not_set, not_unset, wrong};
 use crate::told::{error, told, wrong_call};
-use crate::values::{as_number, texts_of};
+use crate::values::{as_number, number_text, texts_of};
 use std::alloc::{AllocError, Global};
-use tcl_expr::write_number;
 use tcl_subst::Vars;
 use tcl_values::Value;
 use tcl_words::Text;
@@ -121,7 +120,7 @@ fn sum(alloc: Global, a: i64, b: i64) -> Result<Value, Complaint>
     ensures { Says result (sum a b) }
 {
     match a.checked_add(b) {
-        Some(number) => Ok(Value::from_text(alloc, write_number(alloc, number)?)?),
+        Some(number) => Ok(number_text(alloc, number)?),
         None => Err(Complaint::Said(Text::from_slice(alloc, b"integer overflow")?)),
     }
 }

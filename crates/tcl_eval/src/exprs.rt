@@ -67,7 +67,7 @@ impl Engine {
             Halt::Failed(filler, fault) => {
                 drop(evaluation);
                 drop(goal);
-                self.not_filled(&filler, fault)
+                self.not_filled(filler, fault)
             }
             Halt::Fault(fault) => {
                 drop(evaluation);
@@ -130,7 +130,7 @@ impl Engine {
             FillStep::Fault(fault) => {
                 drop(evaluation);
                 drop(goal);
-                self.not_filled(&filler, fault)
+                self.not_filled(filler, fault)
             }
         }
     }

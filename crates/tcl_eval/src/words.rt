@@ -152,7 +152,7 @@ impl Engine {
             FillStep::NeedScript(number) => self.fill_script(
                 number, words, next, expand, filler, done, then, depth,
             ),
-            FillStep::Fault(fault) => self.not_filled(&filler, fault),
+            FillStep::Fault(fault) => self.not_filled(filler, fault),
         }
     }
 
@@ -210,10 +210,12 @@ impl Engine {
     }
 
     /// A word that can't be filled.
-    pub(crate) fn not_filled(&self, filler: &Filler, fault: SubstFault) -> Result<Mode, AllocError>
-        ensures { IfOk result (λ mode. mode ≡ Mode.Give Code.Error (not_read (refused_name filler.now.fault) fault)) }
+    pub(crate) fn not_filled(&self, filler: Filler, fault: SubstFault) -> Result<Mode, AllocError>
+        ensures { IfOk result (λ mode. mode ≡ Mode.Give Code.Error (not_read (refused_name filler.fault) fault)) }
     {
-        Ok(Mode::Give(Code::Error, unfilled(self.alloc, filler, fault)?))
+        let text = unfilled(self.alloc, &filler, fault)?;
+        drop(filler);
+        Ok(Mode::Give(Code::Error, text))
     }
 }
 

@@ -5,6 +5,7 @@ ghost use Rattle.std.specs.List.{list_all};
 ghost use Rattle.tcl_expr.specs.Number.{is_digit, value_from, is_numeral as numeral_shape, numeral as numeral_of, negative, number_of, number_text};
 
 use crate::white::before;
+use itoa::Buffer;
 use std::alloc::{AllocError, Global};
 use tcl_words::Text;
 
@@ -102,8 +103,6 @@ pub fn read_number(text: &[u8]) -> Option<i64>
 pub fn write_number(alloc: Global, number: i64) -> Result<Text, AllocError>
     ensures text { IfOk result (λ t. t ≡ number_text number) }
 {
-    let digits = format!(in alloc; "{number}")?;
-    Ok(Text {
-        bytes: digits.into_bytes(),
-    })
+    let mut digits = Buffer::new();
+    Text::from_slice(alloc, digits.format(number).as_bytes())
 }

@@ -4,6 +4,6 @@ use Rattle.tcl_values.specs.declared.value.Form.{Form}
 use Rattle.tcl_values.specs.declared.value.Form.TheVariants.{Short, Shared, Listed}
 
 abbrev pub bytes_of : Form → List ℕ
-bytes_of (Short text) = text
+bytes_of (Short text) = text.items
 bytes_of (Shared text) = text.value
 bytes_of (Listed list) = list.value

@@ -1,26 +1,28 @@
-//! A value of a variable or a word: a text that is shared where it is long.
+//! A value of a variable or a word: a short text that lies in it, or a longer one that is shared.
 
-ghost use Rattle.std.specs.Prelude.{◌≡◌, ◌≢◌, ◌++◌, [], length, None, Ok, Err, IfOk, IfErr, OnOk, OnErr};
+ghost use Rattle.std.specs.Prelude.{◌≡◌, ◌≢◌, ◌++◌, [], length, None, Ok, Err, IfOk, IfErr, IfSome, OnOk, OnErr};
 ghost use Rattle.tcl_words.specs.Lists.{ReadsAs, elements, written};
+ghost use Rattle.tcl_values.specs.Forms.{bytes_of};
 ghost use Rattle.tcl_values.specs.Lists.{elements_of, with_elements};
 
 use crate::elements::Elements;
 use crate::faults::GrowFault;
 use crate::kept::Kept;
 use crate::listed::Listed;
+use arrayvec::ArrayVec;
 use std::alloc::{AllocError, Global};
 use std::marker::Model;
 use std::rc::Rc;
 use tcl_words::{ListFault, Text};
 
-/// A text with more bytes than this is shared.
-const SHORT: usize = 64;
+/// How many bytes a value holds itself. A longer text is shared.
+const SHORT: usize = 16;
 
 /// How the bytes of a value are held.
 #[derive(Drop)]
 pub enum Form {
-    /// A short text, which is copied where it is wanted twice.
-    Short(Text),
+    /// A short text, which lies in the value and takes no memory.
+    Short(ArrayVec<u8, SHORT>),
     /// A text that may have several owners.
     Shared(Rc<Kept>),
     /// A list that may have several owners.
@@ -44,13 +46,23 @@ impl Model for Value {
     ghost view = { λ v. bytes_of v.form };
 }
 
+/// The form of bytes that a value holds itself, where these are so few.
+fn short(bytes: &[u8]) -> Option<Form>
+    ensures { IfSome result (λ f. bytes_of f ≡ bytes.now) }
+{
+    match ArrayVec::try_from(bytes) {
+        Ok(text) => Some(Form::Short(text)),
+        Err(_) => None,
+    }
+}
+
 impl Value {
     /// The value without bytes. It allocates nothing.
     pub fn new(alloc: Global) -> Value
         ensures { result ≡ [] }
     {
         Value {
-            form: Form::Short(Text::new(alloc)),
+            form: Form::Short(ArrayVec::new()),
         }
     }
 
@@ -58,20 +70,21 @@ impl Value {
     pub fn from_text(alloc: Global, text: Text) -> Result<Value, AllocError>
         ensures { IfOk result (λ v. v ≡ text) }
     {
-        if text.len() <= SHORT {
-            return Ok(Value {
-                form: Form::Short(text),
-            });
+        if let Some(form) = short(text.as_slice()) {
+            return Ok(Value { form });
         }
         Ok(Value {
             form: Form::Shared(Rc::new(alloc, Kept::new(text))?),
         })
     }
 
-    /// The value of these bytes, copied.
+    /// The value of these bytes, copied. Short ones take no memory.
     pub fn from_slice(alloc: Global, bytes: &[u8]) -> Result<Value, AllocError>
         ensures { IfOk result (λ v. v ≡ bytes.now) }
     {
+        if let Some(form) = short(bytes) {
+            return Ok(Value { form });
+        }
         Value::from_text(alloc, Text::from_slice(alloc, bytes)?)
     }
 
@@ -103,24 +116,24 @@ impl Value {
         self.as_slice().len()
     }
 
-    /// An equal value. It copies at most a short text.
+    /// An equal value. It copies at most a short text, and takes no memory.
     pub fn shared(&self, alloc: Global) -> Result<Value, AllocError>
         ensures { IfOk result (λ v. v ≡ self.now) }
     {
         let form = match &self.form {
-            Form::Short(text) => Form::Short(text.copied(alloc)?),
+            Form::Short(text) => return Value::from_slice(alloc, text.as_slice()),
             Form::Shared(text) => Form::Shared(text.clone()?),
             Form::Listed(list) => Form::Listed(list.clone()?),
         };
         Ok(Value { form })
     }
 
-    /// The bytes as a text. It copies nothing where the value has no other owner.
+    /// The bytes as a text. It copies a short one, and one that has other owners.
     pub fn into_text(self, alloc: Global) -> Result<Text, AllocError>
         ensures { IfOk result (λ t. t ≡ self) }
     {
         match self.form {
-            Form::Short(text) => Ok(text),
+            Form::Short(text) => Text::from_slice(alloc, text.as_slice()),
             Form::Shared(text) => match Rc::try_unwrap(text) {
                 Ok(text) => Ok(text.into_text()),
                 Err(text) => Text::from_slice(alloc, text.as_slice()),
@@ -139,10 +152,18 @@ impl Value {
         ensures appended { OnOk result (self.new ≡ self.old ++ bytes.now) }
         ensures kept { OnErr result (self.new ≡ self.old) }
     {
-        if let Form::Shared(shared) = &mut self.form {
-            if let Some(text) = Rc::get_mut(shared) {
-                return text.extend(bytes);
+        match &mut self.form {
+            Form::Short(text) => {
+                if text.try_extend_from_slice(bytes).is_ok() {
+                    return Ok(());
+                }
             }
+            Form::Shared(shared) => {
+                if let Some(text) = Rc::get_mut(shared) {
+                    return text.extend(bytes);
+                }
+            }
+            Form::Listed(_) => {}
         }
         let mut text = Text::from_slice(alloc, self.as_slice())?;
         text.extend(bytes)?;

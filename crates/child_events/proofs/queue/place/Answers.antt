@@ -11,11 +11,11 @@ later-init c =
 pub later-preserved : goal.later-preserved
 later-preserved c =
     let ss = c.args.slots.now.items in
-    let at = place_at_most c.args.clock (c.later.at - 1) 0 ss c.index.result.now c.requires (grind arith) (grind (arith, nat_tests)) in
+    let at = place_at_most c.args.clock (c.later.at - 1) 0 ss c.index-in-later.result.now c.requires (grind arith) (grind (arith, nat_tests)) in
     record { within = grind arith; found = at }
 
-pub returns-else-clock-index : goal.returns-else-clock-index
-returns-else-clock-index c =
+pub returns-else-clock-index-2 : goal.returns-else-clock-index-2
+returns-else-clock-index-2 c =
     let ss = c.args.slots.now.items in
-    let above = place_above c.args.clock (c.later.at - 1) 0 ss c.index.result.now c.requires (grind arith) (grind (arith, nat_tests)) in
+    let above = place_above c.args.clock (c.later.at - 1) 0 ss c.index-in-later.result.now c.requires (grind arith) (grind (arith, nat_tests)) in
     grind arith

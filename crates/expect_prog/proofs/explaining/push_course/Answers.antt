@@ -1,4 +1,4 @@
-use Rattle.std.proofs.Common.{[], rules, refl, arith}
+use Rattle.std.proofs.Common.{[], rules}
 use Rattle.expect_prog.specs.Explain.{at_first}
 use Rattle.expect_prog.proofs.Coursing.{one_more}
 use Rattle.expect_prog.proofs.explaining.push_course.Goals as goal

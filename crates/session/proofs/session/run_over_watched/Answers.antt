@@ -5,7 +5,7 @@ use Rattle.tcl_eval.specs.Steps.{left_of}
 use Rattle.tcl_eval.specs.declared.machine.Pause.TheVariants as pause
 use Rattle.session.proofs.Suspending.{ran, leads_lived, unless}
 use Rattle.session.proofs.Watching.{leads_of, sights_of}
-use Rattle.session.proofs.session.run_watched.Goals as goal
+use Rattle.session.proofs.session.run_over_watched.Goals as goal
 
 pub returns-clause-ran : goal.returns-clause-ran
 returns-clause-ran g c = λ h.
