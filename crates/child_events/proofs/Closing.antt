@@ -1,13 +1,12 @@
 -- The first line of version 2 and its last.
-use Rattle.std.proofs.Common.{◌≡◌, ℕ, ◌+◌, ◌-◌, ◌<◌, List, [], ◌∷◌, length, Bool, true, false, Result, Ok, Err, refl, sym, ap, ◌∙◌, arith}
+use Rattle.std.proofs.Common.{◌≡◌, ℕ, ◌+◌, ◌<◌, List, [], ◌∷◌, length, Bool, true, false, Result, Ok, Err, refl, sym, ap, ◌∙◌, arith}
 use Rattle.std.specs.Prelude.{◌==◌, not, if◌then◌else◌}
 use Rattle.std.proofs.lemmas.Bool.Decides.{nat_tests}
 use Rattle.child_events.specs.declared.faults.LogFault.{LogFault}
 use Rattle.child_events.specs.declared.faults.LogFault.TheVariants as fault
 use Rattle.child_events.specs.declared.version.Version.{Version}
-use Rattle.child_events.specs.declared.version.Version.TheVariants.{First, Second}
 use Rattle.child_events.specs.Log.{joined}
-use Rattle.child_events.specs.Reading.{parts, first_line, version_of, version_events, parts_events, log_events, total_of, line_total, ◌>>=◌, closed}
+use Rattle.child_events.specs.Reading.{parts, version_of, version_events, parts_events, log_events, total_of, ◌>>=◌, closed}
 use Rattle.child_events.proofs.Lines.{parts_some}
 use Rattle.child_events.proofs.Plain.{joined-parts}
 
@@ -27,11 +26,6 @@ closed_behind n seen total behind same some =
 pub crowded_no : (n : ℕ) (f : LogFault) (k m : List ℕ) (ws : List (List ℕ)) → 0 < length ws → total_of n f (k ∷ m ∷ ws) ≡ Err f
 crowded_no n f k m [] some = absurd (omega arith)
 crowded_no n f k m (x ∷ ws) some = refl
-
--- Version 2 alone has a total; how many events stood before its line, the line's number says.
-pub seen_is : (v : Version) (n seen k : ℕ) (f : LogFault) (line : List ℕ) → line_total v n f line ≡ Ok k → n ≡ seen + first_line v → n - 2 ≡ seen
-seen_is First n seen k f line is number = absurd (cc)
-seen_is Second n seen k f line is number = omega arith
 
 -- A first line with others behind it says which version this is.
 pub versioned : (bytes line behind : List ℕ) (named : Result Version LogFault) → parts 10 bytes ≡ line ∷ parts 10 behind → version_of line ≡ named → log_events bytes ≡ (named >>= version_events line (parts 10 behind))

@@ -12,11 +12,11 @@ use Rattle.child_events.specs.declared.faults.LogFault.{LogFault}
 use Rattle.child_events.specs.declared.faults.LogFault.TheVariants as fault
 use Rattle.child_events.specs.declared.version.Version.{Version}
 use Rattle.child_events.specs.Log.{LogText}
-use Rattle.child_events.specs.Reading.{parts, is_lower_hex_digit, all_lower_hex, piece_of, decoded, ◌>>=◌, line_event, first_line, lines_events, log_events, fault_in, Refused}
-use Rattle.child_events.specs.Judging.{judged, lines_read, events_in, Judges}
+use Rattle.child_events.specs.Reading.{parts, is_lower_hex_digit, all_lower_hex, piece_of, decoded, ◌>>=◌, line_event, lines_events, log_events, fault_in, Refused}
+use Rattle.child_events.specs.Judging.{judged, lines_read, events_in, Judges, SaysLog, front_of}
 use Rattle.child_events.proofs.Parts.{Without, parts_whole}
 use Rattle.child_events.proofs.Hexes.{pairs_decode}
-use Rattle.child_events.proofs.Lines.{front_of, front_none, line_read}
+use Rattle.child_events.proofs.Lines.{front_none, line_read}
 use Rattle.child_events.proofs.Whole.{log_said, log_meant}
 
 -- no digit is a space
@@ -66,6 +66,10 @@ pub judged_refused : (bytes : List ℕ) (r : Result (List HallEvent) LogFault) �
 judged_refused bytes (Ok es) is = tt
 judged_refused bytes (Err f) is = (ap fault_in (sym is), λ es text. let e = log_meant bytes es text in cc)
 
+pub says_log : (bytes : List ℕ) (said : Result (List HallEvent) LogFault) → log_events bytes ≡ said → SaysLog bytes said
+says_log bytes (Ok es) is = judged_found bytes (Ok es) (sym is)
+says_log bytes (Err f) is = judged_refused bytes (Err f) (sym is)
+
 -- the events that so many lines are
 lines_len : (n k : ℕ) (ws : List (List ℕ)) (es : List HallEvent) → lines_read n k ws ≡ Ok es → length es ≡ k
 lines_len n zero ws es is = let e : [] ≡ es = cc in sym (ap length e)
@@ -112,16 +116,16 @@ read_more n (suc k) j (x ∷ y ∷ ws) vs w front e at read split some is =
     by_cases (Ok e') (Err f) first others h = absurd (cc)
     by_cases (Err f) q first others h = absurd (cc)
 
--- so many lines were judged, each of them an event, and these are left
-pub record JudgedTo (v : Version) (bytes rest : List ℕ) (number seen : ℕ) : Type 0 where
+-- so many lines were judged from line n on, each of them an event, and these are left
+pub record JudgedTo (v : Version) (n : ℕ) (bytes rest : List ℕ) (number seen : ℕ) : Type 0 where
   pub front : List HallEvent
-  pub read : lines_read (first_line v) seen (parts 10 bytes) ≡ Ok front
+  pub read : lines_read n seen (parts 10 bytes) ≡ Ok front
   pub left : drop seen (parts 10 bytes) ≡ parts 10 rest
-  pub same : front_of front (lines_events v number (parts 10 rest)) ≡ lines_events v (first_line v) (parts 10 bytes)
-  pub numbered : number ≡ first_line v + seen
+  pub same : front_of front (lines_events v number (parts 10 rest)) ≡ lines_events v n (parts 10 bytes)
+  pub numbered : number ≡ n + seen
 
-pub judged_none : (v : Version) (bytes : List ℕ) → JudgedTo v bytes bytes (first_line v) 0
-judged_none v bytes = record { front = []; read = refl; left = refl; same = front_none (lines_events v (first_line v) (parts 10 bytes)); numbered = omega arith }
+pub judged_none : (v : Version) (n : ℕ) (bytes : List ℕ) → JudgedTo v n bytes bytes n 0
+judged_none v n bytes = record { front = []; read = refl; left = refl; same = front_none (lines_events v n (parts 10 bytes)); numbered = omega arith }
 
 drop_next : (k : ℕ) (ws vs : List (List ℕ)) (w : List ℕ) → drop k ws ≡ w ∷ vs → drop (suc k) ws ≡ vs
 drop_next zero [] vs w h = absurd (cc)
@@ -133,19 +137,19 @@ is_event : (r : Result HallEvent LogFault) → Ok tt ≡ judged r → (e : HallE
 is_event (Ok e) h = (e, refl)
 is_event (Err f) h = absurd (cc)
 
-pub judged_more : (v : Version) (bytes rest line behind : List ℕ) (number seen : ℕ) → JudgedTo v bytes rest number seen → parts 10 rest ≡ line ∷ parts 10 behind → 0 < length (parts 10 behind) → Ok tt ≡ judged (line_event number line) → JudgedTo v bytes behind (number + 1) (seen + 1)
-judged_more v bytes rest line behind number seen j split some fine =
+pub judged_more : (v : Version) (n : ℕ) (bytes rest line behind : List ℕ) (number seen : ℕ) → JudgedTo v n bytes rest number seen → parts 10 rest ≡ line ∷ parts 10 behind → 0 < length (parts 10 behind) → Ok tt ≡ judged (line_event number line) → JudgedTo v n bytes behind (number + 1) (seen + 1)
+judged_more v n bytes rest line behind number seen j split some fine =
     let found = is_event (line_event number line) fine in
     record {
       front = j.front ++ found.0 ∷ [];
-      read = rw add-one (read_more (first_line v) seen number (parts 10 bytes) (parts 10 behind) line j.front found.0 j.numbered j.read (j.left ∙ split) some found.1);
+      read = rw add-one (read_more n seen number (parts 10 bytes) (parts 10 behind) line j.front found.0 j.numbered j.read (j.left ∙ split) some found.1);
       left = rw add-one (drop_next seen (parts 10 bytes) (parts 10 behind) line (j.left ∙ split));
-      same = line_read v j.front number rest line behind (lines_events v (first_line v) (parts 10 bytes)) split j.same found.0 found.1;
+      same = line_read v j.front number rest line behind (lines_events v n (parts 10 bytes)) split j.same found.0 found.1;
       numbered = omega (arith, j.numbered);
     }
 
-pub judges : (v : Version) (bytes rest : List ℕ) (number seen : ℕ) (j : JudgedTo v bytes rest number seen) → lines_events v (first_line v) (parts 10 bytes) ≡ Ok (j.front ++ []) → Judges v (parts 10 bytes) (Ok seen)
-judges v bytes rest number seen j is = (
+pub judges : (v : Version) (n : ℕ) (bytes rest : List ℕ) (number seen : ℕ) (j : JudgedTo v n bytes rest number seen) → lines_events v n (parts 10 bytes) ≡ Ok (j.front ++ []) → Judges v n (parts 10 bytes) (Ok seen)
+judges v n bytes rest number seen j is = (
   is ∙ ap Ok (append-nil j.front) ∙ sym j.read,
   subst (λ (r : Result (List HallEvent) LogFault). IsOk r) (sym j.read) refl,
 )

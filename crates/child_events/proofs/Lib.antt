@@ -13,4 +13,5 @@ pub mod Worlds
 pub mod Queued
 pub mod Nexts
 pub mod Judged
+pub mod Onward
 pub mod Pieces

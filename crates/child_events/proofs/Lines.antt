@@ -1,5 +1,5 @@
 -- The lines of a log.
-use Rattle.std.proofs.Common.{◌≡◌, ℕ, ◌+◌, ◌-◌, ◌<◌, List, [], ◌∷◌, ◌++◌, length, Bool, true, false, Option, Some, None, Result, Ok, Err, refl, sym, ap, ◌∙◌, append_assoc, arith}
+use Rattle.std.proofs.Common.{◌≡◌, ℕ, ◌+◌, ◌<◌, List, [], ◌∷◌, ◌++◌, length, Bool, true, false, Option, Some, None, Result, Ok, Err, refl, sym, ap, ◌∙◌, append_assoc, arith}
 use Rattle.std.specs.Prelude.{⊤, ◌==◌, ◌||◌, codes, if◌then◌else◌}
 use Rattle.std.specs.Str.{bytes_eq}
 use Rattle.std.proofs.lemmas.Bool.Decides.{nat_tests}
@@ -11,12 +11,8 @@ use Rattle.child_events.specs.declared.event.HallEvent.{HallEvent}
 use Rattle.child_events.specs.declared.faults.LogFault.{LogFault}
 use Rattle.child_events.specs.declared.faults.LogFault.TheVariants as fault
 use Rattle.child_events.specs.declared.version.Version.{Version}
-use Rattle.child_events.specs.Reading.{in_front, parts, line_event, line_total, closed, last_part, none_where, with_line, lines_events, ◌>>=◌, fields_event, any_empty, failed_event, stamp_of, stamped, or_fault, what_failed, cause_of, piece_of, number_within, Reads}
-
--- events that were read, in front of what the others give
-abbrev pub front_of : List HallEvent → Result (List HallEvent) LogFault → Result (List HallEvent) LogFault
-front_of front (Ok es) = Ok (front ++ es)
-front_of front (Err f) = Err f
+use Rattle.child_events.specs.Reading.{in_front, parts, line_event, ended, last_part, none_where, with_line, lines_events, ◌>>=◌, fields_event, any_empty, failed_event, stamp_of, stamped, or_fault, what_failed, cause_of, piece_of, number_within, Reads}
+use Rattle.child_events.specs.Judging.{front_of}
 
 pub front_none : (rest : Result (List HallEvent) LogFault) → front_of [] rest ≡ rest
 front_none (Ok es) = refl
@@ -59,18 +55,13 @@ module _ (v : Version) (front : List HallEvent) (n : ℕ) (rest line behind : Li
   pub line_read : (e : HallEvent) → line_event n line ≡ Ok e → front_of (front ++ e ∷ []) (lines_events v (n + 1) (parts 10 behind)) ≡ all
   line_read e read = sym (front_more front e (lines_events v (n + 1) (parts 10 behind))) ∙ sym (at_line (Ok e) read)
 
-  -- the first line that is no event, and no total
-  pub line_bad : (f g : LogFault) → line_event n line ≡ Err f → line_total v n f line ≡ Err g → all ≡ Err g
-  line_bad f g read says = at_line (Err f) read ∙ ap (λ (r : Result ℕ LogFault). front_of front (none_where (r >>= λ k. closed n (n - 2) k (parts 10 behind)))) says
-
-  -- or the total, behind as many events as stand in front
-  pub total_read : (f : LogFault) (k : ℕ) (ended : Result ⊤ LogFault) → line_event n line ≡ Err f → line_total v n f line ≡ Ok k → closed n (n - 2) k (parts 10 behind) ≡ ended → all ≡ front_of front (none_where ended)
-  total_read f k ended read says closes =
-      at_line (Err f) read ∙ ap (λ (r : Result ℕ LogFault). front_of front (none_where (r >>= λ k. closed n (n - 2) k (parts 10 behind)))) says ∙ ap (λ (r : Result ⊤ LogFault). front_of front (none_where r)) closes
+  -- the first line that is no event: the total, or a bad one
+  pub line_ended : (f : LogFault) (r : Result ⊤ LogFault) → line_event n line ≡ Err f → ended v n line f (parts 10 behind) ≡ r → all ≡ front_of front (none_where r)
+  line_ended f r read ends = at_line (Err f) read ∙ ap (λ (q : Result ⊤ LogFault). front_of front (none_where q)) ends
 
 -- what stands behind the last newline
-pub end_read : (v : Version) (front : List HallEvent) (n : ℕ) (rest : List ℕ) (all : Result (List HallEvent) LogFault) (ended : Result ⊤ LogFault) → parts 10 rest ≡ rest ∷ [] → front_of front (lines_events v n (parts 10 rest)) ≡ all → last_part v n rest ≡ ended → all ≡ front_of front (none_where ended)
-end_read v front n rest all ended split same ends =
+pub end_read : (v : Version) (front : List HallEvent) (n : ℕ) (rest : List ℕ) (all : Result (List HallEvent) LogFault) (r : Result ⊤ LogFault) → parts 10 rest ≡ rest ∷ [] → front_of front (lines_events v n (parts 10 rest)) ≡ all → last_part v n rest ≡ r → all ≡ front_of front (none_where r)
+end_read v front n rest all r split same ends =
     sym same ∙ ap (λ (vs : List (List ℕ)). front_of front (lines_events v n vs)) split ∙ ap (λ (r : Result ⊤ LogFault). front_of front (none_where r)) ends
 
 pub either_way : (t : Bool) (r : Result HallEvent LogFault) → (if t then r else r) ≡ r

@@ -7,7 +7,7 @@ use Rattle.std.specs.Str.Parse.{digits_value, digits_value_after}
 use Rattle.std.proofs.lemmas.Bool.Decides.{nat_tests}
 use Rattle.std.proofs.lemmas.Bool.{and_parts}
 use Rattle.std.proofs.lemmas.List.{drop_more, drop_all, take_more}
-use Rattle.child_events.specs.Reading.{parts, starts_number, digits_number, number_of, NumberFirst}
+use Rattle.child_events.specs.Reading.{starts_number, digits_number, NumberFirst}
 use Rattle.child_events.proofs.Parts.{Without, parts_at}
 
 -- the number that digits write behind those of n

@@ -1,5 +1,5 @@
--- A log that is judged first, and read afterwards.
-use Rattle.std.specs.Prelude.{◌≡◌, ℕ, zero, suc, ◌+◌, ◌<◌, ◌≤◌, ◌%◌, ◌^◌, nat_le, ◌&&◌, IsTrue, List, [], ◌∷◌, length, IsOk, Result, Ok, Err, ⊤}
+-- A log that is judged first and read afterwards, or judged as it is read.
+use Rattle.std.specs.Prelude.{◌≡◌, ℕ, zero, suc, ◌+◌, ◌<◌, ◌≤◌, ◌%◌, ◌^◌, nat_le, ◌&&◌, IsTrue, List, [], ◌∷◌, ◌++◌, length, IsOk, Option, Some, None, Result, Ok, Err, ⊤}
 use Rattle.tcl_words.specs.Bytes as ascii
 use Rattle.child_events.specs.declared.event.What.TheVariants as what
 use Rattle.child_events.specs.declared.event.HallEvent.{HallEvent}
@@ -9,7 +9,8 @@ use Rattle.child_events.specs.declared.version.Version.{Version}
 use Rattle.child_events.specs.declared.fields.Stamp.{Stamp}
 use Rattle.child_events.specs.declared.line.Line.{Line}
 use Rattle.child_events.specs.declared.line.Line.TheVariants as line
-use Rattle.child_events.specs.Reading.{◌>>=◌, parts, all_lower_hex, piece_of, stamped, line_event, first_line, lines_events}
+use Rattle.child_events.specs.Log.{LogText}
+use Rattle.child_events.specs.Reading.{Refused, ◌>>=◌, parts, all_lower_hex, piece_of, stamped, line_event, lines_events}
 
 -- the event that a line says, in line n
 abbrev pub said_event : ℕ → Line → Result HallEvent LogFault
@@ -39,10 +40,35 @@ pub record AreJudged (n k : ℕ) (rest : List ℕ) : Type 0 where
   pub events : IsOk (lines_read n k (parts ascii.newline rest))
   pub few : n + k < 2 ^ 64
 
--- the first so many lines are the log's events; or this is its first fault
-abbrev pub Judges : Version → List (List ℕ) → Result ℕ LogFault → Type 0
-Judges v ws (Ok k) = (lines_events v (first_line v) ws ≡ lines_read (first_line v) k ws) × IsOk (lines_read (first_line v) k ws)
-Judges v ws (Err f) = lines_events v (first_line v) ws ≡ Err f
+-- of the lines from line n on the first so many are the log's events; or this is the first fault
+abbrev pub Judges : Version → ℕ → List (List ℕ) → Result ℕ LogFault → Type 0
+Judges v n ws (Ok k) = (lines_events v n ws ≡ lines_read n k ws) × IsOk (lines_read n k ws)
+Judges v n ws (Err f) = lines_events v n ws ≡ Err f
+
+-- What is left of a log that is judged as it is read: so many bytes, and what they say.
+pub record Left : Type 0 where
+  pub bytes : ℕ
+  pub said : Result (List HallEvent) LogFault
+
+-- the events that these bytes are the log of, or why they are no log
+abbrev pub SaysLog : List ℕ → Result (List HallEvent) LogFault → Type 0
+SaysLog bytes (Ok es) = LogText bytes es
+SaysLog bytes (Err f) = Refused bytes f
+
+-- these events, and what is said behind them
+abbrev pub front_of : List HallEvent → Result (List HallEvent) LogFault → Result (List HallEvent) LogFault
+front_of front (Ok es) = Ok (front ++ es)
+front_of front (Err f) = Err f
+
+-- these events are taken from what is left, each of them with a byte at least
+pub record GivesPart (old : Left) (es : List HallEvent) (new : Left) : Type 0 where
+  pub said : old.said ≡ front_of es new.said
+  pub fewer : length es + new.bytes ≤ old.bytes
+
+-- the next event is taken from it; or there is none, at its end
+abbrev pub GivesNext : Left → Option HallEvent → Left → Type 0
+GivesNext old (Some e) new = GivesPart old (e ∷ []) new
+GivesNext old None new = (old.said ≡ Ok []) × (new ≡ old)
 
 -- these three are within their limits, and the stamp has them
 pub record IsStampOf (script child moment : ℕ) (stamp : Stamp) : Type 0 where

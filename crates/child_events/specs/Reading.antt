@@ -205,6 +205,10 @@ last_part v n w =
     else if not (length w == 0) then Err (fault.Shape n)
     else at_end v n
 
+-- Line n is no event, and ends the log as its total.
+abbrev pub ended : Version → ℕ → List ℕ → LogFault → List (List ℕ) → Result ⊤ LogFault
+ended v n w f behind = line_total v n f w >>= λ k. closed n (n - 2) k behind
+
 -- no events, where a log may end so
 abbrev pub none_where : Result ⊤ LogFault → Result (List HallEvent) LogFault
 none_where ended = ended >>= λ done. Ok []
@@ -212,7 +216,7 @@ none_where ended = ended >>= λ done. Ok []
 -- A line is an event, with others behind it; or it is the total, which ends the log.
 abbrev pub with_line : Version → ℕ → List ℕ → Result HallEvent LogFault → List (List ℕ) → Result (List HallEvent) LogFault → Result (List HallEvent) LogFault
 with_line v n w (Ok e) behind others = others >>= λ es. Ok (e ∷ es)
-with_line v n w (Err f) behind others = none_where (line_total v n f w >>= λ k. closed n (n - 2) k behind)
+with_line v n w (Err f) behind others = none_where (ended v n w f behind)
 
 -- the events of the parts round the newlines, the first of them line n
 abbrev pub lines_events : Version → ℕ → List (List ℕ) → Result (List HallEvent) LogFault

@@ -3,14 +3,14 @@
 ghost use Rattle.std.specs.Prelude.{◌≡◌, ◌∷◌, ◌<◌, ◌≤◌, length, take as first, drop, IfOk, IfErr, OnOk, OnErr};
 ghost use Rattle.child_events.specs.Log.{LogText};
 ghost use Rattle.child_events.specs.Reading.{parts, first_line, last_part as last_of, lines_events, log_events, Refused};
-ghost use Rattle.child_events.specs.Judging.{Judges};
 
 use crate::event::HallEvent;
 use crate::faults::LogFault;
-use crate::fields::{LONGEST, split_line};
+use crate::fields::split_line;
 use crate::hall_events::HallEvents;
-use crate::line::{judge_line, read_line};
-use crate::version::{Version, close, line_total, version_of};
+use crate::judging::{judge_lines, opened};
+use crate::line::read_line;
+use crate::version::Version;
 use std::alloc::{AllocError, Global};
 use std::marker::Model;
 
@@ -37,54 +37,12 @@ impl<'a> Model for LogReader<'a> {
     ghost invariant = { λ r. AreJudged r.number r.left r.rest.now };
 }
 
-/// The end of a log whose last newline stands before these bytes, which would be the line of this number.
-fn last_part(version: Version, number: usize, rest: &[u8]) -> Result<(), LogFault>
-    ensures { result ≡ last_of version number rest.now }
-{
-    if rest.len() > LONGEST {
-        return Err(LogFault::TooLong(number));
-    }
-    if !rest.is_empty() {
-        return Err(LogFault::Shape(number));
-    }
-    match version {
-        Version::First => Ok(()),
-        Version::Second => Err(LogFault::Total(number)),
-    }
-}
-
-/// How many lines of events a log of this version has, from its first event's line on, or the first fault.
-fn judge_lines(version: Version, bytes: &[u8]) -> Result<usize, LogFault>
-    ensures judged { Judges version (parts 10 bytes.now) result }
-    ensures few { IfOk result (λ seen. seen ≤ length bytes.now) }
-{
-    let mut seen: usize = 0;
-    let mut rest = bytes;
-    let mut number = version.first_line();
-    'lines: while let Some((line, behind)) = split_line(rest) {
-        match judge_line(number, line) {
-            Ok(()) => {
-                seen += 1;
-                rest = behind;
-                number += 1;
-            }
-            Err(fault) => {
-                let total = line_total(version, number, line, fault)?;
-                close(number, seen, total, behind)?;
-                return Ok(seen);
-            }
-        }
-    }
-    last_part(version, number, rest)?;
-    Ok(seen)
-}
-
 impl<'a> LogReader<'a> {
     /// The events of the lines of a log of this version.
     fn of_lines(version: Version, bytes: &'a [u8]) -> Result<LogReader<'a>, LogFault>
         ensures { result ≡ lines_events version (first_line version) (parts 10 bytes.now) }
     {
-        let left = judge_lines(version, bytes)?;
+        let left = judge_lines(version, version.first_line(), bytes)?;
         Ok(LogReader {
             rest: bytes,
             number: version.first_line(),
@@ -96,13 +54,8 @@ impl<'a> LogReader<'a> {
     fn of_log(bytes: &'a [u8]) -> Result<LogReader<'a>, LogFault>
         ensures { result ≡ log_events bytes.now }
     {
-        let Some((line, behind)) = split_line(bytes) else {
-            return LogReader::of_lines(Version::First, bytes);
-        };
-        match version_of(line)? {
-            Version::First => LogReader::of_lines(Version::First, bytes),
-            Version::Second => LogReader::of_lines(Version::Second, behind),
-        }
+        let (version, lines) = opened(bytes)?;
+        LogReader::of_lines(version, lines)
     }
 
     /// The events of a log, which is judged to its end; no memory is taken for it.

@@ -1,9 +1,11 @@
 -- Events that are taken part by part.
-use Rattle.std.proofs.Common.{◌≡◌, ℕ, suc, ◌+◌, List, [], ◌∷◌, ◌++◌, length, refl, sym, ap, subst, ◌∙◌, append-nil, append_assoc, length-append, take, drop, arith, Option, Some, None, Err}
-use Rattle.std.proofs.lemmas.List.{take-append-drop}
+use Rattle.std.proofs.Common.{◌≡◌, ℕ, suc, ◌+◌, List, [], ◌∷◌, ◌++◌, length, refl, sym, ap, subst, ◌∙◌, append-nil, append_assoc, length-append, arith, Option, Some, None, Ok, Err}
+use Rattle.std.specs.Prelude.{Result}
 use Rattle.child_events.specs.declared.event.Event.{Event}
 use Rattle.child_events.specs.declared.event.HallEvent.{HallEvent}
+use Rattle.child_events.specs.declared.faults.LogFault.{LogFault}
 use Rattle.child_events.specs.World.{own}
+use Rattle.child_events.specs.Judging.{front_of}
 use Rattle.tcl_eval.specs.Suspended.{IsOver}
 use Rattle.session.specs.Left.{Kept, left, Fed}
 use Rattle.dialogue_sched.specs.declared.refusal.HallRefusal.{HallRefusal}
@@ -13,8 +15,10 @@ use Rattle.dialogue_sched.specs.declared.script.Script.{Script}
 use Rattle.dialogue_sched.specs.declared.run.RunFault.{RunFault}
 use Rattle.dialogue_sched.specs.declared.run.RunFault.TheVariants.{Refused, New}
 use Rattle.dialogue_sched.specs.declared.run.RunFault.TheVariants as run
+use Rattle.dialogue_sched.specs.declared.run.LogRunFault.{LogRunFault}
+use Rattle.dialogue_sched.specs.declared.run.LogRunFault.TheVariants.{Log, Run}
 use Rattle.dialogue_sched.specs.Hall.{opening_fault, Begins, AllBegin}
-use Rattle.dialogue_sched.specs.Run.{Runs, TakesLog}
+use Rattle.dialogue_sched.specs.Run.{OpensFor, log_first, StopsAtPart, TakesLog, RunsLog}
 use Rattle.dialogue_sched.proofs.Reaching.{own_append}
 use Rattle.dialogue_sched.proofs.Pairing.{Paired-length}
 use Rattle.dialogue_sched.proofs.Running.{as_many}
@@ -61,28 +65,6 @@ refusal_behind n at to (x ∷ xs) ys is none = by_cases (refusal_of n x) none (r
     by_cases None h more = more h
     by_cases (Some r) h more = absurd (cc)
 
--- the front that was taken of all events, and what is left
-pub record TakenTo (all rest : List HallEvent) (olds news : List Kept) : Type 0 where
-  pub front : List HallEvent
-  pub same : front ++ rest ≡ all
-  pub accepted : first_refusal (length olds) 0 front ≡ None
-  pub took : AllTook 1 front olds news
-
-pub taken_none : (all : List HallEvent) (ks : List Kept) → TakenTo all all ks ks
-taken_none all ks = record { front = []; same = refl; accepted = refl; took = took_none 1 ks }
-
-pub front_len : (all rest : List HallEvent) (olds news : List Kept) (t : TakenTo all rest olds news) → length all ≡ length t.front + length rest
-front_len all rest olds news t = ap length (sym t.same) ∙ length-append t.front rest
-
-pub news_len : (all rest : List HallEvent) (olds news : List Kept) (t : TakenTo all rest olds news) → length news ≡ length olds
-news_len all rest olds news t = took_len 1 t.front olds news t.took
-
--- a part of what is left, at its place
-pub refused_part : (all rest part others : List HallEvent) (olds news : List Kept) (at : ℕ) (t : TakenTo all rest olds news) → at + length rest ≡ length all → rest ≡ part ++ others →
-    first_refusal (length olds) 0 (t.front ++ part) ≡ first_refusal (length olds) at part
-refused_part all rest part others olds news at t is split =
-    refusal_behind (length olds) 0 at t.front part (omega (arith, front_len all rest olds news t, is)) t.accepted
-
 -- the first refused event of a part is the first of all
 pub refused_first : (n at : ℕ) (xs ys : List HallEvent) (found : ℕ × HallRefusal) → first_refusal n at xs ≡ Some found → first_refusal n at (xs ++ ys) ≡ Some found
 refused_first n at [] ys found h = absurd (cc)
@@ -92,54 +74,97 @@ refused_first n at (x ∷ xs) ys found h = by_cases (refusal_of n x) h (refused_
     by_cases None h more = more h
     by_cases (Some r) h more = h
 
--- a part is accepted, too
-pub accepted_more : (all rest part others : List HallEvent) (olds news : List Kept) (at : ℕ) (t : TakenTo all rest olds news) → at + length rest ≡ length all → rest ≡ part ++ others →
-    first_refusal (length news) at part ≡ None → IsAcceptedTo (length olds) all others
-accepted_more all rest part others olds news at t is split none = record {
-  front = t.front ++ part;
-  same = append_assoc t.front part others ∙ ap (λ (es : List HallEvent). t.front ++ es) (sym split) ∙ t.same;
-  accepted = refused_part all rest part others olds news at t is split ∙ ap (λ (n : ℕ). first_refusal n at part) (sym (news_len all rest olds news t)) ∙ none;
-}
+-- what a log says, or why it says nothing
+abbrev pub Said : Type 0
+Said = Result (List HallEvent) LogFault
 
-pub taken_more : (all rest part others : List HallEvent) (olds news lasts : List Kept) (at : ℕ) (t : TakenTo all rest olds news) → at + length rest ≡ length all → rest ≡ part ++ others →
-    first_refusal (length news) at part ≡ None → AllTook 1 part news lasts → TakenTo all others olds lasts
-unfolding accepted_more
-taken_more all rest part others olds news lasts at t is split none took =
-    let more = accepted_more all rest part others olds news at t is split none in
-    record {
-      front = more.front;
-      same = more.same;
-      accepted = more.accepted;
+front_none : (said : Said) → said ≡ front_of [] said
+front_none (Ok es) = refl
+front_none (Err f) = refl
+
+front_twice : (front part : List HallEvent) (said : Said) → front_of front (front_of part said) ≡ front_of (front ++ part) said
+front_twice front part (Ok es) = ap Ok (sym (append_assoc front part es))
+front_twice front part (Err f) = refl
+
+-- of all that is said, the front that was taken, so many events, and what is left
+pub record TakenTo (all rest : Said) (at : ℕ) (olds news : List Kept) : Type 0 where
+  pub front : List HallEvent
+  pub same : all ≡ front_of front rest
+  pub many : at ≡ length front
+  pub accepted : first_refusal (length olds) 0 front ≡ None
+  pub took : AllTook 1 front olds news
+
+pub taken_none : (all : Said) (ks : List Kept) → TakenTo all all 0 ks ks
+taken_none all ks = record { front = []; same = front_none all; many = refl; accepted = refl; took = took_none 1 ks }
+
+module _ (all rest : Said) (at : ℕ) (olds news : List Kept) (t : TakenTo all rest at olds news) where
+  news_len : length news ≡ length olds
+  news_len = took_len 1 t.front olds news t.took
+
+  pub accepted_front : IsAcceptedTo (length olds) all rest
+  accepted_front = record { front = t.front; same = t.same; accepted = t.accepted }
+
+  -- a fault is left
+  pub stopped_part : (fault : LogRunFault) → StopsAtPart rest fault → TakesLog all olds news (Err fault)
+  stopped_part (Log f) stops = t.same ∙ ap (front_of t.front) stops
+  stopped_part (Run f) stops = subst (λ (g : RunFault). TakesLog all olds news (Err (Run g))) (sym stops) tt
+
+  -- nothing is left
+  pub taken_all : rest ≡ Ok [] → TakesLog all olds news (Ok tt)
+  taken_all none = (t.front, t.same ∙ ap (front_of t.front) none ∙ ap Ok (append-nil t.front), t.accepted, t.took)
+
+  module _ (part : List HallEvent) (others : Said) (split : rest ≡ front_of part others) where
+    -- a part of what is left, at its place
+    refused_part : first_refusal (length olds) 0 (t.front ++ part) ≡ first_refusal (length olds) at part
+    refused_part = refusal_behind (length olds) 0 at t.front part (omega (arith, t.many)) t.accepted
+
+    same_more : all ≡ front_of (t.front ++ part) others
+    same_more = t.same ∙ ap (front_of t.front) split ∙ front_twice t.front part others
+
+    -- a part is accepted, too
+    accepted_part : first_refusal (length news) at part ≡ None → first_refusal (length olds) 0 (t.front ++ part) ≡ None
+    accepted_part none = refused_part ∙ ap (λ (n : ℕ). first_refusal n at part) (sym news_len) ∙ none
+
+    pub accepted_more : first_refusal (length news) at part ≡ None → IsAcceptedTo (length olds) all others
+    accepted_more none = record { front = t.front ++ part; same = same_more; accepted = accepted_part none }
+
+    pub taken_more : (lasts : List Kept) → first_refusal (length news) at part ≡ None → AllTook 1 part news lasts → TakenTo all others (at + length part) olds lasts
+    taken_more lasts none took = record {
+      front = t.front ++ part;
+      same = same_more;
+      many = omega (arith, length-append t.front part, t.many);
+      accepted = accepted_part none;
       took = took_join 1 t.front part olds news lasts t.took took;
     }
 
-pub refused_all : (all rest part others : List HallEvent) (olds news : List Kept) (at : ℕ) (found : ℕ × HallRefusal) (t : TakenTo all rest olds news) → at + length rest ≡ length all → rest ≡ part ++ others →
-    first_refusal (length news) at part ≡ Some found → first_refusal (length olds) 0 all ≡ Some found
-refused_all all rest part others olds news at found t is split some =
-    ap (λ (es : List HallEvent). first_refusal (length olds) 0 es) (sym t.same ∙ ap (λ (es : List HallEvent). t.front ++ es) split ∙ sym (append_assoc t.front part others))
-    ∙ refused_first (length olds) 0 (t.front ++ part) others found
-    (refused_part all rest part others olds news at t is split ∙ ap (λ (n : ℕ). first_refusal n at part) (sym (news_len all rest olds news t)) ∙ some)
-
--- nothing is left
-pub taken_all : (all rest : List HallEvent) (olds news : List Kept) (t : TakenTo all rest olds news) → rest ≡ [] → (first_refusal (length olds) 0 all ≡ None) × AllTook 1 all olds news
-taken_all all rest olds news t none =
-    let whole : t.front ≡ all = sym (append-nil t.front) ∙ ap (λ (es : List HallEvent). t.front ++ es) (sym none) ∙ t.same in (
-      ap (λ (es : List HallEvent). first_refusal (length olds) 0 es) (sym whole) ∙ t.accepted,
-      subst (λ (es : List HallEvent). AllTook 1 es olds news) whole t.took,
-    )
-
--- a part of a log, and what is left
-pub part_of : (n : ℕ) (log part rest : List HallEvent) → part ≡ take n log → rest ≡ drop n log → log ≡ part ++ rest
-part_of n log part rest is left = sym (take-append-drop n log) ∙ ap (λ (p : List HallEvent). p ++ drop n log) (sym is) ∙ ap (λ (r : List HallEvent). part ++ r) (sym left)
-
-pub part_len : (log part rest : List HallEvent) → log ≡ part ++ rest → length log ≡ length part + length rest
-part_len log part rest split = ap length split ∙ length-append part rest
+    -- an event of it is refused: the first of all, where the log has no fault
+    pub refused_all : (n : ℕ) (r : HallRefusal) → first_refusal (length news) at part ≡ Some (n, r) → TakesLog all olds news (Err (log_first others (Refused n r)))
+    refused_all n r some = by_cases others same_more
+      where
+        by_cases : (behind : Said) → all ≡ front_of (t.front ++ part) behind → TakesLog all olds news (Err (log_first behind (Refused n r)))
+        by_cases (Ok es) same = (
+          t.front ++ part ++ es,
+          same,
+          refused_first (length olds) 0 (t.front ++ part) es (n, r) (refused_part ∙ ap (λ (n : ℕ). first_refusal n at part) (sym news_len) ∙ some),
+        )
+        by_cases (Err f) same = same
 
 -- why a run stopped
-pub run_stopped : (scripts : List Script) (es : List HallEvent) (old new : List Kept) (f : RunFault) → (opening_fault scripts ≡ None) × AllBegin scripts old → TakesLog es old new (Err f) → Runs scripts es (Err f)
-run_stopped scripts es old new (New fault) opened t = absurd t
-run_stopped scripts es old new (Refused at r) opened t = (opened.0, as_many scripts es old opened ∙ t)
-run_stopped scripts es old new run.Memory opened t = opened.0
+pub run_stopped : (scripts : List Script) (said : Said) (old new : List Kept) (fault : LogRunFault) → (opening_fault scripts ≡ None) × AllBegin scripts old → TakesLog said old new (Err fault) → RunsLog scripts said (Err fault)
+run_stopped scripts said old new (Log f) opened t = t
+run_stopped scripts said old new (Run (New fault)) opened t = absurd t
+run_stopped scripts said old new (Run (Refused at r)) opened t = (t.0, t.1, (opened.0, as_many scripts t.0 old opened ∙ t.2))
+run_stopped scripts said old new (Run run.Memory) opened t = opened.0
 
-pub accepted_of : (scripts : List Script) (old : List Kept) (all rest : List HallEvent) → (opening_fault scripts ≡ None) × AllBegin scripts old → IsAcceptedTo (length old) all rest → IsAcceptedTo (length scripts) all rest
+-- why it was not begun
+pub run_unopened : (scripts : List Script) (said : Said) (fault : RunFault) → OpensFor scripts (Err fault) → RunsLog scripts said (Err (log_first said fault))
+run_unopened scripts (Err f) fault opens = refl
+run_unopened scripts (Ok es) (New fault) opens = (es, refl, opens)
+run_unopened scripts (Ok es) (Refused at r) opens = absurd opens
+run_unopened scripts (Ok es) run.Memory opens = opens
+
+pub accepted_none : (scripts : ℕ) (said : Said) → IsAcceptedTo scripts said said
+accepted_none scripts said = record { front = []; same = front_none said; accepted = refl }
+
+pub accepted_of : (scripts : List Script) (old : List Kept) (all rest : Said) → (opening_fault scripts ≡ None) × AllBegin scripts old → IsAcceptedTo (length old) all rest → IsAcceptedTo (length scripts) all rest
 accepted_of scripts old all rest opened = subst (λ (n : ℕ). IsAcceptedTo n all rest) (sym (Paired-length Begins scripts old opened.1))

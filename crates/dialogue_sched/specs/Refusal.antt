@@ -1,9 +1,11 @@
 -- Which events a hall refuses.
-use Rattle.std.specs.Prelude.{ℕ, nat_lt, nat_le, List, [], ◌∷◌, ◌++◌, ◌≡◌, length, Bool, ◌&&◌, if◌then◌else◌, Option, Some, None, ◌+◌}
+use Rattle.std.specs.Prelude.{ℕ, nat_lt, nat_le, List, [], ◌∷◌, ◌≡◌, length, Bool, ◌&&◌, if◌then◌else◌, Option, Some, None, Result, ◌+◌}
 use Rattle.child_events.specs.declared.event.What.{What}
 use Rattle.child_events.specs.declared.event.What.TheVariants as what
 use Rattle.child_events.specs.declared.event.HallEvent.{HallEvent}
 use Rattle.child_events.specs.declared.event.HallEvent.TheVariants as hall
+use Rattle.child_events.specs.declared.faults.LogFault.{LogFault}
+use Rattle.child_events.specs.Judging.{front_of}
 use Rattle.dialogue_sched.specs.declared.refusal.HallRefusal.{HallRefusal}
 use Rattle.dialogue_sched.specs.declared.refusal.HallRefusal.TheVariants.{NoSuchScript, NoSuchChild, MomentTooLarge, PieceTooLong}
 
@@ -39,8 +41,8 @@ abbrev pub first_refusal : ℕ → ℕ → List HallEvent → Option (ℕ × Hal
 first_refusal scripts at [] = None
 first_refusal scripts at (e ∷ es) = refused_or at (refusal_of scripts e) (first_refusal scripts (at + 1) es)
 
--- none of the events before these was to be refused by so many scripts
-pub record IsAcceptedTo (scripts : ℕ) (all rest : List HallEvent) : Type 0 where
+-- of what a log says, none of the events before those that are left was to be refused by so many scripts
+pub record IsAcceptedTo (scripts : ℕ) (all left : Result (List HallEvent) LogFault) : Type 0 where
   pub front : List HallEvent
-  pub same : front ++ rest ≡ all
+  pub same : all ≡ front_of front left
   pub accepted : first_refusal scripts 0 front ≡ None

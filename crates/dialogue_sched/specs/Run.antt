@@ -1,6 +1,7 @@
 -- The reports of whole runs.
 use Rattle.std.specs.Prelude.{◌≡◌, ℕ, ◌+◌, List, [], ◌∷◌, ◌⊎◌, length, slice_get, Some, None, Result, Ok, Err}
 use Rattle.child_events.specs.declared.event.HallEvent.{HallEvent}
+use Rattle.child_events.specs.declared.faults.LogFault.{LogFault}
 use Rattle.child_events.specs.World.{own, raised}
 use Rattle.session.specs.declared.report.Report.{Report}
 use Rattle.session.specs.Meaning.{meaning}
@@ -9,6 +10,8 @@ use Rattle.dialogue_sched.specs.declared.script.Script.{Script}
 use Rattle.dialogue_sched.specs.declared.run.RunFault.{RunFault}
 use Rattle.dialogue_sched.specs.declared.run.RunFault.TheVariants.{Refused, New}
 use Rattle.dialogue_sched.specs.declared.run.RunFault.TheVariants as run
+use Rattle.dialogue_sched.specs.declared.run.LogRunFault.{LogRunFault}
+use Rattle.dialogue_sched.specs.declared.run.LogRunFault.TheVariants.{Log, Run}
 use Rattle.dialogue_sched.specs.Refusal.{first_refusal}
 use Rattle.dialogue_sched.specs.Hall.{opening_fault, AllBegin}
 use Rattle.session.specs.Left.{Kept}
@@ -36,12 +39,35 @@ OpensFor scripts (Err (New fault)) = opening_fault scripts ≡ Some fault
 OpensFor scripts (Err (Refused at r)) = ⊥
 OpensFor scripts (Err run.Memory) = opening_fault scripts ≡ None
 
--- what a hall answers to the events of a log
-abbrev pub TakesLog : List HallEvent → List Kept → List Kept → Result (Unit {0}) RunFault → Type 0
-TakesLog es old new (Ok done) = (first_refusal (length old) 0 es ≡ None) × AllTook 1 es old new
-TakesLog es old new (Err (New fault)) = ⊥
-TakesLog es old new (Err (Refused at r)) = first_refusal (length old) 0 es ≡ Some (at, r)
-TakesLog es old new (Err run.Memory) = Unit {0}
+-- A fault of a log comes before one of the run over it.
+abbrev pub log_first : Result (List HallEvent) LogFault → RunFault → LogRunFault
+log_first (Ok es) fault = Run fault
+log_first (Err f) fault = Log f
+
+-- why there is no next part of what a log says
+abbrev pub StopsAtPart : Result (List HallEvent) LogFault → LogRunFault → Type 0
+StopsAtPart said (Log f) = said ≡ Err f
+StopsAtPart said (Run f) = f ≡ run.Memory
+
+-- what a hall answers to what a log says
+abbrev pub TakesLog : Result (List HallEvent) LogFault → List Kept → List Kept → Result (Unit {0}) LogRunFault → Type 0
+TakesLog said old new (Ok done) = (es : List HallEvent) × (said ≡ Ok es) × (first_refusal (length old) 0 es ≡ None) × AllTook 1 es old new
+TakesLog said old new (Err (Log f)) = said ≡ Err f
+TakesLog said old new (Err (Run (New fault))) = ⊥
+TakesLog said old new (Err (Run (Refused at r))) = (es : List HallEvent) × (said ≡ Ok es) × (first_refusal (length old) 0 es ≡ Some (at, r))
+TakesLog said old new (Err (Run run.Memory)) = Unit {0}
+
+-- what a run over the events that a log says answers
+abbrev pub RunsSaid : List Script → Result (List HallEvent) LogFault → Result (List Report) RunFault → Type 0
+RunsSaid scripts said answer = (es : List HallEvent) × (said ≡ Ok es) × Runs scripts es answer
+
+-- What a run over a log answers: its first fault, or what the run over its events does. Memory may be refused before it is known which.
+abbrev pub RunsLog : List Script → Result (List HallEvent) LogFault → Result (List Report) LogRunFault → Type 0
+RunsLog scripts said (Ok rs) = RunsSaid scripts said (Ok rs)
+RunsLog scripts said (Err (Log f)) = said ≡ Err f
+RunsLog scripts said (Err (Run (New fault))) = RunsSaid scripts said (Err (New fault))
+RunsLog scripts said (Err (Run (Refused at r))) = RunsSaid scripts said (Err (Refused at r))
+RunsLog scripts said (Err (Run run.Memory)) = opening_fault scripts ≡ None
 
 -- Two runs that have one script, at any two places, whose own events are the same once their moments are raised, give it one report,
 -- beside any other scripts and events; unless one of them was refused memory for it.

@@ -15,5 +15,5 @@ pub use hall::{Hall, HallFault};
 pub use laws::{hall_law, raised_moments, ticks};
 pub use refusal::HallRefusal;
 pub use reports::Reports;
-pub use run::{RunFault, isolation, run_all, run_log};
+pub use run::{LogRunFault, RunFault, isolation, run_all, run_log};
 pub use script::Script;

@@ -1,15 +1,16 @@
 //! A whole run.
 
-ghost use Rattle.std.specs.Prelude.{◌≡◌, ◌+◌, ◌<◌, ◌^◌, length, None, Err, IfOk};
+ghost use Rattle.std.specs.Prelude.{◌≡◌, ◌+◌, ◌<◌, ◌^◌, [], length, None, Ok, Err, IfOk, IfErr};
+ghost use Rattle.child_events.specs.Judging.{GivesPart};
 ghost use Rattle.dialogue_sched.specs.Refusal.{first_refusal, IsAcceptedTo};
-ghost use Rattle.dialogue_sched.specs.Run.{Runs, OpensFor, TakesLog, Isolated};
+ghost use Rattle.dialogue_sched.specs.Run.{Runs, OpensFor, log_first as log_first_of, StopsAtPart, TakesLog, RunsLog, Isolated};
 
 use crate::fault::opening_fault;
 use crate::hall::{Hall, HallFault};
 use crate::refusal::{HallRefusal, refusal};
 use crate::reports::Reports;
 use crate::script::Script;
-use child_events::{HallEvent, HallEvents, LogReader};
+use child_events::{HallEvent, HallEvents, LogFault, LogLines};
 use std::alloc::{AllocError, AllocFailed, Global};
 
 /// How many events of a log are held at once.
@@ -46,6 +47,15 @@ impl<T: Drop> From<AllocFailed<T>> for RunFault {
     fn from(_e: AllocFailed<T>) -> RunFault {
         RunFault::Memory
     }
+}
+
+/// Why there are no reports of scripts over a log.
+#[derive(Clone, Copy, Debug, PartialEq, Eq)]
+pub enum LogRunFault {
+    /// The first fault of the log.
+    Log(LogFault),
+    /// There are none for another reason.
+    Run(RunFault),
 }
 
 fn open(alloc: Global, scripts: Vec<Script>) -> Result<Hall, RunFault>
@@ -111,38 +121,67 @@ pub fn run_all(
     Ok(hall.into_reports())
 }
 
-/// The hall takes what is left of a log, part by part, up to the first part that has a refused event.
-fn take_log(alloc: Global, hall: &mut Hall, log: &mut LogReader) -> Result<(), RunFault>
-    ensures takes { TakesLog log.old hall.old hall.new result }
-    ensures memory { result ≡ Err RunFault.Memory → IsAcceptedTo (length hall.old) log.old log.new }
+/// Why there are no reports, where a run has this fault: a fault of the log comes first.
+fn log_first(log: &LogLines, fault: RunFault) -> LogRunFault
+    ensures { result ≡ log_first_of log.now.said fault }
 {
-    let all = log.len();
-    'parts: while log.len() > 0 {
-        let before = all - log.len();
-        let Ok(part) = log.take(alloc, PART) else {
-            return Err(RunFault::Memory);
-        };
-        if let Some((at, refusal)) = first_refused(hall.len(), before, part.as_slice()) {
-            return Err(RunFault::Refused { at, refusal });
-        }
-        let Ok(()) = hall.take_all(alloc, part) else {
-            return Err(RunFault::Memory);
-        };
+    match log.judge() {
+        Ok(()) => LogRunFault::Run(fault),
+        Err(bad) => LogRunFault::Log(bad),
     }
-    Ok(())
 }
 
-/// Runs scripts over the events that are left of a log, as `run_all` does over a list, and holds no more than `PART` of them at once. Where
-/// memory is refused, none of the events before those that are still left was to be refused.
+/// The next part of a log.
+fn next_part(alloc: Global, log: &mut LogLines) -> Result<HallEvents, LogRunFault>
+    ensures given { IfOk result (λ es. GivesPart log.old es log.new) }
+    ensures whole { IfOk result (λ es. length es < 4096 → log.new.said ≡ Ok []) }
+    ensures stops { IfErr result (λ f. (log.new ≡ log.old) × StopsAtPart log.old.said f) }
+{
+    match log.take(alloc, PART) {
+        Ok(part) => Ok(part),
+        Err(LogFault::Memory) => Err(LogRunFault::Run(RunFault::Memory)),
+        Err(fault) => Err(LogRunFault::Log(fault)),
+    }
+}
+
+/// The hall takes what is left of a log, part by part, up to the first part that has a refused event or a fault.
+fn take_log(alloc: Global, hall: &mut Hall, log: &mut LogLines) -> Result<(), LogRunFault>
+    ensures takes { TakesLog log.old.said hall.old hall.new result }
+    ensures memory { result ≡ Err (LogRunFault.Run RunFault.Memory) → IsAcceptedTo (length hall.old) log.old.said log.new.said }
+{
+    let all = log.bytes();
+    let mut before: usize = 0;
+    'parts: loop {
+        let part = next_part(alloc, log)?;
+        let count = part.len();
+        if let Some((at, refusal)) = first_refused(hall.len(), before, part.as_slice()) {
+            return Err(log_first(log, RunFault::Refused { at, refusal }));
+        }
+        let Ok(()) = hall.take_all(alloc, part) else {
+            return Err(LogRunFault::Run(RunFault::Memory));
+        };
+        if count < PART {
+            return Ok(());
+        }
+        before += count;
+    }
+}
+
+/// Runs scripts over the events that are left of a log, as `run_all` does over a list, and holds no more than `PART` of them at once. The log is
+/// judged as it is read, and its first fault, wherever it stands, comes before one of the run, but for want of memory. Where memory is refused,
+/// none of the events before those that are still left was to be refused.
 pub fn run_log(
     alloc: Global,
     scripts: Vec<Script>,
-    log: &mut LogReader,
-) -> Result<Reports, RunFault>
-    ensures runs { Runs scripts.items log.old result }
-    ensures memory { result ≡ Err RunFault.Memory → IsAcceptedTo (length scripts.items) log.old log.new }
+    log: &mut LogLines,
+) -> Result<Reports, LogRunFault>
+    ensures runs { RunsLog scripts.items log.old.said result }
+    ensures memory { result ≡ Err (LogRunFault.Run RunFault.Memory) → IsAcceptedTo (length scripts.items) log.old.said log.new.said }
 {
-    let mut hall = open(alloc, scripts)?;
+    let mut hall = match open(alloc, scripts) {
+        Ok(hall) => hall,
+        Err(fault) => return Err(log_first(log, fault)),
+    };
     take_log(alloc, &mut hall, log)?;
     Ok(hall.into_reports())
 }

@@ -10,6 +10,8 @@ use Rattle.exp_match.specs.declared.entry.Want.{Want}
 use Rattle.exp_match.specs.declared.entry.Want.TheVariants as want
 use Rattle.exp_match.specs.declared.chosen.Chosen.{Chosen}
 use Rattle.exp_match.specs.declared.chosen.Chosen.TheVariants as chosen
+use Rattle.exp_match.specs.declared.chosen.Picked.{Picked}
+use Rattle.exp_match.specs.declared.chosen.Picked.TheVariants as picked
 
 abbrev pub Found : Type 0
 Found = List (Option (ℕ × ℕ))
@@ -77,6 +79,12 @@ FindsAt entries groups bytes n spans =
 -- `full_buffer` is listed in the groups, and at least `most` bytes are there
 abbrev pub IsFull : List Entry → List ℕ → List ℕ → ℕ → Type 0
 IsFull entries groups bytes most = IsSome (first_in waits_for_full groups entries) × (most ≤ length bytes)
+
+-- what a test chooses, by what it picked and the spans that it wrote
+abbrev pub with_spans : Picked → Found → Chosen
+with_spans (picked.Pattern n) spans = chosen.Pattern n spans
+with_spans picked.Full spans = chosen.Full
+with_spans picked.None spans = chosen.None
 
 -- the first listed pattern that finds something; else full; else nothing
 abbrev pub Decides : List Entry → List ℕ → List ℕ → ℕ → Chosen → Type 0

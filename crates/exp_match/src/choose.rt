@@ -1,10 +1,11 @@
 //! Tests of bytes against the listed patterns.
 
 ghost use Rattle.std.specs.Prelude.{◌≡◌, ◌<◌, true, IfOk, None, take, length, option_map};
-ghost use Rattle.exp_match.specs.Choice.{Finds, FindsIn, Decides, HasNone, IsListed, LeavesNone, lasts, in_groups as in_groups_of, alone as alone_of};
+ghost use Rattle.std.specs.Bool.{then_some};
+ghost use Rattle.exp_match.specs.Choice.{Finds, FindsIn, Decides, HasNone, IsListed, LeavesNone, lasts, in_groups as in_groups_of, alone as alone_of, with_spans};
 ghost use Rattle.exp_match.specs.Decide.{found_by, found_in, decide};
 
-use crate::chosen::Chosen;
+use crate::chosen::{Chosen, Picked};
 use crate::entry::{Entry, Want};
 use crate::exact::find_exact_on;
 use crate::list::PatternList;
@@ -20,54 +21,57 @@ pub(crate) fn in_groups(groups: &[usize], entry: &Entry) -> bool
     groups.iter().any(|g| *g == group)
 }
 
-/// The spans of a match without groups.
-fn alone(span: Option<(usize, usize)>) -> Option<Spans>
-    ensures { result ≡ option_map alone_of span }
+/// Whether there is a match without groups; where there is, its spans are written.
+fn alone(span: Option<(usize, usize)>, spans: &mut Spans) -> bool
+    ensures { then_some result spans.new ≡ option_map alone_of span }
 {
     match span {
-        Some(s) => Some([
-            Some(s),
-            None,
-            None,
-            None,
-            None,
-            None,
-            None,
-            None,
-            None,
-            None,
-        ]),
-        None => None,
+        Some(s) => {
+            *spans = [
+                Some(s),
+                None,
+                None,
+                None,
+                None,
+                None,
+                None,
+                None,
+                None,
+                None,
+            ];
+            true
+        }
+        None => false,
     }
 }
 
-/// What an entry finds first. Where it found nothing in so many bytes of the front, those are sought no more, unless it is a regular pattern or
-/// one that begins with `^`. A regular pattern takes memory for its matcher, where it has none yet, the others none.
+/// Whether an entry finds anything; where it does, the spans of its first match are written. Where it found nothing in so many bytes of the
+/// front, those are sought no more, unless it is a regular pattern or one that begins with `^`. A regular pattern takes memory for its matcher,
+/// where it has none yet, the others none.
 fn first_match<'l>(
     alloc: Global,
     matchers: &mut Matchers<'l>,
     want: &'l Want,
     bytes: &[u8],
     sought: usize,
-) -> Result<Option<Spans>, AllocError>
+    spans: &mut Spans,
+) -> Result<bool, AllocError>
     requires { 0 < sought → lasts want.now ≡ true → Finds want.now (take sought bytes.now) None }
-    ensures finds { IfOk result (Finds want.now bytes.now) }
-    ensures value { IfOk result (λ found. found ≡ found_by want.now bytes.now) }
+    ensures finds { IfOk result (λ found. Finds want.now bytes.now (then_some found spans.new)) }
+    ensures value { IfOk result (λ found. then_some found spans.new ≡ found_by want.now bytes.now) }
 {
     match want {
-        Want::Exact { text, nocase } => Ok(alone(find_exact_on(
-            text.as_slice(),
-            *nocase,
-            bytes,
-            sought,
-        ))),
-        Want::Glob { glob, nocase } => Ok(alone(glob.find_on(bytes, sought, *nocase))),
-        Want::Regular(regular) => matchers.find(alloc, regular, bytes),
-        Want::Keyword(_) => Ok(None),
+        Want::Exact { text, nocase } => {
+            let span = find_exact_on(text.as_slice(), *nocase, bytes, sought);
+            Ok(alone(span, spans))
+        }
+        Want::Glob { glob, nocase } => Ok(alone(glob.find_on(bytes, sought, *nocase), spans)),
+        Want::Regular(regular) => matchers.find(alloc, regular, bytes, spans),
+        Want::Keyword(_) => Ok(false),
     }
 }
 
-/// What an entry finds first, where it belongs to one of the groups.
+/// Whether an entry belongs to one of the groups and finds anything; where it does, the spans of its first match are written.
 fn match_in<'l>(
     alloc: Global,
     matchers: &mut Matchers<'l>,
@@ -75,15 +79,16 @@ fn match_in<'l>(
     entry: &'l Entry,
     bytes: &[u8],
     sought: usize,
-) -> Result<Option<Spans>, AllocError>
+    spans: &mut Spans,
+) -> Result<bool, AllocError>
     requires { 0 < sought → in_groups_of groups.now entry.now ≡ true → lasts entry.now.want ≡ true → Finds entry.now.want (take sought bytes.now) None }
-    ensures finds { IfOk result (FindsIn groups.now entry.now bytes.now) }
-    ensures value { IfOk result (λ found. found ≡ found_in groups.now entry.now bytes.now) }
+    ensures finds { IfOk result (λ found. FindsIn groups.now entry.now bytes.now (then_some found spans.new)) }
+    ensures value { IfOk result (λ found. then_some found spans.new ≡ found_in groups.now entry.now bytes.now) }
 {
     if !in_groups(groups, entry) {
-        return Ok(None);
+        return Ok(false);
     }
-    first_match(alloc, matchers, &entry.want, bytes, sought)
+    first_match(alloc, matchers, &entry.want, bytes, sought, spans)
 }
 
 impl PatternList {
@@ -101,12 +106,15 @@ impl PatternList {
         ensures chosen { IfOk result (λ chosen. chosen ≡ decide self.now.entries groups.now bytes.now max) }
         ensures within { IfOk result (IsListed (length self.now.entries)) }
     {
-        self.choose_with(alloc, &mut Matchers::new(alloc), groups, bytes, 0, max)
+        let mut spans = [None; 10];
+        let mut matchers = Matchers::new(alloc);
+        let picked = self.choose_with(alloc, &mut matchers, groups, bytes, 0, max, &mut spans)?;
+        Ok(picked.with_spans(&spans))
     }
 
-    /// The same, with matchers that are kept from a test to the next: a regular pattern takes memory at its first test alone. In so many bytes
-    /// of the front nothing was found before, or none were tested: an exact pattern, and a glob that doesn't begin with `^`, looks at few of
-    /// them again.
+    /// The same, with the spans written where a pattern matches, and with matchers that are kept from a test to the next: a regular pattern
+    /// takes memory at its first test alone. In so many bytes of the front nothing was found before, or none were tested: an exact pattern, and
+    /// a glob that doesn't begin with `^`, looks at few of them again.
     pub fn choose_with<'l>(
         &'l self,
         alloc: Global,
@@ -115,22 +123,24 @@ impl PatternList {
         bytes: &[u8],
         sought: usize,
         max: usize,
-    ) -> Result<Chosen, AllocError>
+        spans: &mut Spans,
+    ) -> Result<Picked, AllocError>
         requires { 0 < sought → HasNone self.now.entries groups.now (take sought bytes.now) }
-        ensures decides { IfOk result (Decides self.now.entries groups.now bytes.now max) }
-        ensures chosen { IfOk result (λ chosen. chosen ≡ decide self.now.entries groups.now bytes.now max) }
-        ensures within { IfOk result (IsListed (length self.now.entries)) }
-        ensures none { IfOk result (LeavesNone self.now.entries groups.now bytes.now) }
+        ensures decides { IfOk result (λ picked. Decides self.now.entries groups.now bytes.now max (with_spans picked spans.new)) }
+        ensures chosen { IfOk result (λ picked. with_spans picked spans.new ≡ decide self.now.entries groups.now bytes.now max) }
+        ensures within { IfOk result (λ picked. IsListed (length self.now.entries) (with_spans picked spans.new)) }
+        ensures none { IfOk result (λ picked. LeavesNone self.now.entries groups.now bytes.now (with_spans picked spans.new)) }
     {
         for (index, entry) in self.entries.as_slice().iter().enumerate() {
-            if let Some(spans) = match_in(alloc, matchers, groups, entry, bytes, sought)? {
-                return Ok(Chosen::Pattern(index, spans));
+            let found = match_in(alloc, matchers, groups, entry, bytes, sought, spans)?;
+            if found {
+                return Ok(Picked::Pattern(index));
             }
         }
         if max <= bytes.len() && self.at_full(groups).is_some() {
-            Ok(Chosen::Full)
+            Ok(Picked::Full)
         } else {
-            Ok(Chosen::None)
+            Ok(Picked::None)
         }
     }
 }

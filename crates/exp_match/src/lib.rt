@@ -22,7 +22,7 @@ mod readers;
 mod regular;
 mod token;
 
-pub use chosen::Chosen;
+pub use chosen::{Chosen, Picked};
 pub use compiled::Compiled;
 pub use entry::{Entries, Entry, Keyword, Want};
 pub use faults::PatternFault;

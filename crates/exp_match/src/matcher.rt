@@ -1,6 +1,7 @@
 //! What searches for a regular pattern.
 
 ghost use Rattle.std.specs.Prelude.{◌≡◌, ℕ, ◌<◌, Some, IsTrue, IfOk, IfSome, length, option_map};
+ghost use Rattle.std.specs.Bool.{then_some};
 ghost use Rattle.std.specs.List.{slice_get};
 ghost use Rattle.regex.specs.Bytes.{captures_span, match_span, matcher_pattern};
 ghost use Rattle.regex.specs.Patterns.{find};
@@ -57,25 +58,28 @@ impl<'r> RegularMatcher<'r> {
         self.nocase == regular.nocase() && self.regex.as_str() == regular.regex().as_str()
     }
 
-    /// The first match in these bytes with its groups, leftmost-first.
-    pub(crate) fn find(&mut self, bytes: &[u8]) -> Option<Spans>
-        ensures written { FindsAsWritten self.old bytes.now result }
-        ensures value { result ≡ find_written self.old bytes.now }
+    /// Whether there is a match in these bytes; where there is, the spans of the first one, leftmost-first, are written.
+    pub(crate) fn find(&mut self, bytes: &[u8], spans: &mut Spans) -> bool
+        ensures written { FindsAsWritten self.old bytes.now (then_some result spans.new) }
+        ensures value { then_some result spans.new ≡ find_written self.old bytes.now }
         ensures same { self.new ≡ self.old }
     {
-        first_match(&mut self.matcher, bytes)
+        first_match(&mut self.matcher, bytes, spans)
     }
 }
 
-/// The first match in these bytes with its groups, leftmost-first.
-fn first_match(matcher: &mut Matcher, bytes: &[u8]) -> Option<Spans>
-    ensures shows { Shows (option_map seen_of (find (matcher_pattern matcher.old) bytes.now 0)) result }
-    ensures ten { IfSome result (λ spans. length spans ≡ 10) }
+/// Whether there is a match in these bytes; where there is, the spans of the first one, leftmost-first, are written.
+fn first_match(matcher: &mut Matcher, bytes: &[u8], spans: &mut Spans) -> bool
+    ensures shows { Shows (option_map seen_of (find (matcher_pattern matcher.old) bytes.now 0)) (then_some result spans.new) }
+    ensures ten { IfSome (then_some result spans.new) (λ s. length s ≡ 10) }
     ensures same { matcher_pattern matcher.new ≡ matcher_pattern matcher.old }
 {
     match matcher.captures(bytes) {
-        Some(captures) => Some(spans_of(&captures)),
-        None => None,
+        Some(captures) => {
+            *spans = spans_of(&captures);
+            true
+        }
+        None => false,
     }
 }
 

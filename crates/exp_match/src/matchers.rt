@@ -1,6 +1,7 @@
 //! What searches for the regular patterns of a list, from a test to the next.
 
 ghost use Rattle.std.specs.Prelude.{◌≡◌, ◌<◌, Some, IfOk, IfSome, length};
+ghost use Rattle.std.specs.Bool.{then_some};
 ghost use Rattle.std.specs.List.{slice_get};
 ghost use Rattle.exp_match.specs.Written.{FindsAsWritten, find_written};
 
@@ -46,34 +47,41 @@ impl<'l> Matchers<'l> {
         }
     }
 
-    /// What a pattern matches first in these bytes.
+    /// Whether a pattern matches in these bytes; where it does, the spans of its first match are written.
+    ///
+    /// It isn't inlined, nor is `find_newly`: a function pays at entry for the size of its locals, which are large here, and a test of other
+    /// patterns has none of them.
+    #[inline(never)]
     pub(crate) fn find(
         &mut self,
         alloc: Global,
         regular: &'l Regular,
         bytes: &[u8],
-    ) -> Result<Option<Spans>, AllocError>
-        ensures written { IfOk result (FindsAsWritten regular.now bytes.now) }
-        ensures value { IfOk result (λ found. found ≡ find_written regular.now bytes.now) }
+        spans: &mut Spans,
+    ) -> Result<bool, AllocError>
+        ensures written { IfOk result (λ found. FindsAsWritten regular.now bytes.now (then_some found spans.new)) }
+        ensures value { IfOk result (λ found. then_some found spans.new ≡ find_written regular.now bytes.now) }
     {
         match position(self.list.as_slice(), regular) {
-            Some(n) => Ok(self.list[n].find(bytes)),
-            None => self.find_newly(alloc, regular, bytes),
+            Some(n) => Ok(self.list[n].find(bytes, spans)),
+            None => self.find_newly(alloc, regular, bytes, spans),
         }
     }
 
     /// The same for a pattern that was not searched for yet.
+    #[inline(never)]
     fn find_newly(
         &mut self,
         alloc: Global,
         regular: &'l Regular,
         bytes: &[u8],
-    ) -> Result<Option<Spans>, AllocError>
-        ensures written { IfOk result (FindsAsWritten regular.now bytes.now) }
-        ensures value { IfOk result (λ found. found ≡ find_written regular.now bytes.now) }
+        spans: &mut Spans,
+    ) -> Result<bool, AllocError>
+        ensures written { IfOk result (λ found. FindsAsWritten regular.now bytes.now (then_some found spans.new)) }
+        ensures value { IfOk result (λ found. then_some found spans.new ≡ find_written regular.now bytes.now) }
     {
         let mut matcher = RegularMatcher::new(alloc, regular)?;
-        let found = matcher.find(bytes);
+        let found = matcher.find(bytes, spans);
         self.list.push(matcher)?;
         Ok(found)
     }

@@ -125,7 +125,8 @@ impl Regular {
         ensures value { IfOk result (λ found. found ≡ find_written self.now bytes.now) }
     {
         let mut matcher = RegularMatcher::new(alloc, self)?;
-        let found = matcher.find(bytes);
-        Ok(found)
+        let mut spans = [None; 10];
+        let found = matcher.find(bytes, &mut spans);
+        Ok(found.then_some(spans))
     }
 }

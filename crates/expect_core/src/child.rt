@@ -2,7 +2,7 @@
 
 ghost use Rattle.std.specs.Prelude.{◌≡◌, ◌<◌, ◌≤◌, ◌+◌, ◌-◌, ◌++◌, ◌∷◌, [], min, nat_le, length, take, drop, position, true, slice_set, IfOk, IfSome, OnOk};
 ghost use Rattle.circular_buffer.specs.Buffer.{keep_last};
-ghost use Rattle.exp_match.specs.Choice.{HasNone, LeavesNone};
+ghost use Rattle.exp_match.specs.Choice.{HasNone, LeavesNone, with_spans};
 ghost use Rattle.exp_match.specs.Decide.{decide};
 ghost use Rattle.tty_input.specs.Sends.{handed_by, line_after, echo_of};
 ghost use Rattle.tty_output.specs.Output.{convert};
@@ -13,7 +13,7 @@ ghost use Rattle.expect_core.specs.Owned.{child_as, child_in};
 use crate::kept::Kept;
 use crate::lanes::place;
 use crate::place::Place;
-use exp_match::{Chosen, Matchers, PatternList};
+use exp_match::{Matchers, PatternList, Picked, Spans};
 use std::alloc::{AllocError, Global};
 use std::marker::Model;
 use tcl_words::Text;
@@ -397,6 +397,7 @@ impl Children {
     }
 
     /// Tests a child's bytes against the patterns of some groups, of which nothing was found in so many of the first ones, or none were tested.
+    /// Where a pattern matches, its spans are written.
     pub(crate) fn choose<'l>(
         &mut self,
         alloc: Global,
@@ -405,18 +406,21 @@ impl Children {
         list: &'l PatternList,
         groups: &[usize],
         sought: usize,
-    ) -> Result<Chosen, AllocError>
+        spans: &mut Spans,
+    ) -> Result<Picked, AllocError>
         requires { 0 < sought → HasNone list.now.entries groups.now (take sought (child_in i self.old).kept.bytes) }
         ensures same { self.new ≡ self.old }
-        ensures chosen { IfOk result (λ c. c ≡ decide list.now.entries groups.now (child_in i self.old).kept.bytes (child_in i self.old).kept.size) }
-        ensures none { IfOk result (LeavesNone list.now.entries groups.now (child_in i self.old).kept.bytes) }
+        ensures chosen { IfOk result (λ p. with_spans p spans.new ≡ decide list.now.entries groups.now (child_in i self.old).kept.bytes (child_in i self.old).kept.size) }
+        ensures none { IfOk result (λ p. LeavesNone list.now.entries groups.now (child_in i self.old).kept.bytes (with_spans p spans.new)) }
     {
         let i = i.index();
         if i < self.list.len() {
             let child = &mut self.list[i];
-            return child.kept.choose(alloc, matchers, list, groups, sought);
+            return child
+                .kept
+                .choose(alloc, matchers, list, groups, sought, spans);
         }
-        list.choose_with(alloc, matchers, groups, &[], 0, 0)
+        list.choose_with(alloc, matchers, groups, &[], 0, 0, spans)
     }
 
     /// A child's bytes from a place to another one, as far as they are there.

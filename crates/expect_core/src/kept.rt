@@ -2,10 +2,10 @@
 
 ghost use Rattle.std.specs.Prelude.{◌≡◌, ◌<◌, ◌-◌, ◌++◌, [], length, drop, take, nat_le, IfOk, OnOk};
 ghost use Rattle.circular_buffer.specs.Buffer.{keep_last};
-ghost use Rattle.exp_match.specs.Choice.{HasNone, LeavesNone};
+ghost use Rattle.exp_match.specs.Choice.{HasNone, LeavesNone, with_spans};
 ghost use Rattle.exp_match.specs.Decide.{decide};
 
-use exp_match::{Chosen, Matchers, PatternList};
+use exp_match::{Matchers, PatternList, Picked, Spans};
 use match_buffer::Buffer;
 use std::alloc::{AllocError, Global};
 use std::marker::Model;
@@ -117,7 +117,8 @@ impl Kept {
         self.buffer.take(count);
     }
 
-    /// Tests the bytes against the patterns of some groups, of which nothing was found in so many of the first ones, or none were tested.
+    /// Tests the bytes against the patterns of some groups, of which nothing was found in so many of the first ones, or none were tested. Where a
+    /// pattern matches, its spans are written.
     pub(crate) fn choose<'l>(
         &mut self,
         alloc: Global,
@@ -125,14 +126,23 @@ impl Kept {
         list: &'l PatternList,
         groups: &[usize],
         sought: usize,
-    ) -> Result<Chosen, AllocError>
+        spans: &mut Spans,
+    ) -> Result<Picked, AllocError>
         requires { 0 < sought → HasNone list.now.entries groups.now (take sought self.old.bytes) }
         ensures same { self.new ≡ self.old }
-        ensures chosen { IfOk result (λ c. c ≡ decide list.now.entries groups.now self.old.bytes self.old.size) }
-        ensures none { IfOk result (LeavesNone list.now.entries groups.now self.old.bytes) }
+        ensures chosen { IfOk result (λ p. with_spans p spans.new ≡ decide list.now.entries groups.now self.old.bytes self.old.size) }
+        ensures none { IfOk result (λ p. LeavesNone list.now.entries groups.now self.old.bytes (with_spans p spans.new)) }
     {
         let size = self.buffer.size;
-        list.choose_with(alloc, matchers, groups, self.buffer.bytes(), sought, size)
+        list.choose_with(
+            alloc,
+            matchers,
+            groups,
+            self.buffer.bytes(),
+            sought,
+            size,
+            spans,
+        )
     }
 
     /// The bytes from a place to another one, as far as they are there.

@@ -17,7 +17,7 @@ use crate::plan::{Groups, Plan};
 use crate::quiet::Quiet;
 use crate::sought::Sought;
 use child_events::{Cause, Item, Queue, pick};
-use exp_match::{Chosen, Matchers, Spans};
+use exp_match::{Matchers, Picked, Spans};
 use std::alloc::{AllocError, Global};
 
 /// How long a script waits: its last moment, and the greatest moment so far.
@@ -156,13 +156,14 @@ fn test_one<'l>(
     ensures none { IfOk result (λ r. FoundNone (option_map box_value r) plan.now (child, groups.now) own.old) }
 {
     let groups = groups.list.as_slice();
-    let chosen = own
-        .children
-        .choose(alloc, matchers, child, &plan.list, groups, sought)?;
-    match &chosen {
-        Chosen::Pattern(index, spans) => Ok(Some(matched(alloc, child, *index, spans)?)),
-        Chosen::Full => Ok(Some(filled(alloc, child)?)),
-        Chosen::None => {
+    let mut spans = [None; 10];
+    let picked = own.children.choose(
+        alloc, matchers, child, &plan.list, groups, sought, &mut spans,
+    )?;
+    match picked {
+        Picked::Pattern(index) => Ok(Some(matched(alloc, child, index, &spans)?)),
+        Picked::Full => Ok(Some(filled(alloc, child)?)),
+        Picked::None => {
             own.children.trim(child);
             Ok(None)
         }

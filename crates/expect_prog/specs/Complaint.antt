@@ -17,16 +17,16 @@ use Rattle.expect_prog.specs.declared.complaint.Complaint.{Complaint}
 use Rattle.expect_prog.specs.declared.complaint.Complaint.TheVariants as line
 use Rattle.expect_prog.specs.declared.complaint.Wrong.{Wrong}
 use Rattle.expect_prog.specs.declared.complaint.Wrong.TheVariants as wrong
-use Rattle.expect_prog.specs.declared.driving.DriveFault.{DriveFault}
-use Rattle.expect_prog.specs.declared.driving.DriveFault.TheVariants as drive
-use Rattle.expect_prog.specs.declared.explaining.ExplainFault.{ExplainFault}
-use Rattle.expect_prog.specs.declared.explaining.ExplainFault.TheVariants as explain
-use Rattle.expect_prog.specs.declared.fault.ReplayFault.{ReplayFault}
-use Rattle.expect_prog.specs.declared.fault.ReplayFault.TheVariants as replay
-use Rattle.expect_prog.specs.declared.planning.PlanLogFault.{PlanLogFault}
-use Rattle.expect_prog.specs.declared.planning.PlanLogFault.TheVariants as plan
-use Rattle.expect_prog.specs.declared.showing.ShowFault.{ShowFault}
-use Rattle.expect_prog.specs.declared.showing.ShowFault.TheVariants as show
+use Rattle.script_runs.specs.declared.driving.DriveFault.{DriveFault}
+use Rattle.script_runs.specs.declared.driving.DriveFault.TheVariants as drive
+use Rattle.course_texts.specs.declared.explaining.ExplainFault.{ExplainFault}
+use Rattle.course_texts.specs.declared.explaining.ExplainFault.TheVariants as explain
+use Rattle.script_runs.specs.declared.fault.ReplayFault.{ReplayFault}
+use Rattle.script_runs.specs.declared.fault.ReplayFault.TheVariants as replay
+use Rattle.script_runs.specs.declared.planning.PlanLogFault.{PlanLogFault}
+use Rattle.script_runs.specs.declared.planning.PlanLogFault.TheVariants as plan
+use Rattle.course_texts.specs.declared.showing.ShowFault.{ShowFault}
+use Rattle.course_texts.specs.declared.showing.ShowFault.TheVariants as show
 
 abbrev pub refusal_number : HallRefusal → ℕ
 refusal_number NoSuchScript = 1

@@ -4,8 +4,8 @@ use Rattle.std.specs.Str.{bytes_eq}
 use Rattle.std.specs.Borrow.{Bor}
 use Rattle.clap.specs.Matches.{found_of, matched_of, raw_values}
 use Rattle.clap.specs.declared.parser.matches.ArgMatches.{ArgMatches}
-use Rattle.expect_prog.specs.declared.form.Format.{Format}
-use Rattle.expect_prog.specs.declared.form.Format.TheVariants.{Text, Escaped, Summary, Json, Tap}
+use Rattle.report_texts.specs.declared.form.Format.{Format}
+use Rattle.report_texts.specs.declared.form.Format.TheVariants.{Text, Escaped, Summary, Json, Tap}
 use Rattle.expect_core.specs.declared.settings.Settings.{Settings}
 use Rattle.dialogue_sched.specs.declared.script.Script.{Script}
 

@@ -3,8 +3,8 @@
 ghost use Rattle.std.specs.Prelude.{◌≡◌, IfOk};
 
 use crate::complaint::Complaint;
-use crate::explaining::explain;
 use child_events::Counted;
+use course_texts::explain;
 use dialogue_sched::Script;
 use session::Settings;
 use std::alloc::{AllocError, Global};

@@ -4,10 +4,9 @@ ghost use Rattle.std.specs.Prelude.{◌≡◌, ◌≤◌, ◌*◌, option_map, I
 ghost use Rattle.expect_prog.specs.Complaint.{file_of_lines};
 ghost use Rattle.expect_prog.specs.Given.{steps_given, names_of, files_told, format_given};
 
-use crate::form::{Form, Format};
 use crate::help;
-use crate::texts::Shown;
 use clap::{Arg, ArgAction, ArgMatches, Command, Error, value_parser};
+use report_texts::{Form, Format, Shown};
 use session::STEPS_LIMIT;
 use std::alloc::{AllocError, Global};
 use tcl_words::{Text, Texts};

@@ -4,16 +4,13 @@ ghost use Rattle.std.specs.Prelude.{◌≡◌};
 ghost use Rattle.expect_prog.specs.Complaint.{LogLine, OpeningLine, RunLine, FaultLine, DriveLine, ShowLine, ExplainLine, AccountLine, PlanLine, TimelineLine, BadLine, refusal_number as number_of};
 
 use crate::command_line::{Explain, Plan, Replay, Run, Show};
-use crate::driving::DriveFault;
-use crate::explaining::ExplainFault;
-use crate::fault::ReplayFault;
-use crate::planning::PlanLogFault;
-use crate::showing::ShowFault;
 use child_events::LogFault;
 use child_serve::ServeFault;
 use child_timeline::TimelineFault;
+use course_texts::{ExplainFault, ShowFault};
 use dialogue_sched::{HallFault, HallRefusal, RunFault};
 use log_plan::PlanFault;
+use script_runs::{DriveFault, PlanLogFault, ReplayFault};
 use std::alloc::{AllocError, AllocFailed};
 use thiserror::Error;
 

@@ -3,19 +3,15 @@
 ghost use Rattle.std.specs.Prelude.{◌≡◌, ◌≤◌, length, IfOk, OnOk};
 ghost use Rattle.expect_prog.specs.Given.{script_given, scripts_given, AreOfFiles};
 
-use crate::checking::{CheckFault, check_source};
 use crate::command_line::{Check, Explain, Plan, Replay, Scripts, Show};
 use crate::complaint::Complaint;
-use crate::devices::{ReadFault, read_all};
-use crate::explaining::explain;
 use crate::folder::Folder;
 use crate::outcome::Outcome;
-use crate::planning::plan_log;
-use crate::replaying::replay;
-use crate::shelf::{NoShelf, Shelf};
-use crate::showing::show_log;
 use child_events::Counted;
+use course_texts::{explain, show_log};
 use dialogue_sched::Script;
+use report_texts::{ReadFault, read_all};
+use script_runs::{CheckFault, NoShelf, Shelf, check_source, plan_log, replay};
 use session::{Pairs, SOURCE_LIMIT, Settings};
 use std::alloc::{AllocError, Global};
 use std::fs;

@@ -1,12 +1,12 @@
 //! A folder of transcripts.
 
 ghost use Rattle.std.specs.Prelude.{◌≡◌, ◌++◌, IfOk, OnOk, None};
-ghost use Rattle.expect_prog.specs.Shelf.{number_text, transcript_path};
+ghost use Rattle.expect_prog.specs.Folder.{number_text, transcript_path};
 
 use crate::complaint::{Complaint, tell};
-use crate::devices::write_all;
-use crate::shelf::Shelf;
 use child_events::Counted;
+use report_texts::write_all;
+use script_runs::Shelf;
 use std::alloc::{AllocError, Global};
 use std::fs;
 use std::io::ErrorKind;
@@ -45,7 +45,7 @@ fn push_number(
 }
 
 /// The path of the transcript of one of so many scripts, whose file this is, in a folder.
-#[tactic(auto, unfolding(crate::specs::Shelf::transcript_path))]
+#[tactic(auto, unfolding(crate::specs::Folder::transcript_path))]
 fn path_of(
     alloc: Global,
     folder: &str,

@@ -2,41 +2,13 @@
 #![tactic(auto)]
 
 mod account;
-mod acts;
-mod asks;
-mod checking;
 mod command_line;
 mod complaint;
-mod devices;
-mod driving;
-mod escape;
-mod events;
-mod explaining;
-mod fault;
 mod files;
 mod folder;
-mod following;
-mod form;
 mod help;
-mod json;
-mod line;
-mod meetings;
 mod outcome;
-mod patterns;
-mod planning;
-mod progress;
-mod record;
-mod replaying;
-mod reporting;
 mod running;
-mod shelf;
-mod showing;
-mod tally;
-mod tap;
-mod telling;
-mod texts;
-mod trail;
-mod waits;
 
 use crate::command_line::{Order, read_words};
 use crate::complaint::{Complaint, tell};

@@ -1,7 +1,7 @@
 //! How an order ended.
 
 ghost use Rattle.std.specs.Prelude.{◌≡◌};
-ghost use Rattle.expect_prog.specs.Shelf.{outcome_of, outcome_and};
+ghost use Rattle.expect_prog.specs.Outcome.{outcome_of, outcome_and};
 
 /// How an order ended of which the reports, a log, or findings are printed.
 #[derive(Clone, Copy, Debug)]

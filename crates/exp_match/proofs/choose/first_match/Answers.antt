@@ -2,8 +2,8 @@ use Rattle.std.proofs.Common.{take}
 use Rattle.exp_match.proofs.Lasting.{exact_none, glob_none}
 use Rattle.exp_match.proofs.choose.first_match.Goals as goal
 
-pub find_exact_on-requires : goal.find_exact_on-requires
-find_exact_on-requires c = λ some.
+pub find_exact_on-span-requires : goal.find_exact_on-span-requires
+find_exact_on-span-requires c = λ some.
     rw c.as_slice.ensures (exact_none c.args.want.now c.in-Exact.nocase (take c.args.sought c.args.bytes.now) (c.requires some) c.in-Exact.text c.in-Exact.is)
 
 pub find_on-requires : goal.find_on-requires
@@ -12,5 +12,5 @@ find_on-requires c = λ free some.
 
 pub returns-in-Exact-clause-finds : goal.returns-in-Exact-clause-finds
 returns-in-Exact-clause-finds c =
-    let h = rw c.as_slice.ensures at c.find_exact_on.ensures.stands in
-    rw c.in-Exact.is (c.find_exact_on.result, h, c.alone.ensures)
+    let h = rw c.as_slice.ensures at c.find_exact_on-span.ensures.stands in
+    rw c.in-Exact.is (c.find_exact_on-span.result, h, c.alone.ensures)

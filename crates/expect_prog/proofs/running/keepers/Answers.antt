@@ -1,5 +1,5 @@
 use Rattle.std.proofs.Common.{ℕ, ◌+◌, length, ap, ◌∙◌}
-use Rattle.expect_prog.proofs.Counting.{one_longer}
+use Rattle.script_runs.proofs.Counting.{one_longer}
 use Rattle.expect_prog.proofs.running.keepers.Goals as goal
 
 pub loop-at-preserved : goal.loop-at-preserved

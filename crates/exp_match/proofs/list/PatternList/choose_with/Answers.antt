@@ -1,5 +1,6 @@
-use Rattle.std.proofs.Common.{◌≡◌, ◌<◌, ◌≤◌, length, get_or, sym, subst, ◌∙◌, arith, rules}
+use Rattle.std.proofs.Common.{◌≡◌, ◌<◌, ◌≤◌, length, get_or, sym, ap, subst, ◌∙◌, arith, rules}
 use Rattle.std.proofs.lemmas.Bool.Decides.{nat_tests}
+use Rattle.std.specs.Bool.{then_some}
 use Rattle.exp_match.specs.Choice.{FindsIn}
 use Rattle.exp_match.proofs.Deciding.{none_more, by_entry, at_end, at_start}
 use Rattle.exp_match.proofs.list.PatternList.choose_with.Goals.{else-max-bytes-via-then-max-bytes+else-is_some, else-max-bytes-via-else-max-bytes}
@@ -20,16 +21,18 @@ loop-index-preserved c =
     record {
       items = c.loop-index.invariant.items;
       before = none_more es c.args.groups.now c.args.bytes.now c.loop-index.index c.entry-item.result is
-          (subst (λ f. FindsIn c.args.groups.now c.entry-item.result c.args.bytes.now f) c.in_default.is c.in_ok-spans.ensures.finds) c.loop-index.invariant.before;
-      left = by_entry es c.args.groups.now c.args.bytes.now c.args.max c.loop-index.index c.loop-index.invariant.left lt c.entry-item.result is _ (sym c.in_default.is ∙ c.in_ok-spans.ensures.value);
+          (subst (λ t. FindsIn c.args.groups.now c.entry-item.result c.args.bytes.now (then_some t c.match_in.new.spans)) c.if-found.false c.in_ok-found.ensures.finds) c.loop-index.invariant.before;
+      left = by_entry es c.args.groups.now c.args.bytes.now c.args.max c.loop-index.index c.loop-index.invariant.left lt c.entry-item.result is _
+          (ap (λ t. then_some t c.match_in.new.spans) (sym c.if-found.false) ∙ c.in_ok-found.ensures.value);
     }
 
-pub returns-in-Some-clause-chosen : goal.returns-in-Some-clause-chosen
-returns-in-Some-clause-chosen c =
+pub returns-then-found-clause-chosen : goal.returns-then-found-clause-chosen
+returns-then-found-clause-chosen c =
     let es = c.args.self.now.entries in
     let lt : c.loop-index.index < length es = rw (← c.loop-index.invariant.items) c.loop-index-test.true in
     let is : c.entry-item.result ≡ get_or es c.loop-index.index c.entry-item.result = rw (← c.loop-index.invariant.items) c.entry-item.is in
-    by_entry es c.args.groups.now c.args.bytes.now c.args.max c.loop-index.index c.loop-index.invariant.left lt c.entry-item.result is _ (sym c.in-Some.is ∙ c.in_ok-spans.ensures.value)
+    by_entry es c.args.groups.now c.args.bytes.now c.args.max c.loop-index.index c.loop-index.invariant.left lt c.entry-item.result is _
+    (ap (λ t. then_some t c.match_in.new.spans) (sym c.if-found.true) ∙ c.in_ok-found.ensures.value)
 
 pub returns-then-is_some-clause-chosen : goal.returns-then-is_some-clause-chosen
 returns-then-is_some-clause-chosen c =

@@ -1,5 +1,6 @@
 use Rattle.std.proofs.Common.{◌<◌, subst, option_map, arith}
 use Rattle.std.proofs.lemmas.List.Elements.{All-from_get_or}
+use Rattle.std.specs.Bool.{then_some}
 use Rattle.regex.specs.Patterns.{Re, find}
 use Rattle.exp_match.specs.Written.{FindsAsWritten, Shows, seen_of}
 use Rattle.exp_match.proofs.Answering.{is_find_written}
@@ -9,9 +10,11 @@ use Rattle.exp_match.proofs.matcher.RegularMatcher.find.Goals as goal
 pub returns-clause-written : goal.returns-clause-written
 returns-clause-written c =
     let r = c.self.inside in
-    let shows = subst (λ (p : Re). Shows (option_map seen_of (find p c.args.bytes.now 0)) c.first_match.result) c.self.invariant.2 c.first_match.ensures.shows in
-    subst (λ w. FindsAsWritten w c.args.bytes.now c.first_match.result) c.self.view_is
-    (found_as_written r.regex.now r.nocase c.self.invariant.0 c.self.invariant.1 c.args.bytes.now (All-from_get_or (λ x. x < 256) c.args.bytes.now 0 (λ i h. omega (arith, c.type_inv.bytes i))) c.first_match.result shows)
+    let found = then_some c.first_match.result c.first_match.new.spans in
+    let shows = subst (λ (p : Re). Shows (option_map seen_of (find p c.args.bytes.now 0)) found) c.self.invariant.2 c.first_match.ensures.shows in
+    subst (λ w. FindsAsWritten w c.args.bytes.now found) c.self.view_is
+    (found_as_written r.regex.now r.nocase c.self.invariant.0 c.self.invariant.1 c.args.bytes.now (All-from_get_or (λ x. x < 256) c.args.bytes.now 0 (λ i h. omega (arith, c.type_inv.bytes i))) found shows)
 
 pub returns-clause-value : goal.returns-clause-value
-returns-clause-value c = is_find_written c.args.self.now c.args.bytes.now c.first_match.result c.first_match.ensures.ten (returns-clause-written c)
+returns-clause-value c =
+    is_find_written c.args.self.now c.args.bytes.now (then_some c.first_match.result c.first_match.new.spans) c.first_match.ensures.ten (returns-clause-written c)

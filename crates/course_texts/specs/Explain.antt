@@ -1,0 +1,201 @@
+-- The courses of scripts over a log: each event of a script, what it asks for then, and what it waits for.
+use Rattle.std.specs.Prelude.{◌≡◌, ◌≢◌, ℕ, ◌+◌, ◌-◌, ◌<◌, List, [], ◌∷◌, ◌++◌, length, drop, codes, Bool, true, false, ◌==◌, if◌then◌else◌, Option, Some, None, Result, Ok, Err, IsSomeAnd, IsTrue}
+use Rattle.std.specs.List.{slice_get}
+use Rattle.std.specs.Io.KnownBytes.{Appends}
+use Rattle.child_events.specs.declared.event.Event.{Event}
+use Rattle.child_events.specs.declared.event.HallEvent.{HallEvent}
+use Rattle.child_events.specs.declared.event.HallEvent.TheVariants as hall
+use Rattle.child_events.specs.declared.faults.LogFault.TheVariants as logs
+use Rattle.child_events.specs.Log.{LogText}
+use Rattle.child_events.specs.Reading.{Refused}
+use Rattle.child_events.specs.World.{own_of}
+use Rattle.tcl_eval.specs.declared.ending.Ending.{Ending}
+use Rattle.tcl_eval.specs.declared.ending.Ending.TheVariants as ending
+use Rattle.expect_core.specs.declared.request.Request.{Request}
+use Rattle.session.specs.declared.report.Report.{Report}
+use Rattle.session.specs.Left.{Kept, Fed, HasAsked, HasBegun}
+use Rattle.session.specs.Spent.{Reports}
+use Rattle.session.specs.Watching.{Meeting, met_from, met_over}
+use Rattle.dialogue_sched.specs.declared.script.Script.{Script}
+use Rattle.dialogue_sched.specs.Hall.{Begins}
+use Rattle.course_texts.specs.declared.explaining.ExplainFault.{ExplainFault}
+use Rattle.course_texts.specs.declared.explaining.ExplainFault.TheVariants.{Read, Log, TooManyScripts, SourceTooLong, Write, Memory}
+use Rattle.report_texts.specs.Report.{labelled, head_line}
+use Rattle.report_texts.specs.Escape.{quoted}
+use Rattle.report_texts.specs.Devices.{WasPut}
+use Rattle.course_texts.specs.Show.{event_line}
+use Rattle.course_texts.specs.Trail.{place_lines}
+use Rattle.course_texts.specs.Waits.{request_lines, wait_lines}
+use Rattle.course_texts.specs.Meetings.{course_text}
+use Rattle.course_texts.specs.declared.meetings.Teller.{Teller}
+
+-- all that a teller wrote, and what the session asked for behind that
+abbrev pub SaysAll : Teller → Kept → List ℕ → Type 0
+SaysAll t k text = IsTrue k.lives × (t.refused ≡ false) × ((asked : List Request) × HasAsked k asked × (text ≡ t.text ++ request_lines (drop t.told asked)))
+
+-- a tick behind which a script has begun no step more
+abbrev pub is_quiet : HallEvent → Bool → Bool
+is_quiet (hall.Child s c m w) still = false
+is_quiet (hall.Tick m) still = still
+
+-- What the script asked for and met at an event, behind its first requests, and what it waits for then. A tick that changed nothing is told
+-- alone.
+abbrev pub step_text : HallEvent → ℕ → List Meeting → List Request → Bool → Kept → List ℕ
+step_text e n met asked still k = event_line e ++ (course_text n met asked ++ (if is_quiet e still then [] else wait_lines k))
+
+-- The text of a script's events, from how it began to where it stands. Events of others are not told.
+pub data Told (n : ℕ) (first : Kept) : List HallEvent → List ℕ → Kept → Type 0 where
+  at_first : Told n first [] [] first
+  others : (es : List HallEvent) (text : List ℕ) (k : Kept) (e : HallEvent) → own_of n e ≡ None → Told n first es text k → Told n first (es ++ e ∷ []) text k
+  own : (es : List HallEvent) (text : List ℕ) (k l : Kept) (e : HallEvent) (event : Event) (before after : List Request) (met : List Meeting) (begun steps : ℕ)
+      → own_of n e ≡ Some event → HasAsked k before → HasBegun k begun → Fed k (event ∷ []) l → HasAsked l after → HasBegun l steps
+      → ((later : List Event) → met_from k (event ∷ later) ≡ met ++ met_from l later)
+      → Told n first es text k → Told n first (es ++ e ∷ []) (text ++ step_text e (length before) met after (begun == steps) l) l
+
+-- what an event of a script's own leaves, and what is told of it
+pub record OwnTold (e : HallEvent) (event : Event) (old new : Kept) (text text' : List ℕ) : Type 0 where
+  pub before : List Request
+  pub after : List Request
+  pub met : List Meeting
+  pub begun : ℕ
+  pub steps : ℕ
+  pub asked : HasAsked old before
+  pub began : HasBegun old begun
+  pub fed : Fed old (event ∷ []) new
+  pub asks : HasAsked new after
+  pub begins : HasBegun new steps
+  pub meets : (later : List Event) → met_from old (event ∷ later) ≡ met ++ met_from new later
+  pub told : text' ≡ text ++ step_text e (length before) met after (begun == steps) new
+
+-- the same of any event
+abbrev pub StepOf : Option Event → HallEvent → Kept → Kept → List ℕ → List ℕ → Type 0
+StepOf None e old new text text' = (new ≡ old) × (text' ≡ text)
+StepOf (Some event) e old new text text' = OwnTold e event old new text text'
+
+abbrev pub StepTold : ℕ → HallEvent → Kept → Kept → List ℕ → List ℕ → Type 0
+StepTold n e old new text text' = StepOf (own_of n e) e old new text text'
+
+-- what is told of a script's events is put behind a text
+abbrev pub TellsBehind : ℕ → Kept → List HallEvent → List ℕ → Kept → List ℕ → Type 0
+TellsBehind n first es before k text = (told : List ℕ) × Told n first es told k × (text ≡ before ++ told)
+
+unfoldable pub heading : ℕ → List ℕ
+heading n = labelled (codes "script ") n ++ codes "\n"
+
+-- how a course begins
+abbrev pub start_text : ℕ → List Meeting → List Request → Kept → List ℕ
+start_text n met asked k = heading n ++ (course_text 0 met asked ++ wait_lines k)
+
+-- the session of the script of a number at its first wait, and its text
+pub record Starts (n : ℕ) (script : Script) (k : Kept) (text : List ℕ) : Type 0 where
+  pub asked : List Request
+  pub met : List Meeting
+  pub begins : Begins script k
+  pub asks : HasAsked k asked
+  pub meets : (later : List Event) → met_over script.source script.settings later ≡ met ++ met_from k later
+  pub is : text ≡ start_text n met asked k
+
+abbrev pub StartsOne : ℕ → Script → Result (Kept × List ℕ) ExplainFault → Type 0
+StartsOne n script (Ok r) = Starts n script r.0 r.1
+StartsOne n script (Err Read) = ⊥
+StartsOne n script (Err (Log f)) = ⊥
+StartsOne n script (Err TooManyScripts) = ⊥
+StartsOne n script (Err (SourceTooLong at)) = (at ≡ n) × (1048576 < length script.source)
+StartsOne n script (Err Write) = ⊥
+StartsOne n script (Err Memory) = Unit {0}
+
+-- the text of an error
+abbrev pub fault_line : Ending → List ℕ → List ℕ
+fault_line ending.Error fault = codes "error: " ++ quoted fault ++ codes "\n"
+fault_line (ending.Exit n) fault = []
+fault_line ending.StepLimit fault = []
+fault_line ending.TimeLimit fault = []
+fault_line ending.Memory fault = []
+fault_line ending.Waiting fault = []
+
+-- how it ends: the first line of its report, its error, and where that came by
+unfoldable pub end_text : ℕ → Report → List ℕ
+end_text n r = head_line n r ++ fault_line r.ending r.fault ++ place_lines r.trail
+
+-- the course of the script of a number over events
+pub record Course (n : ℕ) (script : Script) (events : List HallEvent) (text : List ℕ) : Type 0 where
+  pub first : Kept
+  pub start : List ℕ
+  pub told : List ℕ
+  pub last : Kept
+  pub report : Report
+  pub starts : Starts n script first start
+  pub goes : Told n first events told last
+  pub ends : Reports last report
+  pub is : text ≡ start ++ (told ++ end_text n report)
+
+-- all scripts are told, or one alone
+abbrev pub is_told : Option ℕ → ℕ → Bool
+is_told None n = true
+is_told (Some only) n = n == only
+
+-- the courses of scripts, numbered from 1, in order
+pub data Explained (only : Option ℕ) (events : List HallEvent) : List Script → List ℕ → Type 0 where
+  no_script : Explained only events [] []
+  silent : (ss : List Script) (text : List ℕ) (s : Script) → is_told only (length ss + 1) ≡ false → Explained only events ss text → Explained only events (ss ++ s ∷ []) text
+  told : (ss : List Script) (text course : List ℕ) (s : Script) → is_told only (length ss + 1) ≡ true → Course (length ss + 1) s events course
+      → Explained only events ss text → Explained only events (ss ++ s ∷ []) (text ++ course)
+
+-- the script of a number is too long
+abbrev pub IsTooLong : List Script → ℕ → Type 0
+IsTooLong scripts n = IsSomeAnd (slice_get scripts (n - 1)) (λ s. 1048576 < length s.source)
+
+-- the bytes are the log text of events over which the scripts have these courses
+pub record Courses (only : Option ℕ) (scripts : List Script) (bytes text : List ℕ) : Type 0 where
+  pub events : List HallEvent
+  pub log : LogText bytes events
+  pub courses : Explained only events scripts text
+
+-- what an explanation of the scripts over a log answers, and what it puts behind what was written before
+abbrev pub Explains : Option ℕ → List Script → List ℕ → Option (List ℕ) → Option (List ℕ) → Result (Unit {0}) ExplainFault → Type 0
+Explains only scripts bytes old new (Ok done) = (text : List ℕ) × Courses only scripts bytes text × Appends old new text
+Explains only scripts bytes old new (Err Read) = Unit {0}
+Explains only scripts bytes old new (Err (Log f)) = Refused bytes f
+Explains only scripts bytes old new (Err TooManyScripts) = 64 < length scripts
+Explains only scripts bytes old new (Err (SourceTooLong n)) = IsTooLong scripts n
+Explains only scripts bytes old new (Err Write) = (text : List ℕ) × Courses only scripts bytes text × WasPut old new text
+Explains only scripts bytes old new (Err Memory) = Unit {0}
+
+-- what telling the courses of scripts over events answers
+abbrev pub Tells : Option ℕ → List HallEvent → List Script → Result (List ℕ) ExplainFault → Type 0
+Tells only events scripts (Ok text) = Explained only events scripts text
+Tells only events scripts (Err Read) = ⊥
+Tells only events scripts (Err (Log f)) = ⊥
+Tells only events scripts (Err TooManyScripts) = ⊥
+Tells only events scripts (Err (SourceTooLong n)) = IsTooLong scripts n
+Tells only events scripts (Err Write) = ⊥
+Tells only events scripts (Err Memory) = Unit {0}
+
+-- what telling one course answers; a source that is too long has none
+abbrev pub TellsOne : ℕ → Script → List HallEvent → Result (List ℕ) ExplainFault → Type 0
+TellsOne n script events (Ok text) = Course n script events text
+TellsOne n script events (Err Read) = ⊥
+TellsOne n script events (Err (Log f)) = ⊥
+TellsOne n script events (Err TooManyScripts) = ⊥
+TellsOne n script events (Err (SourceTooLong at)) = (at ≡ n) × (1048576 < length script.source)
+TellsOne n script events (Err Write) = ⊥
+TellsOne n script events (Err Memory) = Unit {0}
+
+-- what judging a log answers
+abbrev pub Judged : List ℕ → Result (List HallEvent) ExplainFault → Type 0
+Judged bytes (Ok events) = LogText bytes events
+Judged bytes (Err Read) = ⊥
+Judged bytes (Err (Log f)) = (f ≢ logs.Memory) × Refused bytes f
+Judged bytes (Err TooManyScripts) = ⊥
+Judged bytes (Err (SourceTooLong n)) = ⊥
+Judged bytes (Err Write) = ⊥
+Judged bytes (Err Memory) = Unit {0}
+
+-- a fault of the log is no want of memory
+abbrev pub IsNoWant : ExplainFault → Type 0
+IsNoWant (Log f) = f ≢ logs.Memory
+IsNoWant Read = Unit {0}
+IsNoWant TooManyScripts = Unit {0}
+IsNoWant (SourceTooLong n) = Unit {0}
+IsNoWant Write = Unit {0}
+IsNoWant Memory = Unit {0}

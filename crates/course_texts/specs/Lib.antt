@@ -1,0 +1,6 @@
+pub mod Show
+pub mod Patterns
+pub mod Waits
+pub mod Meetings
+pub mod Trail
+pub mod Explain

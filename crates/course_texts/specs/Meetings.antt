@@ -1,0 +1,103 @@
+-- What a script's expects meet, in lines that are read beside those of its events.
+use Rattle.std.specs.Prelude.{◌≡◌, ℕ, ◌+◌, nat_le, List, [], ◌∷◌, ◌++◌, length, drop, codes, Bool, false, if◌then◌else◌, Option, Some, None, Result, Ok, Err}
+use Rattle.std.specs.List.{slice_get}
+use Rattle.tcl_subst.specs.Variables.{Variables, value_of}
+use Rattle.exp_match.specs.declared.entry.Entry.{Entry}
+use Rattle.exp_match.specs.declared.entry.Want.{Want}
+use Rattle.exp_match.specs.declared.entry.Want.TheVariants as want
+use Rattle.expect_core.specs.declared.plan.Met.{Met}
+use Rattle.expect_core.specs.declared.plan.Plan.{Plan}
+use Rattle.expect_core.specs.declared.request.Request.{Request}
+use Rattle.session.specs.Watching.{Meeting}
+use Rattle.course_texts.specs.declared.meetings.Teller.{Teller}
+use Rattle.report_texts.specs.Report.{labelled}
+use Rattle.report_texts.specs.Escape.{quoted}
+use Rattle.course_texts.specs.Patterns.{want_text}
+use Rattle.course_texts.specs.Waits.{margin, tail_of, request_lines}
+
+-- the name of an element of expect_out that tells of a group
+unfoldable pub group_name : ℕ → List ℕ → List ℕ
+group_name digit what = codes "expect_out(" ++ digit ∷ codes "," ++ what ++ codes ")"
+
+-- the digits of the groups that a match can have
+abbrev pub groups_of : Want → List ℕ
+groups_of (want.Exact text nocase) = codes "0"
+groups_of (want.Glob glob nocase) = codes "0"
+groups_of (want.Regular r) = codes "0123456789"
+groups_of (want.Keyword k) = []
+
+-- a value: all of it where it is short, else how long it is, and its end
+unfoldable pub shown_text : List ℕ → List ℕ
+shown_text bytes =
+    if nat_le (length bytes) 64 then quoted bytes
+    else labelled (codes "of ") (length bytes) ++ codes " bytes, the last are " ++ quoted (tail_of bytes)
+
+unfoldable pub stored_line : List ℕ → List ℕ → List ℕ
+stored_line name bytes = margin ++ codes "  " ++ name ++ codes " " ++ shown_text bytes ++ codes "\n"
+
+abbrev pub line_of : {F : Type 0} → List ℕ → Result (List ℕ) F → List ℕ
+line_of name (Ok bytes) = stored_line name bytes
+line_of name (Err f) = []
+
+-- a variable, where it has a value
+abbrev pub stored_part : List ℕ → Variables → List ℕ
+stored_part name vars = line_of name (value_of name vars)
+
+-- where a group stands, where that was asked for
+abbrev pub places_part : Bool → ℕ → Variables → List ℕ
+places_part indices digit vars = if indices then stored_part (group_name digit (codes "start")) vars ++ stored_part (group_name digit (codes "end")) vars else []
+
+abbrev pub group_part : Bool → Variables → ℕ → List ℕ
+group_part indices vars digit = places_part indices digit vars ++ stored_part (group_name digit (codes "string")) vars
+
+abbrev pub group_lines : Bool → Variables → List ℕ → List ℕ
+group_lines indices vars [] = []
+group_lines indices vars (d ∷ ds) = group_part indices vars d ++ group_lines indices vars ds
+
+-- whose bytes were met
+unfoldable pub of_child : Option ℕ → List ℕ
+of_child None = []
+of_child (Some n) = labelled (codes " by child ") n
+
+unfoldable pub met_line : Want → Option ℕ → List ℕ
+met_line w child = margin ++ want_text w ++ codes " was met" ++ of_child child ++ codes "\n"
+
+-- the bytes that were met, where some were
+abbrev pub buffer_part : Option ℕ → Variables → List ℕ
+buffer_part None vars = []
+buffer_part (Some n) vars = stored_part (codes "expect_out(buffer)") vars
+
+-- an entry that was met, and what expect_out has then
+abbrev pub entry_lines : Variables → Option ℕ → Entry → List ℕ
+entry_lines vars child e = met_line e.want child ++ (group_lines e.indices vars (groups_of e.want) ++ buffer_part child vars)
+
+abbrev pub found_lines : Variables → Option ℕ → Option Entry → List ℕ
+found_lines vars child None = []
+found_lines vars child (Some e) = entry_lines vars child e
+
+-- the number of the child at a place, from 1
+abbrev pub number_of : Option ℕ → Option ℕ
+number_of None = None
+number_of (Some i) = Some (i + 1)
+
+abbrev pub met_lines : Plan → Variables → Option Met → List ℕ
+met_lines p vars None = []
+met_lines p vars (Some m) = found_lines vars (number_of m.child) (slice_get p.list.entries m.entry)
+
+-- what an expect met
+abbrev pub plan_lines : Plan → Variables → List ℕ
+plan_lines p vars = met_lines p vars p.met
+
+-- what was asked for behind the first requests, and what was met then
+abbrev pub meeting_text : ℕ → Plan → Variables → List Request → List ℕ
+meeting_text n p vars asked = request_lines (drop n asked) ++ plan_lines p vars
+
+-- What was met, each behind what was asked for before it, and what was asked for behind that. The first requests were told before.
+abbrev pub course_text : ℕ → List Meeting → List Request → List ℕ
+course_text n [] asked = request_lines (drop n asked)
+course_text n (m ∷ ms) asked = meeting_text n m.plan m.vars m.asked ++ course_text (length m.asked) ms asked
+
+-- one who writes it down, unless memory is refused
+abbrev pub Writes : Teller → Plan → Variables → List Request → Teller → Type 0
+Writes old p vars asked new =
+    new.refused ≡ false → (old.refused ≡ false) × (new.text ≡ old.text ++ meeting_text old.told p vars asked) × (new.told ≡ length asked)

@@ -1,0 +1,55 @@
+-- The patterns and keywords of an `expect`, as they are written there.
+use Rattle.std.specs.Prelude.{ℕ, List, [], ◌∷◌, ◌++◌, codes, Bool, ◌||◌, ◌==◌, if◌then◌else◌}
+use Rattle.tcl_words.specs.Bytes as ascii
+use Rattle.exp_glob.specs.declared.element.Element.{Element}
+use Rattle.exp_glob.specs.declared.element.Element.TheVariants.{Star, One, End}
+use Rattle.exp_glob.specs.declared.element.Single.{Single}
+use Rattle.exp_glob.specs.declared.element.Single.TheVariants.{Any, Byte, Class}
+use Rattle.exp_glob.specs.declared.pattern.Glob.{Glob}
+use Rattle.exp_match.specs.declared.entry.Keyword.{Keyword}
+use Rattle.exp_match.specs.declared.entry.Keyword.TheVariants as key
+use Rattle.exp_match.specs.declared.entry.Want.{Want}
+use Rattle.exp_match.specs.declared.entry.Want.TheVariants as want
+use Rattle.report_texts.specs.Escape.{quoted}
+
+-- a byte that stands for itself in a glob pattern only behind a backslash
+abbrev pub is_mark : ℕ → Bool
+is_mark b = (b == ascii.star) || (b == ascii.question) || (b == ascii.open_bracket) || (b == ascii.backslash) || (b == ascii.caret) || (b == ascii.dollar)
+
+abbrev pub byte_text : ℕ → List ℕ
+byte_text b = if is_mark b then ascii.backslash ∷ b ∷ [] else b ∷ []
+
+abbrev pub single_text : Single → List ℕ
+single_text Any = codes "?"
+single_text (Byte b) = byte_text b
+single_text (Class members) = codes "[" ++ members ++ codes "]"
+
+abbrev pub element_text : Element → List ℕ
+element_text Star = codes "*"
+element_text (One s) = single_text s
+element_text End = codes "$"
+
+abbrev pub elements_text : List Element → List ℕ
+elements_text [] = []
+elements_text (e ∷ es) = element_text e ++ elements_text es
+
+-- a text that writes a glob pattern
+abbrev pub glob_text : Glob → List ℕ
+glob_text g = (if g.anchored then codes "^" else []) ++ elements_text g.elements
+
+abbrev pub keyword_text : Keyword → List ℕ
+keyword_text key.Eof = codes "eof"
+keyword_text key.Timeout = codes "timeout"
+keyword_text key.Default = codes "default"
+keyword_text key.FullBuffer = codes "full_buffer"
+
+-- how a pattern is to be read, and the pattern
+unfoldable pub flagged : Bool → List ℕ → List ℕ → List ℕ
+flagged nocase flag text = (if nocase then codes "-nocase " else []) ++ flag ++ quoted text
+
+-- what is waited for, as it is written in the list
+abbrev pub want_text : Want → List ℕ
+want_text (want.Exact text nocase) = flagged nocase (codes "-ex ") text
+want_text (want.Glob glob nocase) = flagged nocase (codes "-gl ") (glob_text glob)
+want_text (want.Regular r) = flagged r.nocase (codes "-re ") r.source
+want_text (want.Keyword k) = keyword_text k

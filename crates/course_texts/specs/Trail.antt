@@ -1,0 +1,43 @@
+-- Where the error came by that ended a script, a line for each command and procedure that handed it on, the innermost first.
+use Rattle.std.specs.Prelude.{ℕ, ◌-◌, nat_lt, not, ◌==◌, List, [], ◌∷◌, ◌++◌, length, drop, take, codes, if◌then◌else◌}
+use Rattle.std.specs.List.{prefix_len}
+use Rattle.tcl_words.specs.Bytes as ascii
+use Rattle.script_check.specs.Lines.{line_of}
+use Rattle.script_check.specs.Readings.{begin_of}
+use Rattle.session.specs.declared.place.Place.{Place}
+use Rattle.session.specs.declared.place.Place.TheVariants.{Command, Procedure}
+use Rattle.report_texts.specs.Escape.{quoted}
+use Rattle.report_texts.specs.Line.{line_text}
+use Rattle.report_texts.specs.Report.{labelled}
+
+-- how many bytes stand before the end of a line
+unfoldable pub line_len : List ℕ → ℕ
+line_len text = prefix_len (λ b. not (b == ascii.newline)) text
+
+-- the first 150 bytes of a line
+abbrev pub shortened : List ℕ → List ℕ
+shortened line = if nat_lt 150 (length line) then line_text (take 150 line) ++ codes "..." else line_text line
+
+-- a command with what stands behind it, where the script was read from this place on
+abbrev pub command_from : List ℕ → ℕ → List ℕ
+command_from script at = begin_of (drop at script)
+
+-- the line of the script on which a command begins, and its text from there on
+unfoldable pub command_line : List ℕ → List ℕ → List ℕ
+command_line script text =
+    labelled (codes "  line ") (line_of script (length script - length text)) ++ codes ": " ++ shortened (take (line_len text) text) ++ codes "\n"
+
+-- closed, so that the text of a line stays in pieces
+unfoldable pub in_procedure : List ℕ
+in_procedure = codes "  in procedure "
+
+abbrev pub procedure_line : List ℕ → List ℕ
+procedure_line name = in_procedure ++ quoted name ++ codes "\n"
+
+abbrev pub place_line : Place → List ℕ
+place_line (Command script at) = command_line script (command_from script at)
+place_line (Procedure name) = procedure_line name
+
+abbrev pub place_lines : List Place → List ℕ
+place_lines [] = []
+place_lines (p ∷ ps) = place_line p ++ place_lines ps

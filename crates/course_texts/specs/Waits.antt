@@ -1,0 +1,88 @@
+-- What a script asks of its children, and what it waits for, in lines that are read beside those of its events.
+use Rattle.std.specs.Prelude.{ℕ, ◌+◌, ◌-◌, List, [], ◌∷◌, ◌++◌, length, drop, codes, if◌then◌else◌, Option, Some, None}
+use Rattle.exp_match.specs.Choice.{in_groups}
+use Rattle.exp_match.specs.declared.entry.Entry.{Entry}
+use Rattle.exp_match.specs.declared.entry.Want.{Want}
+use Rattle.exp_match.specs.declared.entry.Want.TheVariants as want
+use Rattle.expect_core.specs.declared.child.Child.{Child}
+use Rattle.expect_core.specs.declared.plan.Plan.{Plan}
+use Rattle.expect_core.specs.declared.request.Request.{Request}
+use Rattle.expect_core.specs.Awaited.{buffer_of}
+use Rattle.expect_core.specs.Deadlines.{as_moment}
+use Rattle.session.specs.Left.{Kept}
+use Rattle.session.specs.Awaited.{answering, expecting}
+use Rattle.report_texts.specs.declared.acts.Spelling.TheVariants.{Quoted}
+use Rattle.report_texts.specs.Acts.{act_text}
+use Rattle.report_texts.specs.Report.{labelled}
+use Rattle.report_texts.specs.Escape.{quoted}
+use Rattle.course_texts.specs.Patterns.{want_text}
+
+-- the columns in which an event has its moment; closed, so that the text of a line stays in pieces
+unfoldable pub margin : List ℕ
+margin = codes "             "
+
+-- the line of a request
+unfoldable pub request_line : Request → List ℕ
+request_line r = margin ++ labelled (codes "asks child ") r.child ++ codes ": " ++ act_text Quoted r.act ++ codes "\n"
+
+abbrev pub request_lines : List Request → List ℕ
+request_lines [] = []
+request_lines (r ∷ rs) = request_line r ++ request_lines rs
+
+-- the line of the answer that is awaited
+unfoldable pub answer_line : Option ℕ → List ℕ
+answer_line None = []
+answer_line (Some c) = margin ++ labelled (codes "waits for the answer of child ") c ++ codes "\n"
+
+-- a pattern that didn't match, or a keyword for which the time has not come
+abbrev pub verdict : Want → List ℕ
+verdict (want.Exact text nocase) = codes "  no\n"
+verdict (want.Glob glob nocase) = codes "  no\n"
+verdict (want.Regular r) = codes "  no\n"
+verdict (want.Keyword k) = codes "\n"
+
+unfoldable pub entry_line : Entry → List ℕ
+entry_line e = margin ++ codes "    " ++ want_text e.want ++ verdict e.want
+
+-- a child's own are those of its groups
+abbrev pub own_line : List ℕ → Entry → List ℕ
+own_line groups e = if in_groups groups e then entry_line e else []
+
+abbrev pub own_lines : List ℕ → List Entry → List ℕ
+own_lines groups [] = []
+own_lines groups (e ∷ es) = own_line groups e ++ own_lines groups es
+
+-- the last bytes of a text, 64 at the most
+abbrev pub tail_of : List ℕ → List ℕ
+tail_of bytes = drop (length bytes - 64) bytes
+
+-- how many bytes of a child no pattern has taken, and the last of them
+unfoldable pub buffer_line : ℕ → List ℕ → List ℕ
+buffer_line c bytes =
+    margin ++ labelled (codes "  child ") c ++ labelled (codes " has ") (length bytes) ++ codes " bytes, the last are " ++ quoted (tail_of bytes) ++ codes "\n"
+
+-- each child with its bytes and its patterns
+abbrev pub side_lines : List Child → List Entry → List (ℕ × List ℕ) → List ℕ
+side_lines children entries [] = []
+side_lines children entries ((i, groups) ∷ sides) =
+    (buffer_line (i + 1) (buffer_of (i + 1) children) ++ own_lines groups entries) ++ side_lines children entries sides
+
+unfoldable pub deadline_line : ℕ → List ℕ
+deadline_line m = margin ++ labelled (codes "waits for output until ") m ++ codes " ms\n"
+
+unfoldable pub endless_line : List ℕ
+endless_line = margin ++ codes "waits for output\n"
+
+-- up to which moment it waits, if there is one
+abbrev pub until_line : Option ℕ → List ℕ
+until_line None = endless_line
+until_line (Some m) = deadline_line m
+
+-- the lines of the expect that waits
+abbrev pub expect_lines : List Child → Option Plan → List ℕ
+expect_lines children None = []
+expect_lines children (Some p) = until_line (as_moment p.deadline) ++ side_lines children p.list.entries p.sides
+
+-- what a session waits for
+unfoldable pub wait_lines : Kept → List ℕ
+wait_lines k = answer_line (answering k) ++ expect_lines k.dialogue.own.children (expecting k)

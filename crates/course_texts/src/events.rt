@@ -1,0 +1,139 @@
+//! The text of events, a line each.
+
+ghost use Rattle.std.specs.Prelude.{◌≡◌, ◌++◌, drop, codes, IfOk, OnOk};
+ghost use Rattle.course_texts.specs.Show.{moment_text, answer_text, what_text, event_line, is_of as is_of_script, shown_event, shown_log};
+
+use child_events::{Answer, HallEvent, What, cause_name};
+use report_texts::{push_labelled, push_quoted};
+use std::alloc::{AllocError, Global};
+use tcl_words::Text;
+
+/// The columns of a moment.
+const COLUMNS: &[u8] = b"        ";
+
+/// What so many digits leave of the columns.
+fn spaces(digits: usize) -> &'static [u8]
+    ensures { result.now ≡ drop digits (codes "        ") }
+{
+    if digits > COLUMNS.len() {
+        return b"";
+    }
+    &COLUMNS[digits..]
+}
+
+/// Puts a moment behind a text.
+fn push_moment(alloc: Global, text: &mut Text, moment: u64) -> Result<(), AllocError>
+    ensures { OnOk result (text.new ≡ text.old ++ moment_text moment) }
+{
+    let digits = moment.to_string(alloc)?;
+    text.extend(spaces(digits.len()))?;
+    text.extend(digits.as_bytes())?;
+    text.extend(b" ms")
+}
+
+/// Puts a label and a word behind a text.
+fn push_word(text: &mut Text, label: &[u8], word: &[u8]) -> Result<(), AllocError>
+    ensures { OnOk result (text.new ≡ text.old ++ (label.now ++ word.now)) }
+{
+    text.extend(label)?;
+    text.extend(word)
+}
+
+/// Puts what a request came to behind a text.
+fn push_answer(alloc: Global, text: &mut Text, answer: Answer) -> Result<(), AllocError>
+    ensures { OnOk result (text.new ≡ text.old ++ answer_text answer) }
+{
+    match answer {
+        Answer::Ok => text.extend(b"request done"),
+        Answer::Fail(cause) => push_word(text, b"request failed: ", cause_name(cause)),
+        Answer::Exit(status) => {
+            push_labelled(alloc, text, b"ended with status ", u128::from(status))
+        }
+        Answer::Killed => text.extend(b"ended by a signal"),
+    }
+}
+
+/// Puts what happened to a child behind a text.
+fn push_what(alloc: Global, text: &mut Text, what: &What) -> Result<(), AllocError>
+    ensures { OnOk result (text.new ≡ text.old ++ what_text what.now) }
+{
+    match what {
+        What::Out(piece) => {
+            text.extend(b"wrote ")?;
+            push_quoted(alloc, text, piece.as_slice())
+        }
+        What::Eof => text.extend(b"output ended"),
+        What::ReadFail(cause) => push_word(text, b"output lost: ", cause_name(*cause)),
+        What::Answer(answer) => push_answer(alloc, text, *answer),
+    }
+}
+
+/// Puts the line of an event behind a text.
+#[tactic(auto, unfolding(crate::specs::Show::event_line))]
+pub(crate) fn push_line(alloc: Global, text: &mut Text, event: &HallEvent) -> Result<(), AllocError>
+    ensures { OnOk result (text.new ≡ text.old ++ event_line event.now) }
+{
+    match event {
+        HallEvent::Child {
+            script,
+            child,
+            moment,
+            what,
+        } => {
+            push_moment(alloc, text, *moment)?;
+            push_labelled(alloc, text, b"  script ", u128::from(*script))?;
+            push_labelled(alloc, text, b"  child ", u128::from(*child))?;
+            text.extend(b"  ")?;
+            push_what(alloc, text, what)?;
+            text.push(b'\n')
+        }
+        HallEvent::Tick { moment } => {
+            push_moment(alloc, text, *moment)?;
+            text.extend(b"  tick")?;
+            text.push(b'\n')
+        }
+    }
+}
+
+/// Whether an event is of a script; each is where none is named, and a tick is of all.
+fn is_of(script: Option<u8>, event: &HallEvent) -> bool
+    ensures { result ≡ is_of_script script event.now }
+{
+    let Some(number) = script else {
+        return true;
+    };
+    match event {
+        HallEvent::Child { script, .. } => *script == number,
+        HallEvent::Tick { .. } => true,
+    }
+}
+
+/// Puts the line of an event behind a text, where it is of a script.
+fn push_event(
+    alloc: Global,
+    text: &mut Text,
+    script: Option<u8>,
+    event: &HallEvent,
+) -> Result<(), AllocError>
+    ensures { OnOk result (text.new ≡ text.old ++ shown_event script event.now) }
+{
+    if !is_of(script, event) {
+        return Ok(());
+    }
+    push_line(alloc, text, event)
+}
+
+/// The lines of those events that are of a script, or of all where none is named.
+pub fn events_text(
+    alloc: Global,
+    script: Option<u8>,
+    events: &[HallEvent],
+) -> Result<Text, AllocError>
+    ensures { IfOk result (λ t. t ≡ shown_log script events.now) }
+{
+    let mut text = Text::new(alloc);
+    for event in events {
+        push_event(alloc, &mut text, script, event)?;
+    }
+    Ok(text)
+}

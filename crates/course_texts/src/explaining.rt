@@ -1,0 +1,305 @@
+//! The courses of scripts over a log, told event by event, from any reader to any writer.
+
+ghost use Rattle.std.specs.Prelude.{◌≡◌, ◌≢◌, ◌≤◌, ◌++◌, [], ◌==◌, length, vec_len, false, if◌then◌else◌, IfOk, IfErr, IfSome, IsTrue, OnOk, OnErr, Some, Err};
+ghost use Rattle.child_events.specs.Log.{LogText};
+ghost use Rattle.child_events.specs.Reading.{Refused};
+ghost use Rattle.report_texts.specs.Devices.{GaveUp};
+ghost use Rattle.course_texts.specs.Waits.{wait_lines};
+ghost use Rattle.course_texts.specs.Explain.{is_quiet as is_quiet_of, SaysAll, TellsBehind, heading as heading_of, StartsOne, fault_line, end_text, is_told as is_told_of, Explains, Tells, TellsOne, StepTold, Judged, IsNoWant};
+
+use crate::events::push_line;
+use crate::meetings::{Teller, rest_of};
+use crate::trail::push_places;
+use crate::waits::{push_requests, push_waits};
+use child_events::{Counted, HallEvent, HallEvents, LogFault, LogReader, own_event};
+use dialogue_sched::{MOST_SCRIPTS, Script};
+use report_texts::{ReadFault, push_head, push_labelled, push_quoted, read_all, write_all};
+use session::{Ending, NewFault, Report, Session};
+use std::alloc::{AllocError, Global};
+use std::io::{Read, Write};
+use std::mem;
+use tcl_words::Text;
+
+/// Why not all courses were told.
+#[derive(Clone, Copy, Debug, PartialEq, Eq)]
+pub enum ExplainFault {
+    /// A read of the log failed, or the most reads that are made met no end.
+    Read,
+    /// The log has a bad line. This is never `LogFault::Memory`.
+    Log(LogFault),
+    /// There are more scripts than may run.
+    TooManyScripts,
+    /// The script of this number, from 1, has more bytes than a script may have.
+    SourceTooLong(usize),
+    /// A write failed, or the most writes that are made were not enough.
+    Write,
+    /// Memory was refused.
+    Memory,
+}
+
+impl From<AllocError> for ExplainFault {
+    ghost use Rattle.std.specs.Prelude.{◌≡◌};
+    ghost use Rattle.course_texts.specs.declared.explaining.ExplainFault.TheVariants.{Memory};
+
+    ghost from_gives = { λ _ e. e ≡ Memory };
+
+    fn from(_e: AllocError) -> ExplainFault {
+        ExplainFault::Memory
+    }
+}
+
+/// Whether it is a tick behind which a script has begun no step more.
+fn is_quiet(event: &HallEvent, still: bool) -> bool
+    ensures { result ≡ is_quiet_of event.now still }
+{
+    match event {
+        HallEvent::Child { .. } => false,
+        HallEvent::Tick { .. } => still,
+    }
+}
+
+/// Whether memory was refused to a session.
+fn is_spent(session: &Session) -> bool
+    ensures { result ≡ false → IsTrue session.now.lives }
+{
+    matches!(session.ending(), Ending::Memory)
+}
+
+/// What a teller wrote of a session, and what the session asked for behind that.
+fn told(alloc: Global, teller: Teller, session: &Session) -> Result<Text, AllocError>
+    ensures { IfOk result (λ t. SaysAll teller session.now t) }
+{
+    if teller.is_refused() || is_spent(session) {
+        return Err(AllocError);
+    }
+    let told = teller.told();
+    let mut text = teller.into_text();
+    push_requests(alloc, &mut text, rest_of(session.requests(), told))?;
+    Ok(text)
+}
+
+/// Puts what a session waits for behind a text, unless that is `quiet`.
+fn push_unless(
+    alloc: Global,
+    text: &mut Text,
+    quiet: bool,
+    session: &Session,
+) -> Result<(), AllocError>
+    ensures { OnOk result (text.new ≡ text.old ++ (if quiet then [] else wait_lines session.now)) }
+{
+    if quiet {
+        return Ok(());
+    }
+    push_waits(alloc, text, session)
+}
+
+/// The session of script `number` goes on with an event, if that is its own, and what came of it is put behind a text.
+fn step(
+    alloc: Global,
+    text: &mut Text,
+    number: u8,
+    session: &mut Session,
+    event: &HallEvent,
+) -> Result<(), AllocError>
+    ensures { OnOk result (StepTold number event.now session.old session.new text.old text.new) }
+{
+    let Some(own) = own_event(alloc, number, event)? else {
+        return Ok(());
+    };
+    push_line(alloc, text, event)?;
+    let asked = session.requests().len();
+    let begun = session.steps();
+    let front = mem::replace(text, Text::new(alloc));
+    let teller = session.feed_watched(own, Teller::new(alloc, front, asked));
+    let told = told(alloc, teller, session)?;
+    drop(mem::replace(text, told));
+    let quiet = is_quiet(event, begun == session.steps());
+    push_unless(alloc, text, quiet, session)
+}
+
+/// Puts the course of a session over events behind a text.
+fn push_course(
+    alloc: Global,
+    text: &mut Text,
+    number: u8,
+    session: &mut Session,
+    events: &[HallEvent],
+) -> Result<(), AllocError>
+    ensures { OnOk result (TellsBehind number session.old events.now text.old session.new text.new) }
+{
+    for event in events {
+        step(alloc, text, number, session, event)?;
+    }
+    Ok(())
+}
+
+/// The heading of the course of script `number`.
+#[tactic(auto, unfolding(crate::specs::Explain::heading))]
+fn heading(alloc: Global, number: u8) -> Result<Text, AllocError>
+    ensures { IfOk result (λ t. t ≡ heading_of number) }
+{
+    let mut text = Text::new(alloc);
+    push_labelled(alloc, &mut text, b"script ", u128::from(number))?;
+    text.extend(b"\n")?;
+    Ok(text)
+}
+
+/// The session of script `number` at its first wait, and how its course begins.
+fn begun(alloc: Global, number: u8, script: Script) -> Result<(Session, Text), ExplainFault>
+    ensures { StartsOne number script result }
+{
+    let Script { source, settings } = script;
+    let teller = Teller::new(alloc, heading(alloc, number)?, 0);
+    let (session, teller) = match Session::watched(alloc, source, settings, teller) {
+        Ok(begun) => begun,
+        Err(NewFault::SourceTooLong) => {
+            return Err(ExplainFault::SourceTooLong(usize::from(number)));
+        }
+        Err(NewFault::Memory) => return Err(ExplainFault::Memory),
+    };
+    let mut text = told(alloc, teller, &session)?;
+    push_waits(alloc, &mut text, &session)?;
+    Ok((session, text))
+}
+
+fn push_fault(
+    alloc: Global,
+    text: &mut Text,
+    ending: Ending,
+    fault: &[u8],
+) -> Result<(), AllocError>
+    ensures { OnOk result (text.new ≡ text.old ++ fault_line ending fault.now) }
+{
+    match ending {
+        Ending::Error => {
+            text.extend(b"error: ")?;
+            push_quoted(alloc, text, fault)?;
+            text.extend(b"\n")
+        }
+        Ending::Exit(_) => Ok(()),
+        Ending::StepLimit => Ok(()),
+        Ending::TimeLimit => Ok(()),
+        Ending::Memory => Ok(()),
+        Ending::Waiting => Ok(()),
+    }
+}
+
+/// Puts how the course of script `number` ends behind a text.
+#[tactic(auto, unfolding(crate::specs::Explain::end_text))]
+fn push_end(alloc: Global, text: &mut Text, number: u8, report: &Report) -> Result<(), AllocError>
+    ensures { OnOk result (text.new ≡ text.old ++ end_text number report.now) }
+{
+    push_head(alloc, text, usize::from(number), report)?;
+    text.push(b'\n')?;
+    push_fault(alloc, text, report.ending, report.fault.as_slice())?;
+    push_places(alloc, text, report.trail.as_slice())
+}
+
+/// The course of script `number` over events.
+fn course(
+    alloc: Global,
+    number: u8,
+    script: Script,
+    events: &[HallEvent],
+) -> Result<Text, ExplainFault>
+    ensures { TellsOne number script events.now result }
+{
+    let (mut session, mut text) = match begun(alloc, number, script) {
+        Ok(begun) => begun,
+        Err(fault) => return Err(fault),
+    };
+    push_course(alloc, &mut text, number, &mut session, events)?;
+    let report = session.into_report();
+    push_end(alloc, &mut text, number, &report)?;
+    Ok(text)
+}
+
+/// Whether the course of script `number` is told.
+fn is_told(only: Option<u8>, number: u8) -> bool
+    ensures { result ≡ is_told_of only number }
+{
+    match only {
+        None => true,
+        Some(only) => number == only,
+    }
+}
+
+/// The courses of scripts over events, or that of one alone.
+fn courses(
+    alloc: Global,
+    only: Option<u8>,
+    events: &[HallEvent],
+    scripts: Vec<Script>,
+) -> Result<Text, ExplainFault>
+    requires few { vec_len scripts ≤ 64 }
+    ensures { Tells only events.now scripts.items result }
+{
+    let mut text = Text::new(alloc);
+    let mut number: u8 = 0;
+    for script in scripts {
+        number += 1;
+        if is_told(only, number) {
+            match course(alloc, number, script, events) {
+                Ok(told) => text.extend(told.as_slice())?,
+                Err(fault) => return Err(fault),
+            }
+        }
+    }
+    Ok(text)
+}
+
+/// A log of these bytes, judged, with all its events.
+fn judged(alloc: Global, bytes: &[u8]) -> Result<HallEvents, ExplainFault>
+    ensures { Judged bytes.now result }
+{
+    let mut log = match LogReader::new(bytes) {
+        Ok(log) => log,
+        Err(LogFault::Memory) => return Err(ExplainFault::Memory),
+        Err(fault) => return Err(ExplainFault::Log(fault)),
+    };
+    let count = log.len();
+    Ok(log.take(alloc, count)?)
+}
+
+/// Reads a log, and writes the courses of scripts over its events, or of the script that is named alone: behind each of its events what the
+/// script asked for, and what it waits for then, with the bytes on which its patterns were tried. Events of scripts that aren't there are
+/// passed over.
+///
+/// Faults come in the order of `ExplainFault`'s variants, but for want of memory, which may come in place of any of them before the first
+/// byte is written. After `Write` a front of the text was written, after any other fault nothing. An interrupted read or write is tried
+/// again.
+pub fn explain<R: Read, W: Write>(
+    alloc: Global,
+    only: Option<u8>,
+    log: &mut Counted<R>,
+    scripts: Vec<Script>,
+    out: &mut Counted<W>,
+) -> Result<(), ExplainFault>
+    requires log_failures { log.old.failures ≡ 0 }
+    requires log_calls { log.old.calls ≡ 0 }
+    requires out_failures { out.old.failures ≡ 0 }
+    requires out_calls { out.old.calls ≡ 0 }
+    ensures answers { IfSome (R.remaining log.old.device) (λ bytes.
+        Explains only scripts.items bytes (W.contents out.old.device) (W.contents out.new.device) result) }
+    ensures unwritten { IfErr result (λ fault. fault ≢ ExplainFault.Write → out.new ≡ out.old) }
+    ensures read { result ≡ Err ExplainFault.Read → GaveUp log.new.failures log.new.calls }
+    ensures read_whole { result ≢ Err ExplainFault.Read → log.new.failures ≡ 0 }
+    ensures write { result ≡ Err ExplainFault.Write → GaveUp out.new.failures out.new.calls }
+    ensures written_whole { result ≢ Err ExplainFault.Write → out.new.failures ≡ 0 }
+    ensures memory { IfErr result (λ fault. IsNoWant fault) }
+{
+    let bytes = match read_all(alloc, log) {
+        Ok(bytes) => bytes,
+        Err(ReadFault::Failed) => return Err(ExplainFault::Read),
+        Err(ReadFault::Memory) => return Err(ExplainFault::Memory),
+    };
+    let events = judged(alloc, bytes.as_slice())?;
+    if scripts.len() > MOST_SCRIPTS {
+        return Err(ExplainFault::TooManyScripts);
+    }
+    let text = courses(alloc, only, events.as_slice(), scripts)?;
+    match write_all(out, text.as_slice()) {
+        Ok(()) => Ok(()),
+        Err(_) => Err(ExplainFault::Write),
+    }
+}

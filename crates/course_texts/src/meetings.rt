@@ -1,0 +1,288 @@
+//! The text of what a script's expects meet.
+
+ghost use Rattle.std.specs.Prelude.{◌≡◌, ◌++◌, drop, length, IfOk, OnOk, false};
+ghost use Rattle.course_texts.specs.Meetings.{group_name as group_name_of, groups_of, shown_text, stored_line, stored_part, places_part, group_part, group_lines, of_child, met_line, buffer_part, entry_lines, number_of, plan_lines, meeting_text};
+
+use crate::patterns::push_want;
+use crate::waits::{SHOWN, push_margin, push_requests, tail};
+use exp_match::{Entry, Want};
+use expect_core::{Met, Place, Plan};
+use report_texts::{push_labelled, push_quoted};
+use session::{Request, Watcher};
+use std::alloc::{AllocError, Global};
+use tcl_subst::Vars;
+use tcl_words::Text;
+
+/// The requests from a place on.
+pub(crate) fn rest_of(requests: &[Request], from: usize) -> &[Request]
+    ensures { result.now ≡ drop from requests.now }
+{
+    if requests.len() <= from {
+        return &[];
+    }
+    &requests[from..]
+}
+
+/// The name of an element of `expect_out` that tells of a group.
+#[tactic(auto, unfolding(crate::specs::Meetings::group_name))]
+fn group_name(alloc: Global, digit: u8, what: &[u8]) -> Result<Text, AllocError>
+    ensures { IfOk result (λ t. t ≡ group_name_of digit what.now) }
+{
+    let mut name = Text::new(alloc);
+    name.extend(b"expect_out(")?;
+    name.push(digit)?;
+    name.push(b',')?;
+    name.extend(what)?;
+    name.push(b')')?;
+    Ok(name)
+}
+
+/// The digits of the groups that a match can have.
+fn groups(want: &Want) -> &'static [u8]
+    ensures { result.now ≡ groups_of want.now }
+{
+    match want {
+        Want::Exact { .. } => b"0",
+        Want::Glob { .. } => b"0",
+        Want::Regular(_) => b"0123456789",
+        Want::Keyword(_) => b"",
+    }
+}
+
+/// Puts a value behind a text: all of it between quotes where it is short, else how long it is, and its end.
+#[tactic(auto, unfolding(crate::specs::Meetings::shown_text))]
+fn push_shown(alloc: Global, text: &mut Text, bytes: &[u8]) -> Result<(), AllocError>
+    ensures { OnOk result (text.new ≡ text.old ++ shown_text bytes.now) }
+{
+    if bytes.len() <= SHOWN {
+        return push_quoted(alloc, text, bytes);
+    }
+    push_labelled(alloc, text, b"of ", bytes.len() as u128)?;
+    text.extend(b" bytes, the last are ")?;
+    push_quoted(alloc, text, tail(bytes))
+}
+
+/// Puts the line of a variable behind a text.
+#[tactic(auto, unfolding(crate::specs::Meetings::stored_line))]
+fn push_stored(alloc: Global, text: &mut Text, name: &[u8], bytes: &[u8]) -> Result<(), AllocError>
+    ensures { OnOk result (text.new ≡ text.old ++ stored_line name.now bytes.now) }
+{
+    push_margin(text)?;
+    text.extend(b"  ")?;
+    text.extend(name)?;
+    text.push(b' ')?;
+    push_shown(alloc, text, bytes)?;
+    text.extend(b"\n")
+}
+
+/// Puts the line of a variable behind a text, where it has a value.
+fn push_value(alloc: Global, text: &mut Text, vars: &Vars, name: &[u8]) -> Result<(), AllocError>
+    ensures { OnOk result (text.new ≡ text.old ++ stored_part name.now vars.now) }
+{
+    match vars.peek(name) {
+        Ok(bytes) => push_stored(alloc, text, name, bytes),
+        Err(_) => Ok(()),
+    }
+}
+
+/// Puts where a group stands behind a text, where that was asked for.
+fn push_places(
+    alloc: Global,
+    text: &mut Text,
+    vars: &Vars,
+    indices: bool,
+    digit: u8,
+) -> Result<(), AllocError>
+    ensures { OnOk result (text.new ≡ text.old ++ places_part indices digit vars.now) }
+{
+    if !indices {
+        return Ok(());
+    }
+    let start = group_name(alloc, digit, b"start")?;
+    push_value(alloc, text, vars, start.as_slice())?;
+    let end = group_name(alloc, digit, b"end")?;
+    push_value(alloc, text, vars, end.as_slice())
+}
+
+/// Puts what is stored of a group behind a text.
+fn push_group(
+    alloc: Global,
+    text: &mut Text,
+    vars: &Vars,
+    indices: bool,
+    digit: u8,
+) -> Result<(), AllocError>
+    ensures { OnOk result (text.new ≡ text.old ++ group_part indices vars.now digit) }
+{
+    push_places(alloc, text, vars, indices, digit)?;
+    let string = group_name(alloc, digit, b"string")?;
+    push_value(alloc, text, vars, string.as_slice())
+}
+
+fn push_groups(
+    alloc: Global,
+    text: &mut Text,
+    vars: &Vars,
+    indices: bool,
+    digits: &[u8],
+) -> Result<(), AllocError>
+    ensures { OnOk result (text.new ≡ text.old ++ group_lines indices vars.now digits.now) }
+{
+    for digit in digits {
+        push_group(alloc, text, vars, indices, *digit)?;
+    }
+    Ok(())
+}
+
+/// Puts whose bytes were met behind a text.
+#[tactic(auto, unfolding(crate::specs::Meetings::of_child))]
+fn push_of_child(alloc: Global, text: &mut Text, child: Option<u8>) -> Result<(), AllocError>
+    ensures { OnOk result (text.new ≡ text.old ++ of_child child) }
+{
+    match child {
+        Some(child) => push_labelled(alloc, text, b" by child ", u128::from(child)),
+        None => Ok(()),
+    }
+}
+
+/// Puts the line of what was met behind a text.
+#[tactic(auto, unfolding(crate::specs::Meetings::met_line))]
+fn push_met(
+    alloc: Global,
+    text: &mut Text,
+    want: &Want,
+    child: Option<u8>,
+) -> Result<(), AllocError>
+    ensures { OnOk result (text.new ≡ text.old ++ met_line want.now child) }
+{
+    push_margin(text)?;
+    push_want(alloc, text, want)?;
+    text.extend(b" was met")?;
+    push_of_child(alloc, text, child)?;
+    text.extend(b"\n")
+}
+
+/// Puts the bytes that were met behind a text, where some were.
+fn push_buffer(
+    alloc: Global,
+    text: &mut Text,
+    vars: &Vars,
+    child: Option<u8>,
+) -> Result<(), AllocError>
+    ensures { OnOk result (text.new ≡ text.old ++ buffer_part child vars.now) }
+{
+    match child {
+        Some(_) => push_value(alloc, text, vars, b"expect_out(buffer)"),
+        None => Ok(()),
+    }
+}
+
+/// Puts an entry that was met behind a text, with what was stored.
+fn push_entry(
+    alloc: Global,
+    text: &mut Text,
+    vars: &Vars,
+    entry: &Entry,
+    child: Option<u8>,
+) -> Result<(), AllocError>
+    ensures { OnOk result (text.new ≡ text.old ++ entry_lines vars.now child entry.now) }
+{
+    push_met(alloc, text, &entry.want, child)?;
+    push_groups(alloc, text, vars, entry.indices, groups(&entry.want))?;
+    push_buffer(alloc, text, vars, child)
+}
+
+/// The number of the child at a place, from 1.
+fn number(place: Option<Place>) -> Option<u8>
+    ensures { result ≡ number_of place }
+{
+    match place {
+        Some(place) => Some(place.number()),
+        None => None,
+    }
+}
+
+/// Puts what an expect met behind a text.
+fn push_plan(alloc: Global, text: &mut Text, plan: &Plan, vars: &Vars) -> Result<(), AllocError>
+    ensures { OnOk result (text.new ≡ text.old ++ plan_lines plan.now vars.now) }
+{
+    let Some(Met { entry, child }) = plan.met else {
+        return Ok(());
+    };
+    match plan.list.entries.as_slice().get(entry) {
+        Some(entry) => push_entry(alloc, text, vars, entry, number(child)),
+        None => Ok(()),
+    }
+}
+
+/// Who writes down what is met, behind what was asked for before.
+#[derive(Drop)]
+pub(crate) struct Teller {
+    alloc: Global,
+    /// What is written so far.
+    text: Text,
+    /// How many requests are written.
+    told: usize,
+    /// Whether memory for it was refused: then nothing is said of it any more.
+    refused: bool,
+}
+
+impl Teller {
+    /// One who goes on behind a text, and for whom the first requests are written.
+    pub(crate) fn new(alloc: Global, text: Text, told: usize) -> Teller
+        ensures { (result.text ≡ text) × (result.told ≡ told) × (result.refused ≡ false) }
+    {
+        Teller {
+            alloc,
+            text,
+            told,
+            refused: false,
+        }
+    }
+
+    pub(crate) fn is_refused(&self) -> bool
+        ensures { result ≡ self.now.refused }
+    {
+        self.refused
+    }
+
+    /// How many requests are written.
+    pub(crate) fn told(&self) -> usize
+        ensures { result ≡ self.now.told }
+    {
+        self.told
+    }
+
+    pub(crate) fn into_text(self) -> Text
+        ensures { result ≡ self.text }
+    {
+        let Teller { text, .. } = self;
+        text
+    }
+
+    fn write(&mut self, plan: &Plan, vars: &Vars, asked: &[Request]) -> Result<(), AllocError>
+        ensures written { OnOk result (self.new.text ≡ self.old.text ++ meeting_text self.old.told plan.now vars.now asked.now) }
+        ensures told { OnOk result (self.new.told ≡ length asked.now) }
+        ensures same { self.new.refused ≡ self.old.refused }
+    {
+        push_requests(self.alloc, &mut self.text, rest_of(asked, self.told))?;
+        push_plan(self.alloc, &mut self.text, plan, vars)?;
+        self.told = asked.len();
+        Ok(())
+    }
+}
+
+impl Watcher for Teller {
+    ghost use Rattle.course_texts.specs.Meetings.{Writes};
+
+    ghost sees = { Writes };
+
+    fn met(&mut self, plan: &Plan, vars: &Vars, asked: &[Request]) {
+        if self.refused {
+            return;
+        }
+        if self.write(plan, vars, asked).is_err() {
+            self.refused = true;
+        }
+    }
+}

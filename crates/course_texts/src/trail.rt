@@ -1,0 +1,107 @@
+//! The text of where an error came by.
+
+ghost use Rattle.std.specs.Prelude.{◌≡◌, ◌++◌, ◌≤◌, drop, take, length, OnOk};
+ghost use Rattle.course_texts.specs.Trail.{line_len, shortened, command_line, in_procedure, procedure_line, place_line, place_lines};
+
+use report_texts::{push_labelled, push_line, push_quoted};
+use script_check::{begin_of, line_of};
+use session::Place;
+use std::alloc::{AllocError, Global};
+use tcl_words::Text;
+
+/// How many bytes of a command's line are shown.
+const SHOWN: usize = 150;
+
+/// How many bytes stand before the end of a line.
+#[tactic(auto, unfolding(crate::specs::Trail::line_len))]
+fn line_len(text: &[u8]) -> usize
+    ensures value { result ≡ line_len text.now }
+    ensures within { result ≤ length text.now }
+{
+    text.iter().take_while(|b| **b != b'\n').count()
+}
+
+/// The first line of a text.
+fn first_line(text: &[u8]) -> &[u8]
+    ensures { result.now ≡ take (line_len text.now) text.now }
+{
+    text.split_at(line_len(text)).0
+}
+
+/// What is left of a script from a place on.
+fn rest_of(script: &[u8], at: usize) -> &[u8]
+    ensures { result.now ≡ drop at script.now }
+{
+    if script.len() <= at {
+        return &[];
+    }
+    script.split_at(at).1
+}
+
+/// Puts the first bytes of a line behind a text.
+fn push_shortened(alloc: Global, text: &mut Text, line: &[u8]) -> Result<(), AllocError>
+    ensures { OnOk result (text.new ≡ text.old ++ shortened line.now) }
+{
+    if SHOWN < line.len() {
+        push_line(alloc, text, line.split_at(SHOWN).0)?;
+        text.extend(b"...")
+    } else {
+        push_line(alloc, text, line)
+    }
+}
+
+/// Puts the line of a command behind a text, which begins what is left of its script.
+#[tactic(auto, unfolding(crate::specs::Trail::command_line))]
+fn push_command(
+    alloc: Global,
+    text: &mut Text,
+    script: &[u8],
+    left: &[u8],
+) -> Result<(), AllocError>
+    ensures { OnOk result (text.new ≡ text.old ++ command_line script.now left.now) }
+{
+    let line = line_of(script, script.len().saturating_sub(left.len()));
+    push_labelled(alloc, text, b"  line ", line as u128)?;
+    text.extend(b": ")?;
+    push_shortened(alloc, text, first_line(left))?;
+    text.extend(b"\n")
+}
+
+/// Puts what stands before the name of a procedure behind a text.
+#[tactic(auto, unfolding(crate::specs::Trail::in_procedure))]
+fn push_in_procedure(text: &mut Text) -> Result<(), AllocError>
+    ensures { OnOk result (text.new ≡ text.old ++ in_procedure) }
+{
+    text.extend(b"  in procedure ")
+}
+
+/// Puts the line of a procedure behind a text.
+fn push_procedure(alloc: Global, text: &mut Text, name: &[u8]) -> Result<(), AllocError>
+    ensures { OnOk result (text.new ≡ text.old ++ procedure_line name.now) }
+{
+    push_in_procedure(text)?;
+    push_quoted(alloc, text, name)?;
+    text.extend(b"\n")
+}
+
+fn push_place(alloc: Global, text: &mut Text, place: &Place) -> Result<(), AllocError>
+    ensures { OnOk result (text.new ≡ text.old ++ place_line place.now) }
+{
+    match place {
+        Place::Command { script, at } => {
+            let script = script.as_slice();
+            push_command(alloc, text, script, begin_of(rest_of(script, *at)))
+        }
+        Place::Procedure { name } => push_procedure(alloc, text, name.as_slice()),
+    }
+}
+
+/// Puts the lines of where an error came by behind a text.
+pub fn push_places(alloc: Global, text: &mut Text, places: &[Place]) -> Result<(), AllocError>
+    ensures { OnOk result (text.new ≡ text.old ++ place_lines places.now) }
+{
+    for place in places {
+        push_place(alloc, text, place)?;
+    }
+    Ok(())
+}

@@ -1,0 +1,223 @@
+//! The text of what a script asks and waits for.
+
+ghost use Rattle.std.specs.Prelude.{◌≡◌, ◌++◌, IfOk, OnOk, Some, None, MatchOption};
+ghost use Rattle.exp_match.specs.Choice.{in_groups};
+ghost use Rattle.session.specs.Awaited.{answering, expecting};
+ghost use Rattle.course_texts.specs.Waits.{margin, request_line, request_lines, answer_line, verdict as verdict_of, entry_line, own_line, own_lines, tail_of, buffer_line, side_lines, deadline_line, endless_line, until_line, expect_lines, wait_lines};
+
+use crate::patterns::push_want;
+use exp_match::{Entry, Want};
+use expect_core::{Groups, Place, Plan};
+use report_texts::{Spelling, push_act, push_labelled, push_quoted};
+use session::{Request, Session};
+use std::alloc::{AllocError, Global};
+use tcl_words::Text;
+
+/// How many of the last bytes of a child are shown.
+pub(crate) const SHOWN: usize = 64;
+
+/// Puts the columns in which an event has its moment behind a text.
+#[tactic(auto, unfolding(crate::specs::Waits::margin))]
+pub(crate) fn push_margin(text: &mut Text) -> Result<(), AllocError>
+    ensures { OnOk result (text.new ≡ text.old ++ margin) }
+{
+    text.extend(b"             ")
+}
+
+/// Puts the line of a request behind a text.
+#[tactic(auto, unfolding(crate::specs::Waits::request_line))]
+fn push_request(alloc: Global, text: &mut Text, request: &Request) -> Result<(), AllocError>
+    ensures { OnOk result (text.new ≡ text.old ++ request_line request.now) }
+{
+    push_margin(text)?;
+    push_labelled(alloc, text, b"asks child ", u128::from(request.child))?;
+    text.extend(b": ")?;
+    push_act(alloc, text, Spelling::Quoted, &request.act)?;
+    text.extend(b"\n")
+}
+
+/// Puts the lines of requests behind a text.
+pub fn push_requests(alloc: Global, text: &mut Text, requests: &[Request]) -> Result<(), AllocError>
+    ensures { OnOk result (text.new ≡ text.old ++ request_lines requests.now) }
+{
+    for request in requests {
+        push_request(alloc, text, request)?;
+    }
+    Ok(())
+}
+
+/// Puts the line of the answer that is awaited of a child behind a text, where one is.
+#[tactic(auto, unfolding(crate::specs::Waits::answer_line))]
+fn push_answer(alloc: Global, text: &mut Text, child: Option<u8>) -> Result<(), AllocError>
+    ensures { OnOk result (text.new ≡ text.old ++ answer_line child) }
+{
+    let Some(child) = child else {
+        return Ok(());
+    };
+    push_margin(text)?;
+    push_labelled(
+        alloc,
+        text,
+        b"waits for the answer of child ",
+        u128::from(child),
+    )?;
+    text.extend(b"\n")
+}
+
+/// What is said behind a pattern: it didn't match.
+fn verdict(want: &Want) -> &'static [u8]
+    ensures { result.now ≡ verdict_of want.now }
+{
+    match want {
+        Want::Exact { .. } => b"  no\n",
+        Want::Glob { .. } => b"  no\n",
+        Want::Regular(_) => b"  no\n",
+        Want::Keyword(_) => b"\n",
+    }
+}
+
+#[tactic(auto, unfolding(crate::specs::Waits::entry_line))]
+fn push_entry(alloc: Global, text: &mut Text, entry: &Entry) -> Result<(), AllocError>
+    ensures { OnOk result (text.new ≡ text.old ++ entry_line entry.now) }
+{
+    push_margin(text)?;
+    text.extend(b"    ")?;
+    push_want(alloc, text, &entry.want)?;
+    text.extend(verdict(&entry.want))
+}
+
+/// Whether an entry belongs to one of the groups.
+fn is_own(groups: &[usize], entry: &Entry) -> bool
+    ensures { result ≡ in_groups groups.now entry.now }
+{
+    let group = entry.group;
+    groups.iter().any(|g| *g == group)
+}
+
+/// Puts an entry's line behind a text, where its group is one of these.
+fn push_own(
+    alloc: Global,
+    text: &mut Text,
+    groups: &[usize],
+    entry: &Entry,
+) -> Result<(), AllocError>
+    ensures { OnOk result (text.new ≡ text.old ++ own_line groups.now entry.now) }
+{
+    if is_own(groups, entry) {
+        return push_entry(alloc, text, entry);
+    }
+    Ok(())
+}
+
+fn push_entries(
+    alloc: Global,
+    text: &mut Text,
+    groups: &[usize],
+    entries: &[Entry],
+) -> Result<(), AllocError>
+    ensures { OnOk result (text.new ≡ text.old ++ own_lines groups.now entries.now) }
+{
+    for entry in entries {
+        push_own(alloc, text, groups, entry)?;
+    }
+    Ok(())
+}
+
+/// The last bytes of a text, `SHOWN` at the most.
+pub(crate) fn tail(bytes: &[u8]) -> &[u8]
+    ensures { result.now ≡ tail_of bytes.now }
+{
+    &bytes[bytes.len().saturating_sub(SHOWN)..]
+}
+
+/// Puts how many bytes a child has that no pattern has taken, and the last of them, behind a text.
+#[tactic(auto, unfolding(crate::specs::Waits::buffer_line))]
+fn push_buffer(alloc: Global, text: &mut Text, child: u8, bytes: &[u8]) -> Result<(), AllocError>
+    ensures { OnOk result (text.new ≡ text.old ++ buffer_line child bytes.now) }
+{
+    push_margin(text)?;
+    push_labelled(alloc, text, b"  child ", u128::from(child))?;
+    push_labelled(alloc, text, b" has ", bytes.len() as u128)?;
+    text.extend(b" bytes, the last are ")?;
+    push_quoted(alloc, text, tail(bytes))?;
+    text.extend(b"\n")
+}
+
+/// Puts each child's bytes and patterns behind a text.
+fn push_sides(
+    alloc: Global,
+    text: &mut Text,
+    session: &Session,
+    entries: &[Entry],
+    sides: &[(Place, Groups)],
+) -> Result<(), AllocError>
+    ensures { OnOk result (text.new ≡ text.old ++ side_lines session.now.dialogue.own.children entries.now sides.now) }
+{
+    for (place, groups) in sides {
+        let child = place.number();
+        let bytes = session.buffer_copied(alloc, child)?;
+        push_buffer(alloc, text, child, bytes.as_slice())?;
+        push_entries(alloc, text, groups.as_slice(), entries)?;
+    }
+    Ok(())
+}
+
+/// Puts the line of an expect that waits up to a moment behind a text.
+#[tactic(auto, unfolding(crate::specs::Waits::deadline_line))]
+fn push_deadline(alloc: Global, text: &mut Text, last: u128) -> Result<(), AllocError>
+    ensures { OnOk result (text.new ≡ text.old ++ deadline_line last) }
+{
+    push_margin(text)?;
+    push_labelled(alloc, text, b"waits for output until ", last)?;
+    text.extend(b" ms\n")
+}
+
+/// Puts the line of an expect that waits for ever behind a text.
+#[tactic(auto, unfolding(crate::specs::Waits::endless_line))]
+fn push_endless(text: &mut Text) -> Result<(), AllocError>
+    ensures { OnOk result (text.new ≡ text.old ++ endless_line) }
+{
+    push_margin(text)?;
+    text.extend(b"waits for output\n")
+}
+
+/// Puts the line of the moment up to which an expect waits behind a text.
+fn push_until(alloc: Global, text: &mut Text, last: Option<u64>) -> Result<(), AllocError>
+    ensures { OnOk result (text.new ≡ text.old ++ until_line last) }
+{
+    match last {
+        Some(last) => push_deadline(alloc, text, u128::from(last)),
+        None => push_endless(text),
+    }
+}
+
+/// Puts the lines of an expect that waits behind a text.
+fn push_expect(
+    alloc: Global,
+    text: &mut Text,
+    session: &Session,
+    plan: &Plan,
+) -> Result<(), AllocError>
+    ensures { OnOk result (text.new ≡ text.old ++ expect_lines session.now.dialogue.own.children (Some plan.now)) }
+{
+    push_until(alloc, text, plan.last_moment())?;
+    push_sides(
+        alloc,
+        text,
+        session,
+        plan.list.entries.as_slice(),
+        plan.sides.as_slice(),
+    )
+}
+
+/// Puts what a session waits for behind a text.
+#[tactic(auto, unfolding(crate::specs::Waits::wait_lines))]
+pub fn push_waits(alloc: Global, text: &mut Text, session: &Session) -> Result<(), AllocError>
+    ensures { OnOk result (text.new ≡ text.old ++ wait_lines session.now) }
+{
+    push_answer(alloc, text, session.answering())?;
+    match session.expecting() {
+        Some(plan) => push_expect(alloc, text, session, plan),
+        None => Ok(()),
+    }
+}

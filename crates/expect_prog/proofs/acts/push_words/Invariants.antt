@@ -1,6 +1,0 @@
-use Rattle.std.proofs.Common.{◌≡◌, ◌++◌, drop}
-use Rattle.expect_prog.specs.Acts.{words_part}
-use Rattle.expect_prog.proofs.acts.push_words.Given as goal
-
-abbrev pub invariant-loop-word : goal.invariant-loop-word
-invariant-loop-word l = l.text ++ words_part l.spelling (drop l.word-index l.words) ≡ l.initial.text ++ words_part l.spelling l.words

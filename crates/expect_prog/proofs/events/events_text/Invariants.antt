@@ -1,6 +1,0 @@
-use Rattle.std.proofs.Common.{◌≡◌, ◌++◌, drop}
-use Rattle.expect_prog.specs.Show.{shown_log}
-use Rattle.expect_prog.proofs.events.events_text.Given as goal
-
-abbrev pub invariant-loop-event : goal.invariant-loop-event
-invariant-loop-event l = l.text ++ shown_log l.script (drop l.event-index l.events) ≡ l.initial.text ++ shown_log l.script l.events

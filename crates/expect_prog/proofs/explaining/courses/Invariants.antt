@@ -1,5 +1,0 @@
-use Rattle.expect_prog.proofs.Coursing.{SoFar}
-use Rattle.expect_prog.proofs.explaining.courses.Given as goal
-
-abbrev pub invariant-loop-script : goal.invariant-loop-script
-invariant-loop-script l = SoFar l.only l.events l.fn.scripts.items l.script-iterator.rest.items l.text l.number

@@ -1,6 +1,0 @@
-use Rattle.std.proofs.Common.{◌≡◌, ◌++◌, drop}
-use Rattle.expect_prog.specs.Meetings.{group_lines}
-use Rattle.expect_prog.proofs.meetings.push_groups.Given as goal
-
-abbrev pub invariant-loop-digit : goal.invariant-loop-digit
-invariant-loop-digit l = l.text ++ group_lines l.indices l.vars (drop l.digit-index l.digits) ≡ l.initial.text ++ group_lines l.indices l.vars l.digits

@@ -1,9 +1,0 @@
-use Rattle.std.proofs.Common.{◌≡◌, ◌≤◌, ◌+◌, drop}
-use Rattle.expect_prog.specs.Progress.{failed_among}
-use Rattle.expect_prog.proofs.progress.failed.Given as goal
-
-abbrev pub invariant-loop-script : goal.invariant-loop-script
-invariant-loop-script l = record {
-  same : l.count + failed_among (drop l.script-index l.scripts) ≡ failed_among l.scripts;
-  low : l.count ≤ l.script-index;
-}

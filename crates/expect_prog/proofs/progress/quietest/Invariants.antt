@@ -1,6 +1,0 @@
-use Rattle.std.proofs.Common.{◌≡◌, None, drop}
-use Rattle.expect_prog.specs.Progress.{quietest_among}
-use Rattle.expect_prog.proofs.progress.quietest.Given as goal
-
-abbrev pub invariant-loop-script : goal.invariant-loop-script
-invariant-loop-script l = quietest_among l.found (drop l.script-index l.scripts) ≡ quietest_among None l.scripts

@@ -1,5 +1,0 @@
-use Rattle.expect_prog.proofs.Standing.{as_many}
-use Rattle.expect_prog.proofs.replaying.reports_of.Goals as goal
-
-pub returns-in-Ok-clause-count : goal.returns-in-Ok-clause-count
-returns-in-Ok-clause-count c = as_many 1 c.args.log.now c.args.scripts.items c.in-Ok.reports c.in-Ok.ensures.runs.2

@@ -1,6 +1,0 @@
-use Rattle.std.proofs.Common.{◌≡◌, ◌++◌, drop}
-use Rattle.expect_prog.specs.Report.{vars_lines}
-use Rattle.expect_prog.proofs.texts.push_vars.Given as goal
-
-abbrev pub invariant-loop-var : goal.invariant-loop-var
-invariant-loop-var l = l.text ++ vars_lines (drop l.var-index l.vars) ≡ l.initial.text ++ vars_lines l.vars

@@ -1,8 +1,0 @@
-use Rattle.std.proofs.Common.{◌≡◌, ◌++◌, drop}
-use Rattle.expect_prog.specs.Waits.{side_lines}
-use Rattle.expect_prog.proofs.waits.push_sides.Given as goal
-
-abbrev pub invariant-loop-place : goal.invariant-loop-place
-invariant-loop-place l =
-    l.text ++ side_lines l.session.dialogue.own.children l.entries (drop l.place-index l.sides)
-    ≡ l.initial.text ++ side_lines l.session.dialogue.own.children l.entries l.sides

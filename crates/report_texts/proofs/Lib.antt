@@ -1,0 +1,5 @@
+pub mod Writing
+pub mod Series
+pub mod Whole
+pub mod Tallying
+pub mod Carried

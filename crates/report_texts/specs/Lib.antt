@@ -1,0 +1,9 @@
+pub mod Report
+pub mod Line
+pub mod Escape
+pub mod Acts
+pub mod Tap
+pub mod Json
+pub mod Form
+pub mod Devices
+pub mod Written

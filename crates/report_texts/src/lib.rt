@@ -1,0 +1,25 @@
+//! The texts of reports, and how they are written.
+//!
+//! A report is told in one of the forms of [`Format`], and reports are written one by one, so that memory that is refused to one costs no
+//! other its own. What a text says is defined in `specs/Form`, and what is written of it in `specs/Written`.
+#![tactic(auto)]
+
+mod acts;
+mod asks;
+mod devices;
+mod escape;
+mod form;
+mod json;
+mod line;
+mod reporting;
+mod tally;
+mod tap;
+mod texts;
+
+pub use acts::{Spelling, push_act};
+pub use devices::{MOST_CALLS, ReadFault, Unwritten, read_all, write_all};
+pub use escape::{Place, push_quoted, push_text};
+pub use form::{Form, Format, Spares, made_spares};
+pub use line::push_line;
+pub use reporting::write_reports;
+pub use texts::{Shown, push_head, push_labelled, total};

@@ -1,0 +1,114 @@
+//! Reports as tests of the Test Anything Protocol.
+
+ghost use Rattle.std.specs.Prelude.{◌≡◌, ◌++◌, IfOk, OnOk};
+ghost use Rattle.report_texts.specs.Tap.{name_byte, name_text, plan, passed, not_passed, diagnostic, tap_test};
+
+use crate::line::{push_line, push_line_byte};
+use crate::texts::{is_done, push_ending, push_labelled};
+use session::{Ending, Report};
+use std::alloc::{AllocError, Global};
+use tcl_words::Text;
+
+/// Puts a byte of a test's name behind a text.
+fn push_name_byte(alloc: Global, text: &mut Text, byte: u8) -> Result<(), AllocError>
+    ensures { OnOk result (text.new ≡ text.old ++ name_byte byte) }
+{
+    if byte == b'#' {
+        return text.extend(b"\\#");
+    }
+    push_line_byte(alloc, text, byte)
+}
+
+/// Puts a test's name behind a text.
+fn push_name(alloc: Global, text: &mut Text, name: &[u8]) -> Result<(), AllocError>
+    ensures { OnOk result (text.new ≡ text.old ++ name_text name.now) }
+{
+    for byte in name {
+        push_name_byte(alloc, text, *byte)?;
+    }
+    Ok(())
+}
+
+/// The version, and the plan of so many tests.
+#[tactic(auto, unfolding(crate::specs::Tap::plan))]
+pub fn plan_text(alloc: Global, count: usize) -> Result<Text, AllocError>
+    ensures { IfOk result (λ t. t ≡ plan count) }
+{
+    let mut text = Text::new(alloc);
+    text.extend(b"TAP version 13\n")?;
+    push_labelled(alloc, &mut text, b"1..", count as u128)?;
+    text.push(b'\n')?;
+    Ok(text)
+}
+
+/// Puts a test that is passed behind a text.
+#[tactic(auto, unfolding(crate::specs::Tap::passed))]
+fn push_passed(alloc: Global, text: &mut Text, file: &[u8], number: usize) -> Result<(), AllocError>
+    ensures { OnOk result (text.new ≡ text.old ++ passed file.now number) }
+{
+    push_labelled(alloc, text, b"ok ", number as u128)?;
+    text.extend(b" - ")?;
+    push_name(alloc, text, file)?;
+    text.push(b'\n')
+}
+
+/// Puts a test that isn't passed behind a text, with the ending of its script.
+#[tactic(auto, unfolding(crate::specs::Tap::not_passed))]
+fn push_not_passed(
+    alloc: Global,
+    text: &mut Text,
+    file: &[u8],
+    number: usize,
+    ending: Ending,
+) -> Result<(), AllocError>
+    ensures { OnOk result (text.new ≡ text.old ++ not_passed file.now number ending) }
+{
+    push_labelled(alloc, text, b"not ok ", number as u128)?;
+    text.extend(b" - ")?;
+    push_name(alloc, text, file)?;
+    text.extend(b": ")?;
+    push_ending(alloc, text, ending)?;
+    text.push(b'\n')
+}
+
+/// Puts the text of an error behind a text, as a diagnostic.
+fn push_diagnostic(
+    alloc: Global,
+    text: &mut Text,
+    ending: Ending,
+    fault: &Text,
+) -> Result<(), AllocError>
+    ensures { OnOk result (text.new ≡ text.old ++ diagnostic ending fault.now) }
+{
+    match ending {
+        Ending::Error => {
+            text.extend(b"# ")?;
+            push_line(alloc, text, fault.as_slice())?;
+            text.push(b'\n')
+        }
+        Ending::Exit(_) => Ok(()),
+        Ending::StepLimit => Ok(()),
+        Ending::TimeLimit => Ok(()),
+        Ending::Memory => Ok(()),
+        Ending::Waiting => Ok(()),
+    }
+}
+
+/// The test of script `number`, with its file: whether it ended with status 0.
+pub fn test_text(
+    alloc: Global,
+    file: &[u8],
+    number: usize,
+    report: &Report,
+) -> Result<Text, AllocError>
+    ensures { IfOk result (λ t. t ≡ tap_test file.now number report.now) }
+{
+    let mut text = Text::new(alloc);
+    if is_done(report.ending) {
+        push_passed(alloc, &mut text, file, number)?;
+        return Ok(text);
+    }
+    push_not_passed(alloc, &mut text, file, number, report.ending)?;
+    push_diagnostic(alloc, &mut text, report.ending, &report.fault)?;
+    Ok(text)
+}

@@ -1,0 +1,5 @@
+pub mod Counting
+pub mod Standing
+pub mod Drives
+pub mod Lines
+pub mod OverLogs

@@ -1,0 +1,13 @@
+-- Where transcripts are kept.
+use Rattle.std.specs.Prelude.{◌≡◌, ℕ, List, ◌++◌, map, Option, Some, None}
+use Rattle.session.specs.declared.report.Report.{Report}
+
+-- these transcripts were kept behind those that are known to be, and nothing else
+abbrev pub Keeps : Option (List (List ℕ)) → Option (List (List ℕ)) → List (List ℕ) → Type 0
+Keeps None new ts = Unit {0}
+Keeps (Some kept) None ts = ⊥
+Keeps (Some kept) (Some kept') ts = kept' ≡ kept ++ ts
+
+-- those of reports, in order of scripts
+abbrev pub transcripts_of : List Report → List (List ℕ)
+transcripts_of rs = map (λ r. r.transcript) rs

@@ -1,0 +1,279 @@
+//! What scripts show, told while they run.
+
+ghost use Rattle.std.specs.Prelude.{◌≡◌, ◌≤◌, ◌++◌, ◌∷◌, [], length, true, OnOk, IfOk};
+ghost use Rattle.script_runs.specs.Follow.{mark_of, marked_byte, marked, told_so};
+
+use crate::progress::Progress;
+use child_keeper::{Audience, Clock};
+use child_pipes::Wall;
+use report_texts::{Place, push_labelled, push_text};
+use std::alloc::{AllocError, Global};
+use std::io::Write;
+use std::sync::Wait;
+use std::time::Clock as SystemClock;
+use tcl_words::Text;
+
+/// How many bytes of a line are held back, at most, until the line is whole.
+const LONGEST: usize = 4_096;
+
+/// How a script's output is told.
+#[derive(Clone, Copy, Debug)]
+pub enum Manner {
+    /// As it is.
+    Plain,
+    /// So that it does nothing on a terminal.
+    Escaped,
+    /// The same, each line behind the number of the script.
+    Numbered(u8),
+}
+
+/// Puts what stands before each line of a script behind a text.
+fn push_mark(alloc: Global, text: &mut Text, number: u8) -> Result<(), AllocError>
+    ensures { OnOk result (text.new ≡ text.old ++ mark_of number) }
+{
+    push_labelled(alloc, text, b"script ", u128::from(number))?;
+    text.extend(b": ")
+}
+
+/// Puts a byte behind a text, and a mark before it where it begins a line.
+fn push_marked(text: &mut Text, mark: &[u8], begins: bool, byte: u8) -> Result<(), AllocError>
+    ensures { OnOk result (text.new ≡ text.old ++ marked_byte mark.now begins byte) }
+{
+    if begins {
+        text.extend(mark)?;
+    }
+    text.push(byte)
+}
+
+/// Puts lines behind a text, each behind a mark.
+fn push_lines(text: &mut Text, mark: &[u8], lines: &[u8]) -> Result<(), AllocError>
+    ensures { OnOk result (text.new ≡ text.old ++ marked mark.now true lines.now) }
+{
+    let mut begins = true;
+    for i in 0..lines.len() {
+        push_marked(text, mark, begins, lines[i])?;
+        begins = lines[i] == b'\n';
+    }
+    Ok(())
+}
+
+/// Puts bytes of a script behind a text, as they are told.
+#[tactic(auto, unfolding(crate::specs::Follow::told_so))]
+fn push_told(alloc: Global, text: &mut Text, manner: Manner, bytes: &[u8]) -> Result<(), AllocError>
+    ensures { OnOk result (text.new ≡ text.old ++ told_so manner bytes.now) }
+{
+    match manner {
+        Manner::Plain => text.extend(bytes),
+        Manner::Escaped => push_text(alloc, text, Place::Lines, bytes),
+        Manner::Numbered(number) => {
+            let mut mark = Text::new(alloc);
+            push_mark(alloc, &mut mark, number)?;
+            let mut lines = Text::new(alloc);
+            push_text(alloc, &mut lines, Place::Lines, bytes)?;
+            push_lines(text, mark.as_slice(), lines.as_slice())
+        }
+    }
+}
+
+/// How many of the first bytes end with the last whole line.
+fn whole_lines(bytes: &[u8]) -> usize
+    ensures { result ≤ length bytes.now }
+{
+    match memchr::memrchr(b'\n', bytes) {
+        Some(at) => at + 1,
+        None => 0,
+    }
+}
+
+/// Whether a byte may begin a character of UTF-8 of several bytes, and is at least this one.
+fn begins_character(byte: u8, least: u8) -> bool {
+    least <= byte && byte <= 0xF4
+}
+
+/// Whether a byte may stand in a character of UTF-8 behind its first one.
+fn goes_on(byte: u8) -> bool {
+    0x80 <= byte && byte <= 0xBF
+}
+
+/// Whether bytes may be the front of a character, or of the end of a line.
+fn may_go_on(bytes: &[u8]) -> bool {
+    match bytes {
+        [first] => *first == b'\r' || begins_character(*first, 0xC2),
+        [first, second] => begins_character(*first, 0xE0) && goes_on(*second),
+        [first, second, third] => {
+            begins_character(*first, 0xF0) && goes_on(*second) && goes_on(*third)
+        }
+        _ => false,
+    }
+}
+
+/// How many of the first bytes are told by themselves: all but what may be the front of a character or of the end of a line.
+fn whole_characters(bytes: &[u8]) -> usize
+    ensures { result ≤ length bytes.now }
+{
+    for held in 1..4 {
+        if held <= bytes.len() && may_go_on(&bytes[bytes.len() - held..]) {
+            return bytes.len() - held;
+        }
+    }
+    bytes.len()
+}
+
+/// How many of the first bytes are told at once. Of several scripts whole lines are told, unless one is long.
+fn told_len(manner: Manner, bytes: &[u8]) -> usize
+    ensures { result ≤ length bytes.now }
+{
+    match manner {
+        Manner::Plain => bytes.len(),
+        Manner::Escaped => whole_characters(bytes),
+        Manner::Numbered(_) => {
+            if bytes.len() > LONGEST {
+                return bytes.len();
+            }
+            whole_lines(bytes)
+        }
+    }
+}
+
+/// Ends the last line of a text, so that what another script shows begins its own.
+fn end_line(text: &mut Text) -> Result<(), AllocError> {
+    match text.as_slice() {
+        [] | [.., b'\n'] => Ok(()),
+        _ => text.push(b'\n'),
+    }
+}
+
+/// A script that is followed: how it is told, and what it has shown and is not told yet.
+#[derive(Drop)]
+pub struct Tale {
+    manner: Manner,
+    held: Text,
+}
+
+impl Tale {
+    /// A script that has shown nothing.
+    pub fn new(alloc: Global, manner: Manner) -> Tale {
+        Tale {
+            manner,
+            held: Text::new(alloc),
+        }
+    }
+
+    /// The text of the first bytes that are held, which are held no more.
+    fn told(&mut self, alloc: Global, count: usize) -> Result<Text, AllocError>
+        requires { count ≤ length self.old.held }
+    {
+        let (front, rest) = self.held.as_slice().split_at(count);
+        let mut text = Text::new(alloc);
+        push_told(alloc, &mut text, self.manner, front)?;
+        if matches!(self.manner, Manner::Numbered(_)) {
+            end_line(&mut text)?;
+        }
+        self.held = Text::from_slice(alloc, rest)?;
+        Ok(text)
+    }
+
+    /// What is told where a script shows these bytes.
+    fn heard(&mut self, alloc: Global, bytes: &[u8]) -> Result<Text, AllocError> {
+        self.held.extend(bytes)?;
+        let count = told_len(self.manner, self.held.as_slice());
+        self.told(alloc, count)
+    }
+
+    /// What is told at the end.
+    fn left(&mut self, alloc: Global) -> Result<Text, AllocError> {
+        let count = self.held.len();
+        self.told(alloc, count)
+    }
+}
+
+/// Where scripts are followed. What can't be told, for want of memory or where a write fails, is passed over.
+#[derive(Drop)]
+pub struct Live<E: Write + Drop> {
+    alloc: Global,
+    to: E,
+    tales: Vec<Tale>,
+}
+
+/// Writes a text, where there is one.
+fn put<E: Write>(to: &mut E, text: Result<Text, AllocError>) {
+    if let Ok(text) = text {
+        drop(to.write_all(text.as_slice()));
+    }
+}
+
+impl<E: Write + Drop> Live<E> {
+    /// Scripts that are followed, by their places, each told to the same writer.
+    pub fn new(alloc: Global, to: E, tales: Vec<Tale>) -> Live<E> {
+        Live { alloc, to, tales }
+    }
+
+    fn hear(&mut self, place: usize, bytes: &[u8]) {
+        if let Some(tale) = self.tales.get_mut(place) {
+            put(&mut self.to, tale.heard(self.alloc, bytes));
+        }
+    }
+
+    fn leave(&mut self) {
+        for tale in &mut self.tales {
+            put(&mut self.to, tale.left(self.alloc));
+        }
+    }
+}
+
+/// What a worker tells while its scripts run.
+#[derive(Drop)]
+pub enum Told<R: Drop, E: Write + Drop> {
+    /// What its scripts show.
+    Shown(Live<E>),
+    /// How far they are.
+    Far(Progress<R, E>),
+    Nothing,
+}
+
+/// A worker's clock, which tells what is to be told while its scripts run.
+#[derive(Drop)]
+pub struct Follower<R: SystemClock + Drop, E: Write + Drop> {
+    wall: Wall<R>,
+    told: Told<R, E>,
+}
+
+impl<R: SystemClock + Drop, E: Write + Drop> Follower<R, E> {
+    pub fn new(wall: Wall<R>, told: Told<R, E>) -> Follower<R, E> {
+        Follower { wall, told }
+    }
+}
+
+impl<R: SystemClock + Wait + Copy + Drop, E: Write + Copy + Drop> Clock for Follower<R, E> {
+    fn now(&mut self) -> u64 {
+        let moment = self.wall.now();
+        if let Told::Far(progress) = &mut self.told {
+            progress.look(moment);
+        }
+        moment
+    }
+}
+
+impl<R: SystemClock + Wait + Copy + Drop, E: Write + Copy + Drop> Audience for Follower<R, E> {
+    fn hear(&mut self, place: usize, bytes: &[u8]) {
+        match &mut self.told {
+            Told::Shown(live) => live.hear(place, bytes),
+            Told::Far(progress) => progress.hear(place),
+            Told::Nothing => {}
+        }
+    }
+
+    fn part(&mut self, place: usize, well: bool) {
+        if let Told::Far(progress) = &mut self.told {
+            progress.part(place, well);
+        }
+    }
+
+    fn leave(&mut self) {
+        match &mut self.told {
+            Told::Shown(live) => live.leave(),
+            Told::Far(progress) => progress.leave(),
+            Told::Nothing => {}
+        }
+    }
+}

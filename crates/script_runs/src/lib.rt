@@ -1,0 +1,27 @@
+//! Scripts over a log, over children, over a timeline, or as they are written, from readers to writers.
+//!
+//! [`replay`] runs scripts over a log, and [`drive`] over children: both hand transcripts to a [`Shelf`] and write reports. [`plan_log`] writes
+//! a log for a script, and [`check_source`] what is wrong with a source. [`clocks`] tell what there is to tell while scripts run. What these
+//! write is defined in `specs/Replay`, `specs/Drive`, `specs/Planning` and `specs/Check`.
+#![tactic(auto)]
+
+mod checking;
+mod driving;
+mod fault;
+mod following;
+mod planning;
+mod progress;
+mod record;
+mod replaying;
+mod shelf;
+mod telling;
+
+pub use checking::{CheckFault, check_source};
+pub use driving::{DriveFault, drive};
+pub use fault::ReplayFault;
+pub use following::Follower;
+pub use planning::{PlanLogFault, plan_log};
+pub use record::Record;
+pub use replaying::replay;
+pub use shelf::{NoShelf, Shelf};
+pub use telling::{Telling, clocks};

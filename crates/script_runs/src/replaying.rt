@@ -1,0 +1,110 @@
+//! Scripts over a log of events, from any reader to any writer.
+
+ghost use Rattle.std.specs.Prelude.{◌≡◌, ◌≢◌, length, IfOk, IfErr, IfSome, Err};
+ghost use Rattle.report_texts.specs.Devices.{GaveUp};
+ghost use Rattle.script_runs.specs.Replay.{Opens, RunOrFault, ReportsOver, ReportsRead, Replays, IsNoWant};
+
+use crate::fault::ReplayFault;
+use crate::shelf::{Shelf, keep_all};
+use child_events::{Counted, LogFault, LogLines};
+use dialogue_sched::{HallFault, LogRunFault, Reports, RunFault, Script, run_log};
+use report_texts::{Form, ReadFault, made_spares, read_all, write_reports};
+use std::alloc::Global;
+use std::io::{Read, Write};
+
+/// The reports of scripts over what is left of a log.
+fn reports_of(
+    alloc: Global,
+    scripts: Vec<Script>,
+    log: &mut LogLines,
+) -> Result<Reports, ReplayFault>
+    ensures ran { RunOrFault scripts.items log.old.said result }
+    ensures count { IfOk result (λ rs. length rs ≡ length scripts.items) }
+{
+    match run_log(alloc, scripts, log) {
+        Ok(reports) => Ok(reports),
+        Err(LogRunFault::Log(LogFault::Memory)) => Err(ReplayFault::Memory),
+        Err(LogRunFault::Log(fault)) => Err(ReplayFault::Log(fault)),
+        Err(LogRunFault::Run(RunFault::Memory)) => Err(ReplayFault::Memory),
+        Err(LogRunFault::Run(RunFault::New(HallFault::Memory))) => Err(ReplayFault::Memory),
+        Err(LogRunFault::Run(fault)) => Err(ReplayFault::Run(fault)),
+    }
+}
+
+/// The lines of a log of these bytes.
+fn lines_of(bytes: &[u8]) -> Result<LogLines, ReplayFault>
+    ensures { Opens bytes.now result }
+{
+    match LogLines::new(bytes) {
+        Ok(log) => Ok(log),
+        Err(LogFault::Memory) => Err(ReplayFault::Memory),
+        Err(fault) => Err(ReplayFault::Log(fault)),
+    }
+}
+
+/// The reports of scripts over a log of these bytes.
+fn reports_over(alloc: Global, scripts: Vec<Script>, bytes: &[u8]) -> Result<Reports, ReplayFault>
+    ensures over { ReportsOver scripts.items bytes.now result }
+    ensures count { IfOk result (λ rs. length rs ≡ length scripts.items) }
+{
+    let mut log = lines_of(bytes)?;
+    reports_of(alloc, scripts, &mut log)
+}
+
+/// The reports of scripts over the log that a reader has left.
+fn reports_read<R: Read>(
+    alloc: Global,
+    log: &mut Counted<R>,
+    scripts: Vec<Script>,
+) -> Result<Reports, ReplayFault>
+    requires failures { log.old.failures ≡ 0 }
+    requires calls { log.old.calls ≡ 0 }
+    ensures read { ReportsRead scripts.items (R.remaining log.old.device) log.new.failures log.new.calls result }
+    ensures read_whole { result ≢ Err ReplayFault.Read → log.new.failures ≡ 0 }
+    ensures count { IfOk result (λ rs. length rs ≡ length scripts.items) }
+{
+    let bytes = match read_all(alloc, log) {
+        Ok(bytes) => bytes,
+        Err(ReadFault::Failed) => return Err(ReplayFault::Read),
+        Err(ReadFault::Memory) => return Err(ReplayFault::Memory),
+    };
+    reports_over(alloc, scripts, bytes.as_slice())
+}
+
+/// Reads a log, runs the scripts over its events while it is judged, hands their transcripts to a shelf, and writes their reports one by one,
+/// in a form. The answer says whether each script ended with status 0.
+///
+/// Where memory is refused for one report or its text, that script's report says `memory`, and the others are whole.
+///
+/// Faults come in the order of `ReplayFault`'s variants, but for want of memory, which may come in place
+/// of any of them before the first transcript is kept. After `Write` a front of the reports' text was written, after any other
+/// fault nothing, and nothing was kept. An interrupted read or write is tried again.
+pub fn replay<R: Read, S: Shelf, W: Write>(
+    alloc: Global,
+    log: &mut Counted<R>,
+    scripts: Vec<Script>,
+    form: &Form,
+    shelf: &mut S,
+    out: &mut Counted<W>,
+) -> Result<bool, ReplayFault>
+    requires log_failures { log.old.failures ≡ 0 }
+    requires log_calls { log.old.calls ≡ 0 }
+    requires out_failures { out.old.failures ≡ 0 }
+    requires out_calls { out.old.calls ≡ 0 }
+    ensures answers { IfSome (R.remaining log.old.device) (λ bytes.
+        Replays scripts.items form.now bytes (S.handed shelf.old) (S.handed shelf.new) (W.contents out.old.device) (W.contents out.new.device) result) }
+    ensures unwritten { IfErr result (λ fault. fault ≢ ReplayFault.Write → (shelf.new ≡ shelf.old) × (out.new ≡ out.old)) }
+    ensures read { result ≡ Err ReplayFault.Read → GaveUp log.new.failures log.new.calls }
+    ensures read_whole { result ≢ Err ReplayFault.Read → log.new.failures ≡ 0 }
+    ensures write { result ≡ Err ReplayFault.Write → GaveUp out.new.failures out.new.calls }
+    ensures written_whole { result ≢ Err ReplayFault.Write → out.new.failures ≡ 0 }
+    ensures memory { IfErr result (λ fault. IsNoWant fault) }
+{
+    let spares = made_spares(alloc, form, scripts.len())?;
+    let reports = reports_read(alloc, log, scripts)?;
+    keep_all(reports.as_slice(), shelf);
+    match write_reports(alloc, form, reports.as_slice(), spares, out) {
+        Ok(well) => Ok(well),
+        Err(_) => Err(ReplayFault::Write),
+    }
+}
