@@ -54,6 +54,22 @@ fn cut(alloc: Global, clock: u64, bytes: &[u8]) -> Result<VecDeque<(u64, Item)>,
     Ok(made)
 }
 
+/// Lays echoes behind others. Where there are none yet it moves nothing. Refused ones leave the others as they were.
+fn lay_behind(
+    echoes: &mut VecDeque<(u64, Item)>,
+    mut made: VecDeque<(u64, Item)>,
+) -> Result<(), AllocError>
+    ensures laid { OnOk result (echoes.new.items ≡ echoes.old.items ++ made.items) }
+    ensures kept { OnErr result (echoes.new.items ≡ echoes.old.items) }
+{
+    if echoes.is_empty() {
+        *echoes = made;
+        return Ok(());
+    }
+    echoes.append(&mut made)?;
+    Ok(())
+}
+
 /// The moment of the last item that came from the child, or 0.
 fn latest(slots: &VecDeque<Slot>) -> u64
     ensures { result ≡ latest 0 slots.now.items }
@@ -116,13 +132,13 @@ impl Queue {
         ensures placed { OnOk result (self.new ≡ with_echo clock bytes.now self.old) }
         ensures kept { OnErr result (self.new ≡ self.old) }
     {
-        let mut made = cut(self.alloc, clock, bytes)?;
+        let made = cut(self.alloc, clock, bytes)?;
         let at = place(&self.slots, clock);
         let Some(slot) = self.slots.get_mut(at) else {
-            self.last.append(&mut made)?;
+            lay_behind(&mut self.last, made)?;
             return Ok(());
         };
-        slot.echoes.append(&mut made)?;
+        lay_behind(&mut slot.echoes, made)?;
         Ok(())
     }
 

@@ -1,6 +1,6 @@
 //! The courses of scripts over a log, told event by event, from any reader to any writer.
 
-ghost use Rattle.std.specs.Prelude.{◌≡◌, ◌≢◌, ◌≤◌, ◌++◌, [], ◌==◌, length, vec_len, false, if◌then◌else◌, IfOk, IfErr, IfSome, IsTrue, OnOk, OnErr, Some, Err};
+ghost use Rattle.std.specs.Prelude.{ℕ, List, ◌≡◌, ◌≢◌, ◌≤◌, ◌++◌, [], ◌==◌, length, vec_len, false, if◌then◌else◌, IfOk, IfErr, IfSome, IsTrue, OnOk, OnErr, Some, Err};
 ghost use Rattle.child_events.specs.Log.{LogText};
 ghost use Rattle.child_events.specs.Reading.{Refused};
 ghost use Rattle.report_texts.specs.Devices.{GaveUp};
@@ -144,6 +144,15 @@ fn heading(alloc: Global, number: u8) -> Result<Text, AllocError>
     Ok(text)
 }
 
+/// What a teller kept up to a session's first wait, and what the session waits for there.
+fn first_told(alloc: Global, teller: Teller, session: &Session) -> Result<Text, AllocError>
+    ensures { IfOk result (λ t. (told : List ℕ) × SaysAll teller session.now told × (t ≡ told ++ wait_lines session.now)) }
+{
+    let mut text = told(alloc, teller, session)?;
+    push_waits(alloc, &mut text, session)?;
+    Ok(text)
+}
+
 /// The session of script `number` at its first wait, and how its course begins.
 fn begun(alloc: Global, number: u8, script: Script) -> Result<(Session, Text), ExplainFault>
     ensures { StartsOne number script result }
@@ -157,9 +166,13 @@ fn begun(alloc: Global, number: u8, script: Script) -> Result<(Session, Text), E
         }
         Err(NewFault::Memory) => return Err(ExplainFault::Memory),
     };
-    let mut text = told(alloc, teller, &session)?;
-    push_waits(alloc, &mut text, &session)?;
-    Ok((session, text))
+    match first_told(alloc, teller, &session) {
+        Ok(text) => Ok((session, text)),
+        Err(AllocError) => {
+            drop(session);
+            Err(ExplainFault::Memory)
+        }
+    }
 }
 
 fn push_fault(

@@ -14,7 +14,7 @@ use child_events::{HallEvent, HallEvents, LogFault, LogLines};
 use std::alloc::{AllocError, AllocFailed, Global};
 
 /// How many events of a log are held at once.
-const PART: usize = 4096;
+const PART: usize = 512;
 
 /// Why there are no reports of any script.
 #[derive(Clone, Copy, Debug, PartialEq, Eq)]
@@ -134,7 +134,7 @@ fn log_first(log: &LogLines, fault: RunFault) -> LogRunFault
 /// The next part of a log.
 fn next_part(alloc: Global, log: &mut LogLines) -> Result<HallEvents, LogRunFault>
     ensures given { IfOk result (λ es. GivesPart log.old es log.new) }
-    ensures whole { IfOk result (λ es. length es < 4096 → log.new.said ≡ Ok []) }
+    ensures whole { IfOk result (λ es. length es < 512 → log.new.said ≡ Ok []) }
     ensures stops { IfErr result (λ f. (log.new ≡ log.old) × StopsAtPart log.old.said f) }
 {
     match log.take(alloc, PART) {

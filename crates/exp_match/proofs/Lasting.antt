@@ -1,16 +1,16 @@
--- What isn't found in some bytes is found in no part of them.
-use Rattle.std.proofs.Common.{◌≡◌, ℕ, ◌+◌, ◌-◌, ◌<◌, ◌≤◌, Bool, true, false, List, length, length-drop, drop, take, get_or, get_or-drop, get_or-take, Option, None, Some, option_map, refl, sym, ap, subst, ◌∙◌, ⊎_elim, arith}
-use Rattle.std.specs.Prelude.{not}
+-- What isn't found in some bytes isn't found in the last of them.
+use Rattle.std.proofs.Common.{◌≡◌, ℕ, ◌+◌, ◌-◌, ◌<◌, ◌≤◌, Bool, true, false, List, length, length-drop, drop, drop-drop, take, get_or, get_or-drop, get_or-take, Option, None, Some, option_map, refl, sym, ap, subst, ◌∙◌, ⊎_elim, arith}
 use Rattle.std.proofs.lemmas.Bool.{cases_lt}
-use Rattle.std.proofs.lemmas.List.{length-take}
+use Rattle.std.proofs.lemmas.List.{drop_all, length-take}
 use Rattle.std.proofs.lemmas.Option.{slice_get_within}
 use Rattle.exp_glob.specs.Spans.{FindsFirst}
 use Rattle.exp_glob.specs.declared.pattern.Glob.{Glob}
 use Rattle.exp_glob.proofs.Endings.{of_rest}
-use Rattle.exp_match.specs.Choice.{Finds, NoneBefore, HasNone, LeavesNone, Decides, alone, lasts}
+use Rattle.exp_match.specs.Choice.{Finds, NoneBefore, HasNone, Lasts, alone}
 use Rattle.exp_match.specs.Exact.{alike, StandsAt, FindsExact}
-use Rattle.exp_match.specs.declared.chosen.Chosen.{Chosen}
-use Rattle.exp_match.specs.declared.chosen.Chosen.TheVariants as chosen
+use Rattle.exp_match.specs.Reach.{IsBounded}
+use Rattle.exp_match.specs.Written.{Written, FindsAsWritten}
+use Rattle.exp_match.proofs.Reaching.{AreBytes, bounded_in_rest}
 use Rattle.exp_match.specs.declared.entry.Entry.{Entry}
 use Rattle.exp_match.specs.declared.entry.Want.{Want}
 use Rattle.exp_match.specs.declared.entry.Want.TheVariants as want
@@ -66,46 +66,49 @@ pub no_span : (span : Option (ℕ × ℕ)) → None ≡ option_map alone span �
 no_span None e = refl
 no_span (Some s) e = absurd (cc)
 
-not_true : (t : Bool) → not t ≡ true → t ≡ false
-not_true false h = refl
-not_true true h = absurd (cc)
-
--- what lasts and finds nothing finds nothing in the last of the bytes
-pub none_in_rest : (w : Want) (bytes : List ℕ) (d : ℕ) → d ≤ length bytes → lasts w ≡ true → Finds w bytes None → Finds w (drop d bytes) None
-none_in_rest (want.Exact text nocase) bytes d le lasting f =
+rest_within : (w : Want) (bytes : List ℕ) → AreBytes bytes → (d : ℕ) → d ≤ length bytes → Lasts w → Finds w bytes None → Finds w (drop d bytes) None
+rest_within (want.Exact text nocase) bytes are d le lasting f =
     let none : FindsExact nocase text bytes None = subst (λ (o : Option (ℕ × ℕ)). FindsExact nocase text bytes o) (no_span f.0 f.2) f.1 in
     (None, (λ k s. none (d + k) (of_rest_stands nocase text bytes d k le s)), refl)
-none_in_rest (want.Glob glob nocase) bytes d le lasting f =
-    let none : FindsFirst glob nocase bytes None = subst (λ (o : Option (ℕ × ℕ)). FindsFirst glob nocase bytes o) (no_span f.0 f.2) f.1 in
-    let free : glob.anchored ≡ false = not_true glob.anchored lasting in (
+rest_within (want.Glob glob nocase) bytes are d le free f =
+    let none : FindsFirst glob nocase bytes None = subst (λ (o : Option (ℕ × ℕ)). FindsFirst glob nocase bytes o) (no_span f.0 f.2) f.1 in (
       None,
       (λ a b h. none (d + a) (d + b)
           (omega (arith, h.0, length-drop d bytes), (λ anchored. absurd (cc)), of_rest nocase bytes glob.elements d a b le h.2)),
       refl,
     )
-none_in_rest (want.Regular written) bytes d le lasting f = absurd (cc)
-none_in_rest (want.Keyword k) bytes d le lasting f = refl
+rest_within (want.Regular written) bytes are d le bound f = bounded_in_rest written bound bytes are d f
+rest_within (want.Keyword k) bytes are d le lasting f = refl
 
--- what is said of an exact text, or of a glob
-module _ (w : Want) (nocase : Bool) (bytes : List ℕ) (none : lasts w ≡ true → Finds w bytes None) where
-  pub exact_none : (text : List ℕ) → w ≡ want.Exact text nocase → FindsExact nocase text bytes None
-  exact_none text is =
-      let f = subst (λ (x : Want). lasts x ≡ true → Finds x bytes None) is none refl in
+-- what lasts and finds nothing finds nothing in the last of the bytes
+pub none_in_rest : (w : Want) (bytes : List ℕ) → AreBytes bytes → (d : ℕ) → Lasts w → Finds w bytes None → Finds w (drop d bytes) None
+none_in_rest w bytes are d lasting f =
+    ⊎_elim
+    (λ (past : length bytes < d).
+    let same : drop d bytes ≡ drop (length bytes) bytes = drop_all d bytes (omega arith) ∙ sym (drop_all (length bytes) bytes (omega arith)) in
+    subst (λ (l : List ℕ). Finds w l None) (sym same) (rest_within w bytes are (length bytes) (omega arith) lasting f))
+    (λ (within : d ≤ length bytes). rest_within w bytes are d within lasting f)
+    (cases_lt (length bytes) d)
+
+-- what is said of an exact text, of a glob, or of a regular pattern
+module _ (w : Want) (bytes : List ℕ) (none : Lasts w → Finds w bytes None) where
+  pub exact_none : (nocase : Bool) (text : List ℕ) → w ≡ want.Exact text nocase → FindsExact nocase text bytes None
+  exact_none nocase text is =
+      let f = subst (λ (x : Want). Lasts x → Finds x bytes None) is none tt in
       subst (λ (o : Option (ℕ × ℕ)). FindsExact nocase text bytes o) (no_span f.0 f.2) f.1
 
-  pub glob_none : (glob : Glob) → w ≡ want.Glob glob nocase → glob.anchored ≡ false → FindsFirst glob nocase bytes None
-  glob_none glob is free =
-      let f = subst (λ (x : Want). lasts x ≡ true → Finds x bytes None) is none (ap not free) in
+  pub glob_none : (nocase : Bool) (glob : Glob) → w ≡ want.Glob glob nocase → glob.anchored ≡ false → FindsFirst glob nocase bytes None
+  glob_none nocase glob is free =
+      let f = subst (λ (x : Want). Lasts x → Finds x bytes None) is none free in
       subst (λ (o : Option (ℕ × ℕ)). FindsFirst glob nocase bytes o) (no_span f.0 f.2) f.1
 
+  pub regular_none : (written : Written) → w ≡ want.Regular written → IsBounded written → FindsAsWritten written bytes None
+  regular_none written is = subst (λ (x : Want). Lasts x → Finds x bytes None) is none
+
 pub has_none_in_rest : (entries : List Entry) (groups bytes : List ℕ) (d : ℕ) → d ≤ length bytes → HasNone entries groups bytes → HasNone entries groups (drop d bytes)
-has_none_in_rest entries groups bytes d le none k e at here lasting = none_in_rest e.want bytes d le lasting (none k e at here lasting)
+has_none_in_rest entries groups bytes d le none k e at here lasting more =
+    subst (λ (l : List ℕ). Finds e.want l None) (sym (drop-drop more d bytes)) (none k e at here lasting (d + more))
 
 -- where no entry found anything
-pub has_none : (entries : List Entry) (groups bytes : List ℕ) → NoneBefore entries groups bytes (length entries) → HasNone entries groups bytes
-has_none entries groups bytes before k e at here lasting = before k e (slice_get_within entries k e at) at here
-
-pub leaves_none : (entries : List Entry) (groups bytes : List ℕ) (most : ℕ) (c : Chosen) → Decides entries groups bytes most c → LeavesNone entries groups bytes c
-leaves_none entries groups bytes most (chosen.Pattern n spans) d = tt
-leaves_none entries groups bytes most chosen.Full d = tt
-leaves_none entries groups bytes most chosen.None d = has_none entries groups bytes d.0
+pub has_none : (entries : List Entry) (groups bytes : List ℕ) → AreBytes bytes → NoneBefore entries groups bytes (length entries) → HasNone entries groups bytes
+has_none entries groups bytes are before k e at here lasting d = none_in_rest e.want bytes are d lasting (before k e (slice_get_within entries k e at) at here)

@@ -13,5 +13,8 @@ pub mod Numbers
 pub mod Followed
 pub mod Answering
 pub mod Deciding
+pub mod Repeating
+pub mod Reached
+pub mod Reaching
 pub mod Lasting
 pub mod Unbuilding

@@ -11,22 +11,23 @@ use Rattle.regex_syntax.specs.Brackets.{Nested}
 use Rattle.regex_syntax.specs.Grammar.{Names, read}
 use Rattle.regex_syntax.specs.declared.Config.{Config}
 use Rattle.regex_syntax.proofs.CapturesLemmas.{find_alike}
-use Rattle.exp_match.specs.Written.{Shows, AreGroupsOf, FindsAsWritten, config_of, seen_of}
+use Rattle.exp_match.specs.Written.{Shows, AreGroupsOf, config_of, seen_of}
+use Rattle.exp_match.proofs.Reaching.{FindsFrom}
 
-module _ (a : Re) (hay : List ℕ) (bytes : All (λ x. x < 256) hay) (found : Option (List (Option (ℕ × ℕ))))
-    (shows : Shows (option_map seen_of (find a hay 0)) found) where
+module _ (a : Re) (hay : List ℕ) (start : ℕ) (bytes : All (λ x. x < 256) hay) (found : Option (List (Option (ℕ × ℕ))))
+    (shows : Shows (option_map seen_of (find a hay start)) found) where
   by_reading : (Q : Nested Re × Names → Type 0) → ((x : Nested Re × Names) → Q x → SameCaptures a x.0.value) → (o : Option (Nested Re × Names)) → IsSomeAnd o Q
-      → IsSomeAnd o (λ p. Shows (option_map seen_of (find p.0.value hay 0)) found)
+      → IsSomeAnd o (λ p. Shows (option_map seen_of (find p.0.value hay start)) found)
   by_reading Q same None p = absurd p
-  by_reading Q same (Some x) p = subst (λ s. Shows s found) (find_alike a x.0.value (same x p) hay bytes 0) shows
+  by_reading Q same (Some x) p = subst (λ s. Shows s found) (find_alike a x.0.value (same x p) hay bytes start) shows
 
-pub found_as_written : (r : Regex) (nocase : Bool) → regex_config r ≡ config_of nocase → IsReadFromSource r → (hay : List ℕ) → All (λ x. x < 256) hay
-    → (found : Option (List (Option (ℕ × ℕ)))) → Shows (option_map seen_of (find (regex_pattern r) hay 0)) found
-    → FindsAsWritten (record { source = regex_source r; nocase = nocase }) hay found
+pub found_as_written : (r : Regex) (nocase : Bool) → regex_config r ≡ config_of nocase → IsReadFromSource r → (hay : List ℕ) (start : ℕ) → All (λ x. x < 256) hay
+    → (found : Option (List (Option (ℕ × ℕ)))) → Shows (option_map seen_of (find (regex_pattern r) hay start)) found
+    → FindsFrom (record { source = regex_source r; nocase = nocase }) hay start found
 unfolding Reads
-found_as_written r nocase config is_read hay bytes found shows =
-    subst (λ (k : Config). IsSomeAnd (read k (chars (regex_source r))) (λ p. Shows (option_map seen_of (find p.0.value hay 0)) found)) config
-    (by_reading (regex_pattern r) hay bytes found shows _ (λ x q. q.1) (read (regex_config r) (chars (regex_source r))) is_read)
+found_as_written r nocase config is_read hay start bytes found shows =
+    subst (λ (k : Config). IsSomeAnd (read k (chars (regex_source r))) (λ p. Shows (option_map seen_of (find p.0.value hay start)) found)) config
+    (by_reading (regex_pattern r) hay start bytes found shows _ (λ x q. q.1) (read (regex_config r) (chars (regex_source r))) is_read)
 
 pub groups_shown : (c : Captures) (m : Match) (hay : List ℕ) → IsCapturesOf hay m c → (spans : List (Option (ℕ × ℕ)))
     → ((n : ℕ) → n < 10 → slice_get spans n ≡ Some (captures_span c n)) → AreGroupsOf (seen_of m) spans

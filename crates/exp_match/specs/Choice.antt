@@ -1,9 +1,10 @@
 -- Which of the listed patterns is chosen, as expect(1) tests them in their order.
-use Rattle.std.specs.Prelude.{◌≡◌, ℕ, ◌<◌, ◌≤◌, Bool, true, false, not, ◌&&◌, ◌==◌, List, [], ◌∷◌, length, Option, Some, None, IsSome, option_map, position}
+use Rattle.std.specs.Prelude.{◌≡◌, ℕ, ◌<◌, ◌≤◌, Bool, true, false, not, ◌&&◌, ◌==◌, List, [], ◌∷◌, length, drop, Option, Some, None, IsSome, option_map, position}
 use Rattle.std.specs.List.{slice_get, list_any}
 use Rattle.exp_glob.specs.Spans.{FindsFirst}
 use Rattle.exp_match.specs.Written.{FindsAsWritten}
 use Rattle.exp_match.specs.Exact.{FindsExact}
+use Rattle.exp_match.specs.Reach.{IsBounded}
 use Rattle.exp_match.specs.declared.entry.Entry.{Entry}
 use Rattle.exp_match.specs.declared.entry.Keyword.TheVariants as keyword
 use Rattle.exp_match.specs.declared.entry.Want.{Want}
@@ -98,17 +99,19 @@ IsListed n (chosen.Pattern k spans) = k < n
 IsListed n chosen.Full = Unit {0}
 IsListed n chosen.None = Unit {0}
 
--- what an entry doesn't find in some bytes it finds in no part of them: all but a regular pattern, and a glob that begins with `^`
-abbrev pub lasts : Want → Bool
-lasts (want.Exact text nocase) = true
-lasts (want.Glob glob nocase) = not glob.anchored
-lasts (want.Regular written) = false
-lasts (want.Keyword k) = true
+-- What an entry doesn't find in some bytes it doesn't find in the last of them: all but a regular pattern without a bound of its reach, and a
+-- glob that begins with `^`.
+abbrev pub Lasts : Want → Type 0
+Lasts (want.Exact text nocase) = Unit {0}
+Lasts (want.Glob glob nocase) = glob.anchored ≡ false
+Lasts (want.Regular written) = IsBounded written
+Lasts (want.Keyword k) = Unit {0}
 
--- of the entries of the groups these find nothing
+-- of the entries of the groups these find nothing, neither in these bytes nor in the last of them
 abbrev pub HasNone : List Entry → List ℕ → List ℕ → Type 0
 HasNone entries groups bytes =
-    (k : ℕ) (e : Entry) → slice_get entries k ≡ Some e → in_groups groups e ≡ true → lasts e.want ≡ true → Finds e.want bytes None
+    (k : ℕ) (e : Entry) → slice_get entries k ≡ Some e → in_groups groups e ≡ true → Lasts e.want
+    → (d : ℕ) → Finds e.want (drop d bytes) None
 
 -- where nothing is chosen, they found nothing
 abbrev pub LeavesNone : List Entry → List ℕ → List ℕ → Chosen → Type 0

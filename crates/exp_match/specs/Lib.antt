@@ -1,4 +1,5 @@
 pub mod Written
+pub mod Reach
 pub mod Exact
 pub mod Scan
 pub mod Grammar

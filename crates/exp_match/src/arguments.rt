@@ -13,6 +13,7 @@ use crate::list::PatternList;
 use crate::pending::{Mark, Marks, Pending, Reader, Role, Way};
 use exp_glob::Glob;
 use std::alloc::Global;
+use tcl_values::Value;
 use tcl_words::{Text, Texts};
 
 fn is(word: &[u8], name: &[u8]) -> bool
@@ -349,7 +350,7 @@ fn nothing(alloc: Global) -> Reader
 pub(crate) fn read(
     alloc: Global,
     compiled: &mut Compiled,
-    args: &[Text],
+    args: &[Value],
 ) -> Result<PatternList, PatternFault>
     ensures given { Gives result (patterns_of args.now) }
     ensures refused { IfErr result (IsOfOne args.now) }

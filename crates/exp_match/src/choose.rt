@@ -2,7 +2,7 @@
 
 ghost use Rattle.std.specs.Prelude.{◌≡◌, ◌<◌, true, IfOk, None, take, length, option_map};
 ghost use Rattle.std.specs.Bool.{then_some};
-ghost use Rattle.exp_match.specs.Choice.{Finds, FindsIn, Decides, HasNone, IsListed, LeavesNone, lasts, in_groups as in_groups_of, alone as alone_of, with_spans};
+ghost use Rattle.exp_match.specs.Choice.{Finds, FindsIn, Decides, HasNone, IsListed, LeavesNone, Lasts, in_groups as in_groups_of, alone as alone_of, with_spans};
 ghost use Rattle.exp_match.specs.Decide.{found_by, found_in, decide};
 
 use crate::chosen::{Chosen, Picked};
@@ -46,8 +46,8 @@ fn alone(span: Option<(usize, usize)>, spans: &mut Spans) -> bool
 }
 
 /// Whether an entry finds anything; where it does, the spans of its first match are written. Where it found nothing in so many bytes of the
-/// front, those are sought no more, unless it is a regular pattern or one that begins with `^`. A regular pattern takes memory for its matcher,
-/// where it has none yet, the others none.
+/// front, a match is sought from where it may still end behind them, unless it is a glob that begins with `^` or a regular pattern without a
+/// bound of its reach. A regular pattern takes memory for its matcher, where it has none yet, the others none.
 fn first_match<'l>(
     alloc: Global,
     matchers: &mut Matchers<'l>,
@@ -56,7 +56,7 @@ fn first_match<'l>(
     sought: usize,
     spans: &mut Spans,
 ) -> Result<bool, AllocError>
-    requires { 0 < sought → lasts want.now ≡ true → Finds want.now (take sought bytes.now) None }
+    requires { 0 < sought → Lasts want.now → Finds want.now (take sought bytes.now) None }
     ensures finds { IfOk result (λ found. Finds want.now bytes.now (then_some found spans.new)) }
     ensures value { IfOk result (λ found. then_some found spans.new ≡ found_by want.now bytes.now) }
 {
@@ -66,7 +66,7 @@ fn first_match<'l>(
             Ok(alone(span, spans))
         }
         Want::Glob { glob, nocase } => Ok(alone(glob.find_on(bytes, sought, *nocase), spans)),
-        Want::Regular(regular) => matchers.find(alloc, regular, bytes, spans),
+        Want::Regular(regular) => matchers.find(alloc, regular, bytes, sought, spans),
         Want::Keyword(_) => Ok(false),
     }
 }
@@ -81,7 +81,7 @@ fn match_in<'l>(
     sought: usize,
     spans: &mut Spans,
 ) -> Result<bool, AllocError>
-    requires { 0 < sought → in_groups_of groups.now entry.now ≡ true → lasts entry.now.want ≡ true → Finds entry.now.want (take sought bytes.now) None }
+    requires { 0 < sought → in_groups_of groups.now entry.now ≡ true → Lasts entry.now.want → Finds entry.now.want (take sought bytes.now) None }
     ensures finds { IfOk result (λ found. FindsIn groups.now entry.now bytes.now (then_some found spans.new)) }
     ensures value { IfOk result (λ found. then_some found spans.new ≡ found_in groups.now entry.now bytes.now) }
 {
@@ -113,8 +113,9 @@ impl PatternList {
     }
 
     /// The same, with the spans written where a pattern matches, and with matchers that are kept from a test to the next: a regular pattern
-    /// takes memory at its first test alone. In so many bytes of the front nothing was found before, or none were tested: an exact pattern, and
-    /// a glob that doesn't begin with `^`, looks at few of them again.
+    /// takes memory at its first test alone. In so many bytes of the front nothing was found before, or none were tested: an exact pattern, a
+    /// glob that doesn't begin with `^`, and a regular pattern of which a match has a greatest length and looks at nothing in front of it, look
+    /// at few of them again.
     pub fn choose_with<'l>(
         &'l self,
         alloc: Global,

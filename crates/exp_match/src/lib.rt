@@ -18,6 +18,7 @@ mod matcher;
 mod matchers;
 mod pending;
 mod places;
+mod reach;
 mod readers;
 mod regular;
 mod token;

@@ -1,12 +1,14 @@
 //! What searches for a regular pattern.
 
-ghost use Rattle.std.specs.Prelude.{◌≡◌, ℕ, ◌<◌, Some, IsTrue, IfOk, IfSome, length, option_map};
+ghost use Rattle.std.specs.Prelude.{◌≡◌, ℕ, ◌<◌, Some, None, IsTrue, IfOk, IfSome, length, option_map, take};
 ghost use Rattle.std.specs.Bool.{then_some};
 ghost use Rattle.std.specs.List.{slice_get};
 ghost use Rattle.regex.specs.Bytes.{captures_span, match_span, matcher_pattern};
 ghost use Rattle.regex.specs.Patterns.{find};
+ghost use Rattle.exp_match.specs.Reach.{IsBounded};
 ghost use Rattle.exp_match.specs.Written.{FindsAsWritten, Shows, find_written, seen_of};
 
+use crate::reach::start_behind;
 use crate::regular::Regular;
 use regex::bytes::{Captures, Match, Matcher, Regex};
 use std::alloc::{AllocError, Global};
@@ -22,20 +24,23 @@ pub(crate) struct RegularMatcher<'r> {
     regex: &'r Regex,
     /// Whether letters match in either case.
     nocase: bool,
+    /// How far it reaches, where that is known.
+    reach: Option<usize>,
     /// What searches for it.
     matcher: Matcher<'r>,
 }
 
 impl<'r> Model for RegularMatcher<'r> {
-    ghost use Rattle.std.specs.Prelude.{◌≡◌};
+    ghost use Rattle.std.specs.Prelude.{◌≡◌, IfSome};
     ghost use Rattle.regex.specs.Bytes.{IsReadFromSource, matcher_pattern, regex_config, regex_pattern, regex_source};
+    ghost use Rattle.exp_match.specs.Reach.{Reaches};
     ghost use Rattle.exp_match.specs.Written.{Written, config_of};
 
     ghost Value = { Written };
 
     ghost view = { λ m. record { source = regex_source m.regex.now; nocase = m.nocase } };
 
-    ghost invariant = { λ m. (regex_config m.regex.now ≡ config_of m.nocase) × IsReadFromSource m.regex.now × (matcher_pattern m.matcher ≡ regex_pattern m.regex.now) };
+    ghost invariant = { λ m. (regex_config m.regex.now ≡ config_of m.nocase) × IsReadFromSource m.regex.now × (matcher_pattern m.matcher ≡ regex_pattern m.regex.now) × IfSome m.reach (Reaches (record { source = regex_source m.regex.now; nocase = m.nocase })) };
 }
 
 impl<'r> RegularMatcher<'r> {
@@ -47,6 +52,7 @@ impl<'r> RegularMatcher<'r> {
         Ok(RegularMatcher {
             regex,
             nocase: regular.nocase(),
+            reach: regular.reach(),
             matcher: regex.matcher(alloc)?,
         })
     }
@@ -58,23 +64,26 @@ impl<'r> RegularMatcher<'r> {
         self.nocase == regular.nocase() && self.regex.as_str() == regular.regex().as_str()
     }
 
-    /// Whether there is a match in these bytes; where there is, the spans of the first one, leftmost-first, are written.
-    pub(crate) fn find(&mut self, bytes: &[u8], spans: &mut Spans) -> bool
+    /// Whether there is a match in these bytes; where there is, the spans of the first one, leftmost-first, are written. A pattern of a known
+    /// reach found nothing in so many bytes of the front, or none were sought: it looks at no more of them than it reaches.
+    pub(crate) fn find(&mut self, bytes: &[u8], sought: usize, spans: &mut Spans) -> bool
+        requires { 0 < sought → IsBounded self.old → FindsAsWritten self.old (take sought bytes.now) None }
         ensures written { FindsAsWritten self.old bytes.now (then_some result spans.new) }
         ensures value { then_some result spans.new ≡ find_written self.old bytes.now }
         ensures same { self.new ≡ self.old }
     {
-        first_match(&mut self.matcher, bytes, spans)
+        let start = start_behind(self.reach, sought);
+        first_match(&mut self.matcher, bytes, start, spans)
     }
 }
 
-/// Whether there is a match in these bytes; where there is, the spans of the first one, leftmost-first, are written.
-fn first_match(matcher: &mut Matcher, bytes: &[u8], spans: &mut Spans) -> bool
-    ensures shows { Shows (option_map seen_of (find (matcher_pattern matcher.old) bytes.now 0)) (then_some result spans.new) }
+/// Whether a match begins at a place or behind it; where one does, the spans of the first one, leftmost-first, are written.
+fn first_match(matcher: &mut Matcher, bytes: &[u8], start: usize, spans: &mut Spans) -> bool
+    ensures shows { Shows (option_map seen_of (find (matcher_pattern matcher.old) bytes.now start)) (then_some result spans.new) }
     ensures ten { IfSome (then_some result spans.new) (λ s. length s ≡ 10) }
     ensures same { matcher_pattern matcher.new ≡ matcher_pattern matcher.old }
 {
-    match matcher.captures(bytes) {
+    match matcher.captures_at(bytes, start) {
         Some(captures) => {
             *spans = spans_of(&captures);
             true

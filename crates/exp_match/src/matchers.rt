@@ -1,8 +1,9 @@
 //! What searches for the regular patterns of a list, from a test to the next.
 
-ghost use Rattle.std.specs.Prelude.{◌≡◌, ◌<◌, Some, IfOk, IfSome, length};
+ghost use Rattle.std.specs.Prelude.{◌≡◌, ◌<◌, Some, None, IfOk, IfSome, length, take};
 ghost use Rattle.std.specs.Bool.{then_some};
 ghost use Rattle.std.specs.List.{slice_get};
+ghost use Rattle.exp_match.specs.Reach.{IsBounded};
 ghost use Rattle.exp_match.specs.Written.{FindsAsWritten, find_written};
 
 use crate::matcher::{RegularMatcher, Spans};
@@ -47,7 +48,8 @@ impl<'l> Matchers<'l> {
         }
     }
 
-    /// Whether a pattern matches in these bytes; where it does, the spans of its first match are written.
+    /// Whether a pattern matches in these bytes; where it does, the spans of its first match are written. A pattern of a known reach found
+    /// nothing in so many bytes of the front, or none were sought.
     ///
     /// It isn't inlined, nor is `find_newly`: a function pays at entry for the size of its locals, which are large here, and a test of other
     /// patterns has none of them.
@@ -57,14 +59,16 @@ impl<'l> Matchers<'l> {
         alloc: Global,
         regular: &'l Regular,
         bytes: &[u8],
+        sought: usize,
         spans: &mut Spans,
     ) -> Result<bool, AllocError>
+        requires { 0 < sought → IsBounded regular.now → FindsAsWritten regular.now (take sought bytes.now) None }
         ensures written { IfOk result (λ found. FindsAsWritten regular.now bytes.now (then_some found spans.new)) }
         ensures value { IfOk result (λ found. then_some found spans.new ≡ find_written regular.now bytes.now) }
     {
         match position(self.list.as_slice(), regular) {
-            Some(n) => Ok(self.list[n].find(bytes, spans)),
-            None => self.find_newly(alloc, regular, bytes, spans),
+            Some(n) => Ok(self.list[n].find(bytes, sought, spans)),
+            None => self.find_newly(alloc, regular, bytes, sought, spans),
         }
     }
 
@@ -75,13 +79,15 @@ impl<'l> Matchers<'l> {
         alloc: Global,
         regular: &'l Regular,
         bytes: &[u8],
+        sought: usize,
         spans: &mut Spans,
     ) -> Result<bool, AllocError>
+        requires { 0 < sought → IsBounded regular.now → FindsAsWritten regular.now (take sought bytes.now) None }
         ensures written { IfOk result (λ found. FindsAsWritten regular.now bytes.now (then_some found spans.new)) }
         ensures value { IfOk result (λ found. then_some found spans.new ≡ find_written regular.now bytes.now) }
     {
         let mut matcher = RegularMatcher::new(alloc, regular)?;
-        let found = matcher.find(bytes, spans);
+        let found = matcher.find(bytes, sought, spans);
         self.list.push(matcher)?;
         Ok(found)
     }

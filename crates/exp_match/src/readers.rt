@@ -13,7 +13,7 @@ use crate::entry::{Keyword, Want};
 use crate::faults::PatternFault;
 use crate::list::PatternList;
 use std::alloc::Global;
-use tcl_words::Text;
+use tcl_values::Value;
 
 /// Whether an entry serves when the output has ended.
 fn waits_for_end(want: &Want) -> bool
@@ -61,7 +61,7 @@ impl PatternList {
     /// The list that the arguments of `expect` write.
     ///
     /// The first bad argument decides, with its place. `Refused` tells that one of them is a pattern of which `regex` builds no program.
-    pub fn build(alloc: Global, args: &[Text]) -> Result<PatternList, PatternFault>
+    pub fn build(alloc: Global, args: &[Value]) -> Result<PatternList, PatternFault>
         ensures given { Gives result (patterns_of args.now) }
         ensures refused { IfErr result (IsOfOne args.now) }
     {
@@ -72,7 +72,7 @@ impl PatternList {
     pub fn build_with(
         alloc: Global,
         compiled: &mut Compiled,
-        args: &[Text],
+        args: &[Value],
     ) -> Result<PatternList, PatternFault>
         ensures given { Gives result (patterns_of args.now) }
         ensures refused { IfErr result (IsOfOne args.now) }

@@ -1,13 +1,15 @@
 //! Regular patterns, compiled.
 
-ghost use Rattle.std.specs.Prelude.{◌≡◌, true, IsTrue, IfErr, IfOk};
+ghost use Rattle.std.specs.Prelude.{◌≡◌, true, IsTrue, IfErr, IfOk, IfSome};
 ghost use Rattle.regex.specs.Bytes.{IsReadFromSource, regex_config, regex_source};
+ghost use Rattle.exp_match.specs.Reach.{Reaches};
 ghost use Rattle.exp_match.specs.Scan.{is_pattern};
 ghost use Rattle.exp_match.specs.Unbuilt.{IsOfText, refusal_of};
 ghost use Rattle.exp_match.specs.Written.{FindsAsWritten, config_of, find_written};
 
 use crate::faults::Refusal;
 use crate::matcher::{RegularMatcher, Spans};
+use crate::reach::reach_of_text;
 use regex::bytes::Regex;
 use regex::{Error, RegexBuilder};
 use std::alloc::{AllocError, Global};
@@ -21,11 +23,14 @@ pub struct Regular {
     regex: Rc<Regex>,
     /// Whether letters match in either case.
     nocase: bool,
+    /// How far it reaches, where that is known.
+    reach: Option<usize>,
 }
 
 impl Model for Regular {
-    ghost use Rattle.std.specs.Prelude.{◌≡◌, true};
+    ghost use Rattle.std.specs.Prelude.{◌≡◌, true, IfSome};
     ghost use Rattle.regex.specs.Bytes.{regex_source, regex_config, IsReadFromSource};
+    ghost use Rattle.exp_match.specs.Reach.{Reaches};
     ghost use Rattle.exp_match.specs.Scan.{is_pattern};
     ghost use Rattle.exp_match.specs.Written.{Written, config_of};
 
@@ -33,7 +38,7 @@ impl Model for Regular {
 
     ghost view = { λ r. record { source = regex_source r.regex.value; nocase = r.nocase } };
 
-    ghost invariant = { λ r. (regex_config r.regex.value ≡ config_of r.nocase) × IsReadFromSource r.regex.value × (is_pattern (regex_source r.regex.value) ≡ true) };
+    ghost invariant = { λ r. (regex_config r.regex.value ≡ config_of r.nocase) × IsReadFromSource r.regex.value × (is_pattern (regex_source r.regex.value) ≡ true) × IfSome r.reach (Reaches (record { source = regex_source r.regex.value; nocase = r.nocase })) };
 }
 
 /// What an error of a build counts as.
@@ -59,21 +64,31 @@ impl Regular {
             .dot_matches_new_line(true)
             .case_insensitive(nocase);
         match builder.build_bytes(alloc) {
-            Ok(regex) => Ok(Regular::owned(alloc, regex, nocase)?),
+            Ok(regex) => {
+                let reach = reach_of_text(alloc, source, nocase);
+                Ok(Regular::owned(alloc, regex, nocase, reach)?)
+            }
             Err(error) => Err(refusal_for(&error)),
         }
     }
 
     /// A compiled pattern as its first owner has it.
-    fn owned(alloc: Global, regex: Regex, nocase: bool) -> Result<Regular, AllocError>
+    fn owned(
+        alloc: Global,
+        regex: Regex,
+        nocase: bool,
+        reach: Option<usize>,
+    ) -> Result<Regular, AllocError>
         requires config { regex_config regex ≡ config_of nocase }
         requires read { IsReadFromSource regex }
         requires pattern { is_pattern (regex_source regex) ≡ true }
+        requires reach { IfSome reach (Reaches (record { source = regex_source regex; nocase = nocase })) }
         ensures { IfOk result (λ r. r ≡ record { source = regex_source regex; nocase = nocase }) }
     {
         Ok(Regular {
             regex: Rc::new(alloc, regex)?,
             nocase,
+            reach,
         })
     }
 
@@ -84,6 +99,7 @@ impl Regular {
         Ok(Regular {
             regex: self.regex.clone()?,
             nocase: self.nocase,
+            reach: self.reach,
         })
     }
 
@@ -117,6 +133,13 @@ impl Regular {
         self.nocase
     }
 
+    /// How many bytes a match takes at most, where that is known and what stands in front of it doesn't matter.
+    pub(crate) fn reach(&self) -> Option<usize>
+        ensures { IfSome result (Reaches self.now) }
+    {
+        self.reach
+    }
+
     /// The first match in these bytes with its groups, leftmost-first.
     ///
     /// A search writes to a matcher, which is made here: it is what takes memory. `PatternList::choose_with` keeps matchers.
@@ -126,7 +149,7 @@ impl Regular {
     {
         let mut matcher = RegularMatcher::new(alloc, self)?;
         let mut spans = [None; 10];
-        let found = matcher.find(bytes, &mut spans);
+        let found = matcher.find(bytes, 0, &mut spans);
         Ok(found.then_some(spans))
     }
 }

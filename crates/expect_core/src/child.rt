@@ -16,6 +16,7 @@ use crate::place::Place;
 use exp_match::{Matchers, PatternList, Picked, Spans};
 use std::alloc::{AllocError, Global};
 use std::marker::Model;
+use tcl_values::Value;
 use tcl_words::Text;
 use tty_input::{Actions, Line};
 use tty_output::{Modes, convert, convert_behind};
@@ -430,15 +431,15 @@ impl Children {
         i: Place,
         from: usize,
         to: usize,
-    ) -> Result<Text, AllocError>
+    ) -> Result<Value, AllocError>
         ensures same { self.new ≡ self.old }
-        ensures part { IfOk result (λ t. t ≡ take (to - from) (drop from (child_in i self.old).kept.bytes)) }
+        ensures part { IfOk result (λ v. v ≡ take (to - from) (drop from (child_in i self.old).kept.bytes)) }
     {
         let i = i.index();
         if i < self.list.len() {
             let child = &mut self.list[i];
             return child.kept.part(alloc, from, to);
         }
-        Ok(Text::new(alloc))
+        Ok(Value::new(alloc))
     }
 }

@@ -1,9 +1,8 @@
 //! `expect`.
 
-ghost use Rattle.std.specs.Prelude.{◌≡◌, ◌++◌, ◌∷◌, [], drop, IfOk, OnOk, take};
-ghost use Rattle.std.specs.Fmt.{decimal as decimal_of};
+ghost use Rattle.std.specs.Prelude.{◌≡◌, ◌<◌, ◌++◌, ◌∷◌, [], drop, IfOk, OnOk, take};
 ghost use Rattle.expect_core.specs.Owned.{bytes_of, child_of};
-ghost use Rattle.expect_core.specs.Expecting.{acting, acting_at as acting_there, again as again_of, all_met as all_met_of, before as before_of, behind as behind_of, by_heard as by_heard_of, closing as closing_of, ended, end_of as end_told, entry_of, expecting as expecting_of, group_pairs as group_pairs_of, groups_from, listening as listening_of, looking as looking_of, matched as matched_of, meeting as meeting_of, met_pairs as met_pairs_of, places, text_pair, with_index as index_text};
+ghost use Rattle.expect_core.specs.Expecting.{acting, acting_at as acting_there, again as again_of, all_met as all_met_of, before as before_of, behind as behind_of, by_heard as by_heard_of, closing as closing_of, ended, end_of as end_told, entry_of, expecting as expecting_of, group_pairs as group_pairs_of, groups_from, listening as listening_of, looking as looking_of, matched as matched_of, meeting as meeting_of, met_pairs as met_pairs_of, places, text_pair};
 ghost use Rattle.expect_core.specs.Calls.{settled};
 
 use crate::dialogue::{Dialogue, done, failed, failure};
@@ -16,7 +15,7 @@ use crate::plan::{Met, Plan};
 use crate::planning::plan_of;
 use crate::request::Act;
 use crate::scoped::set_all;
-use crate::settings::Pairs;
+use crate::stored::{BUFFER, ID, Stores, end_name, start_name, string_name};
 use crate::texts::{decimal, with_cause};
 use child_events::Answer;
 use exp_match::Spans;
@@ -53,28 +52,6 @@ impl Plan {
     }
 }
 
-/// The name of an element of `expect_out`.
-fn with_index(alloc: Global, index: &[u8]) -> Result<Text, AllocError>
-    ensures { IfOk result (λ t. t ≡ index_text index.now) }
-{
-    let mut text = Text {
-        bytes: Vec::with_capacity(alloc, index.len().saturating_add(12))?,
-    };
-    text.extend(b"expect_out(")?;
-    text.extend(index)?;
-    text.push(b')')?;
-    Ok(text)
-}
-
-/// The name of an element of `expect_out` that tells of a group.
-fn group_index(alloc: Global, group: usize, what: &[u8]) -> Result<Text, AllocError>
-    ensures { IfOk result (λ t. t ≡ index_text (decimal_of group ++ what.now)) }
-{
-    let mut index = decimal(alloc, group)?;
-    index.extend(what)?;
-    with_index(alloc, index.as_slice())
-}
-
 /// The place before an exclusive end.
 fn before(alloc: Global, end: usize) -> Result<Text, AllocError>
     ensures { IfOk result (λ t. t ≡ before_of end) }
@@ -89,18 +66,18 @@ fn before(alloc: Global, end: usize) -> Result<Text, AllocError>
 /// Where a group starts and ends.
 fn push_places(
     alloc: Global,
-    pairs: &mut Pairs,
+    stores: &mut Stores,
     group: usize,
     span: (usize, usize),
 ) -> Result<(), AllocError>
-    ensures { OnOk result (pairs.new ≡ pairs.old ++ places group span) }
+    requires { group < 10 }
+    ensures { OnOk result (stores.new ≡ stores.old ++ places group span) }
 {
     let (start, end) = span;
-    pairs.push(
-        group_index(alloc, group, b",start")?,
-        decimal(alloc, start)?,
-    )?;
-    pairs.push(group_index(alloc, group, b",end")?, before(alloc, end)?)?;
+    let start = Value::from_text(alloc, decimal(alloc, start)?)?;
+    stores.push(start_name(group), start)?;
+    let end = Value::from_text(alloc, before(alloc, end)?)?;
+    stores.push(end_name(group), end)?;
     Ok(())
 }
 
@@ -109,32 +86,34 @@ impl Own {
     fn push_text(
         &mut self,
         alloc: Global,
-        pairs: &mut Pairs,
+        stores: &mut Stores,
         i: Place,
         group: usize,
         span: (usize, usize),
     ) -> Result<(), AllocError>
+        requires { group < 10 }
         ensures same { self.new ≡ self.old }
-        ensures pushed { OnOk result (pairs.new ≡ pairs.old ++ text_pair (bytes_of i self.old) group span ∷ []) }
+        ensures pushed { OnOk result (stores.new ≡ stores.old ++ text_pair (bytes_of i self.old) group span ∷ []) }
     {
         let text = self.children.part(alloc, i, span.0, span.1)?;
-        pairs.push(group_index(alloc, group, b",string")?, text)
+        stores.push(string_name(group), text)
     }
 
     /// The places and the bytes of a group that took part.
     fn push_whole(
         &mut self,
         alloc: Global,
-        pairs: &mut Pairs,
+        stores: &mut Stores,
         i: Place,
         group: usize,
         span: (usize, usize),
     ) -> Result<(), AllocError>
+        requires { group < 10 }
         ensures same { self.new ≡ self.old }
-        ensures pushed { OnOk result (pairs.new ≡ pairs.old ++ (places group span ++ text_pair (bytes_of i self.old) group span ∷ [])) }
+        ensures pushed { OnOk result (stores.new ≡ stores.old ++ (places group span ++ text_pair (bytes_of i self.old) group span ∷ [])) }
     {
-        push_places(alloc, pairs, group, span)?;
-        self.push_text(alloc, pairs, i, group, span)?;
+        push_places(alloc, stores, group, span)?;
+        self.push_text(alloc, stores, i, group, span)?;
         Ok(())
     }
 
@@ -142,22 +121,23 @@ impl Own {
     fn push_group(
         &mut self,
         alloc: Global,
-        pairs: &mut Pairs,
+        stores: &mut Stores,
         i: Place,
         indices: bool,
         group: usize,
         span: Option<(usize, usize)>,
     ) -> Result<(), AllocError>
+        requires { group < 10 }
         ensures same { self.new ≡ self.old }
-        ensures pushed { OnOk result (pairs.new ≡ pairs.old ++ group_pairs_of indices (bytes_of i self.old) group span) }
+        ensures pushed { OnOk result (stores.new ≡ stores.old ++ group_pairs_of indices (bytes_of i self.old) group span) }
     {
         match span {
             None => Ok(()),
             Some(span) => {
                 if indices {
-                    self.push_whole(alloc, pairs, i, group, span)
+                    self.push_whole(alloc, stores, i, group, span)
                 } else {
-                    self.push_text(alloc, pairs, i, group, span)
+                    self.push_text(alloc, stores, i, group, span)
                 }
             }
         }
@@ -167,16 +147,16 @@ impl Own {
     fn push_groups(
         &mut self,
         alloc: Global,
-        pairs: &mut Pairs,
+        stores: &mut Stores,
         i: Place,
         indices: bool,
         spans: &Spans,
     ) -> Result<(), AllocError>
         ensures same { self.new ≡ self.old }
-        ensures pushed { OnOk result (pairs.new ≡ pairs.old ++ groups_from indices (bytes_of i self.old) 0 spans.now) }
+        ensures pushed { OnOk result (stores.new ≡ stores.old ++ groups_from indices (bytes_of i self.old) 0 spans.now) }
     {
         'groups: for group in 0..spans.len() {
-            self.push_group(alloc, pairs, i, indices, group, spans[group])?;
+            self.push_group(alloc, stores, i, indices, group, spans[group])?;
         }
         Ok(())
     }
@@ -185,17 +165,17 @@ impl Own {
     fn push_met(
         &mut self,
         alloc: Global,
-        pairs: &mut Pairs,
+        stores: &mut Stores,
         i: Place,
         count: usize,
     ) -> Result<(), AllocError>
         ensures same { self.new ≡ self.old }
-        ensures pushed { OnOk result (pairs.new ≡ pairs.old ++ met_pairs_of (child_of i self.old).id (take count (bytes_of i self.old))) }
+        ensures pushed { OnOk result (stores.new ≡ stores.old ++ met_pairs_of (child_of i self.old).id (take count (bytes_of i self.old))) }
     {
-        let id = Text::from_slice(alloc, self.children.id(i))?;
-        pairs.push(with_index(alloc, b"spawn_id")?, id)?;
+        let id = Value::from_slice(alloc, self.children.id(i))?;
+        stores.push(ID, id)?;
         let met = self.children.part(alloc, i, 0, count)?;
-        pairs.push(with_index(alloc, b"buffer")?, met)?;
+        stores.push(BUFFER, met)?;
         Ok(())
     }
 }
@@ -253,12 +233,12 @@ impl Dialogue {
         plan: Plan,
         i: Place,
         index: usize,
-        pairs: Pairs,
+        stores: Stores,
         count: usize,
     ) -> Result<HostStep, AllocError>
-        ensures { IfOk result (λ s. meeting_of plan i index pairs (drop count (bytes_of i self.old.own)) vars.old self.old ≡ (s, vars.new, self.new)) }
+        ensures { IfOk result (λ s. meeting_of plan i index stores (drop count (bytes_of i self.old.own)) vars.old self.old ≡ (s, vars.new, self.new)) }
     {
-        if let Some(text) = set_all(alloc, vars, pairs)? {
+        if let Some(text) = set_all(alloc, vars, stores)? {
             return Ok(HostStep::Fail(text));
         }
         self.own.children.take(i, count);
@@ -283,11 +263,11 @@ impl Dialogue {
     {
         let (indices, notransfer) = plan.marks(index);
         let end = end_of(spans);
-        let mut pairs = Pairs::new(alloc);
-        self.own.push_groups(alloc, &mut pairs, i, indices, spans)?;
-        self.own.push_met(alloc, &mut pairs, i, end)?;
+        let mut stores = Stores::new(alloc);
+        self.own.push_groups(alloc, &mut stores, i, indices, spans)?;
+        self.own.push_met(alloc, &mut stores, i, end)?;
         let taken = if notransfer { 0 } else { end };
-        self.meet(alloc, vars, plan, i, index, pairs, taken)
+        self.meet(alloc, vars, plan, i, index, stores, taken)
     }
 
     /// All kept bytes are met by a keyword, if it is listed.
@@ -305,9 +285,9 @@ impl Dialogue {
             return Ok(done(Value::new(alloc)));
         };
         let count = self.own.children.count_kept(i);
-        let mut pairs = Pairs::new(alloc);
-        self.own.push_met(alloc, &mut pairs, i, count)?;
-        self.meet(alloc, vars, plan, i, index, pairs, count)
+        let mut stores = Stores::new(alloc);
+        self.own.push_met(alloc, &mut stores, i, count)?;
+        self.meet(alloc, vars, plan, i, index, stores, count)
     }
 
     /// The output ended, and the child was let go, or not.

@@ -9,6 +9,7 @@ use exp_match::{Matchers, PatternList, Picked, Spans};
 use match_buffer::Buffer;
 use std::alloc::{AllocError, Global};
 use std::marker::Model;
+use tcl_values::Value;
 use tcl_words::Text;
 
 /// Bytes that no expect has taken, and how many of them are kept.
@@ -146,11 +147,16 @@ impl Kept {
     }
 
     /// The bytes from a place to another one, as far as they are there.
-    pub(crate) fn part(&mut self, alloc: Global, from: usize, to: usize) -> Result<Text, AllocError>
+    pub(crate) fn part(
+        &mut self,
+        alloc: Global,
+        from: usize,
+        to: usize,
+    ) -> Result<Value, AllocError>
         ensures same { self.new ≡ self.old }
-        ensures part { IfOk result (λ t. t ≡ take (to - from) (drop from self.old.bytes)) }
+        ensures part { IfOk result (λ v. v ≡ take (to - from) (drop from self.old.bytes)) }
     {
         let bytes = behind(self.buffer.bytes(), from);
-        Text::from_slice(alloc, front(bytes, to.saturating_sub(from)))
+        Value::from_slice(alloc, front(bytes, to.saturating_sub(from)))
     }
 }

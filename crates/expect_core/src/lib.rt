@@ -33,6 +33,7 @@ mod settings;
 mod settle;
 mod sought;
 mod spawn;
+mod stored;
 mod texts;
 mod transcript;
 

@@ -15,7 +15,7 @@ use crate::scoped::optional;
 use crate::texts::{bad_expect_flag, bad_regular};
 use exp_match::{PatternFault, PatternList};
 use std::alloc::{AllocError, Global};
-use tcl_commands::{Complaint, as_number, texts_of};
+use tcl_commands::{Complaint, as_number};
 use tcl_subst::Vars;
 use tcl_values::Value;
 use tcl_words::{Text, is_white};
@@ -61,7 +61,7 @@ fn patterns_of(alloc: Global, plans: &mut Plans, args: &[Value]) -> Result<Patte
     ensures same { plans.new ≡ plans.old }
     ensures said { Says result (patterns_by args.now (patterns_meant args.now)) }
 {
-    match plans.patterns(alloc, texts_of(alloc, args)?.as_slice()) {
+    match plans.patterns(alloc, args) {
         Ok(list) => Ok(list),
         Err(PatternFault::BadFlag(at)) => Err(Complaint::Said(bad_expect_flag(
             alloc,

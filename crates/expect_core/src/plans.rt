@@ -9,7 +9,7 @@ use exp_match::{Compiled, PatternFault, PatternList};
 use std::alloc::{AllocError, Global};
 use std::marker::Model;
 use tcl_eval::Pile;
-use tcl_words::Text;
+use tcl_values::Value;
 
 /// The expects whose actions are evaluated, the innermost first. A contract sees a list of them.
 ///
@@ -65,7 +65,7 @@ impl Plans {
     pub(crate) fn patterns(
         &mut self,
         alloc: Global,
-        args: &[Text],
+        args: &[Value],
     ) -> Result<PatternList, PatternFault>
         ensures same { self.new ≡ self.old }
         ensures gives { Gives result (patterns_of args.now) }

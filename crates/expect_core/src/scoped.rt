@@ -5,19 +5,18 @@ ghost use Rattle.tcl_commands.specs.Says.{Says};
 ghost use Rattle.tcl_subst.specs.Faults.{Gives};
 ghost use Rattle.expect_core.specs.Scoped.{scoped as scoped_of, optional as optional_of, needed as needed_of, set_all as set_all_of};
 
-use crate::settings::Pairs;
+use crate::stored::Stores;
 use std::alloc::{AllocError, Global};
 use tcl_commands::{Complaint, not_read, not_set};
 use tcl_subst::{SubstFault, Vars};
 use tcl_values::Value;
-use tcl_words::Text;
 
 /// The value of a variable.
 fn scoped(vars: &Vars, name: &[u8]) -> Result<Value, SubstFault>
     ensures { Gives result (scoped_of name.now vars.now) }
 {
     match vars.get(name) {
-        Err(SubstFault::NoVariable) => vars.get_global(name),
+        Err(SubstFault::NoVariable) if !vars.is_outermost() => vars.get_global(name),
         read => read,
     }
 }
@@ -44,30 +43,18 @@ pub(crate) fn needed(alloc: Global, vars: &Vars, name: &[u8]) -> Result<Value, C
 }
 
 /// Gives names their values, one after another. The first that can't be set ends it: the text of that error.
-fn set_list(
+pub(crate) fn set_all(
     alloc: Global,
     vars: &mut Vars,
-    list: Vec<(Text, Text)>,
+    stores: Stores,
 ) -> Result<Option<Value>, AllocError>
-    ensures { IfOk result (λ r. set_all_of list.items vars.old ≡ (vars.new, r)) }
+    ensures { IfOk result (λ r. set_all_of stores vars.old ≡ (vars.new, r)) }
 {
-    'pairs: for (name, value) in list {
-        let value = Value::from_text(alloc, value)?;
-        if let Err(fault) = vars.set(name.as_slice(), value) {
-            let text = not_set(alloc, name.as_slice(), fault)?;
+    'stores: for (name, value) in stores.list {
+        if let Err(fault) = vars.set(name, value) {
+            let text = not_set(alloc, name, fault)?;
             return Ok(Some(Value::from_text(alloc, text)?));
         }
     }
     Ok(None)
-}
-
-/// Gives names their values, for which the pairs are given up. The first that can't be set ends it: the text of that error.
-pub(crate) fn set_all(
-    alloc: Global,
-    vars: &mut Vars,
-    pairs: Pairs,
-) -> Result<Option<Value>, AllocError>
-    ensures { IfOk result (λ r. set_all_of pairs vars.old ≡ (vars.new, r)) }
-{
-    set_list(alloc, vars, pairs.list)
 }

@@ -12,7 +12,7 @@ use crate::phase::Purpose;
 use crate::place::Place;
 use crate::request::Act;
 use crate::scoped::set_all;
-use crate::settings::Pairs;
+use crate::stored::Stores;
 use crate::texts::{decimal, id_at, not_executed, spawn_line};
 use child_events::Answer;
 use std::alloc::{AllocError, Global};
@@ -37,9 +37,9 @@ fn announce(own: &mut Own, alloc: Global, quiet: bool, words: &Texts) -> Result<
 fn make_current(alloc: Global, vars: &mut Vars, id: Text) -> Result<Option<Value>, AllocError>
     ensures { IfOk result (λ r. current_of id vars.old ≡ (vars.new, r)) }
 {
-    let mut pairs = Pairs::new(alloc);
-    pairs.push(Text::from_slice(alloc, b"spawn_id")?, id)?;
-    set_all(alloc, vars, pairs)
+    let mut stores = Stores::new(alloc);
+    stores.push(b"spawn_id", Value::from_text(alloc, id)?)?;
+    set_all(alloc, vars, stores)
 }
 
 impl Dialogue {

@@ -3,7 +3,8 @@
 use crate::calls::number;
 use crate::complaint::Complaint;
 use exp_match::{Chosen, PatternFault, PatternList};
-use std::alloc::Global;
+use std::alloc::{AllocError, Global};
+use tcl_values::Value;
 use tcl_words::Text;
 
 fn push_chosen(alloc: Global, text: &mut Text, chosen: Chosen) -> Result<(), Complaint> {
@@ -72,11 +73,21 @@ fn push_tests(
     Ok(())
 }
 
+/// Texts as the values that the arguments of a command are.
+pub fn values_of(alloc: Global, texts: &[Text]) -> Result<Vec<Value>, AllocError> {
+    let mut values = Vec::new(alloc);
+    'texts: for text in texts {
+        values.push(Value::from_slice(alloc, text.as_slice())?)?;
+    }
+    Ok(values)
+}
+
 /// The first call has the arguments of `expect`; each other one the most bytes that are kept, and bytes. A line
 /// has the pattern that is chosen, with its spans.
 pub fn shown_patterns(alloc: Global, calls: &[Vec<Text>]) -> Result<Text, Complaint> {
     let mut text = Text::new(alloc);
     if let [arguments, tests @ ..] = calls {
+        let arguments = values_of(alloc, arguments.as_slice())?;
         match PatternList::build(alloc, arguments.as_slice()) {
             Ok(list) => push_tests(alloc, &mut text, &list, tests)?,
             Err(fault) => push_refused(alloc, &mut text, fault)?,

@@ -2,7 +2,7 @@
 
 use crate::calls::number;
 use crate::complaint::Complaint;
-use crate::patterns::all_groups;
+use crate::patterns::{all_groups, values_of};
 use exp_match::{Chosen, PatternList};
 use match_buffer::Buffer;
 use std::alloc::{AllocError, Global};
@@ -61,7 +61,8 @@ fn count_of(alloc: Global, words: &[Text], data: &[u8]) -> Result<u64, Complaint
     let [size, arguments @ ..] = words else {
         return Err(Complaint::Call);
     };
-    let Ok(list) = PatternList::build(alloc, arguments) else {
+    let arguments = values_of(alloc, arguments)?;
+    let Ok(list) = PatternList::build(alloc, arguments.as_slice()) else {
         return Err(Complaint::Call);
     };
     scanned(alloc, &list, Buffer::new(alloc, number(size)?)?, data)

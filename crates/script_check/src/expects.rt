@@ -1,6 +1,6 @@
 //! The arguments of `expect`.
 
-ghost use Rattle.std.specs.Prelude.{◌≡◌, ◌++◌, [], IfOk, OnOk, slice_index_or, take};
+ghost use Rattle.std.specs.Prelude.{◌≡◌, ◌++◌, [], IfOk, OnOk, option_map, slice_index_or, take};
 ghost use Rattle.exp_match.specs.Arguments.{Gives, patterns_of};
 ghost use Rattle.script_check.specs.Expects.{plain_texts, by_patterns, expect_fault, is_braced, is_list, list_span, is_expect, is_listing, list_of, gathered, spread_by};
 
@@ -11,36 +11,37 @@ use crate::span::Span;
 use crate::stretch::{begins_with, inside, is, part};
 use exp_match::{PatternFault, PatternList};
 use std::alloc::{AllocError, Global};
-use tcl_words::{Text, Texts, is_white};
+use tcl_values::Value;
+use tcl_words::{Text, is_white};
 
 /// The words, where all are written plainly.
-fn plain_texts(alloc: Global, words: &[Placed]) -> Result<Option<Texts>, AllocError>
-    ensures { IfOk result (λ t. t ≡ plain_texts words.now) }
+fn plain_texts(alloc: Global, words: &[Placed]) -> Result<Option<Vec<Value>>, AllocError>
+    ensures { IfOk result (λ t. option_map (λ v. v.items) t ≡ plain_texts words.now) }
 {
-    let mut texts = Texts::new(alloc);
+    let mut texts = Vec::new(alloc);
     let mut rest = words;
     while let [word, more @ ..] = rest {
         let Some(text) = &word.value else {
             return Ok(None);
         };
-        texts.push(text.copied(alloc)?)?;
+        texts.push(Value::from_slice(alloc, text.as_slice())?)?;
         rest = more;
     }
     Ok(Some(texts))
 }
 
 /// The text at an index.
-fn text_at(alloc: Global, texts: &[Text], at: usize) -> Result<Text, AllocError>
+fn text_at(alloc: Global, texts: &[Value], at: usize) -> Result<Text, AllocError>
     ensures { IfOk result (λ t. t ≡ slice_index_or texts.now at []) }
 {
     match texts.get(at) {
         None => Ok(Text::new(alloc)),
-        Some(text) => text.copied(alloc),
+        Some(text) => Text::from_slice(alloc, text.as_slice()),
     }
 }
 
 /// What is wrong with arguments that are all written plainly.
-fn patterns_fault(alloc: Global, texts: &[Text]) -> Result<Option<Problem>, AllocError>
+fn patterns_fault(alloc: Global, texts: &[Value]) -> Result<Option<Problem>, AllocError>
     ensures { IfOk result (λ p. p ≡ by_patterns texts.now (patterns_of texts.now)) }
 {
     match PatternList::build(alloc, texts) {

@@ -12,7 +12,7 @@ ghost use Rattle.tcl_eval.specs.Rest.{AnyRestIs, RestIs};
 ghost use Rattle.tcl_eval.specs.Work.{bodies, credit, potential};
 
 use crate::ending::Ending;
-use crate::engine::{Engine, script_of};
+use crate::engine::Engine;
 use crate::exprs::read_test;
 use crate::frame::{End, Frame, Goal, Mode, Onward};
 use crate::meter::Meter;
@@ -23,7 +23,6 @@ use tcl_commands::{
     Code, Verb, arms_of, each_of, eval_text, exit_status, expr_text, plain, said, verb_of,
     wrong_args,
 };
-use tcl_scripts::Script;
 use tcl_values::Value;
 
 impl Engine {
@@ -123,9 +122,9 @@ impl Engine {
             let mode = self.wrong(name)?;
             return Ok(mode);
         };
-        match said(self.alloc, read_test(self.alloc, test))? {
+        match said(self.alloc, read_test(&mut self.read, self.alloc, test))? {
             Ok(test) => {
-                let body = Script::read(self.alloc, body.shared(self.alloc)?)?;
+                let body = self.read.script_of(self.alloc, body)?;
                 self.begin_loop(meter, test, body, None, depth)
             }
             Err(text) => Ok(Mode::Give(Code::Error, text)),
@@ -155,7 +154,7 @@ impl Engine {
         ensures rest { AnyRestIs self.old result self.new (λ k st. eval depth start.now (on_ok (λ v st. on_said (tree_of test.now) k (λ t st. loop_of (eval depth) t body.now (Some next.now) k st) st) k) st) }
         ensures potential { IfOk result (λ mode. bodies self.new.stack + credit mode ≤ bodies self.old.stack + 1) }
     {
-        let script = script_of(self.alloc, start)?;
+        let script = self.read.script_of(self.alloc, start)?;
         let test = test.shared(self.alloc)?;
         let next = next.shared(self.alloc)?;
         let body = body.shared(self.alloc)?;
@@ -182,7 +181,7 @@ impl Engine {
     {
         match said(self.alloc, each_of(self.alloc, name, args))? {
             Ok((groups, body)) => {
-                let body = Script::read(self.alloc, body)?;
+                let body = self.read.script_of(self.alloc, &body)?;
                 self.each(meter, groups, body, depth)
             }
             Err(text) => Ok(Mode::Give(Code::Error, text)),
@@ -248,7 +247,7 @@ impl Engine {
     {
         match said(self.alloc, eval_text(self.alloc, name, args))? {
             Ok(text) => {
-                let script = Script::read(self.alloc, text)?;
+                let script = self.read.script_of(self.alloc, &text)?;
                 Ok(Mode::Run { script, depth })
             }
             Err(text) => Ok(Mode::Give(Code::Error, text)),
@@ -267,7 +266,7 @@ impl Engine {
                 return self.wrong(name);
             }
         };
-        let script = Script::read(self.alloc, script.shared(self.alloc)?)?;
+        let script = self.read.script_of(self.alloc, script)?;
         self.stack.push(Frame::Catch { name: variable })?;
         Ok(Mode::Run { script, depth })
     }

@@ -11,6 +11,7 @@ use crate::frame::{End, Frame, Mode, Onward, Then};
 use crate::meter::Meter;
 use crate::pile::Pile;
 use crate::procedure::Procedure;
+use crate::read_texts::ReadTexts;
 use crate::trail::{Origin, Trail};
 use crate::values::Values;
 use std::alloc::{AllocError, Global};
@@ -32,13 +33,8 @@ pub struct Engine {
     pub(crate) procs: Names<Procedure>,
     /// What handed on the error that is under way.
     pub(crate) trail: Trail,
-}
-
-/// The script that a text is, whose owner keeps it.
-pub(crate) fn script_of(alloc: Global, text: &Value) -> Result<Script, AllocError>
-    ensures { IfOk result (λ s. s ≡ text.now) }
-{
-    Script::read(alloc, text.shared(alloc)?)
+    /// What was read and may come again.
+    pub(crate) read: ReadTexts,
 }
 
 impl Engine {
@@ -73,7 +69,8 @@ impl Engine {
         ensures work { AnyWorkIs self.old result self.new (λ k st. eval_work depth text k st) }
         ensures potential { IfOk result (λ mode. bodies self.new.stack + credit mode ≤ bodies self.old.stack) }
     {
-        let script = Script::read(self.alloc, text)?;
+        let script = self.read.script_of(self.alloc, &text)?;
+        drop(text);
         self.start(script, depth)
     }
 

@@ -1,6 +1,6 @@
 //! The evaluation of an expression, operand by operand.
 
-ghost use Rattle.std.specs.Prelude.{◌≡◌, ℕ, List, Some, IfOk, OnOk};
+ghost use Rattle.std.specs.Prelude.{◌≡◌, ℕ, List, Some, Ok, IfOk, OnOk};
 ghost use Rattle.tcl_words.specs.Pieces.{Spelled};
 ghost use Rattle.tcl_expr.specs.Grammar.{parsed};
 ghost use Rattle.tcl_expr.specs.Numbered.{operand_at};
@@ -23,13 +23,22 @@ use tcl_expr::{Expr, ExprFault, Operands, Step, operands_are_bounded, parse};
 use tcl_subst::Vars;
 use tcl_values::Value;
 
-/// An expression, shared. A contract sees its tree.
+/// An expression with the text that it was read from.
+#[derive(Drop)]
+pub struct ReadExpr {
+    text: Value,
+    expr: Expr,
+}
+
+/// An expression with its text, shared. A contract sees its tree.
 #[derive(Drop)]
 pub struct Test {
-    expr: Rc<Expr>,
+    read: Rc<ReadExpr>,
 }
 
 impl Model for Test {
+    ghost use Rattle.std.specs.Prelude.{◌≡◌, Ok};
+    ghost use Rattle.tcl_expr.specs.Grammar.{parsed};
     ghost use Rattle.tcl_expr.specs.Tree.{Tree};
     ghost use Rattle.tcl_eval.specs.Evaluated.{coded_tree};
 
@@ -37,18 +46,28 @@ impl Model for Test {
 
     ghost coded = { coded_tree };
 
-    ghost view = { λ t. t.expr.value };
+    ghost view = { λ t. t.read.value.expr };
+
+    ghost invariant = { λ t. parsed t.read.value.text ≡ Ok t.read.value.expr };
 }
 
 impl Test {
     /// The expression that a text is.
-    pub(crate) fn parse(alloc: Global, text: &[u8]) -> Result<Test, ExprFault>
+    pub(crate) fn parse(alloc: Global, text: &Value) -> Result<Test, ExprFault>
         ensures { Gives result (parsed text.now) }
     {
-        let expr = parse(alloc, text)?;
+        let expr = parse(alloc, text.as_slice())?;
+        let text = text.shared(alloc)?;
         Ok(Test {
-            expr: Rc::new(alloc, expr)?,
+            read: Rc::new(alloc, ReadExpr { text, expr })?,
         })
+    }
+
+    /// The text that it was read from.
+    pub(crate) fn text(&self) -> &[u8]
+        ensures { parsed result.now ≡ Ok self.now }
+    {
+        self.read.text.as_slice()
     }
 
     /// The same expression. Nothing is copied.
@@ -56,7 +75,7 @@ impl Test {
         ensures { IfOk result (λ t. t ≡ self.now) }
     {
         Ok(Test {
-            expr: self.expr.clone()?,
+            read: self.read.clone()?,
         })
     }
 }
@@ -127,7 +146,7 @@ impl Evaluation {
         ensures same { self.new ≡ self.old }
         ensures vars { vars.new ≡ vars.old }
     {
-        match self.test.expr.advance(alloc, &mut self.log) {
+        match self.test.read.expr.advance(alloc, &mut self.log) {
             Step::Value(text) => Ok(Advance::Value(Value::from_text(alloc, text)?)),
             Step::NeedVar(number) => Ok(Advance::Operand(self.operand(alloc, number, vars)?)),
             Step::NeedScript(number) => Ok(Advance::Operand(self.operand(alloc, number, vars)?)),
@@ -140,7 +159,7 @@ impl Evaluation {
         ensures told { (w : Spelled) → operand_at self.now.tree number ≡ Some w → IfOk result (λ b. begun_fill b ≡ fill w.pieces vars.old) }
         ensures same { vars.new ≡ vars.old }
     {
-        match self.test.expr.operand(number) {
+        match self.test.read.expr.operand(number) {
             None => Err(AllocError),
             Some(word) => begin_operand(alloc, word, vars),
         }

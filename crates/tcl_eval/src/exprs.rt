@@ -16,7 +16,8 @@ use crate::evaluation::{Evaluation, Test};
 use crate::frame::{End, Frame, Goal, Mode, Onward, Turning};
 use crate::halt::Halt;
 use crate::meter::Meter;
-use crate::words::{resumed, script_text};
+use crate::read_texts::ReadTexts;
+use crate::words::{resumed, script_of};
 use std::alloc::{AllocError, Global};
 use tcl_commands::{Arms, Code, Complaint, expected_number, expr_fault, said};
 use tcl_expr::{ExprFault, read_truth};
@@ -166,14 +167,14 @@ impl Engine {
         ensures work { AnyWorkIs self.old result self.new (λ k st. word_work (eval_work depth) (told (FillStep.NeedScript number, filler)) k (λ v st. evaluated_work (eval_work depth) (with_operand v evaluation) goal k st) st) }
         ensures potential { IfOk result (λ mode. bodies self.new.stack + credit mode ≤ bodies self.old.stack) }
     {
-        let text = script_text(self.alloc, &filler, number);
+        let script = script_of(&mut self.read, self.alloc, &filler, number);
         self.stack.push(Frame::Onward(Onward::Operand {
             evaluation,
             filler,
             goal,
             depth,
         }))?;
-        let mode = self.start_text(text?, depth)?;
+        let mode = self.start(script?, depth)?;
         Ok(mode)
     }
 
@@ -336,7 +337,7 @@ impl Engine {
         ensures potential { IfOk result (λ mode. potential self.new (left_of meter.new) mode ≤ 8 * left_of meter.old + bodies self.old.stack) }
         ensures bound { meter.new.bound ≡ meter.old.bound }
     {
-        match said(self.alloc, read_test(self.alloc, &text))? {
+        match said(self.alloc, read_test(&mut self.read, self.alloc, &text))? {
             Ok(test) => {
                 let evaluation = Evaluation::new(self.alloc, test);
                 self.express(meter, evaluation, goal, depth)
@@ -350,10 +351,14 @@ impl Engine {
 }
 
 /// The expression that a text is, or the text of its fault.
-pub(crate) fn read_test(alloc: Global, text: &Value) -> Result<Test, Complaint>
+pub(crate) fn read_test(
+    read: &mut ReadTexts,
+    alloc: Global,
+    text: &Value,
+) -> Result<Test, Complaint>
     ensures { Says result (tree_of text.now) }
 {
-    match Test::parse(alloc, text.as_slice()) {
+    match read.test(alloc, text) {
         Ok(test) => Ok(test),
         Err(ExprFault::Memory) => Err(Complaint::Memory),
         Err(fault) => Err(Complaint::Said(expr_fault(alloc, text.as_slice(), &fault)?)),

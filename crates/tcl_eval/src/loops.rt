@@ -134,10 +134,10 @@ impl Engine {
         ensures potential { IfOk result (λ mode. potential self.new (left_of meter.new) mode ≤ 8 * left_of meter.old + bodies self.old.stack) }
         ensures bound { meter.new.bound ≡ meter.old.bound }
     {
-        match said(self.alloc, read_test(self.alloc, test))? {
+        match said(self.alloc, read_test(&mut self.read, self.alloc, test))? {
             Ok(test) => {
-                let body = Script::read(self.alloc, body.shared(self.alloc)?)?;
-                let next = Script::read(self.alloc, next.shared(self.alloc)?)?;
+                let body = self.read.script_of(self.alloc, body)?;
+                let next = self.read.script_of(self.alloc, next)?;
                 self.begin_loop(meter, test, body, Some(next), depth)
             }
             Err(text) => Ok(Mode::Give(Code::Error, text)),

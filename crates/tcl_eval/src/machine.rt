@@ -13,6 +13,7 @@ use crate::frame::{End, Mode};
 use crate::host::Host;
 use crate::meter::Meter;
 use crate::pile::Pile;
+use crate::read_texts::ReadTexts;
 use crate::trail::{Origin, Trail};
 use std::alloc::{AllocError, Global};
 use std::marker::PhantomData;
@@ -69,6 +70,7 @@ fn begin(alloc: Global, source: &[u8], vars: Vars, depth: u32) -> Result<Beginni
             vars,
             procs: Names::new(alloc),
             trail: Trail::new(alloc),
+            read: ReadTexts::new(alloc),
         },
         mode: Mode::Run { script, depth },
     })

@@ -15,7 +15,6 @@ use crate::meter::Meter;
 use crate::values::Values;
 use std::alloc::AllocError;
 use tcl_commands::Code;
-use tcl_scripts::Script;
 use tcl_values::Value;
 
 /// It goes on.
@@ -34,7 +33,7 @@ impl Engine {
         ensures rest { AnyRestIs self.old result self.new (λ k st. eval depth text (after_body (eval depth) k bound) st) }
         ensures potential { IfOk result (λ mode. bodies self.new.stack + credit mode ≤ bodies self.old.stack + 4) }
     {
-        let script = Script::read(self.alloc, text)?;
+        let script = self.read.script_of(self.alloc, &text)?;
         self.stack.push(Frame::HostBody { bound, depth })?;
         Ok(Mode::Run { script, depth })
     }
@@ -45,7 +44,7 @@ impl Engine {
         ensures potential { IfOk result (λ mode. potential self.new (left_of meter.new) mode ≤ 8 * left_of meter.old + bodies self.old.stack + 5) }
         ensures bound { meter.new.bound ≡ meter.old.bound }
     {
-        let script = Script::read(self.alloc, text)?;
+        let script = self.read.script_of(self.alloc, &text)?;
         let (words, fault) = script.all_words(self.alloc)?;
         let done = Values::new(self.alloc);
         let mode = self.fill(meter, words, 0, done, Then::List(fault), depth)?;

@@ -16,10 +16,11 @@ use crate::engine::Engine;
 use crate::frame::{End, Frame, Mode, Onward, Then};
 use crate::meter::Meter;
 use crate::reached::Reached;
+use crate::read_texts::ReadTexts;
 use crate::values::Values;
 use std::alloc::{AllocError, Global};
 use tcl_commands::{Code, Complaint, bad_list, not_read, said, word_fault};
-use tcl_scripts::Words;
+use tcl_scripts::{Script, Words};
 use tcl_subst::{FillStep, Filler, SubstFault, Vars};
 use tcl_values::Value;
 use tcl_words::{ListFault, Text};
@@ -172,7 +173,7 @@ impl Engine {
         ensures work { AnyWorkIs self.old result self.new (λ k st. word_work (eval_work depth) (told (FillStep.NeedScript number, filler)) k (λ v st. on_said (spread expand v done) k (λ done st. words_work (eval_work depth) (drop next words) done k (then_work then k) st) st) st) }
         ensures potential { IfOk result (λ mode. bodies self.new.stack + credit mode ≤ bodies self.old.stack + then_weight then) }
     {
-        let text = script_text(self.alloc, &filler, number);
+        let script = script_of(&mut self.read, self.alloc, &filler, number);
         self.stack.push(Frame::Onward(Onward::Fill {
             words,
             next,
@@ -182,7 +183,7 @@ impl Engine {
             then,
             depth,
         }))?;
-        let mode = self.start_text(text?, depth)?;
+        let mode = self.start(script?, depth)?;
         Ok(mode)
     }
 
@@ -284,17 +285,18 @@ pub(crate) fn resumed(
     Ok(step)
 }
 
-/// The text of the script that a filler needs.
-pub(crate) fn script_text(
+/// The script that a filler needs.
+pub(crate) fn script_of(
+    read: &mut ReadTexts,
     alloc: Global,
     filler: &Filler,
     number: usize,
-) -> Result<Value, AllocError>
-    ensures { IfOk result (λ v. v ≡ unwrap_or (script_at number filler.now.steps) []) }
+) -> Result<Script, AllocError>
+    ensures { IfOk result (λ s. s ≡ unwrap_or (script_at number filler.now.steps) []) }
 {
     match filler.recipe().script(number) {
-        None => Ok(Value::new(alloc)),
-        Some(text) => Value::from_slice(alloc, text.as_slice()),
+        None => read.script(alloc, &[]),
+        Some(text) => read.script(alloc, text.as_slice()),
     }
 }
 

@@ -1,8 +1,9 @@
 use Rattle.course_texts.proofs.Coursing.{started}
 use Rattle.course_texts.proofs.explaining.begun.Goals as goal
 
-pub returns : goal.returns
-returns c =
-    let told = c.in_ok-text.ensures in
-    started c.args.number c.args.script c.in-Ok.begun.0 c.in_ok-heading.field-0 c.in_ok-text.text c.push_waits.new.text c.new-teller.result c.in-Ok.begun.1 told.2.0
-    (record { handed = c.in-Ok.ensures.handed; says = c.in-Ok.ensures.left }) c.in_ok-heading.ensures c.new-teller.ensures.0 c.new-teller.ensures.1 (c.in-Ok.ensures.seen told.0) told.1 told.2.1 told.2.2 c.in_ok-push_waits.ensures
+pub returns-in-Ok-first_told : goal.returns-in-Ok-first_told
+returns-in-Ok-first_told c =
+    let told = c.in-Ok-first_told.ensures in
+    let says = told.1 in
+    started c.args.number c.args.script c.in-Ok.begun.0 c.in_ok-heading.field-0 told.0 c.in-Ok-first_told.text c.new-teller.result c.in-Ok.begun.1 says.2.0
+    (record { handed = c.in-Ok.ensures.handed; says = c.in-Ok.ensures.left }) c.in_ok-heading.ensures c.new-teller.ensures.0 c.new-teller.ensures.1 (c.in-Ok.ensures.seen says.0) says.1 says.2.1 says.2.2 told.2

@@ -32,7 +32,7 @@ returns-then-count-lt-PART-clause-takes c =
     ap (λ (n : ℕ). first_refusal n c.parts.before c.in_ok-part.part) (sym c.len.ensures.value)
     ∙ ap (λ (es : List HallEvent). first_refusal c.len.result c.parts.before es) (sym c.as_slice.ensures)
     ∙ sym c.first_refused.ensures ∙ c.in_default.is in
-    let short : length c.in_ok-part.part < 4096 = omega (arith, c.len-count.ensures, c.if-count-lt-PART.true) in
+    let short : length c.in_ok-part.part < 512 = omega (arith, c.len-count.ensures, c.if-count-lt-PART.true) in
     taken_all c.args.log.now.said c.next_part.new.log.said (c.parts.before + length c.in_ok-part.part) c.args.hall.now c.take_all.new.self
     (taken_more c.args.log.now.said c.parts.log.said c.parts.before c.args.hall.now c.parts.hall c.parts.invariant.to c.in_ok-part.part c.next_part.new.log.said c.in_ok-part.ensures.given.said
     c.take_all.new.self none c.in-Ok.ensures.took)

@@ -8,4 +8,4 @@ returns-clause-pushed c =
     let text : List (List ℕ × List ℕ) = text_pair (bytes_of c.args.i c.args.self.now) c.args.group c.args.span ∷ [] in
     c.in_ok-push_text.ensures.pushed
     ∙ ap (λ (l : List (List ℕ × List ℕ)). l ++ text) c.in_ok-push_places.ensures
-    ∙ append_assoc c.args.pairs.now (places c.args.group c.args.span) text
+    ∙ append_assoc c.args.stores.now (places c.args.group c.args.span) text
