@@ -120,7 +120,8 @@ def functions_of(file, text, homes):
             place = (starts[number], starts[reach[0]], starts[reach[1] + 1])
             is_method = around.path != module_of(file)
             cycle = cycle or (last if calls_itself(last, is_method, text[place[1] : place[2]]) else None)
-            shared = "::".join([*module_of(file), f"+{cycle}"]) if cycle else None
+            home = module_of(file) if around.of_trait else around.path
+            shared = "::".join([*home, f"+{cycle}"]) if cycle else None
             found.append(Function(file, "::".join([*around.path, last]), *place, shared, around.of_trait))
         cycle, is_test = None, False
     return found

@@ -15,6 +15,7 @@ pub mod Answering
 pub mod Deciding
 pub mod Repeating
 pub mod Reached
+pub mod Beginning
 pub mod Reaching
 pub mod Lasting
 pub mod Unbuilding

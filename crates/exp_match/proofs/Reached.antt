@@ -1,4 +1,4 @@
--- A pattern's text reaches as far as the tree that is read of it.
+-- As many bytes decide whether a match of a text begins as of the tree that is read of it.
 use Rattle.std.proofs.Common.{◌≡◌, ℕ, List, Bool, Option, Some, None, IfSome, IsSomeAnd}
 use Rattle.std.specs.Str.{chars}
 use Rattle.regex_hir.specs.Meaning.{meaning}
@@ -8,17 +8,17 @@ use Rattle.regex_syntax.specs.Captures.{SameCaptures}
 use Rattle.regex_syntax.specs.Grammar.{Names, read}
 use Rattle.regex_syntax.specs.Verdict.{Reads}
 use Rattle.regex_hir.specs.Re.{Re}
-use Rattle.exp_match.specs.Reach.{HasReach, IsReach, Reaches, reach}
+use Rattle.exp_match.specs.Reach.{HasOpening, IsReach, Opens, beginning, reach}
 use Rattle.exp_match.specs.Written.{config_of}
 
-by_reading : (a : Re) (m : ℕ) → reach a ≡ Some m → (Q : Nested Re × Names → Type 0) → ((x : Nested Re × Names) → Q x → SameCaptures a x.0.value)
-    → (o : Option (Nested Re × Names)) → IsSomeAnd o Q → IsSomeAnd o (λ p. HasReach m p.0.value)
+by_reading : (a : Re) (m : ℕ) → reach (beginning a) ≡ Some m → (Q : Nested Re × Names → Type 0) → ((x : Nested Re × Names) → Q x → SameCaptures a x.0.value)
+    → (o : Option (Nested Re × Names)) → IsSomeAnd o Q → IsSomeAnd o (λ p. HasOpening m p.0.value)
 by_reading a m is Q same None q = absurd q
 by_reading a m is Q same (Some x) q = (a, same x q, is)
 
-pub text_reaches : (source : List ℕ) (nocase : Bool) (hir : Hir) (names : Names) → Reads (config_of nocase) source hir names
-    → (known : Option ℕ) → IsReach known (meaning hir) → IfSome known (Reaches (record { source = source; nocase = nocase }))
+pub text_opens : (source : List ℕ) (nocase : Bool) (hir : Hir) (names : Names) → Reads (config_of nocase) source hir names
+    → (known : Option ℕ) → IsReach known (beginning (meaning hir)) → IfSome known (Opens (record { source = source; nocase = nocase }))
 unfolding Reads
-text_reaches source nocase hir names reads None is = tt
-text_reaches source nocase hir names reads (Some m) is =
+text_opens source nocase hir names reads None is = tt
+text_opens source nocase hir names reads (Some m) is =
     by_reading (meaning hir) m is _ (λ x q. q.1) (read (config_of nocase) (chars source)) reads

@@ -1,5 +1,5 @@
 -- Where a pattern that has a reach matches, it does so in the front that has so many bytes from there on; and where it matches in the last of the
--- bytes, it does so in all of them.
+-- bytes, it does so in all of them. So a match of any pattern whose beginning has one begins in both.
 use Rattle.std.proofs.Common.{◌≡◌, inl, inr, ℕ, ◌+◌, ◌-◌, ◌<◌, ◌≤◌, max, true, List, ◌++◌, All, length, length-drop, take, drop, drop-drop, get_or-drop, get_or-take, Option, Some, None, IfSome, IsSomeAnd, MatchOption, option_map, refl, sym, ap, subst, ◌∙◌, ⊎_elim, arith}
 use Rattle.std.specs.Prelude.{not, is_some}
 use Rattle.std.specs.List.{slice_get}
@@ -25,8 +25,9 @@ use Rattle.regex_syntax.specs.Brackets.{Nested}
 use Rattle.regex_syntax.specs.Captures.{SameCaptures}
 use Rattle.regex_syntax.specs.Grammar.{Names, read}
 use Rattle.regex_syntax.proofs.CapturesLemmas.{find_alike}
-use Rattle.exp_match.specs.Reach.{of_both, look_reach, reach, HasReach, Reaches, IsBounded}
+use Rattle.exp_match.specs.Reach.{of_both, look_reach, reach, beginning, HasOpening, Opens, IsBounded}
 use Rattle.exp_match.specs.Written.{Written, Seen, Shows, FindsAsWritten, config_of, seen_of}
+use Rattle.exp_match.proofs.Beginning.{sooner, later}
 
 -- the two numbers behind one of both
 pub both_parts : (f : ℕ → ℕ → ℕ) (o p : Option ℕ) (m : ℕ) → of_both f o p ≡ Some m → (a : ℕ) × (b : ℕ) × (o ≡ Some a) × (p ≡ Some b) × (f a b ≡ m)
@@ -174,8 +175,20 @@ unmatched re hay i j none le s =
     let v = value_of_IsSome _ (find_complete re hay 0 i j (omega arith) le s) in
     none-some v.0 (sym none ∙ v.1)
 
-module _ (re : Re) (m : ℕ) (is : reach re ≡ Some m) (hay : List ℕ) where
-  -- Where nothing is found in the first n bytes, a search may begin where a match no longer ends in them.
+module _ (re : Re) (m : ℕ) (is : reach (beginning re) ≡ Some m) (hay : List ℕ) where
+  -- where a match begins one does in the front that has the bytes which decide it
+  begins_in_front : (n i j : ℕ) → i + m ≤ n → Matches hay re i j → (k : ℕ) × Matches (take n hay) re i k
+  begins_in_front n i j le s =
+      let start = sooner hay re i j s in
+      later (take n hay) re i start.0 (in_front hay n (beginning re) m i start.0 is le start.1).1
+
+  -- where one begins in the last of the bytes one does in all of them
+  begins_in_all : (d i j : ℕ) → Matches (drop d hay) re i j → (k : ℕ) × Matches hay re (d + i) k
+  begins_in_all d i j s =
+      let start = sooner (drop d hay) re i j s in
+      later hay re (d + i) (d + start.0) (in_all hay d (beginning re) m i start.0 is start.1)
+
+  -- Where nothing is found in the first n bytes, a search may begin where they no longer decide it.
   pub found_behind : (n start : ℕ) → ((i : ℕ) → i < start → i + m ≤ n) → find re (take n hay) 0 ≡ None → find re hay 0 ≡ find re hay start
   unfolding find
   found_behind n start before none =
@@ -184,7 +197,7 @@ module _ (re : Re) (m : ℕ) (is : reach re ≡ Some m) (hay : List ℕ) where
       = λ i lt le.
       let ends = before i lt in
       attempt_none hay re accept i
-      (λ j s. absurd (unmatched re (take n hay) i j none (omega arith) (in_front hay n re m i j is ends s).1)) in
+      (λ j s. let begun = begins_in_front n i j ends s in absurd (unmatched re (take n hay) i begun.0 none (omega arith) begun.1)) in
       ⊎_elim
       (λ (past : length hay < start). first_between_none (attempt hay re accept) 0 (length hay) (λ i ge le. no_match i (omega arith) le)
       ∙ sym (first_between_past (attempt hay re accept) start (length hay) past))
@@ -197,7 +210,7 @@ module _ (re : Re) (m : ℕ) (is : reach re ≡ Some m) (hay : List ℕ) where
       let long = length-drop d hay in
       first_between_none (attempt (drop d hay) re accept) 0 (length (drop d hay))
       (λ i ge le. attempt_none (drop d hay) re accept i
-      (λ j s. absurd (unmatched re hay (d + i) (d + j) none (omega arith) (in_all hay d re m i j is s))))
+      (λ j s. let begun = begins_in_all d i j s in absurd (unmatched re hay (d + i) begun.0 none (omega arith) begun.1)))
 
   -- What isn't found in all bytes isn't found in the last of them.
   pub unfound_in_rest : (d : ℕ) → find re hay 0 ≡ None → find re (drop d hay) 0 ≡ None
@@ -223,7 +236,7 @@ unseen : (o : Option Match) → option_map seen_of o ≡ None → o ≡ None
 unseen None e = refl
 unseen (Some x) e = absurd (none-some _ (sym e))
 
-module _ (a b : Re) (alike : SameCaptures a b) (m : ℕ) (is : reach a ≡ Some m) (hay : List ℕ) (bytes : AreBytes hay) where
+module _ (a b : Re) (alike : SameCaptures a b) (m : ℕ) (is : reach (beginning a) ≡ Some m) (hay : List ℕ) (bytes : AreBytes hay) where
   found_by_either : (l : List ℕ) → AreBytes l → seen_from b l 0 ≡ None → find a l 0 ≡ None
   found_by_either l are none = unseen (find a l 0) (find_alike a b alike l are 0 ∙ none)
 
@@ -242,32 +255,32 @@ abbrev pub FindsFrom : Written → List ℕ → ℕ → Option (List (Option (�
 FindsFrom w bytes start found = IsSomeAnd (read (config_of w.nocase) (chars w.source)) (λ p. Shows (seen_from p.0.value bytes start) found)
 
 module _ (m : ℕ) (hay : List ℕ) (bytes : AreBytes hay) where
-  reading_behind : (o : Option (Nested Re × Names)) → IsSomeAnd o (λ p. HasReach m p.0.value) → (n start : ℕ) → ((i : ℕ) → i < start → i + m ≤ n)
+  reading_behind : (o : Option (Nested Re × Names)) → IsSomeAnd o (λ p. HasOpening m p.0.value) → (n start : ℕ) → ((i : ℕ) → i < start → i + m ≤ n)
       → IsSomeAnd o (λ p. seen_from p.0.value (take n hay) 0 ≡ None) → (found : Option (List (Option (ℕ × ℕ))))
       → IsSomeAnd o (λ p. Shows (seen_from p.0.value hay start) found) → IsSomeAnd o (λ p. Shows (seen_from p.0.value hay 0) found)
   reading_behind None r n start before none found shows = shows
   reading_behind (Some p) r n start before none found shows =
       subst (λ (s : Option Seen). Shows s found) (seen_behind r.0 p.0.value r.1 m r.2 hay bytes n start before none) shows
 
-  reading_in_rest : (o : Option (Nested Re × Names)) → IsSomeAnd o (λ p. HasReach m p.0.value) → (d : ℕ)
+  reading_in_rest : (o : Option (Nested Re × Names)) → IsSomeAnd o (λ p. HasOpening m p.0.value) → (d : ℕ)
       → IsSomeAnd o (λ p. seen_from p.0.value hay 0 ≡ None) → IsSomeAnd o (λ p. seen_from p.0.value (drop d hay) 0 ≡ None)
   reading_in_rest None r d none = none
   reading_in_rest (Some p) r d none = unseen_in_rest r.0 p.0.value r.1 m r.2 hay bytes d none
 
 -- Where a pattern finds nothing in the first n bytes, a search from such a place finds what one from the start does.
-pub found_from : (w : Written) (m : ℕ) → Reaches w m → (bytes : List ℕ) → AreBytes bytes → (n start : ℕ) → ((i : ℕ) → i < start → i + m ≤ n)
+pub found_from : (w : Written) (m : ℕ) → Opens w m → (bytes : List ℕ) → AreBytes bytes → (n start : ℕ) → ((i : ℕ) → i < start → i + m ≤ n)
     → FindsAsWritten w (take n bytes) None → (found : Option (List (Option (ℕ × ℕ)))) → FindsFrom w bytes start found → FindsAsWritten w bytes found
-found_from w m reaches bytes are n start before none found shows =
-    reading_behind m bytes are (read (config_of w.nocase) (chars w.source)) reaches n start before none found shows
+found_from w m opens bytes are n start before none found shows =
+    reading_behind m bytes are (read (config_of w.nocase) (chars w.source)) opens n start before none found shows
 
--- the same where a search begins by what is known of the pattern's reach
-pub found_by_reach : (w : Written) (known : Option ℕ) → IfSome known (Reaches w) → (bytes : List ℕ) → AreBytes bytes → (n start : ℕ)
+-- the same where a search begins by what is known of the pattern's opening
+pub found_by_opening : (w : Written) (known : Option ℕ) → IfSome known (Opens w) → (bytes : List ℕ) → AreBytes bytes → (n start : ℕ)
     → MatchOption known (start ≡ 0) (λ m. start ≡ n - (m - 1)) → (0 < n → IsBounded w → FindsAsWritten w (take n bytes) None)
     → (found : Option (List (Option (ℕ × ℕ)))) → FindsFrom w bytes start found → FindsAsWritten w bytes found
-found_by_reach w None reaches bytes are n start is none found shows = subst (λ (i : ℕ). FindsFrom w bytes i found) is shows
-found_by_reach w (Some m) reaches bytes are n start is none found shows =
+found_by_opening w None opens bytes are n start is none found shows = subst (λ (i : ℕ). FindsFrom w bytes i found) is shows
+found_by_opening w (Some m) opens bytes are n start is none found shows =
     ⊎_elim
-    (λ (some : 0 < n). found_from w m reaches bytes are n start (λ i lt. omega (arith, is)) (none some (m, reaches)) found shows)
+    (λ (some : 0 < n). found_from w m opens bytes are n start (λ i lt. omega (arith, is)) (none some (m, opens)) found shows)
     (λ (le : n ≤ 0).
     let first : start ≡ 0 = omega (arith, is) in
     subst (λ (i : ℕ). FindsFrom w bytes i found) first shows)

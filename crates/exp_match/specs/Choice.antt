@@ -99,7 +99,7 @@ IsListed n (chosen.Pattern k spans) = k < n
 IsListed n chosen.Full = Unit {0}
 IsListed n chosen.None = Unit {0}
 
--- What an entry doesn't find in some bytes it doesn't find in the last of them: all but a regular pattern without a bound of its reach, and a
+-- What an entry doesn't find in some bytes it doesn't find in the last of them: all but a regular pattern without a bound of its opening, and a
 -- glob that begins with `^`.
 abbrev pub Lasts : Want → Type 0
 Lasts (want.Exact text nocase) = Unit {0}

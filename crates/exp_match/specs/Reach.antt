@@ -1,8 +1,9 @@
--- How far a regular pattern reaches: the most bytes that a match takes, where that has a bound and nothing in front of the match matters.
-use Rattle.std.specs.Prelude.{◌≡◌, ℕ, ◌+◌, max, length, Option, Some, None, IfSome, IsSomeAnd, chars}
+-- How many bytes decide whether a match of a regular pattern begins at a place, where that has a bound and nothing in front of the place matters.
+use Rattle.std.specs.Prelude.{◌≡◌, ℕ, ◌+◌, Bool, true, false, ◌&&◌, ◌||◌, if◌then◌else◌, max, length, Option, Some, None, IfSome, IsSomeAnd, chars}
 use Rattle.regex.specs.Patterns.{Re, empty, literal, byte_in, char_in, look, cat, alt, group, plus, Look, End, SameCaptures}
 use Rattle.regex_syntax.specs.Grammar.{read}
 use Rattle.exp_match.specs.Written.{Written, config_of}
+use Rattle.exp_match.specs.declared.reach.Extent.{Extent}
 
 -- of two numbers, where both are there
 abbrev pub of_both : (ℕ → ℕ → ℕ) → Option ℕ → Option ℕ → Option ℕ
@@ -26,18 +27,42 @@ reach (alt a b) = of_both max (reach a) (reach b)
 reach (group n a) = reach a
 reach (plus greedy a) = None
 
+-- it matches the empty text at every place
+abbrev pub is_nullable : Re → Bool
+is_nullable empty = true
+is_nullable (cat a b) = is_nullable a && is_nullable b
+is_nullable (alt a b) = is_nullable a || is_nullable b
+is_nullable (group n a) = is_nullable a
+is_nullable (plus greedy a) = is_nullable a
+is_nullable re = false
+
+-- A pattern of which a match begins at the same places, and which is over sooner: an end that may be empty is left out, and a loop at the end
+-- has one round.
+abbrev pub beginning : Re → Re
+beginning (cat a b) = if is_nullable b then beginning a else cat a (beginning b)
+beginning (alt a b) = alt (beginning a) (beginning b)
+beginning (group n a) = beginning a
+beginning (plus greedy a) = beginning a
+beginning re = re
+
 -- what is known of a pattern's reach: the number, or nothing
 abbrev pub IsReach : Option ℕ → Re → Type 0
 IsReach known re = IfSome known (λ m. reach re ≡ Some m)
 
--- the pattern finds the same as one that reaches m bytes
-abbrev pub HasReach : ℕ → Re → Type 0
-HasReach m a = (re : Re) × SameCaptures re a × (reach re ≡ Some m)
+-- what is known of a pattern
+pub record IsExtent (e : Extent) (re : Re) : Type 0 where
+  pub nullable : e.is_nullable ≡ is_nullable re
+  pub whole : IsReach e.reach re
+  pub begins : IsReach e.opening (beginning re)
 
--- what the grammar reads in the text reaches m bytes
-abbrev pub Reaches : Written → ℕ → Type 0
-Reaches w m = IsSomeAnd (read (config_of w.nocase) (chars w.source)) (λ p. HasReach m p.0.value)
+-- the pattern finds the same as one whose beginning reaches m bytes
+abbrev pub HasOpening : ℕ → Re → Type 0
+HasOpening m a = (re : Re) × SameCaptures re a × (reach (beginning re) ≡ Some m)
 
--- the pattern has a reach
+-- of what the grammar reads in the text m bytes decide whether a match begins
+abbrev pub Opens : Written → ℕ → Type 0
+Opens w m = IsSomeAnd (read (config_of w.nocase) (chars w.source)) (λ p. HasOpening m p.0.value)
+
+-- some number of bytes decides it
 abbrev pub IsBounded : Written → Type 0
-IsBounded w = (m : ℕ) × Reaches w m
+IsBounded w = (m : ℕ) × Opens w m

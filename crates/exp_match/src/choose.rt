@@ -46,8 +46,9 @@ fn alone(span: Option<(usize, usize)>, spans: &mut Spans) -> bool
 }
 
 /// Whether an entry finds anything; where it does, the spans of its first match are written. Where it found nothing in so many bytes of the
-/// front, a match is sought from where it may still end behind them, unless it is a glob that begins with `^` or a regular pattern without a
-/// bound of its reach. A regular pattern takes memory for its matcher, where it has none yet, the others none.
+/// front, a match is sought from where it may still end behind them, or where these bytes don't decide whether a regular pattern's match begins;
+/// unless it is a glob that begins with `^` or a regular pattern without a bound of its opening. A regular pattern takes memory for its matcher,
+/// where it has none yet, the others none.
 fn first_match<'l>(
     alloc: Global,
     matchers: &mut Matchers<'l>,
@@ -95,8 +96,8 @@ impl PatternList {
     /// Tests bytes against the patterns of these groups in listed order: the first that matches; else full, where `full_buffer` is listed in the groups and at least `max` bytes are there; else none.
     ///
     /// Memory is taken for each regular pattern that is met, and for nothing else.
-    pub fn choose(
-        &self,
+    pub fn choose<'l>(
+        &'l self,
         alloc: Global,
         groups: &[usize],
         bytes: &[u8],
@@ -107,15 +108,15 @@ impl PatternList {
         ensures within { IfOk result (IsListed (length self.now.entries)) }
     {
         let mut spans = [None; 10];
-        let mut matchers = Matchers::new(alloc);
+        let mut matchers: Matchers<'l> = Matchers::new(alloc);
         let picked = self.choose_with(alloc, &mut matchers, groups, bytes, 0, max, &mut spans)?;
         Ok(picked.with_spans(&spans))
     }
 
     /// The same, with the spans written where a pattern matches, and with matchers that are kept from a test to the next: a regular pattern
     /// takes memory at its first test alone. In so many bytes of the front nothing was found before, or none were tested: an exact pattern, a
-    /// glob that doesn't begin with `^`, and a regular pattern of which a match has a greatest length and looks at nothing in front of it, look
-    /// at few of them again.
+    /// glob that doesn't begin with `^`, and a regular pattern of which few bytes decide whether a match begins and that looks at nothing in front
+    /// of it, look at few of them again.
     pub fn choose_with<'l>(
         &'l self,
         alloc: Global,

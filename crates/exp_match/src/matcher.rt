@@ -24,8 +24,8 @@ pub(crate) struct RegularMatcher<'r> {
     regex: &'r Regex,
     /// Whether letters match in either case.
     nocase: bool,
-    /// How far it reaches, where that is known.
-    reach: Option<usize>,
+    /// How many bytes decide whether a match begins at a place, where that is known.
+    opening: Option<usize>,
     /// What searches for it.
     matcher: Matcher<'r>,
 }
@@ -33,14 +33,14 @@ pub(crate) struct RegularMatcher<'r> {
 impl<'r> Model for RegularMatcher<'r> {
     ghost use Rattle.std.specs.Prelude.{◌≡◌, IfSome};
     ghost use Rattle.regex.specs.Bytes.{IsReadFromSource, matcher_pattern, regex_config, regex_pattern, regex_source};
-    ghost use Rattle.exp_match.specs.Reach.{Reaches};
+    ghost use Rattle.exp_match.specs.Reach.{Opens};
     ghost use Rattle.exp_match.specs.Written.{Written, config_of};
 
     ghost Value = { Written };
 
     ghost view = { λ m. record { source = regex_source m.regex.now; nocase = m.nocase } };
 
-    ghost invariant = { λ m. (regex_config m.regex.now ≡ config_of m.nocase) × IsReadFromSource m.regex.now × (matcher_pattern m.matcher ≡ regex_pattern m.regex.now) × IfSome m.reach (Reaches (record { source = regex_source m.regex.now; nocase = m.nocase })) };
+    ghost invariant = { λ m. (regex_config m.regex.now ≡ config_of m.nocase) × IsReadFromSource m.regex.now × (matcher_pattern m.matcher ≡ regex_pattern m.regex.now) × IfSome m.opening (Opens (record { source = regex_source m.regex.now; nocase = m.nocase })) };
 }
 
 impl<'r> RegularMatcher<'r> {
@@ -52,7 +52,7 @@ impl<'r> RegularMatcher<'r> {
         Ok(RegularMatcher {
             regex,
             nocase: regular.nocase(),
-            reach: regular.reach(),
+            opening: regular.opening(),
             matcher: regex.matcher(alloc)?,
         })
     }
@@ -65,14 +65,14 @@ impl<'r> RegularMatcher<'r> {
     }
 
     /// Whether there is a match in these bytes; where there is, the spans of the first one, leftmost-first, are written. A pattern of a known
-    /// reach found nothing in so many bytes of the front, or none were sought: it looks at no more of them than it reaches.
+    /// opening found nothing in so many bytes of the front, or none were sought: it looks at no more of them than its opening has.
     pub(crate) fn find(&mut self, bytes: &[u8], sought: usize, spans: &mut Spans) -> bool
         requires { 0 < sought → IsBounded self.old → FindsAsWritten self.old (take sought bytes.now) None }
         ensures written { FindsAsWritten self.old bytes.now (then_some result spans.new) }
         ensures value { then_some result spans.new ≡ find_written self.old bytes.now }
         ensures same { self.new ≡ self.old }
     {
-        let start = start_behind(self.reach, sought);
+        let start = start_behind(self.opening, sought);
         first_match(&mut self.matcher, bytes, start, spans)
     }
 }

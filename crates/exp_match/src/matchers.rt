@@ -48,7 +48,7 @@ impl<'l> Matchers<'l> {
         }
     }
 
-    /// Whether a pattern matches in these bytes; where it does, the spans of its first match are written. A pattern of a known reach found
+    /// Whether a pattern matches in these bytes; where it does, the spans of its first match are written. A pattern of a known opening found
     /// nothing in so many bytes of the front, or none were sought.
     ///
     /// It isn't inlined, nor is `find_newly`: a function pays at entry for the size of its locals, which are large here, and a test of other

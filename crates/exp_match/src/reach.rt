@@ -1,25 +1,25 @@
-//! How far a regular pattern reaches.
+//! How many bytes decide whether a match of a regular pattern begins at a place.
 
-ghost use Rattle.std.specs.Prelude.{◌≡◌, ◌-◌, Bool, map, IfSome, MatchOption};
-ghost use Rattle.regex.specs.Patterns.{Re, cat, alt, repeat, cat_all, alt_all};
-ghost use Rattle.regex_hir.specs.Meaning.{meaning};
-ghost use Rattle.exp_match.specs.Reach.{IsReach, Reaches, look_reach};
+ghost use Rattle.std.specs.Prelude.{◌≡◌, ℕ, ◌-◌, Bool, false, map, Option, IfSome, MatchOption};
+ghost use Rattle.regex.specs.Patterns.{Re, empty, cat, alt, repeat, cat_all, alt_all};
+ghost use Rattle.regex_hir.specs.Meaning.{copies, meaning};
+ghost use Rattle.exp_match.specs.Reach.{IsExtent, IsReach, Opens, beginning, is_nullable, look_reach};
 ghost use Rattle.exp_match.specs.Written.{config_of};
 
 use regex_hir::{Hir, Look};
 use regex_syntax::{Config, Flags, parse};
 use std::alloc::Global;
 
-/// How many bytes a match of a pattern takes at most, where what stands in front of it doesn't matter.
+/// How many bytes decide whether a match of a pattern begins at a place, where what stands in front of it doesn't matter.
 ///
 /// The text is read once more, since a compiled pattern doesn't tell. Where there is no memory for that nothing is known.
-pub(crate) fn reach_of_text(alloc: Global, source: &str, nocase: bool) -> Option<usize>
-    ensures { IfSome result (Reaches (record { source = source.now; nocase = nocase })) }
+pub(crate) fn opening_of_text(alloc: Global, source: &str, nocase: bool) -> Option<usize>
+    ensures { IfSome result (Opens (record { source = source.now; nocase = nocase })) }
 {
     let parsed = parse(alloc, source, &config(nocase)).ok()?;
-    let known = reach(&parsed.hir);
+    let known = extent_of(&parsed.hir);
     drop(parsed);
-    known
+    known.opening
 }
 
 /// How `Regular` has its text read.
@@ -38,31 +38,132 @@ fn config(nocase: bool) -> Config
     }
 }
 
-/// Where a search begins, by the pattern's reach, behind so many bytes in which nothing was found.
-pub(crate) fn start_behind(reach: Option<usize>, sought: usize) -> usize
-    ensures { MatchOption reach (result ≡ 0) (λ m. result ≡ sought - (m - 1)) }
+/// Where a search begins, by the pattern's opening, behind so many bytes in which nothing was found.
+pub(crate) fn start_behind(opening: Option<usize>, sought: usize) -> usize
+    ensures { MatchOption opening (result ≡ 0) (λ m. result ≡ sought - (m - 1)) }
 {
-    match reach {
-        Some(reach) => sought.saturating_sub(reach.saturating_sub(1)),
+    match opening {
+        Some(opening) => sought.saturating_sub(opening.saturating_sub(1)),
         None => 0,
     }
 }
 
-/// The reach of a pattern, or none where it isn't known: it has none, is too great for a number, or a part without one is repeated no time.
-#[cycle(reach)]
-fn reach(hir: &Hir) -> Option<usize>
-    ensures { IsReach result (meaning hir.now) }
+/// What is known of a pattern.
+#[derive(Clone, Copy)]
+struct Extent {
+    /// It matches the empty text at every place.
+    is_nullable: bool,
+    /// The most bytes that a match takes. None where it isn't known: there is no such number, it is too great, or a part without one is repeated no
+    /// time.
+    reach: Option<usize>,
+    /// How many bytes decide whether a match begins: the reach of its beginning. None where it isn't known.
+    opening: Option<usize>,
+}
+
+impl Extent {
+    /// Of a pattern that is its own beginning and that not every place matches.
+    fn of(reach: Option<usize>) -> Extent
+        ensures { (a : Re) → IsReach reach a → is_nullable a ≡ false → beginning a ≡ a → IsExtent result a }
+    {
+        Extent {
+            is_nullable: false,
+            reach,
+            opening: reach,
+        }
+    }
+
+    /// Of the empty pattern.
+    fn empty() -> Extent
+        ensures { IsExtent result empty }
+    {
+        Extent {
+            is_nullable: true,
+            reach: Some(0),
+            opening: Some(0),
+        }
+    }
+
+    /// Of a pattern and one behind it.
+    fn followed_by(self, next: Extent) -> Extent
+        ensures { (a b : Re) → IsExtent self a → IsExtent next b → IsExtent result (cat a b) }
+    {
+        Extent {
+            is_nullable: self.is_nullable && next.is_nullable,
+            reach: sum(self.reach, next.reach),
+            opening: self.opening_before(next),
+        }
+    }
+
+    /// The opening of a pattern and one behind it.
+    fn opening_before(self, next: Extent) -> Option<usize>
+        ensures { (a b : Re) → IsExtent self a → IsExtent next b → IsReach result (beginning (cat a b)) }
+    {
+        if next.is_nullable {
+            self.opening
+        } else {
+            sum(self.reach, next.opening)
+        }
+    }
+
+    /// Of a pattern or another one.
+    fn or(self, other: Extent) -> Extent
+        ensures { (a b : Re) → IsExtent self a → IsExtent other b → IsExtent result (alt a b) }
+    {
+        Extent {
+            is_nullable: self.is_nullable || other.is_nullable,
+            reach: greater(self.reach, other.reach),
+            opening: greater(self.opening, other.opening),
+        }
+    }
+
+    /// Of a pattern under a repetition.
+    fn repeated(self, min: u32, max: Option<u32>) -> Extent
+        ensures { (greedy : Bool) (a : Re) → IsExtent self a → IsExtent result (repeat min max greedy a) }
+    {
+        Extent {
+            is_nullable: self.is_nullable_repeated(min),
+            reach: repeated(self.reach, min, max),
+            opening: self.opening_repeated(min),
+        }
+    }
+
+    /// Whether a pattern under a repetition matches the empty text at every place.
+    fn is_nullable_repeated(self, min: u32) -> bool
+        ensures { (max : Option ℕ) (greedy : Bool) (a : Re) → IsExtent self a → result ≡ is_nullable (repeat min max greedy a) }
+    {
+        if min == 0 {
+            return true;
+        }
+        self.is_nullable
+    }
+
+    /// The opening of a pattern under a repetition, where it takes any byte: all but the last of the least rounds are whole.
+    fn opening_repeated(self, min: u32) -> Option<usize>
+        ensures { (max : Option ℕ) (greedy : Bool) (a : Re) → IsExtent self a → IsReach result (beginning (repeat min max greedy a)) }
+    {
+        if self.is_nullable {
+            return None;
+        }
+        let before = min.checked_sub(1)?;
+        behind_rounds(self.reach, before, self.opening)
+    }
+}
+
+/// What is known of a pattern.
+#[cycle(extent_of)]
+fn extent_of(hir: &Hir) -> Extent
+    ensures { IsExtent result (meaning hir.now) }
 {
     match hir {
-        Hir::Empty => Some(0),
-        Hir::Literal(bytes) => Some(bytes.len()),
-        Hir::Bytes(_) => Some(1),
-        Hir::Chars(_) => Some(4),
-        Hir::Look(look) => reach_of_look(*look),
-        Hir::Repetition { min, max, sub, .. } => repeated(reach(sub), *min, *max),
-        Hir::Capture { sub, .. } => reach(sub),
-        Hir::Concat(subs) => reach_of_all(subs),
-        Hir::Alternation(subs) => reach_of_any(subs),
+        Hir::Empty => Extent::empty(),
+        Hir::Literal(bytes) => Extent::of(Some(bytes.len())),
+        Hir::Bytes(_) => Extent::of(Some(1)),
+        Hir::Chars(_) => Extent::of(Some(4)),
+        Hir::Look(look) => Extent::of(reach_of_look(*look)),
+        Hir::Repetition { min, max, sub, .. } => extent_of(sub).repeated(*min, *max),
+        Hir::Capture { sub, .. } => extent_of(sub),
+        Hir::Concat(subs) => extent_of_all(subs),
+        Hir::Alternation(subs) => extent_of_any(subs),
     }
 }
 
@@ -76,28 +177,28 @@ fn reach_of_look(look: Look) -> Option<usize>
     }
 }
 
-/// The reach of patterns one after another. The loop goes from the last one back, as `cat_all` is built.
-#[cycle(reach)]
-fn reach_of_all(subs: &[Hir]) -> Option<usize>
-    ensures { IsReach result (cat_all (map meaning subs.now)) }
+/// What is known of patterns one after another. The loop goes from the last one back, as `cat_all` is built.
+#[cycle(extent_of)]
+fn extent_of_all(subs: &[Hir]) -> Extent
+    ensures { IsExtent result (cat_all (map meaning subs.now)) }
 {
-    let mut total = Some(0);
+    let mut rest = Extent::empty();
     for i in (0..subs.len()).rev() {
-        total = sum(reach(&subs[i]), total);
+        rest = extent_of(&subs[i]).followed_by(rest);
     }
-    total
+    rest
 }
 
-/// The reach of a choice of patterns. The loop goes from the last one back, as `alt_all` is built, whose end is a class without members.
-#[cycle(reach)]
-fn reach_of_any(subs: &[Hir]) -> Option<usize>
-    ensures { IsReach result (alt_all (map meaning subs.now)) }
+/// What is known of a choice of patterns. The loop goes from the last one back, as `alt_all` is built, whose end is a class without members.
+#[cycle(extent_of)]
+fn extent_of_any(subs: &[Hir]) -> Extent
+    ensures { IsExtent result (alt_all (map meaning subs.now)) }
 {
-    let mut most = Some(1);
+    let mut others = Extent::of(Some(1));
     for i in (0..subs.len()).rev() {
-        most = greater(reach(&subs[i]), most);
+        others = extent_of(&subs[i]).or(others);
     }
-    most
+    others
 }
 
 /// The reach of a pattern and one behind it.
@@ -120,4 +221,14 @@ fn repeated(once: Option<usize>, min: u32, max: Option<u32>) -> Option<usize>
 {
     let rounds = min.max(max?);
     once?.checked_mul(rounds as usize)
+}
+
+/// The reach of so many copies of a pattern and one behind them.
+fn behind_rounds(once: Option<usize>, rounds: u32, last: Option<usize>) -> Option<usize>
+    ensures { (a b : Re) → IsReach once a → IsReach last b → IsReach result (copies rounds a b) }
+{
+    if rounds == 0 {
+        return last;
+    }
+    once?.checked_mul(rounds as usize)?.checked_add(last?)
 }

@@ -2,14 +2,14 @@
 
 ghost use Rattle.std.specs.Prelude.{◌≡◌, true, IsTrue, IfErr, IfOk, IfSome};
 ghost use Rattle.regex.specs.Bytes.{IsReadFromSource, regex_config, regex_source};
-ghost use Rattle.exp_match.specs.Reach.{Reaches};
+ghost use Rattle.exp_match.specs.Reach.{Opens};
 ghost use Rattle.exp_match.specs.Scan.{is_pattern};
 ghost use Rattle.exp_match.specs.Unbuilt.{IsOfText, refusal_of};
 ghost use Rattle.exp_match.specs.Written.{FindsAsWritten, config_of, find_written};
 
 use crate::faults::Refusal;
 use crate::matcher::{RegularMatcher, Spans};
-use crate::reach::reach_of_text;
+use crate::reach::opening_of_text;
 use regex::bytes::Regex;
 use regex::{Error, RegexBuilder};
 use std::alloc::{AllocError, Global};
@@ -23,14 +23,14 @@ pub struct Regular {
     regex: Rc<Regex>,
     /// Whether letters match in either case.
     nocase: bool,
-    /// How far it reaches, where that is known.
-    reach: Option<usize>,
+    /// How many bytes decide whether a match begins at a place, where that is known.
+    opening: Option<usize>,
 }
 
 impl Model for Regular {
     ghost use Rattle.std.specs.Prelude.{◌≡◌, true, IfSome};
     ghost use Rattle.regex.specs.Bytes.{regex_source, regex_config, IsReadFromSource};
-    ghost use Rattle.exp_match.specs.Reach.{Reaches};
+    ghost use Rattle.exp_match.specs.Reach.{Opens};
     ghost use Rattle.exp_match.specs.Scan.{is_pattern};
     ghost use Rattle.exp_match.specs.Written.{Written, config_of};
 
@@ -38,7 +38,7 @@ impl Model for Regular {
 
     ghost view = { λ r. record { source = regex_source r.regex.value; nocase = r.nocase } };
 
-    ghost invariant = { λ r. (regex_config r.regex.value ≡ config_of r.nocase) × IsReadFromSource r.regex.value × (is_pattern (regex_source r.regex.value) ≡ true) × IfSome r.reach (Reaches (record { source = regex_source r.regex.value; nocase = r.nocase })) };
+    ghost invariant = { λ r. (regex_config r.regex.value ≡ config_of r.nocase) × IsReadFromSource r.regex.value × (is_pattern (regex_source r.regex.value) ≡ true) × IfSome r.opening (Opens (record { source = regex_source r.regex.value; nocase = r.nocase })) };
 }
 
 /// What an error of a build counts as.
@@ -65,8 +65,8 @@ impl Regular {
             .case_insensitive(nocase);
         match builder.build_bytes(alloc) {
             Ok(regex) => {
-                let reach = reach_of_text(alloc, source, nocase);
-                Ok(Regular::owned(alloc, regex, nocase, reach)?)
+                let opening = opening_of_text(alloc, source, nocase);
+                Ok(Regular::owned(alloc, regex, nocase, opening)?)
             }
             Err(error) => Err(refusal_for(&error)),
         }
@@ -77,18 +77,18 @@ impl Regular {
         alloc: Global,
         regex: Regex,
         nocase: bool,
-        reach: Option<usize>,
+        opening: Option<usize>,
     ) -> Result<Regular, AllocError>
         requires config { regex_config regex ≡ config_of nocase }
         requires read { IsReadFromSource regex }
         requires pattern { is_pattern (regex_source regex) ≡ true }
-        requires reach { IfSome reach (Reaches (record { source = regex_source regex; nocase = nocase })) }
+        requires opening { IfSome opening (Opens (record { source = regex_source regex; nocase = nocase })) }
         ensures { IfOk result (λ r. r ≡ record { source = regex_source regex; nocase = nocase }) }
     {
         Ok(Regular {
             regex: Rc::new(alloc, regex)?,
             nocase,
-            reach,
+            opening,
         })
     }
 
@@ -99,7 +99,7 @@ impl Regular {
         Ok(Regular {
             regex: self.regex.clone()?,
             nocase: self.nocase,
-            reach: self.reach,
+            opening: self.opening,
         })
     }
 
@@ -133,11 +133,11 @@ impl Regular {
         self.nocase
     }
 
-    /// How many bytes a match takes at most, where that is known and what stands in front of it doesn't matter.
-    pub(crate) fn reach(&self) -> Option<usize>
-        ensures { IfSome result (Reaches self.now) }
+    /// How many bytes decide whether a match begins at a place, where that is known and what stands in front of it doesn't matter.
+    pub(crate) fn opening(&self) -> Option<usize>
+        ensures { IfSome result (Opens self.now) }
     {
-        self.reach
+        self.opening
     }
 
     /// The first match in these bytes with its groups, leftmost-first.

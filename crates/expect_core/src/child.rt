@@ -19,7 +19,7 @@ use std::marker::Model;
 use tcl_values::Value;
 use tcl_words::Text;
 use tty_input::{Actions, Line};
-use tty_output::{Modes, convert, convert_behind};
+use tty_output::{Modes, Seen, convert_behind};
 
 /// Whether a child has an id, and whether commands can still speak to it.
 #[derive(Clone, Copy, Debug, PartialEq, Eq)]
@@ -301,10 +301,10 @@ impl Children {
     }
 
     /// What is seen of an item of a child.
-    pub(crate) fn seen(&self, alloc: Global, i: Place, piece: &[u8]) -> Result<Text, AllocError>
-        ensures { IfOk result (λ t. t ≡ convert (child_in i self.now).remove_nulls (child_in i self.now).line.modes piece.now) }
+    pub(crate) fn seen<'a>(&self, i: Place, piece: &'a [u8]) -> Seen<'a>
+        ensures { result ≡ convert (child_in i self.now).remove_nulls (child_in i self.now).line.modes piece.now }
     {
-        convert(alloc, self.removes_nulls(i), self.modes(i), piece)
+        Seen::new(self.removes_nulls(i), self.modes(i), piece)
     }
 
     /// A text with what is seen of an item of a child behind it.
@@ -348,6 +348,18 @@ impl Children {
         if i < self.list.len() {
             let child = &mut self.list[i];
             child.kept.add(bytes)?;
+        }
+        Ok(())
+    }
+
+    /// Puts output behind the bytes that are kept of a child, as it is seen.
+    pub(crate) fn keep_seen(&mut self, i: Place, seen: Seen<'_>) -> Result<(), AllocError>
+        ensures { OnOk result (self.new ≡ slice_set self.old i (record (child_in i self.old) { kept = record (child_in i self.old).kept { bytes = (child_in i self.old).kept.bytes ++ seen.entry } })) }
+    {
+        let i = i.index();
+        if i < self.list.len() {
+            let child = &mut self.list[i];
+            child.kept.add_seen(seen)?;
         }
         Ok(())
     }

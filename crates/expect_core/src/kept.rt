@@ -11,6 +11,7 @@ use std::alloc::{AllocError, Global};
 use std::marker::Model;
 use tcl_values::Value;
 use tcl_words::Text;
+use tty_output::Seen;
 
 /// Bytes that no expect has taken, and how many of them are kept.
 #[derive(Drop)]
@@ -94,6 +95,17 @@ impl Kept {
         ensures { OnOk result (self.new ≡ record self.old { bytes = self.old.bytes ++ bytes.now }) }
     {
         self.buffer.add(bytes)
+    }
+
+    /// Puts output behind the bytes as it is seen.
+    pub(crate) fn add_seen(&mut self, seen: Seen<'_>) -> Result<(), AllocError>
+        ensures { OnOk result (self.new ≡ record self.old { bytes = self.old.bytes ++ seen.entry }) }
+    {
+        let mut seen = seen;
+        'runs: while let Some(run) = seen.next() {
+            self.buffer.add(run)?;
+        }
+        Ok(())
     }
 
     /// Keeps the last bytes alone.

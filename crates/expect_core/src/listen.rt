@@ -328,16 +328,16 @@ fn hear_all<'l>(
 }
 
 /// Takes items until the patterns decide, or none is there in time.
-pub(crate) fn listen(
+pub(crate) fn listen<'l>(
     alloc: Global,
     times: Times,
-    plan: &Plan,
+    plan: &'l Plan,
     lanes: &mut Lanes,
     own: &mut Own,
 ) -> Result<Box<Heard>, AllocError>
     ensures { IfOk result (λ h. listen_of times.limit times.horizon plan.now lanes.old own.old ≡ (h.value, lanes.new, own.new)) }
 {
-    let mut matchers = Matchers::new(alloc);
+    let mut matchers: Matchers<'l> = Matchers::new(alloc);
     let mut quiet = Quiet::new(alloc, plan.sides.list.len())?;
     let mut sought = Sought::new();
     hear_all(
@@ -353,16 +353,16 @@ pub(crate) fn listen(
 }
 
 /// Tests the kept bytes first.
-pub(crate) fn look(
+pub(crate) fn look<'l>(
     alloc: Global,
     times: Times,
-    plan: &Plan,
+    plan: &'l Plan,
     lanes: &mut Lanes,
     own: &mut Own,
 ) -> Result<Box<Heard>, AllocError>
     ensures { IfOk result (λ h. look_of times.limit times.horizon plan.now lanes.old own.old ≡ (h.value, lanes.new, own.new)) }
 {
-    let mut matchers = Matchers::new(alloc);
+    let mut matchers: Matchers<'l> = Matchers::new(alloc);
     let mut quiet = Quiet::new(alloc, plan.sides.list.len())?;
     let mut sought = Sought::new();
     let tested = test(

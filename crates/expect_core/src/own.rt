@@ -94,11 +94,11 @@ impl Own {
     }
 
     /// What is seen of a piece of a child's output is kept.
-    fn receive_untold(&mut self, alloc: Global, i: Place, piece: &[u8]) -> Result<(), AllocError>
+    fn receive_untold(&mut self, i: Place, piece: &[u8]) -> Result<(), AllocError>
         ensures { OnOk result (self.new ≡ with_bytes i (bytes_of i self.old ++ seen i piece.now self.old) self.old) }
     {
-        let text = self.children.seen(alloc, i, piece)?;
-        self.children.keep(i, text.as_slice())
+        let seen = self.children.seen(i, piece);
+        self.children.keep_seen(i, seen)
     }
 
     /// A piece of a child's output was taken.
@@ -113,7 +113,7 @@ impl Own {
         if self.log_user {
             self.receive_told(alloc, i, piece)
         } else {
-            self.receive_untold(alloc, i, piece)
+            self.receive_untold(i, piece)
         }
     }
 

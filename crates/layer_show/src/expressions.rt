@@ -4,6 +4,7 @@ use crate::complaint::Complaint;
 use crate::spell::push_labelled;
 use std::alloc::Global;
 use tcl_expr::{Expr, ExprFault, Operands, Step, parse};
+use tcl_values::Value;
 use tcl_words::Text;
 
 fn push_fault(alloc: Global, text: &mut Text, fault: &ExprFault) -> Result<(), Complaint> {
@@ -57,7 +58,7 @@ fn push_value(
         };
         text.extend(what)?;
         text.push(b' ')?;
-        log.give(value.copied(alloc)?)?;
+        log.give(Value::from_slice(alloc, value.as_slice())?)?;
     }
     push_step(alloc, text, expr.advance(alloc, &mut log))
 }

@@ -1,9 +1,12 @@
 //! Data gone over by patterns, as a dialogue does it.
 
+ghost use Rattle.std.specs.Prelude.{◌≡◌, ◌<◌, take, IfOk, IsTrue};
+ghost use Rattle.exp_match.specs.Choice.{HasNone, LeavesNone, with_spans};
+
 use crate::calls::number;
 use crate::complaint::Complaint;
 use crate::patterns::{all_groups, values_of};
-use exp_match::{Chosen, PatternList};
+use exp_match::{Matchers, PatternList, Picked, Spans};
 use match_buffer::Buffer;
 use std::alloc::{AllocError, Global};
 use tcl_words::{Text, read_list};
@@ -11,47 +14,87 @@ use tcl_words::{Text, read_list};
 /// How many bytes come at once.
 const PIECE: usize = 4096;
 
-/// The end of what was chosen, where a pattern was.
-fn end_of(chosen: Chosen) -> Option<usize> {
-    match chosen {
-        Chosen::Pattern(_, spans) => spans[0].map(|span| span.1),
-        Chosen::Full => None,
-        Chosen::None => None,
+/// The end of the match that was picked, where one was.
+fn end_of(picked: Picked, spans: &Spans) -> Option<usize> {
+    match picked {
+        Picked::Pattern(_) => spans[0].map(|span| span.1),
+        Picked::Full => None,
+        Picked::None => None,
     }
 }
 
-/// Takes what matches off the buffer, and says how often something did.
-fn matches(
+/// Tests the bytes of a buffer, of which so many of the first ones were tested in vain.
+fn test<'l>(
     alloc: Global,
-    list: &PatternList,
+    list: &'l PatternList,
+    matchers: &mut Matchers<'l>,
     groups: &[usize],
     buffer: &mut Buffer,
-) -> Result<u64, AllocError> {
+    sought: usize,
+    spans: &mut Spans,
+) -> Result<Picked, AllocError>
+    requires { 0 < sought → HasNone list.now.entries groups.now (take sought buffer.old.ring.items) }
+    ensures same { buffer.new ≡ buffer.old }
+    ensures none { IfOk result (λ p. LeavesNone list.now.entries groups.now buffer.old.ring.items (with_spans p spans.new)) }
+{
     let most = buffer.size;
+    list.choose_with(alloc, matchers, groups, buffer.bytes(), sought, most, spans)
+}
+
+/// Takes what matches off the buffer, of whose bytes so many of the first ones were tested in vain. It says how often something did, and whether all bytes
+/// that are left were tested in vain.
+fn matches<'l>(
+    alloc: Global,
+    list: &'l PatternList,
+    matchers: &mut Matchers<'l>,
+    groups: &[usize],
+    buffer: &mut Buffer,
+    sought: usize,
+) -> Result<(u64, bool), AllocError>
+    requires { 0 < sought → HasNone list.now.entries groups.now (take sought buffer.old.ring.items) }
+    ensures { IfOk result (λ r. IsTrue r.1 → HasNone list.now.entries groups.now buffer.new.ring.items) }
+{
     let mut found = 0u64;
+    let mut sought = sought;
     'matches: for _ in 0..buffer.ring().len() {
-        let chosen = list.choose(alloc, groups, buffer.bytes(), most)?;
-        match end_of(chosen) {
+        let mut spans = [None; 10];
+        let picked = test(alloc, list, matchers, groups, buffer, sought, &mut spans)?;
+        if let Picked::None = picked {
+            return Ok((found, true));
+        }
+        match end_of(picked, &spans) {
             Some(end) if 0 < end && end <= buffer.ring().len() => buffer.take(end),
             _ => break,
         }
+        sought = 0;
         found = found.wrapping_add(1);
     }
-    Ok(found)
+    Ok((found, false))
 }
 
-fn scanned(
+fn scanned<'l>(
     alloc: Global,
-    list: &PatternList,
+    list: &'l PatternList,
     mut buffer: Buffer,
     data: &[u8],
 ) -> Result<u64, Complaint> {
     let groups = all_groups(alloc, list)?;
+    let mut matchers: Matchers<'l> = Matchers::new(alloc);
     let mut found = 0u64;
+    let mut sought = 0;
     'pieces: for piece in data.chunks(PIECE) {
         buffer.add(piece)?;
-        found = found.wrapping_add(matches(alloc, list, groups.as_slice(), &mut buffer)?);
+        let (more, in_vain) = matches(
+            alloc,
+            list,
+            &mut matchers,
+            groups.as_slice(),
+            &mut buffer,
+            sought,
+        )?;
+        found = found.wrapping_add(more);
         buffer.trim();
+        sought = if in_vain { buffer.ring().len() } else { 0 };
     }
     Ok(found)
 }

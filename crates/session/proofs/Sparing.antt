@@ -38,7 +38,7 @@ use Rattle.tcl_eval.specs.declared.procedure.Procedure.{Procedure}
 use Rattle.tcl_eval.specs.declared.trail.Origin.{Origin}
 use Rattle.tcl_eval.specs.declared.trail.Origin.TheVariants as origin
 use Rattle.tcl_eval.specs.Tree.{Call, Begin, Resume, AfterWords, AfterBody, Knows, Reply, Stepped, Known, step_of, vars_of, known_of, State, Tree, Over, Ask}
-use Rattle.tcl_eval.specs.Meaning.{Next, Eval, passed, taken, noting, on_ok, on_said, after, on_bool, tested, computed, turn_end, stepped, fill_word, fill_parts, spread, fill_words, value_from, expression, tree_of as expression_of, condition, otherwise, arms, decided, advanced, turned, loop, each, digit, caught, left_scope, left_by_error, scope_end, invalid_name, called_as, called, reserved, defined, after_script, next_body, after_body, host_body, worded, host_words, begun, while_command, for_command, new_proc, proc_command, catch_command, invoked, named, invoke, command, sequence, eval}
+use Rattle.tcl_eval.specs.Meaning.{Next, Eval, passed, taken, noting, on_ok, on_said, after, on_bool, tested, computed, turn_end, stepped, fill_word, fill_parts, spread, fill_words, value_from, expression, tree_of as expression_of, condition, otherwise, arms, decided, advanced, turned, loop, each, digit, caught, left_scope, left_by_error, scope_end, no_command, called, called_or_begun, reserved, defined, after_script, next_body, after_body, host_body, worded, host_words, begun, while_command, for_command, new_proc, proc_command, catch_command, invoked, named, invoke, command, sequence, eval}
 use Rattle.tcl_eval.specs.Suspended.{at_the_end}
 use Rattle.expect_core.specs.declared.dialogue.Dialogue.{Dialogue}
 use Rattle.expect_core.specs.declared.request.Request.{Request}
@@ -266,15 +266,10 @@ module _ (ev : Eval) (evaluates : SparedEval ev) where
       (turn_end-spared (λ st. each ev names groups body k st) k (λ st. each-spared names groups body k st h) h)) h
       o.0 o.1 (record st' { vars = o.2 }))
 
-  called_as-spared : (o : Option Procedure) (name : List ℕ) (args : List (List ℕ)) (k : Next) (st : State) → SparedNext k → SparedTree (called_as ev o name args k st)
-  called_as-spared None name args k st h = h Error (invalid_name name) st
-  called_as-spared (Some p) name args k st h =
+  called-spared : (p : Procedure) (name : List ℕ) (args : List (List ℕ)) (k : Next) (st : State) → SparedNext k → SparedTree (called ev p name args k st)
+  called-spared p name args k st h =
       on_said-spared (entered name p.formals args st.vars) k (λ vars st. ev p.body (scope_end (name ∷ args) k) (record st { vars = vars })) st h
       (λ vars st. evaluates p.body (scope_end (name ∷ args) k) (record st { vars = vars }) (scope_end-spared (name ∷ args) k h))
-
-  called-spared : (words : List (List ℕ)) (k : Next) (st : State) → SparedNext k → SparedTree (called ev words k st)
-  called-spared [] k st h = h Error (invalid_name []) st
-  called-spared (name ∷ args) k st h = called_as-spared (find name st.procs) name args k st h
 
   -- ---- commands of the host
 
@@ -310,7 +305,7 @@ module _ (ev : Eval) (evaluates : SparedEval ev) where
       (λ ws st. host_words-spared ((all_words (commands t)).1) ws k st h)
   begun-spared words Wait k st s h = h Error [] st
   begun-spared words (Stop e) k st s h = s
-  begun-spared words Unknown k st s h = called-spared words k st h
+  begun-spared words Unknown k st s h = h Error (no_command words) st
   begun-spared words Memory k st s h = absurd s
 
   -- ---- commands of the language
@@ -367,8 +362,12 @@ module _ (ev : Eval) (evaluates : SparedEval ev) where
   invoked-spared Catch name args k st h = catch-spared name args k st h
   invoked-spared Exit name args k st h = on_said-spared (exit_status name args) k (λ n st. Over (end.Stopped (ending.Exit n)) st) st h (λ n st. tt)
 
+  called_or_begun-spared : (o : Option Procedure) (name : List ℕ) (args : List (List ℕ)) (k : Next) (st : State) → SparedNext k → SparedTree (called_or_begun ev o name args k st)
+  called_or_begun-spared None name args k st h = λ r s. begun-spared (name ∷ args) (step_of r) k (record st { vars = vars_of r }) s h
+  called_or_begun-spared (Some p) name args k st h = called-spared p name args k st h
+
   named-spared : (o : Option Verb) (name : List ℕ) (args : List (List ℕ)) (k : Next) (st : State) → SparedNext k → SparedTree (named ev o name args k st)
-  named-spared None name args k st h = λ r s. begun-spared (name ∷ args) (step_of r) k (record st { vars = vars_of r }) s h
+  named-spared None name args k st h = called_or_begun-spared (find name st.procs) name args k st h
   named-spared (Some verb) name args k st h = invoked-spared verb name args k st h
 
   invoke-spared : (words : List (List ℕ)) (k : Next) (st : State) → SparedNext k → SparedTree (invoke ev words k st)

@@ -37,7 +37,7 @@ use Rattle.tcl_eval.specs.declared.procedure.Procedure.{Procedure}
 use Rattle.tcl_eval.specs.declared.trail.Origin.{Origin}
 use Rattle.tcl_eval.specs.declared.trail.Origin.TheVariants as origin
 use Rattle.tcl_eval.specs.Tree.{Begin, AfterWords, AfterBody, Knows, step_of, vars_of, known_of, State, Tree, Over, Ask}
-use Rattle.tcl_eval.specs.Meaning.{Next, Eval, passed, taken, noting, on_ok, on_said, after, on_bool, tested, computed, turn_end, stepped, fill_word, fill_parts, spread, fill_words, value_from, expression, tree_of, condition, otherwise, arms, decided, advanced, one_turn, turned, turns, loop, each, digit, caught, left_scope, left_by_error, scope_end, invalid_name, called_as, called, reserved, defined, after_script, after_script_by, one_body, next_body, after_body, host_body, worded, host_words, begun, begin, while_command, for_command, new_proc, proc_command, catch_command, invoked, named, invoke, command, sequence, eval}
+use Rattle.tcl_eval.specs.Meaning.{Next, Eval, passed, taken, noting, on_ok, on_said, after, on_bool, tested, computed, turn_end, stepped, fill_word, fill_parts, spread, fill_words, value_from, expression, tree_of, condition, otherwise, arms, decided, advanced, one_turn, turned, turns, loop, each, digit, caught, left_scope, left_by_error, scope_end, no_command, called, called_or_begun, reserved, defined, after_script, after_script_by, one_body, next_body, after_body, host_body, worded, host_words, begun, begin, while_command, for_command, new_proc, proc_command, catch_command, invoked, named, invoke, command, sequence, eval}
 use Rattle.tcl_eval.specs.Unrolled.{LoopsUnroll, BodiesUnroll}
 
 -- what a code has cost at least
@@ -336,16 +336,11 @@ module _ (ev : Eval) (bounded : IsBounded ev) where
       (λ c v st3 e. h c v st3 (omega arith))))
       (behind_step st'.left st.left k k' l h) o.0 o.1 (record st' { vars = o.2 }) (omega arith))
 
-  called_as-agree : (o : Option Procedure) (name : List ℕ) (args : List (List ℕ)) (k k' : Next) (st : State) → AgreeAll st.left k k' → called_as ev o name args k st ≡ called_as ev o name args k' st
-  called_as-agree None name args k k' st h = h Error (invalid_name name) st (omega arith)
-  called_as-agree (Some p) name args k k' st h =
+  called-agree : (p : Procedure) (name : List ℕ) (args : List (List ℕ)) (k k' : Next) (st : State) → AgreeAll st.left k k' → called ev p name args k st ≡ called ev p name args k' st
+  called-agree p name args k k' st h =
       on_said-agree (entered name p.formals args st.vars) k k'
       (λ vars st. ev p.body (scope_end (name ∷ args) k) (record st { vars = vars })) (λ vars st. ev p.body (scope_end (name ∷ args) k') (record st { vars = vars })) st (with_cost st.left k k' h)
       (λ vars. bounded p.body (scope_end (name ∷ args) k) (scope_end (name ∷ args) k') (record st { vars = vars }) (with_cost st.left (scope_end (name ∷ args) k) (scope_end (name ∷ args) k') (scope_end-agree (name ∷ args) st.left k k' h)))
-
-  called-agree : (words : List (List ℕ)) (k k' : Next) (st : State) → AgreeAll st.left k k' → called ev words k st ≡ called ev words k' st
-  called-agree [] k k' st h = h Error (invalid_name []) st (omega arith)
-  called-agree (name ∷ args) k k' st h = called_as-agree (find name st.procs) name args k k' st h
 
   -- enough scripts of the host are enough
   after_body-agree : (n m : ℕ) (k k' : Next) (c : Code) (v : List ℕ) (st : State) → st.left + cost c ≤ n → st.left + cost c ≤ m → AgreeAll st.left k k' → after_body ev k n c v st ≡ after_body ev k' m c v st
@@ -403,7 +398,7 @@ module _ (ev : Eval) (bounded : IsBounded ev) where
       (λ ws st' l. host_words-agree ((all_words (commands t)).1) ws k k' st' (fewer_all st'.left st.left k k' l h))
   begun-agree words Wait k k' st h = h Error [] st (omega arith)
   begun-agree words (Stop n) k k' st h = refl
-  begun-agree words Unknown k k' st h = called-agree words k k' st h
+  begun-agree words Unknown k k' st h = h Error (no_command words) st (omega arith)
   begun-agree words Memory k k' st h = refl
 
   begin-agree : (words : List (List ℕ)) (k k' : Next) (st : State) → AgreeAll st.left k k' → begin ev words k st ≡ begin ev words k' st
@@ -478,8 +473,12 @@ module _ (ev : Eval) (bounded : IsBounded ev) where
   invoked-agree Exit name args k k' st h =
       on_said-agree (exit_status name args) k k' (λ n st. Over (Stopped (ending.Exit n)) st) (λ n st. Over (Stopped (ending.Exit n)) st) st (with_cost st.left k k' h) (λ n. refl)
 
+  called_or_begun-agree : (o : Option Procedure) (name : List ℕ) (args : List (List ℕ)) (k k' : Next) (st : State) → AgreeAll st.left k k' → called_or_begun ev o name args k st ≡ called_or_begun ev o name args k' st
+  called_or_begun-agree (Some p) name args k k' st h = called-agree p name args k k' st h
+  called_or_begun-agree None name args k k' st h = begin-agree (name ∷ args) k k' st h
+
   named-agree : (o : Option Verb) (name : List ℕ) (args : List (List ℕ)) (k k' : Next) (st : State) → AgreeAll st.left k k' → named ev o name args k st ≡ named ev o name args k' st
-  named-agree None name args k k' st h = begin-agree (name ∷ args) k k' st h
+  named-agree None name args k k' st h = called_or_begun-agree (find name st.procs) name args k k' st h
   named-agree (Some verb) name args k k' st h = invoked-agree verb name args k k' st h
 
   invoke-agree : (words : List (List ℕ)) (k k' : Next) (st : State) → AgreeAll st.left k k' → invoke ev words k st ≡ invoke ev words k' st

@@ -4,7 +4,7 @@ use Rattle.tcl_eval.specs.Tree.{Call, Reply, Tree, follow, Leads}
 use Rattle.tcl_eval.specs.Asked.{EndsInWait, IsWait, WaitsAt, IsReply, IsOverOrAsking, PausesAt, IsAskingOnPause, OnPause}
 use Rattle.tcl_eval.specs.declared.frame.Asked.{Asked}
 use Rattle.tcl_eval.specs.declared.frame.Mode.{Mode}
-use Rattle.tcl_eval.specs.declared.frame.Mode.TheVariants.{Give, Invoke, Run, Begin, AfterWords, AfterBody, Define, Ended}
+use Rattle.tcl_eval.specs.declared.frame.Mode.TheVariants.{Give, Run, Begin, AfterWords, AfterBody, Define, Ended}
 
 -- the tree that is reached, by another name
 pub leads_along : {H : Type 0} (answers : H → Call → Reply → H → Type 0) (rs : List Reply) (tree : Tree) (h : H) (mid to : Tree) (h' : H) → Leads answers rs tree h mid h' → mid ≡ to → Leads answers rs tree h to h'
@@ -30,7 +30,6 @@ ends_in_wait-append (r ∷ q ∷ rs) ss e = ends_in_wait-append (q ∷ rs) ss e
 pub pauses_waiting : (mode : Mode) (r : Reply) → IsOverOrAsking mode → IsWait r → PausesAt mode (r ∷ [])
 pauses_waiting (Ended end) r o e = tt
 pauses_waiting (Give c v) r o e = absurd o
-pauses_waiting (Invoke words depth) r o e = absurd o
 pauses_waiting (Run script depth) r o e = absurd o
 pauses_waiting (Begin words depth resumed) r o e = (e, o)
 pauses_waiting (AfterWords words depth resumed) r o e = (e, o)
@@ -40,7 +39,6 @@ pauses_waiting (Define name formals body) r o e = absurd o
 pub pauses_append : (mode : Mode) (rs ss : List Reply) → PausesAt mode ss → PausesAt mode (rs ++ ss)
 pauses_append (Ended end) rs ss e = tt
 pauses_append (Give c v) rs ss e = (ends_in_wait-append rs ss e.0, e.1)
-pauses_append (Invoke words depth) rs ss e = (ends_in_wait-append rs ss e.0, e.1)
 pauses_append (Run script depth) rs ss e = (ends_in_wait-append rs ss e.0, e.1)
 pauses_append (Begin words depth resumed) rs ss e = (ends_in_wait-append rs ss e.0, e.1)
 pauses_append (AfterWords words depth resumed) rs ss e = (ends_in_wait-append rs ss e.0, e.1)

@@ -1,6 +1,6 @@
 pub mod Bounded
-pub mod Filled
 pub mod First
 pub mod Led
+pub mod Natives
 pub mod Told
 pub mod Walked

@@ -3,12 +3,13 @@ use Rattle.std.specs.Prelude.{◌≡◌, ℕ, suc, ◌<◌, List, [], ◌∷◌,
 use Rattle.tcl_eval.specs.declared.host.HostStep.TheVariants.{Wait}
 use Rattle.tcl_eval.specs.declared.frame.Asked.{Asked}
 use Rattle.tcl_eval.specs.declared.frame.Mode.{Mode}
-use Rattle.tcl_eval.specs.declared.frame.Mode.TheVariants.{Give, Begin, AfterWords, AfterBody, Ended}
+use Rattle.tcl_eval.specs.declared.frame.Mode.TheVariants.{Give, Run, Begin, AfterWords, AfterBody, Ended}
 use Rattle.tcl_eval.specs.Tree.{Call, Reply, Stepped, Known, Tree, Answers}
 
--- nothing is in hand for a frame
+-- nothing is in hand for a frame, and no script is to be begun
 abbrev pub IsSettled : Mode → Type 0
 IsSettled (Give c v) = ⊥
+IsSettled (Run script depth) = ⊥
 IsSettled _ = Unit {0}
 
 abbrev pub IsWait : Reply → Type 0
@@ -57,4 +58,5 @@ OnPause a rs = a.paused ≡ true → PausesAt a.mode rs
 -- what the potential falls below: nothing is in hand
 abbrev pub Falls : Mode → ℕ → ℕ
 Falls (Give c v) n = suc n
+Falls (Run script depth) n = suc n
 Falls _ n = n

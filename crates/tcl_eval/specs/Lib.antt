@@ -1,7 +1,8 @@
 -- What scripts mean, and what is left of a run. To read first: Tree (a meaning is a tree that names the calls of the host, one after
 -- another), Meaning (the tree of a script), Unrolled (what loops mean, with no bound) and Suspended (a run that stops and goes on). Asked, Steps,
--- Evaluated and Advanced have the words of single contracts. Rest says what is left of a machine's frames, and Work that a run comes to an
--- end; Halted and Reached are of expressions and words without scripts: all four are about the machine alone, and can be passed over.
+-- Evaluated and Advanced have the words of single contracts. Rest says what is left of a machine's frames, Native and Standings what is
+-- left where a function has returned, Halted where an expression halts, and Potential that a run comes to an end: these are about the machine
+-- alone, and can be passed over.
 pub mod Tree
 pub mod Meaning
 pub mod Unrolled
@@ -11,6 +12,7 @@ pub mod Steps
 pub mod Evaluated
 pub mod Advanced
 pub mod Rest
-pub mod Work
+pub mod Potential
 pub mod Halted
-pub mod Reached
+pub mod Native
+pub mod Standings

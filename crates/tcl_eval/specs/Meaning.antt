@@ -284,15 +284,15 @@ module _ {A : Type 0} where
 abbrev pub invalid_name : List ℕ → List ℕ
 invalid_name name = quoted (codes "invalid command name ") name
 
-abbrev pub called_as : Eval → Option Procedure → List ℕ → List (List ℕ) → Next → State → Tree
-called_as ev None name args k st = k Error (invalid_name name) st
-called_as ev (Some p) name args k st =
-    on_said (entered name p.formals args st.vars) k (λ vars st. ev p.body (scope_end (name ∷ args) k) (record st { vars = vars })) st
+-- no one has a command of the name
+abbrev pub no_command : List (List ℕ) → List ℕ
+no_command [] = invalid_name []
+no_command (name ∷ args) = invalid_name name
 
--- a procedure by its name, with its arguments
-abbrev pub called : Eval → List (List ℕ) → Next → State → Tree
-called ev [] k st = k Error (invalid_name []) st
-called ev (name ∷ args) k st = called_as ev (find name st.procs) name args k st
+-- a procedure, with its arguments
+abbrev pub called : Eval → Procedure → List ℕ → List (List ℕ) → Next → State → Tree
+called ev p name args k st =
+    on_said (entered name p.formals args st.vars) k (λ vars st. ev p.body (scope_end (name ∷ args) k) (record st { vars = vars })) st
 
 abbrev pub reserved : List ℕ → List ℕ
 reserved name = quoted (codes "can't redefine ") name
@@ -374,7 +374,7 @@ begun ev words (Words text) k st =
     fill_words ev ((all_words (commands text)).0) [] k (λ ws st. host_words ev ((all_words (commands text)).1) k ws st) st
 begun ev words Wait k st = k Error [] st
 begun ev words (Stop e) k st = Over (Stopped e) st
-begun ev words Unknown k st = called ev words k st
+begun ev words Unknown k st = k Error (no_command words) st
 begun ev words Memory k st = Over NoMemory st
 
 abbrev pub begun_by : Eval → List (List ℕ) → Reply → Next → State → Tree
@@ -423,8 +423,13 @@ invoked ev EvalCommand name args k st = on_said (eval_text name args) k (λ text
 invoked ev Catch name args k st = catch_command ev name args k st
 invoked ev Exit name args k st = on_said (exit_status name args) k (λ n st. Over (Stopped (ending.Exit n)) st) st
 
+-- a procedure where there is one of the name, and else a command of the host
+abbrev pub called_or_begun : Eval → Option Procedure → List ℕ → List (List ℕ) → Next → State → Tree
+called_or_begun ev (Some p) name args k st = called ev p name args k st
+called_or_begun ev None name args k st = begin ev (name ∷ args) k st
+
 abbrev pub named : Eval → Option Verb → List ℕ → List (List ℕ) → Next → State → Tree
-named ev None name args k st = begin ev (name ∷ args) k st
+named ev None name args k st = called_or_begun ev (find name st.procs) name args k st
 named ev (Some verb) name args k st = invoked ev verb name args k st
 
 -- a command whose words are filled and that was begun; without words it does nothing

@@ -17,7 +17,7 @@ use Rattle.tcl_eval.specs.declared.frame.Frame.TheVariants.{Sequence, Onward as 
 use Rattle.tcl_eval.specs.declared.frame.Onward.{Onward}
 use Rattle.tcl_eval.specs.declared.frame.Onward.TheVariants.{Fill, Operand, Arms, Next as NextTurn, Start}
 use Rattle.tcl_eval.specs.declared.frame.Mode.{Mode}
-use Rattle.tcl_eval.specs.declared.frame.Mode.TheVariants.{Give, Invoke, Run, Begin, AfterWords, AfterBody, Define, Ended}
+use Rattle.tcl_eval.specs.declared.frame.Mode.TheVariants.{Give, Run, Begin, AfterWords, AfterBody, Define, Ended}
 use Rattle.tcl_eval.specs.declared.engine.Engine.{Engine}
 use Rattle.tcl_eval.specs.declared.trail.Origin.TheVariants as origin
 use Rattle.tcl_eval.specs.declared.meter.Meter.{Meter}
@@ -92,7 +92,6 @@ after_call false c v vars = AfterCall c v vars
 
 abbrev pub mode_rest : Mode → Next → State → Tree
 mode_rest (Give c v) k st = k c v st
-mode_rest (Invoke words depth) k st = invoke (eval depth) words k st
 mode_rest (Run script depth) k st = eval depth script k st
 mode_rest (Begin words depth resumed) k st =
     Ask (begin_call resumed words st.vars) st.left (λ r. begun_by (eval depth) words r k st)

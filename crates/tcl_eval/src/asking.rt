@@ -5,7 +5,7 @@ ghost use Rattle.tcl_eval.specs.Asked.{IsAskingOnPause, IsSettled, WaitsAt, Goes
 ghost use Rattle.tcl_eval.specs.Rest.{engine_rest, begin_call, words_call, after_call};
 ghost use Rattle.tcl_eval.specs.Steps.{left_of};
 ghost use Rattle.tcl_eval.specs.Tree.{Reply, Stepped, follow, Leads};
-ghost use Rattle.tcl_eval.specs.Work.{potential, bodies, credit, again};
+ghost use Rattle.tcl_eval.specs.Potential.{potential, bodies, credit, again};
 
 use crate::engine::Engine;
 use crate::frame::{Asked, Mode};
@@ -18,21 +18,24 @@ use tcl_commands::Code;
 use tcl_values::Value;
 
 impl Engine {
-    /// Hands on until a step was begun, the host is needed or it is over.
+    /// Goes on until the host is needed or it is over.
     fn settle(&mut self, meter: &mut Meter, mode: Mode) -> Result<Mode, AllocError>
         ensures rest { IfOk result (λ m. engine_rest self.new (left_of meter.new) m ≡ engine_rest self.old (left_of meter.old) mode) }
         ensures potential { IfOk result (λ m. potential self.new (left_of meter.new) m ≤ potential self.old (left_of meter.old) mode) }
         ensures settled { IfOk result IsSettled }
         ensures bound { meter.new.bound ≡ meter.old.bound }
     {
-        let mut mode = mode;
-        'hands: loop {
-            match mode {
-                Mode::Give(code, value) => {
-                    mode = self.hand(meter, code, value)?;
-                }
-                other => return Ok(other),
+        match mode {
+            Mode::Give(code, value) => {
+                let mode = self.hand(meter, code, value)?;
+                Ok(mode)
             }
+            Mode::Run { script, depth } => {
+                let out = self.script(meter, &script, depth)?;
+                let mode = self.settle_by(meter, out)?;
+                Ok(mode)
+            }
+            other => Ok(other),
         }
     }
 
@@ -164,8 +167,7 @@ impl Engine {
                 mode: Mode::Ended(end),
                 paused: true,
             }),
-            Mode::Invoke { words, depth } => Ok(on(self.invoke(meter, words, depth)?)),
-            Mode::Run { script, depth } => Ok(on(self.start(script, depth)?)),
+            Mode::Run { script, depth } => Ok(on(Mode::Run { script, depth })),
             Mode::Begin {
                 words,
                 depth,

@@ -3,13 +3,12 @@
 ghost use Rattle.std.specs.Prelude.{◌≡◌, [], IfOk};
 ghost use Rattle.tcl_words.specs.Pieces.{Spelled, word_view};
 ghost use Rattle.tcl_subst.specs.Filling.{fill};
-ghost use Rattle.tcl_subst.specs.Recipes.{begun, steps_onto};
+ghost use Rattle.tcl_subst.specs.Recipes.{IsOnward, begun, steps_onto};
 ghost use Rattle.tcl_subst.specs.Rests.{rest, told};
 ghost use Rattle.tcl_eval.specs.Advanced.{Fills, begun_fill};
 
 use std::alloc::{AllocError, Global};
 use std::rc::Rc;
-use tcl_scripts::KeptWord;
 use tcl_subst::{FillStep, Filler, Recipe, SubstFault, Vars, filling_is_fill, plain_value};
 use tcl_values::Value;
 use tcl_words::Word;
@@ -23,23 +22,6 @@ pub(crate) enum Begun {
     Script(Filler, usize),
     /// It can't be filled.
     Failed(Filler, SubstFault),
-}
-
-/// Begins to fill a word of a command.
-pub(crate) fn begin_kept(
-    alloc: Global,
-    word: &KeptWord,
-    vars: &mut Vars,
-) -> Result<Begun, AllocError>
-    ensures told { IfOk result (λ b. begun_fill b ≡ fill word.now.pieces vars.old) }
-    ensures same { vars.new ≡ vars.old }
-{
-    if let Some(value) = word.plain_value(alloc, vars)? {
-        return Ok(Begun::Full(value));
-    }
-    let filler = word.filler(alloc)?;
-    let begun = begin(alloc, first(filler), vars)?;
-    Ok(begun)
 }
 
 /// Begins to fill an operand of an expression.
@@ -81,7 +63,7 @@ fn begin(alloc: Global, mut filler: Filler, vars: &mut Vars) -> Result<Begun, Al
 }
 
 /// A filler that was just begun.
-fn first(filler: Filler) -> Filler
+pub(crate) fn first(filler: Filler) -> Filler
     ensures { (w : Spelled) → filler ≡ begun (steps_onto w.pieces []) → Fills result w }
 {
     filling_is_fill();
@@ -95,6 +77,7 @@ pub(crate) fn advanced(
     vars: &mut Vars,
 ) -> Result<FillStep, AllocError>
     ensures told { IfOk result (λ s. told (s, filler.new) ≡ rest filler.old vars.old) }
+    ensures onward { IfOk result (λ s. IsOnward filler.old (s, filler.new)) }
     ensures same { vars.new ≡ vars.old }
 {
     filling_is_fill();

@@ -11,7 +11,7 @@ ghost use Rattle.tcl_expr.specs.Value.{outcome, faulty};
 ghost use Rattle.tcl_subst.specs.Filling.{fill};
 ghost use Rattle.tcl_eval.specs.Advanced.{IsTold, begun_fill};
 ghost use Rattle.tcl_eval.specs.Evaluated.{fresh, with_operand};
-ghost use Rattle.tcl_eval.specs.Halted.{HaltsAt, Alike, AlikeWork};
+ghost use Rattle.tcl_eval.specs.Halted.{HaltsAt, Alike, HasGrown};
 
 use crate::advance::Advance;
 use crate::begun::{Begun, begin_operand};
@@ -112,18 +112,17 @@ impl Evaluation {
     }
 
     /// Takes the value of the operand that was needed.
-    pub(crate) fn give(&mut self, alloc: Global, value: Value) -> Result<(), AllocError>
+    pub(crate) fn give(&mut self, value: Value) -> Result<(), AllocError>
         ensures { OnOk result (self.new ≡ with_operand value self.old) }
     {
-        let text = value.into_text(alloc)?;
-        self.log.give(text)
+        self.log.give(value)
     }
 
     /// Goes on until the value is known, a fault is met, or an operand needs a script or can't be filled.
     pub(crate) fn advance(&mut self, alloc: Global, vars: &mut Vars) -> Result<Halt, AllocError>
         ensures halts { IfOk result (λ h. HaltsAt vars.old h self.new) }
         ensures alike { OnOk result (Alike vars.old self.old self.new) }
-        ensures work { OnOk result (AlikeWork vars.old self.old self.new) }
+        ensures grown { OnOk result (HasGrown self.old self.new) }
         ensures same { vars.new ≡ vars.old }
     {
         operands_are_bounded();
@@ -132,7 +131,7 @@ impl Evaluation {
                 Advance::Value(value) => return Ok(Halt::Value(value)),
                 Advance::Fault(fault) => return Ok(Halt::Fault(fault)),
                 Advance::Operand(begun) => match begun {
-                    Begun::Full(value) => self.give(alloc, value)?,
+                    Begun::Full(value) => self.give(value)?,
                     Begun::Script(filler, number) => return Ok(Halt::Script(filler, number)),
                     Begun::Failed(filler, fault) => return Ok(Halt::Failed(filler, fault)),
                 },
@@ -147,7 +146,7 @@ impl Evaluation {
         ensures vars { vars.new ≡ vars.old }
     {
         match self.test.read.expr.advance(alloc, &mut self.log) {
-            Step::Value(text) => Ok(Advance::Value(Value::from_text(alloc, text)?)),
+            Step::Value(value) => Ok(Advance::Value(value)),
             Step::NeedVar(number) => Ok(Advance::Operand(self.operand(alloc, number, vars)?)),
             Step::NeedScript(number) => Ok(Advance::Operand(self.operand(alloc, number, vars)?)),
             Step::Fault(fault) => Ok(Advance::Fault(told(fault)?)),

@@ -1,353 +1,259 @@
 //! How expressions are evaluated.
 
-ghost use Rattle.std.specs.Prelude.{◌≡◌, ◌+◌, ◌≤◌, ◌*◌, ◌∷◌, [], IfOk, if◌then◌else◌};
-ghost use Rattle.tcl_subst.specs.Rests.{told};
-ghost use Rattle.tcl_eval.specs.Evaluated.{fresh, with_operand};
-ghost use Rattle.tcl_eval.specs.Halted.{halted_rest, halted_work};
+ghost use Rattle.std.specs.Prelude.{◌≡◌, ℕ, ◌+◌, ◌≤◌, ◌*◌, Bool, List, [], IfOk};
 ghost use Rattle.tcl_commands.specs.Says.{Says};
-ghost use Rattle.tcl_commands.specs.Texts.{expected_number, expr_fault};
+ghost use Rattle.tcl_commands.specs.Texts.{expr_fault};
+ghost use Rattle.tcl_eval.specs.Evaluated.{with_operand};
+ghost use Rattle.tcl_eval.specs.Meaning.{Next, Eval, eval, on_said, tree_of, expression, condition, tested};
+ghost use Rattle.tcl_eval.specs.Halted.{worth, halted_worth};
+ghost use Rattle.tcl_eval.specs.Native.{worth_rest, word_rest, worked_rest, truth_rest, out_rest, word_weight, worked_weight, truth_weight, out_weight, FewerLeft, HasMore, OneMore, CameIs, TruthIs};
+ghost use Rattle.tcl_eval.specs.Rest.{state_of};
 ghost use Rattle.tcl_eval.specs.Steps.{left_of};
-ghost use Rattle.tcl_eval.specs.Meaning.{eval, fill_word, arms, tree_of, on_said};
-ghost use Rattle.tcl_eval.specs.Rest.{onward_rest, goal_rest, evaluated, turns_left, AnyRestIs, RestIs};
-ghost use Rattle.tcl_eval.specs.Work.{Tick, eval_work, onward_work, word_work, goal_work, evaluated_work, decided_work, arms_work, bodies, credit, potential, AnyWorkIs, WorkIs};
+ghost use Rattle.tcl_eval.specs.Tree.{State, Tree};
 
 use crate::engine::Engine;
 use crate::evaluation::{Evaluation, Test};
-use crate::frame::{End, Frame, Goal, Mode, Onward, Turning};
+use crate::frame::{Frame, Goal, Onward};
 use crate::halt::Halt;
 use crate::meter::Meter;
+use crate::out::{Held, Out, Part, Truth, Word, Worked};
 use crate::read_texts::ReadTexts;
-use crate::words::{resumed, script_of};
+use crate::stops::below;
+use crate::words::unfilled;
 use std::alloc::{AllocError, Global};
-use tcl_commands::{Arms, Code, Complaint, expected_number, expr_fault, said};
-use tcl_expr::{ExprFault, read_truth};
-use tcl_subst::{FillStep, Filler};
+use tcl_commands::{Code, Complaint, expected_number, expr_fault, said};
+use tcl_expr::{ExprFault, operands_are_bounded, read_truth};
+use tcl_subst::Filler;
 use tcl_values::Value;
 
 impl Engine {
     /// Evaluates an expression on.
-    pub(crate) fn express(
+    #[cycle(native)]
+    pub(crate) fn worth(
         &mut self,
         meter: &mut Meter,
-        mut evaluation: Evaluation,
-        goal: Goal,
+        evaluation: &mut Evaluation,
         depth: u32,
-    ) -> Result<Mode, AllocError>
-        ensures rest { RestIs self.old meter.old result self.new meter.new (λ k st. evaluated depth evaluation goal k st) }
-        ensures work { WorkIs self.old meter.old result self.new meter.new (λ k st. evaluated_work (eval_work depth) evaluation goal k st) }
-        ensures potential { IfOk result (λ mode. potential self.new (left_of meter.new) mode ≤ 8 * left_of meter.old + bodies self.old.stack) }
+    ) -> Result<Word, AllocError>
+        ensures kept { self.new.stack ≡ self.old.stack }
+        ensures rest { IfOk result (λ w. (k : Next) (go : List ℕ → State → Tree) → worth_rest (eval depth) w evaluation.new k go (state_of self.new (left_of meter.new)) ≡ worth (eval depth) evaluation.old k go (state_of self.old (left_of meter.old))) }
+        ensures potential { IfOk result (λ w. 8 * left_of meter.new + word_weight w ≤ 8 * left_of meter.old) }
         ensures bound { meter.new.bound ≡ meter.old.bound }
     {
+        'operands: loop {
+            match self.operand(meter, evaluation, depth)? {
+                Worked::More => {}
+                Worked::Full(value) => return Ok(Word::Full(value)),
+                Worked::Gone(code, value) => return Ok(Word::Gone(code, value)),
+                Worked::Stopped(stop, filler) => return Ok(Word::Stopped(stop, filler)),
+            }
+        }
+    }
+
+    /// Evaluates an expression up to an operand that needs a script, and fills that.
+    #[cycle(native)]
+    fn operand(
+        &mut self,
+        meter: &mut Meter,
+        evaluation: &mut Evaluation,
+        depth: u32,
+    ) -> Result<Worked, AllocError>
+        ensures kept { self.new.stack ≡ self.old.stack }
+        ensures rest { IfOk result (λ w. (k : Next) (go : List ℕ → State → Tree) → worked_rest (eval depth) w evaluation.new k go (state_of self.new (left_of meter.new)) ≡ worth (eval depth) evaluation.old k go (state_of self.old (left_of meter.old))) }
+        ensures fewer { IfOk result (λ w. FewerLeft w evaluation.old evaluation.new) }
+        ensures potential { IfOk result (λ w. 8 * left_of meter.new + worked_weight w ≤ 8 * left_of meter.old) }
+        ensures bound { meter.new.bound ≡ meter.old.bound }
+    {
+        operands_are_bounded();
         let halt = evaluation.advance(self.alloc, &mut self.vars)?;
-        let mode = self.express_from(meter, halt, evaluation, goal, depth)?;
-        Ok(mode)
+        let worked = self.halted(meter, halt, evaluation, depth)?;
+        Ok(worked)
     }
 
     /// Goes on where an evaluation halted.
-    fn express_from(
+    #[cycle(native)]
+    fn halted(
         &mut self,
         meter: &mut Meter,
         halt: Halt,
-        evaluation: Evaluation,
-        goal: Goal,
+        evaluation: &mut Evaluation,
         depth: u32,
-    ) -> Result<Mode, AllocError>
-        ensures rest { RestIs self.old meter.old result self.new meter.new (λ k st. halted_rest depth halt evaluation goal k st) }
-        ensures work { WorkIs self.old meter.old result self.new meter.new (λ k st. halted_work (eval_work depth) halt evaluation goal k st) }
-        ensures potential { IfOk result (λ mode. potential self.new (left_of meter.new) mode ≤ 8 * left_of meter.old + bodies self.old.stack) }
+    ) -> Result<Worked, AllocError>
+        ensures kept { self.new.stack ≡ self.old.stack }
+        ensures rest { IfOk result (λ w. (k : Next) (go : List ℕ → State → Tree) → worked_rest (eval depth) w evaluation.new k go (state_of self.new (left_of meter.new)) ≡ halted_worth (eval depth) halt evaluation.old k go (state_of self.old (left_of meter.old))) }
+        ensures fewer { IfOk result (λ w. OneMore halt w evaluation.old evaluation.new) }
+        ensures potential { IfOk result (λ w. 8 * left_of meter.new + worked_weight w ≤ 8 * left_of meter.old) }
         ensures bound { meter.new.bound ≡ meter.old.bound }
     {
         match halt {
-            Halt::Value(value) => {
-                drop(evaluation);
-                self.reached(meter, value, goal, depth)
-            }
+            Halt::Value(value) => Ok(Worked::Full(value)),
             Halt::Script(filler, number) => {
-                self.operand_script(number, evaluation, filler, goal, depth)
+                let word = self.fill_on(meter, filler, Part::Script(number), depth)?;
+                let worked = operand_done(word, evaluation)?;
+                Ok(worked)
             }
             Halt::Failed(filler, fault) => {
-                drop(evaluation);
-                drop(goal);
-                self.not_filled(filler, fault)
+                let text = unfilled(self.alloc, &filler, fault)?;
+                Ok(Worked::Gone(Code::Error, text))
             }
             Halt::Fault(fault) => {
-                drop(evaluation);
-                drop(goal);
-                self.not_evaluated(&fault)
+                let text = fault_text(self.alloc, &fault)?;
+                Ok(Worked::Gone(Code::Error, text))
             }
         }
     }
 
-    /// An expression without a value.
-    fn not_evaluated(&self, fault: &ExprFault) -> Result<Mode, AllocError>
-        ensures { IfOk result (λ mode. mode ≡ Mode.Give Code.Error (expr_fault [] fault.now)) }
-    {
-        let text = expr_fault(self.alloc, &[], fault)?;
-        Ok(Mode::Give(Code::Error, Value::from_text(self.alloc, text)?))
-    }
-
-    /// Fills an operand on, with the value of its script.
-    pub(crate) fn operand_with(
+    /// Whether a condition holds.
+    #[cycle(native)]
+    pub(crate) fn truth(
         &mut self,
         meter: &mut Meter,
-        value: Value,
-        evaluation: Evaluation,
-        mut filler: Filler,
-        goal: Goal,
+        test: Test,
         depth: u32,
-    ) -> Result<Mode, AllocError>
-        ensures rest { RestIs self.old meter.old result self.new meter.new (λ k st. onward_rest (Onward.Operand evaluation filler goal depth) k value st) }
-        ensures work { WorkIs self.old meter.old result self.new meter.new (λ k st. onward_work (Onward.Operand evaluation filler goal depth) k value st) }
-        ensures potential { IfOk result (λ mode. potential self.new (left_of meter.new) mode ≤ 8 * left_of meter.old + bodies self.old.stack) }
+    ) -> Result<Truth, AllocError>
+        ensures kept { self.new.stack ≡ self.old.stack }
+        ensures rest { TruthIs (eval depth) self.old meter.old result self.new meter.new (λ k go st. condition (eval depth) test k go st) }
+        ensures potential { IfOk result (λ t. 8 * left_of meter.new + truth_weight t ≤ 8 * left_of meter.old) }
         ensures bound { meter.new.bound ≡ meter.old.bound }
     {
-        let step = resumed(self.alloc, value, &mut filler, &mut self.vars)?;
-        self.operand_to(meter, step, evaluation, filler, goal, depth)
+        let mut evaluation = Evaluation::new(self.alloc, test);
+        let word = self.worth(meter, &mut evaluation, depth)?;
+        let truth = decided(self.alloc, word, evaluation)?;
+        Ok(truth)
     }
 
-    /// Goes on behind a step of an operand's filler.
-    fn operand_to(
+    /// Whether the condition that a text is holds.
+    #[cycle(native)]
+    pub(crate) fn text_truth(
         &mut self,
         meter: &mut Meter,
-        step: FillStep,
-        evaluation: Evaluation,
-        filler: Filler,
-        goal: Goal,
+        text: &Value,
         depth: u32,
-    ) -> Result<Mode, AllocError>
-        ensures rest { RestIs self.old meter.old result self.new meter.new (λ k st. fill_word (eval depth) (told (step, filler)) k (λ v st. evaluated depth (with_operand v evaluation) goal k st) st) }
-        ensures work { WorkIs self.old meter.old result self.new meter.new (λ k st. word_work (eval_work depth) (told (step, filler)) k (λ v st. evaluated_work (eval_work depth) (with_operand v evaluation) goal k st) st) }
-        ensures potential { IfOk result (λ mode. potential self.new (left_of meter.new) mode ≤ 8 * left_of meter.old + bodies self.old.stack) }
+    ) -> Result<Truth, AllocError>
+        ensures kept { self.new.stack ≡ self.old.stack }
+        ensures rest { TruthIs (eval depth) self.old meter.old result self.new meter.new (λ k go st. on_said (tree_of text.now) k (λ t st. condition (eval depth) t k go st) st) }
+        ensures potential { IfOk result (λ t. 8 * left_of meter.new + truth_weight t ≤ 8 * left_of meter.old) }
         ensures bound { meter.new.bound ≡ meter.old.bound }
     {
-        match step {
-            FillStep::Value(value) => {
-                drop(filler);
-                self.operand_past(meter, value, evaluation, goal, depth)
-            }
-            FillStep::NeedScript(number) => {
-                self.operand_script(number, evaluation, filler, goal, depth)
-            }
-            FillStep::Fault(fault) => {
-                drop(evaluation);
-                drop(goal);
-                self.not_filled(filler, fault)
-            }
-        }
-    }
-
-    /// Goes on behind the value of an operand.
-    fn operand_past(
-        &mut self,
-        meter: &mut Meter,
-        value: Value,
-        mut evaluation: Evaluation,
-        goal: Goal,
-        depth: u32,
-    ) -> Result<Mode, AllocError>
-        ensures rest { RestIs self.old meter.old result self.new meter.new (λ k st. evaluated depth (with_operand value evaluation) goal k st) }
-        ensures work { WorkIs self.old meter.old result self.new meter.new (λ k st. evaluated_work (eval_work depth) (with_operand value evaluation) goal k st) }
-        ensures potential { IfOk result (λ mode. potential self.new (left_of meter.new) mode ≤ 8 * left_of meter.old + bodies self.old.stack) }
-        ensures bound { meter.new.bound ≡ meter.old.bound }
-    {
-        evaluation.give(self.alloc, value)?;
-        self.express(meter, evaluation, goal, depth)
-    }
-
-    /// Starts the script that an operand needs.
-    fn operand_script(
-        &mut self,
-        number: usize,
-        evaluation: Evaluation,
-        filler: Filler,
-        goal: Goal,
-        depth: u32,
-    ) -> Result<Mode, AllocError>
-        ensures rest { AnyRestIs self.old result self.new (λ k st. fill_word (eval depth) (told (FillStep.NeedScript number, filler)) k (λ v st. evaluated depth (with_operand v evaluation) goal k st) st) }
-        ensures work { AnyWorkIs self.old result self.new (λ k st. word_work (eval_work depth) (told (FillStep.NeedScript number, filler)) k (λ v st. evaluated_work (eval_work depth) (with_operand v evaluation) goal k st) st) }
-        ensures potential { IfOk result (λ mode. bodies self.new.stack + credit mode ≤ bodies self.old.stack) }
-    {
-        let script = script_of(&mut self.read, self.alloc, &filler, number);
-        self.stack.push(Frame::Onward(Onward::Operand {
-            evaluation,
-            filler,
-            goal,
-            depth,
-        }))?;
-        let mode = self.start(script?, depth)?;
-        Ok(mode)
-    }
-
-    /// Goes on behind the value of an expression.
-    fn reached(
-        &mut self,
-        meter: &mut Meter,
-        value: Value,
-        goal: Goal,
-        depth: u32,
-    ) -> Result<Mode, AllocError>
-        ensures rest { RestIs self.old meter.old result self.new meter.new (λ k st. goal_rest depth goal k value st) }
-        ensures work { WorkIs self.old meter.old result self.new meter.new (λ k st. goal_work (eval_work depth) goal k value st) }
-        ensures potential { IfOk result (λ mode. potential self.new (left_of meter.new) mode ≤ 8 * left_of meter.old + bodies self.old.stack) }
-        ensures bound { meter.new.bound ≡ meter.old.bound }
-    {
-        match goal {
-            Goal::Result => Ok(Mode::Give(Code::Ok, value)),
-            Goal::Turn(turning) => self.decide_turn(meter, &value, turning, depth),
-            Goal::Arm { body, arms } => self.decide_arm(&value, body, arms, depth),
-        }
-    }
-
-    /// Decides on a turn of a loop by the value of the condition.
-    fn decide_turn(
-        &mut self,
-        meter: &mut Meter,
-        value: &Value,
-        turning: Turning,
-        depth: u32,
-    ) -> Result<Mode, AllocError>
-        ensures rest { RestIs self.old meter.old result self.new meter.new (λ k st. goal_rest depth (Goal.Turn turning) k value.now st) }
-        ensures work { WorkIs self.old meter.old result self.new meter.new (λ k st. goal_work (eval_work depth) (Goal.Turn turning) k value.now st) }
-        ensures potential { IfOk result (λ mode. potential self.new (left_of meter.new) mode ≤ 8 * left_of meter.old + bodies self.old.stack) }
-        ensures bound { meter.new.bound ≡ meter.old.bound }
-    {
-        match read_truth(value.as_slice()) {
-            None => {
-                drop(turning);
-                self.no_truth(value)
-            }
-            Some(holds) => self.turn_or_end(meter, turning, holds, depth),
-        }
-    }
-
-    /// Decides between the body of an `if` and what stands behind it by the value of the condition.
-    fn decide_arm(
-        &mut self,
-        value: &Value,
-        body: Value,
-        arms: Arms,
-        depth: u32,
-    ) -> Result<Mode, AllocError>
-        ensures rest { AnyRestIs self.old result self.new (λ k st. goal_rest depth (Goal.Arm body arms) k value.now st) }
-        ensures work { AnyWorkIs self.old result self.new (λ k st. goal_work (eval_work depth) (Goal.Arm body arms) k value.now st) }
-        ensures potential { IfOk result (λ mode. bodies self.new.stack + credit mode ≤ bodies self.old.stack) }
-    {
-        match read_truth(value.as_slice()) {
-            None => self.no_truth(value),
-            Some(true) => self.start_text(body, depth),
-            Some(false) => self.begin_arms(arms, depth),
-        }
-    }
-
-    /// Begins the conditions that are left.
-    fn begin_arms(&mut self, left: Arms, depth: u32) -> Result<Mode, AllocError>
-        ensures rest { AnyRestIs self.old result self.new (λ k st. arms (eval depth) left.0 left.1 k st) }
-        ensures work { AnyWorkIs self.old result self.new (λ k st. Tick (arms_work (eval_work depth) left.0 left.1 k st)) }
-        ensures potential { IfOk result (λ mode. bodies self.new.stack + credit mode ≤ bodies self.old.stack) }
-    {
-        self.stack
-            .push(Frame::Onward(Onward::Arms { arms: left, depth }))?;
-        Ok(Mode::Give(Code::Ok, Value::new(self.alloc)))
-    }
-
-    /// A value that is no truth value.
-    fn no_truth(&mut self, value: &Value) -> Result<Mode, AllocError>
-        ensures value { IfOk result (λ mode. mode ≡ Mode.Give Code.Error (expected_number value.now)) }
-        ensures same { self.new ≡ self.old }
-    {
-        let text = expected_number(self.alloc, value.as_slice())?;
-        Ok(Mode::Give(Code::Error, Value::from_text(self.alloc, text)?))
-    }
-
-    /// Begins a turn where the condition holds.
-    fn turn_or_end(
-        &mut self,
-        meter: &mut Meter,
-        turning: Turning,
-        holds: bool,
-        depth: u32,
-    ) -> Result<Mode, AllocError>
-        ensures rest { RestIs self.old meter.old result self.new meter.new (λ k st. turns_left depth turning k holds st) }
-        ensures work { WorkIs self.old meter.old result self.new meter.new (λ k st. decided_work holds k st) }
-        ensures potential { IfOk result (λ mode. potential self.new (left_of meter.new) mode ≤ 8 * left_of meter.old + bodies self.old.stack) }
-        ensures bound { meter.new.bound ≡ meter.old.bound }
-    {
-        if !holds {
-            return Ok(Mode::Give(Code::Ok, Value::new(self.alloc)));
-        }
-        if !meter.begin() {
-            return Ok(Mode::Ended(End::StepLimit));
-        }
-        let Turning {
-            test,
-            body,
-            next,
-            bound,
-        } = turning;
-        if bound == 0 {
-            return Ok(Mode::Ended(End::StepLimit));
-        }
-        let script = body.shared()?;
-        self.stack.push(Frame::Turn {
-            turning: Turning {
-                test,
-                body,
-                next,
-                bound: bound - 1,
-            },
-            depth,
-        })?;
-        Ok(Mode::Run { script, depth })
-    }
-
-    /// Goes on with the conditions of an `if` that are left.
-    pub(crate) fn arms(
-        &mut self,
-        meter: &mut Meter,
-        mut left: Arms,
-        depth: u32,
-    ) -> Result<Mode, AllocError>
-        ensures rest { RestIs self.old meter.old result self.new meter.new (λ k st. arms (eval depth) left.0 left.1 k st) }
-        ensures work { WorkIs self.old meter.old result self.new meter.new (λ k st. arms_work (eval_work depth) left.0 left.1 k st) }
-        ensures potential { IfOk result (λ mode. potential self.new (left_of meter.new) mode ≤ 8 * left_of meter.old + bodies self.old.stack) }
-        ensures bound { meter.new.bound ≡ meter.old.bound }
-    {
-        match left.take() {
-            None => match left.otherwise() {
-                None => Ok(Mode::Give(Code::Ok, Value::new(self.alloc))),
-                Some(body) => self.start_text(body, depth),
-            },
-            Some((test, body)) => {
-                let mode = self.arm(meter, test, Goal::Arm { body, arms: left }, depth)?;
-                Ok(mode)
-            }
-        }
-    }
-
-    /// Evaluates the expression of a text.
-    pub(crate) fn arm(
-        &mut self,
-        meter: &mut Meter,
-        text: Value,
-        goal: Goal,
-        depth: u32,
-    ) -> Result<Mode, AllocError>
-        ensures rest { RestIs self.old meter.old result self.new meter.new (λ k st. on_said (tree_of text) k (λ t st. evaluated depth (fresh t) goal k st) st) }
-        ensures work { WorkIs self.old meter.old result self.new meter.new (λ k st. on_said (tree_of text) k (λ t st. evaluated_work (eval_work depth) (fresh t) goal k st) st) }
-        ensures potential { IfOk result (λ mode. potential self.new (left_of meter.new) mode ≤ 8 * left_of meter.old + bodies self.old.stack) }
-        ensures bound { meter.new.bound ≡ meter.old.bound }
-    {
-        match said(self.alloc, read_test(&mut self.read, self.alloc, &text))? {
+        match said(self.alloc, read_test(&mut self.read, self.alloc, text))? {
             Ok(test) => {
-                let evaluation = Evaluation::new(self.alloc, test);
-                self.express(meter, evaluation, goal, depth)
+                let truth = self.truth(meter, test, depth)?;
+                Ok(truth)
             }
-            Err(text) => {
-                drop(goal);
-                Ok(Mode::Give(Code::Error, text))
-            }
+            Err(text) => Ok(Truth::Gone(Code::Error, text)),
         }
     }
+
+    /// The value of an expression, as a command's.
+    #[cycle(native)]
+    pub(crate) fn result(
+        &mut self,
+        meter: &mut Meter,
+        test: Test,
+        depth: u32,
+    ) -> Result<Out, AllocError>
+        ensures kept { self.new.stack ≡ self.old.stack }
+        ensures rest { CameIs self.old meter.old result self.new meter.new (λ k st. expression (eval depth) test k (λ v st. k Code.Ok v st) st) }
+        ensures potential { IfOk result (λ out. 8 * left_of meter.new + out_weight out ≤ 8 * left_of meter.old) }
+        ensures bound { meter.new.bound ≡ meter.old.bound }
+    {
+        let mut evaluation = Evaluation::new(self.alloc, test);
+        let word = self.worth(meter, &mut evaluation, depth)?;
+        let out = resulted(word, evaluation, depth)?;
+        Ok(out)
+    }
+}
+
+/// Takes what came of an operand that was needed.
+pub(crate) fn operand_done(word: Word, evaluation: &mut Evaluation) -> Result<Worked, AllocError>
+    ensures rest { IfOk result (λ w. (ev : Eval) (k : Next) (go : List ℕ → State → Tree) (st : State) → worked_rest ev w evaluation.new k go st ≡ word_rest ev word k (λ v st. worth ev (with_operand v evaluation.old) k go st) st) }
+    ensures more { IfOk result (λ w. HasMore w evaluation.old evaluation.new) }
+    ensures weight { IfOk result (λ w. worked_weight w ≤ word_weight word) }
+{
+    match word {
+        Word::Full(value) => {
+            evaluation.give(value)?;
+            Ok(Worked::More)
+        }
+        Word::Gone(code, value) => Ok(Worked::Gone(code, value)),
+        Word::Stopped(stop, filler) => Ok(Worked::Stopped(stop, filler)),
+    }
+}
+
+/// Decides by what came of a condition.
+pub(crate) fn decided(
+    alloc: Global,
+    word: Word,
+    evaluation: Evaluation,
+) -> Result<Truth, AllocError>
+    ensures rest { IfOk result (λ t. (ev : Eval) (k : Next) (go : Bool → State → Tree) (st : State) → truth_rest ev t k go st ≡ worth_rest ev word evaluation k (λ v st. tested v k go st) st) }
+    ensures weight { IfOk result (λ t. truth_weight t ≤ word_weight word) }
+{
+    match word {
+        Word::Full(value) => truth_of(alloc, &value),
+        Word::Gone(code, value) => Ok(Truth::Gone(code, value)),
+        Word::Stopped(stop, filler) => {
+            let held = Box::new(alloc, Held { evaluation, filler })?;
+            Ok(Truth::Stopped(stop, held))
+        }
+    }
+}
+
+/// The truth value that a value is.
+fn truth_of(alloc: Global, value: &Value) -> Result<Truth, AllocError>
+    ensures rest { IfOk result (λ t. (ev : Eval) (k : Next) (go : Bool → State → Tree) (st : State) → truth_rest ev t k go st ≡ tested value.now k go st) }
+    ensures weight { IfOk result (λ t. truth_weight t ≡ 0) }
+{
+    match read_truth(value.as_slice()) {
+        Some(holds) => Ok(Truth::Holds(holds)),
+        None => {
+            let text = expected_number(alloc, value.as_slice())?;
+            Ok(Truth::Gone(Code::Error, Value::from_text(alloc, text)?))
+        }
+    }
+}
+
+/// The result of a command by what came of its expression.
+pub(crate) fn resulted(word: Word, evaluation: Evaluation, depth: u32) -> Result<Out, AllocError>
+    ensures rest { IfOk result (λ out. (k : Next) (st : State) → out_rest out k st ≡ worth_rest (eval depth) word evaluation k (λ v st. k Code.Ok v st) st) }
+    ensures weight { IfOk result (λ out. out_weight out ≤ word_weight word) }
+{
+    match word {
+        Word::Full(value) => Ok(Out::Came(Code::Ok, value)),
+        Word::Gone(code, value) => Ok(Out::Came(code, value)),
+        Word::Stopped(stop, filler) => {
+            let filler = Box::into_inner(filler);
+            let out = below(stop, operand_frame(evaluation, filler, Goal::Result, depth))?;
+            Ok(out)
+        }
+    }
+}
+
+/// What is done behind a script of an operand.
+fn operand_frame(evaluation: Evaluation, filler: Filler, goal: Goal, depth: u32) -> Frame
+    ensures { result ≡ Frame.Onward (Onward.Operand evaluation filler goal depth) }
+{
+    Frame::Onward(Onward::Operand {
+        evaluation,
+        filler,
+        goal,
+        depth,
+    })
+}
+
+/// The same, of an expression that is held.
+pub(crate) fn held_frame(held: Box<Held>, goal: Goal, depth: u32) -> Frame
+    ensures { result ≡ Frame.Onward (Onward.Operand held.value.evaluation held.value.filler.value goal depth) }
+{
+    let Held { evaluation, filler } = Box::into_inner(held);
+    operand_frame(evaluation, Box::into_inner(filler), goal, depth)
+}
+
+/// The text of an expression's fault.
+fn fault_text(alloc: Global, fault: &ExprFault) -> Result<Value, AllocError>
+    ensures { IfOk result (λ text. text ≡ expr_fault [] fault.now) }
+{
+    Value::from_text(alloc, expr_fault(alloc, &[], fault)?)
 }
 
 /// The expression that a text is, or the text of its fault.

@@ -1,8 +1,11 @@
 //! What a machine still has to do.
 
+ghost use Rattle.std.specs.Prelude.{◌≡◌, IfOk};
+
 use crate::ending::Ending;
 use crate::evaluation::{Evaluation, Test};
 use crate::values::Values;
+use std::alloc::AllocError;
 use tcl_commands::{Arms, Code, Groups};
 use tcl_scripts::{Script, Words};
 use tcl_subst::Filler;
@@ -23,7 +26,7 @@ pub enum End {
 }
 
 /// What is done with words once they are filled.
-#[derive(Drop)]
+#[derive(Clone, Copy)]
 pub enum Then {
     /// They are a command.
     Command,
@@ -42,6 +45,33 @@ pub struct Turning {
     pub next: Option<Script>,
     /// At most so many turns are left: as many as there were steps when it began.
     pub bound: u64,
+}
+
+impl Turning {
+    /// The same loop. Nothing is copied.
+    pub(crate) fn shared(&self) -> Result<Turning, AllocError>
+        ensures { IfOk result (λ t. t ≡ self.now) }
+    {
+        let test = self.test.shared()?;
+        let body = self.body.shared()?;
+        let next = shared_next(&self.next)?;
+        Ok(Turning {
+            test,
+            body,
+            next,
+            bound: self.bound,
+        })
+    }
+}
+
+/// The script behind a turn, shared.
+fn shared_next(next: &Option<Script>) -> Result<Option<Script>, AllocError>
+    ensures { IfOk result (λ s. s ≡ next.now) }
+{
+    match next {
+        None => Ok(None),
+        Some(script) => Ok(Some(script.shared()?)),
+    }
 }
 
 /// What is done with the value of an expression.
@@ -137,11 +167,6 @@ pub enum Frame {
 pub enum Mode {
     /// Hands a code and a value to the top frame.
     Give(Code, Value),
-    /// Carries out a command that was begun.
-    Invoke {
-        words: Values,
-        depth: u32,
-    },
     /// Evaluates a script.
     Run {
         script: Script,

@@ -7,9 +7,9 @@
 #![tactic(auto)]
 
 mod advance;
+mod arms;
 mod asking;
 mod begun;
-mod commands;
 mod ending;
 mod engine;
 mod evaluation;
@@ -21,13 +21,18 @@ mod laws;
 mod loops;
 mod machine;
 mod meter;
+mod out;
 mod pile;
 mod places;
 mod procedure;
 mod procs;
-mod reached;
 mod read_texts;
 mod replies;
+mod resuming;
+mod scripts;
+mod stops;
+mod task;
+mod tasks;
 mod trail;
 mod values;
 mod words;

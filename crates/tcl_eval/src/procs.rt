@@ -1,14 +1,17 @@
 //! Procedures and `catch`.
 
-ghost use Rattle.std.specs.Prelude.{◌≡◌, ◌+◌, ◌≤◌, ◌*◌, ◌∷◌, [], drop, IfOk, ◌≢◌};
+ghost use Rattle.std.specs.Prelude.{◌≡◌, ◌+◌, ◌≤◌, ◌*◌, ◌∷◌, [], drop, IfOk, ◌≢◌, ℕ};
 ghost use Rattle.tcl_commands.specs.Texts.{quoted, not_set};
-ghost use Rattle.tcl_eval.specs.Meaning.{eval, caught, digit, invalid_name, scope_end, outside_loop, reserved, called, defined};
-ghost use Rattle.tcl_eval.specs.Rest.{AnyRestIs};
-ghost use Rattle.tcl_eval.specs.Work.{bodies, credit, again, AnyWorkIs};
+ghost use Rattle.tcl_eval.specs.Meaning.{eval, caught, digit, Next, no_command, passed, scope_end, outside_loop, reserved, defined};
+ghost use Rattle.tcl_eval.specs.Rest.{AnyRestIs, state_of};
+ghost use Rattle.tcl_eval.specs.Native.{entry_rest, other_command, out_weight, AnyCameIs};
+ghost use Rattle.tcl_eval.specs.Potential.{bodies, credit, again};
 
 use crate::engine::Engine;
 use crate::frame::{Frame, Mode};
+use crate::out::Out;
 use crate::procedure::Procedure;
+use crate::task::Entry;
 use crate::trail::Origin;
 use crate::values::Values;
 use std::alloc::{AllocError, Global};
@@ -50,55 +53,65 @@ fn named(alloc: Global, front: &[u8], name: &[u8]) -> Result<Value, AllocError>
 }
 
 impl Engine {
-    /// Goes on behind the script of a `catch`.
-    pub(crate) fn caught(
+    /// What follows the script of a `catch` that came to this.
+    pub(crate) fn caught_as(
         &mut self,
         name: Option<Value>,
         code: Code,
         value: Value,
-    ) -> Result<Mode, AllocError>
-        ensures rest { AnyRestIs self.old result self.new (λ k st. caught name k code value st) }
-        ensures work { AnyWorkIs self.old result self.new (λ k st. caught name k code value st) }
-        ensures potential { IfOk result (λ mode. bodies self.new.stack + credit mode ≤ bodies self.old.stack) }
+    ) -> Result<Out, AllocError>
+        ensures kept { self.new.stack ≡ self.old.stack }
+        ensures rest { AnyCameIs self.old result self.new (λ k st. caught name k code value st) }
+        ensures weight { IfOk result (λ out. out_weight out ≡ 0) }
     {
         self.trail.clear();
         let Some(name) = name else {
-            return Ok(Mode::Give(Code::Ok, self.value(digit(code))?));
+            return Ok(Out::Came(Code::Ok, self.value(digit(code))?));
         };
         match self.vars.set(name.as_slice(), value) {
-            Ok(()) => Ok(Mode::Give(Code::Ok, self.value(digit(code))?)),
+            Ok(()) => Ok(Out::Came(Code::Ok, self.value(digit(code))?)),
             Err(fault) => {
                 let text = not_set_text(self.alloc, name.as_slice(), fault)?;
-                Ok(Mode::Give(Code::Error, text))
+                Ok(Out::Came(Code::Error, text))
             }
         }
     }
 
     /// Goes on behind the body of a procedure that these words called.
-    pub(crate) fn scope_end(
+    pub(crate) fn leave_scope(
         &mut self,
         words: Values,
         code: Code,
         value: Value,
-    ) -> Result<Mode, AllocError>
-        ensures rest { AnyRestIs self.old result self.new (λ k st. scope_end words k code value st) }
-        ensures work { AnyWorkIs self.old result self.new (λ k st. scope_end words k code value st) }
-        ensures potential { IfOk result (λ mode. bodies self.new.stack + credit mode ≤ bodies self.old.stack + again code) }
+    ) -> Result<Out, AllocError>
+        ensures kept { self.new.stack ≡ self.old.stack }
+        ensures rest { AnyCameIs self.old result self.new (λ k st. scope_end words k code value st) }
+        ensures weight { IfOk result (λ out. out_weight out ≤ again code) }
     {
         self.leave();
         match code {
-            Code::Error => self.hand_on(Origin::Procedure { words }, value),
-            Code::Return => Ok(Mode::Give(Code::Ok, value)),
+            Code::Error => self.error_out(words, value),
+            Code::Return => Ok(Out::Came(Code::Ok, value)),
             Code::Break => {
                 let text = outside_loop(self.alloc, b"break")?;
-                self.hand_on(Origin::Procedure { words }, text)
+                self.error_out(words, text)
             }
             Code::Continue => {
                 let text = outside_loop(self.alloc, b"continue")?;
-                self.hand_on(Origin::Procedure { words }, text)
+                self.error_out(words, text)
             }
-            _ => Ok(Mode::Give(code, value)),
+            _ => Ok(Out::Came(code, value)),
         }
+    }
+
+    /// An error leaves a procedure that these words called.
+    fn error_out(&mut self, words: Values, text: Value) -> Result<Out, AllocError>
+        ensures kept { self.new.stack ≡ self.old.stack }
+        ensures rest { AnyCameIs self.old result self.new (λ k st. k Code.Error text (passed (Origin.Procedure words) st)) }
+        ensures weight { IfOk result (λ out. out_weight out ≡ 0) }
+    {
+        self.trail.push(Origin::Procedure { words })?;
+        Ok(Out::Came(Code::Error, text))
     }
 
     /// Ends the current scope, where it isn't the outermost one.
@@ -110,36 +123,24 @@ impl Engine {
         }
     }
 
-    /// There is no procedure of a name.
-    fn no_procedure(&self, name: &[u8]) -> Result<Mode, AllocError>
-        ensures { IfOk result (λ mode. mode ≡ Mode.Give Code.Error (invalid_name name.now)) }
-    {
-        let text = named(self.alloc, b"invalid command name ", name)?;
-        Ok(Mode::Give(Code::Error, text))
-    }
-
-    /// Calls the procedure of a name.
-    pub(crate) fn call(&mut self, words: Values, depth: u32) -> Result<Mode, AllocError>
-        ensures rest { AnyRestIs self.old result self.new (λ k st. called (eval depth) words k st) }
-        ensures potential { IfOk result (λ mode. bodies self.new.stack + credit mode ≤ bodies self.old.stack + 1) }
+    /// Enters the procedure that has the name of a command, where there is one.
+    pub(crate) fn enter(&mut self, words: &Values) -> Result<Entry, AllocError>
+        ensures kept { self.new.stack ≡ self.old.stack }
+        ensures rest { IfOk result (λ e. (depth left : ℕ) (k : Next) → entry_rest (eval depth) words.now e k (state_of self.new left) ≡ other_command (eval depth) words.now k (state_of self.old left)) }
     {
         let Some((name, args)) = words.as_slice().split_first() else {
-            let text = named(self.alloc, b"invalid command name ", &[])?;
-            return Ok(Mode::Give(Code::Error, text));
+            return Ok(Entry::Done(Code::Ok, Value::new(self.alloc)));
         };
         let name = name.as_slice();
         let Some(procedure) = self.procs.get(name) else {
-            return self.no_procedure(name);
+            return Ok(Entry::Host);
         };
         let script = procedure.body.shared()?;
         match enter(self.alloc, name, &procedure.formals, args, &mut self.vars) {
-            Ok(()) => {
-                self.stack.push(Frame::Scope { words })?;
-                Ok(Mode::Run { script, depth })
-            }
+            Ok(()) => Ok(Entry::Body(script)),
             Err(Complaint::Said(text)) => {
                 let text = Value::from_text(self.alloc, text)?;
-                Ok(Mode::Give(Code::Error, text))
+                Ok(Entry::Done(Code::Error, text))
             }
             Err(Complaint::Memory) => Err(AllocError),
         }
@@ -200,4 +201,14 @@ pub(crate) fn reserved(alloc: Global, name: &[u8]) -> Result<Value, AllocError>
     ensures { IfOk result (λ v. v ≡ reserved name.now) }
 {
     named(alloc, b"can't redefine ", name)
+}
+
+/// No one has a command of the name.
+pub(crate) fn no_command(alloc: Global, words: &Values) -> Result<Value, AllocError>
+    ensures { IfOk result (λ v. v ≡ no_command words.now) }
+{
+    match words.as_slice() {
+        [] => named(alloc, b"invalid command name ", &[]),
+        [name, ..] => named(alloc, b"invalid command name ", name.as_slice()),
+    }
 }

@@ -5,13 +5,14 @@ ghost use Rattle.tcl_eval.specs.Asked.{WaitsAt, GoesDown, IsAskingOnPause};
 ghost use Rattle.tcl_eval.specs.Rest.{engine_rest, AnyRestIs, RestIs};
 ghost use Rattle.tcl_eval.specs.Steps.{left_of};
 ghost use Rattle.tcl_eval.specs.Tree.{Stepped, follow};
-ghost use Rattle.tcl_eval.specs.Work.{potential, bodies, credit, again};
+ghost use Rattle.tcl_eval.specs.Potential.{potential, bodies, credit, again};
 ghost use Rattle.tcl_eval.specs.Meaning.{eval, after_body, begun, after_script, next_body};
 
 use crate::engine::Engine;
 use crate::frame::{Asked, End, Frame, Mode, Then};
 use crate::host::HostStep;
 use crate::meter::Meter;
+use crate::procs::no_command;
 use crate::values::Values;
 use std::alloc::AllocError;
 use tcl_commands::Code;
@@ -46,8 +47,11 @@ impl Engine {
     {
         let script = self.read.script_of(self.alloc, &text)?;
         let (words, fault) = script.all_words(self.alloc)?;
-        let done = Values::new(self.alloc);
-        let mode = self.fill(meter, words, 0, done, Then::List(fault), depth)?;
+        let mut done = Values::new(self.alloc);
+        let then = Then::List(fault);
+        let filled = self.words(meter, &words, 0, &mut done, then, depth)?;
+        let out = self.worded(meter, filled, done, then, depth)?;
+        let mode = self.settle_by(meter, out)?;
         Ok(mode)
     }
 
@@ -86,8 +90,8 @@ impl Engine {
             }),
             HostStep::Stop(ending) => Ok(on(Mode::Ended(End::Stopped(ending)))),
             HostStep::Unknown => {
-                let mode = self.call(words, depth)?;
-                Ok(on(mode))
+                let text = no_command(self.alloc, &words)?;
+                Ok(on(Mode::Give(Code::Error, text)))
             }
             HostStep::Memory => Ok(on(Mode::Ended(End::Memory))),
         }

@@ -1,6 +1,6 @@
 //! Values in order.
 
-ghost use Rattle.std.specs.Prelude.{◌≡◌, ◌++◌, ◌∷◌, [], length, take, OnErr, OnOk};
+ghost use Rattle.std.specs.Prelude.{◌≡◌, ◌++◌, ◌∷◌, [], length, take, IfOk, OnErr, OnOk};
 
 use std::alloc::{AllocError, Global};
 use std::marker::Model;
@@ -29,6 +29,15 @@ impl Values {
         Values {
             list: Vec::new(alloc),
         }
+    }
+
+    /// No values, with room for so many.
+    pub(crate) fn with_room(alloc: Global, count: usize) -> Result<Values, AllocError>
+        ensures { IfOk result (λ v. v ≡ []) }
+    {
+        Ok(Values {
+            list: Vec::with_capacity(alloc, count)?,
+        })
     }
 
     /// The values, in order.

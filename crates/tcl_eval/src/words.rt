@@ -1,270 +1,247 @@
 //! How words are filled.
 
-ghost use Rattle.std.specs.Prelude.{◌≡◌, ◌≢◌, ◌+◌, ◌≤◌, ◌*◌, ◌∷◌, [], drop, unwrap_or, IfOk, None, Some};
-ghost use Rattle.tcl_subst.specs.Recipes.{given, script_at, refused_name};
+ghost use Rattle.std.specs.Prelude.{◌≡◌, ℕ, ◌+◌, ◌≤◌, ◌*◌, List, ◌∷◌, [], drop, unwrap_or, IfOk};
+ghost use Rattle.tcl_subst.specs.Recipes.{Filling, IsOnward, given, script_at, refused_name};
 ghost use Rattle.tcl_subst.specs.Rests.{rest, told};
-ghost use Rattle.tcl_commands.specs.Says.{Says};
 ghost use Rattle.tcl_commands.specs.Texts.{not_read};
 ghost use Rattle.tcl_eval.specs.Steps.{left_of};
-ghost use Rattle.tcl_eval.specs.Meaning.{eval, fill_word, fill_words, spread, on_said};
-ghost use Rattle.tcl_eval.specs.Reached.{Reaches, ReachesWork, reached_rest, reached_work};
-ghost use Rattle.tcl_eval.specs.Rest.{onward_rest, then_rest, AnyRestIs, RestIs};
-ghost use Rattle.tcl_eval.specs.Work.{eval_work, onward_work, word_work, words_work, then_work, then_weight, bodies, credit, potential, AnyWorkIs, WorkIs};
+ghost use Rattle.tcl_eval.specs.Tree.{State, Tree};
+ghost use Rattle.tcl_eval.specs.Meaning.{Next, Eval, eval, fill_word, fill_words, fill_parts, on_said, spread};
+ghost use Rattle.tcl_eval.specs.Native.{part_rest, word_rest, words_rest, part_weight, word_weight, words_weight, GoesOn, WordIs};
+ghost use Rattle.tcl_eval.specs.Rest.{then_rest, state_of};
+ghost use Rattle.tcl_eval.specs.Potential.{then_weight};
 
-use crate::begun::{Begun, advanced, begin_kept};
+use crate::begun::{advanced, first};
 use crate::engine::Engine;
-use crate::frame::{End, Frame, Mode, Onward, Then};
+use crate::frame::{Frame, Onward, Then};
 use crate::meter::Meter;
-use crate::reached::Reached;
+use crate::out::{Filled, Out, Part, Word};
 use crate::read_texts::ReadTexts;
+use crate::stops::laid_on;
 use crate::values::Values;
 use std::alloc::{AllocError, Global};
-use tcl_commands::{Code, Complaint, bad_list, not_read, said, word_fault};
-use tcl_scripts::{Script, Words};
+use std::mem;
+use tcl_commands::{Code, bad_list, not_read};
+use tcl_scripts::{KeptWord, Script, Words};
 use tcl_subst::{FillStep, Filler, SubstFault, Vars};
 use tcl_values::Value;
-use tcl_words::{ListFault, Text};
+use tcl_words::ListFault;
 
 impl Engine {
-    /// Goes on behind words that are filled.
-    fn filled(
+    /// Evaluates a script of a word, and gives its value to what fills the word.
+    #[cycle(native)]
+    fn bracket(
         &mut self,
         meter: &mut Meter,
-        done: Values,
-        then: Then,
+        filler: &mut Filler,
+        number: usize,
         depth: u32,
-    ) -> Result<Mode, AllocError>
-        ensures rest { RestIs self.old meter.old result self.new meter.new (λ k st. then_rest depth then k done st) }
-        ensures work { WorkIs self.old meter.old result self.new meter.new (λ k st. then_work then k done st) }
-        ensures potential { IfOk result (λ mode. potential self.new (left_of meter.new) mode ≤ 8 * left_of meter.old + bodies self.old.stack + then_weight then) }
+    ) -> Result<Part, AllocError>
+        ensures kept { self.new.stack ≡ self.old.stack }
+        ensures rest { IfOk result (λ p. (k : Next) (go : List ℕ → State → Tree) → part_rest (eval depth) p filler.new k go (state_of self.new (left_of meter.new)) ≡ fill_word (eval depth) (told (FillStep.NeedScript number, filler.old)) k go (state_of self.old (left_of meter.old))) }
+        ensures onward { IfOk result (λ p. GoesOn p filler.old.at filler.new.at) }
+        ensures potential { IfOk result (λ p. 8 * left_of meter.new + part_weight p ≤ 8 * left_of meter.old) }
         ensures bound { meter.new.bound ≡ meter.old.bound }
     {
-        match then {
-            Then::Command => {
-                if meter.begin() {
-                    Ok(Mode::Invoke { words: done, depth })
-                } else {
-                    Ok(Mode::Ended(End::StepLimit))
+        let script = script_of(&mut self.read, self.alloc, filler, number)?;
+        match self.script(meter, &script, depth)? {
+            Out::Stopped(stop) => Ok(Part::Stopped(stop)),
+            Out::Came(code, value) => match code {
+                Code::Ok => {
+                    let step = resumed(self.alloc, value, filler, &mut self.vars)?;
+                    part_of(self.alloc, step, filler)
+                }
+                _ => Ok(Part::Gone(code, value)),
+            },
+        }
+    }
+
+    /// Fills a word on, from what came of it so far.
+    #[cycle(native)]
+    #[inline(never)]
+    pub(crate) fn fill_on(
+        &mut self,
+        meter: &mut Meter,
+        mut filler: Filler,
+        first: Part,
+        depth: u32,
+    ) -> Result<Word, AllocError>
+        ensures kept { self.new.stack ≡ self.old.stack }
+        ensures rest { WordIs (eval depth) self.old meter.old result self.new meter.new (λ k go st. part_rest (eval depth) first filler k go st) }
+        ensures potential { IfOk result (λ w. 8 * left_of meter.new + word_weight w ≤ 8 * left_of meter.old + part_weight first) }
+        ensures bound { meter.new.bound ≡ meter.old.bound }
+    {
+        let mut part = first;
+        'scripts: loop {
+            match part {
+                Part::Full(value) => return Ok(Word::Full(value)),
+                Part::Gone(code, value) => return Ok(Word::Gone(code, value)),
+                Part::Stopped(stop) => {
+                    let filler = Box::new(self.alloc, filler)?;
+                    return Ok(Word::Stopped(stop, filler));
+                }
+                Part::Script(number) => {
+                    part = self.bracket(meter, &mut filler, number, depth)?;
                 }
             }
-            Then::List(Some(fault)) => Ok(Mode::Give(Code::Error, self.value(word_fault(fault))?)),
-            Then::List(None) => Ok(Mode::AfterWords {
-                words: done,
-                depth,
-                resumed: false,
-            }),
         }
     }
 
-    /// Fills the words from a place on, behind those that are done.
-    pub(crate) fn fill(
-        &mut self,
-        meter: &mut Meter,
-        words: Words,
-        next: usize,
-        done: Values,
-        then: Then,
-        depth: u32,
-    ) -> Result<Mode, AllocError>
-        ensures rest { RestIs self.old meter.old result self.new meter.new (λ k st. fill_words (eval depth) (drop next words) done k (then_rest depth then k) st) }
-        ensures work { WorkIs self.old meter.old result self.new meter.new (λ k st. words_work (eval_work depth) (drop next words) done k (then_work then k) st) }
-        ensures potential { IfOk result (λ mode. potential self.new (left_of meter.new) mode ≤ 8 * left_of meter.old + bodies self.old.stack + then_weight then) }
+    /// Fills a word, step by step.
+    #[cycle(native)]
+    #[inline(never)]
+    fn word(&mut self, meter: &mut Meter, word: &KeptWord, depth: u32) -> Result<Word, AllocError>
+        ensures kept { self.new.stack ≡ self.old.stack }
+        ensures rest { WordIs (eval depth) self.old meter.old result self.new meter.new (λ k go st. fill_parts (eval depth) word.now k go st) }
+        ensures potential { IfOk result (λ w. 8 * left_of meter.new + word_weight w ≤ 8 * left_of meter.old) }
         ensures bound { meter.new.bound ≡ meter.old.bound }
     {
-        let reached = fill_up(self.alloc, &words, next, done, &mut self.vars)?;
-        let mode = self.fill_from(meter, words, reached, then, depth)?;
-        Ok(mode)
+        let mut filler = first(word.filler(self.alloc)?);
+        let step = advanced(self.alloc, &mut filler, &mut self.vars)?;
+        let part = part_of(self.alloc, step, &filler)?;
+        let filled = self.fill_on(meter, filler, part, depth)?;
+        Ok(filled)
     }
 
-    /// Goes on behind words that were filled so far.
-    fn fill_from(
+    /// Fills words from a place on, behind those that are done.
+    #[cycle(native)]
+    pub(crate) fn words(
         &mut self,
         meter: &mut Meter,
-        words: Words,
-        reached: Reached,
+        words: &Words,
+        start: usize,
+        done: &mut Values,
         then: Then,
         depth: u32,
-    ) -> Result<Mode, AllocError>
-        ensures rest { RestIs self.old meter.old result self.new meter.new (λ k st. reached_rest (eval depth) words reached k (then_rest depth then k) st) }
-        ensures work { WorkIs self.old meter.old result self.new meter.new (λ k st. reached_work (eval_work depth) words reached k (then_work then k) st) }
-        ensures potential { IfOk result (λ mode. potential self.new (left_of meter.new) mode ≤ 8 * left_of meter.old + bodies self.old.stack + then_weight then) }
+    ) -> Result<Filled, AllocError>
+        ensures kept { self.new.stack ≡ self.old.stack }
+        ensures rest { IfOk result (λ f. (k : Next) → words_rest (then_rest depth then k) f done.new k (state_of self.new (left_of meter.new)) ≡ fill_words (eval depth) (drop start words.now) done.old k (then_rest depth then k) (state_of self.old (left_of meter.old))) }
+        ensures potential { IfOk result (λ f. 8 * left_of meter.new + words_weight then f ≤ 8 * left_of meter.old + then_weight then) }
         ensures bound { meter.new.bound ≡ meter.old.bound }
     {
-        match reached {
-            Reached::End(done) => {
-                drop(words);
-                self.filled(meter, done, then, depth)
+        let mut next = start;
+        'words: loop {
+            let Some((word, to)) = words.next(next) else {
+                return Ok(Filled::Full);
+            };
+            match self.next_word(meter, words, word, to, done, then, depth)? {
+                Filled::Full => next = to,
+                Filled::Gone(code, value) => return Ok(Filled::Gone(code, value)),
+                Filled::Stopped(stop) => return Ok(Filled::Stopped(stop)),
             }
-            Reached::Script {
-                filler,
-                number,
-                expand,
-                next,
-                done,
-            } => self.fill_script(number, words, next, expand, filler, done, then, depth),
-            Reached::Error(text) => Ok(Mode::Give(Code::Error, text)),
         }
     }
 
-    /// Fills a word on, with the value of its script.
-    pub(crate) fn fill_with(
+    /// Fills a word, and puts its value behind those that are done.
+    #[cycle(native)]
+    fn next_word(
         &mut self,
         meter: &mut Meter,
-        value: Value,
-        words: Words,
-        next: usize,
-        expand: bool,
-        mut filler: Filler,
-        done: Values,
+        words: &Words,
+        word: &KeptWord,
+        to: usize,
+        done: &mut Values,
         then: Then,
         depth: u32,
-    ) -> Result<Mode, AllocError>
-        ensures rest { RestIs self.old meter.old result self.new meter.new (λ k st. onward_rest (Onward.Fill words next expand filler done then depth) k value st) }
-        ensures work { WorkIs self.old meter.old result self.new meter.new (λ k st. onward_work (Onward.Fill words next expand filler done then depth) k value st) }
-        ensures potential { IfOk result (λ mode. potential self.new (left_of meter.new) mode ≤ 8 * left_of meter.old + bodies self.old.stack + then_weight then) }
+    ) -> Result<Filled, AllocError>
+        ensures kept { self.new.stack ≡ self.old.stack }
+        ensures rest { IfOk result (λ f. (k : Next) → words_rest (λ done st. fill_words (eval depth) (drop to words.now) done k (then_rest depth then k) st) f done.new k (state_of self.new (left_of meter.new)) ≡ fill_parts (eval depth) word.now k (λ v st. on_said (spread word.now.expand v done.old) k (λ done st. fill_words (eval depth) (drop to words.now) done k (then_rest depth then k) st) st) (state_of self.old (left_of meter.old))) }
+        ensures potential { IfOk result (λ f. 8 * left_of meter.new + words_weight then f ≤ 8 * left_of meter.old + then_weight then) }
         ensures bound { meter.new.bound ≡ meter.old.bound }
     {
-        let step = resumed(self.alloc, value, &mut filler, &mut self.vars)?;
-        self.fill_to(meter, step, words, next, expand, filler, done, then, depth)
-    }
-
-    /// Goes on behind a step of a filler.
-    fn fill_to(
-        &mut self,
-        meter: &mut Meter,
-        step: FillStep,
-        words: Words,
-        next: usize,
-        expand: bool,
-        filler: Filler,
-        done: Values,
-        then: Then,
-        depth: u32,
-    ) -> Result<Mode, AllocError>
-        ensures rest { RestIs self.old meter.old result self.new meter.new (λ k st. fill_word (eval depth) (told (step, filler)) k (λ v st. on_said (spread expand v done) k (λ done st. fill_words (eval depth) (drop next words) done k (then_rest depth then k) st) st) st) }
-        ensures work { WorkIs self.old meter.old result self.new meter.new (λ k st. word_work (eval_work depth) (told (step, filler)) k (λ v st. on_said (spread expand v done) k (λ done st. words_work (eval_work depth) (drop next words) done k (then_work then k) st) st) st) }
-        ensures potential { IfOk result (λ mode. potential self.new (left_of meter.new) mode ≤ 8 * left_of meter.old + bodies self.old.stack + then_weight then) }
-        ensures bound { meter.new.bound ≡ meter.old.bound }
-    {
-        match step {
-            FillStep::Value(value) => self.fill_past(
-                meter, value, words, next, expand, done, then, depth,
-            ),
-            FillStep::NeedScript(number) => self.fill_script(
-                number, words, next, expand, filler, done, then, depth,
-            ),
-            FillStep::Fault(fault) => self.not_filled(filler, fault),
+        let expand = word.is_expanded();
+        if let Some(value) = word.plain_value(self.alloc, &mut self.vars)? {
+            let filled = spread_onto(self.alloc, expand, value, done)?;
+            return Ok(filled);
         }
-    }
-
-    /// Starts the script that a word needs.
-    fn fill_script(
-        &mut self,
-        number: usize,
-        words: Words,
-        next: usize,
-        expand: bool,
-        filler: Filler,
-        done: Values,
-        then: Then,
-        depth: u32,
-    ) -> Result<Mode, AllocError>
-        ensures rest { AnyRestIs self.old result self.new (λ k st. fill_word (eval depth) (told (FillStep.NeedScript number, filler)) k (λ v st. on_said (spread expand v done) k (λ done st. fill_words (eval depth) (drop next words) done k (then_rest depth then k) st) st) st) }
-        ensures work { AnyWorkIs self.old result self.new (λ k st. word_work (eval_work depth) (told (FillStep.NeedScript number, filler)) k (λ v st. on_said (spread expand v done) k (λ done st. words_work (eval_work depth) (drop next words) done k (then_work then k) st) st) st) }
-        ensures potential { IfOk result (λ mode. bodies self.new.stack + credit mode ≤ bodies self.old.stack + then_weight then) }
-    {
-        let script = script_of(&mut self.read, self.alloc, &filler, number);
-        self.stack.push(Frame::Onward(Onward::Fill {
-            words,
-            next,
-            expand,
-            filler,
-            done,
-            then,
-            depth,
-        }))?;
-        let mode = self.start(script?, depth)?;
-        Ok(mode)
-    }
-
-    /// Goes on behind the value of a word.
-    fn fill_past(
-        &mut self,
-        meter: &mut Meter,
-        value: Value,
-        words: Words,
-        next: usize,
-        expand: bool,
-        done: Values,
-        then: Then,
-        depth: u32,
-    ) -> Result<Mode, AllocError>
-        ensures rest { RestIs self.old meter.old result self.new meter.new (λ k st. on_said (spread expand value done) k (λ done st. fill_words (eval depth) (drop next words) done k (then_rest depth then k) st) st) }
-        ensures work { WorkIs self.old meter.old result self.new meter.new (λ k st. on_said (spread expand value done) k (λ done st. words_work (eval_work depth) (drop next words) done k (then_work then k) st) st) }
-        ensures potential { IfOk result (λ mode. potential self.new (left_of meter.new) mode ≤ 8 * left_of meter.old + bodies self.old.stack + then_weight then) }
-        ensures bound { meter.new.bound ≡ meter.old.bound }
-    {
-        match said(self.alloc, spread(self.alloc, expand, value, done))? {
-            Ok(done) => self.fill(meter, words, next, done, then, depth),
-            Err(text) => Ok(Mode::Give(Code::Error, text)),
-        }
-    }
-
-    /// A word that can't be filled.
-    pub(crate) fn not_filled(&self, filler: Filler, fault: SubstFault) -> Result<Mode, AllocError>
-        ensures { IfOk result (λ mode. mode ≡ Mode.Give Code.Error (not_read (refused_name filler.fault) fault)) }
-    {
-        let text = unfilled(self.alloc, &filler, fault)?;
-        drop(filler);
-        Ok(Mode::Give(Code::Error, text))
+        let filled = self.word(meter, word, depth)?;
+        let filled = behind(self.alloc, filled, words, to, expand, done, then, depth)?;
+        Ok(filled)
     }
 }
 
-/// Fills words from a place on, behind those that are done, up to one that needs a script or can't be filled.
-fn fill_up(
+/// What came of a word whose filler answered this.
+pub(crate) fn part_of(alloc: Global, step: FillStep, filler: &Filler) -> Result<Part, AllocError>
+    ensures rest { IfOk result (λ p. (ev : Eval) (k : Next) (go : List ℕ → State → Tree) (st : State) → part_rest ev p filler.now k go st ≡ fill_word ev (told (step, filler.now)) k go st) }
+    ensures onward { (old : Filling) → IsOnward old (step, filler.now) → IfOk result (λ p. GoesOn p old.at filler.now.at) }
+    ensures weight { IfOk result (λ p. part_weight p ≡ 0) }
+{
+    match step {
+        FillStep::Value(value) => Ok(Part::Full(value)),
+        FillStep::NeedScript(number) => Ok(Part::Script(number)),
+        FillStep::Fault(fault) => {
+            let text = unfilled(alloc, filler, fault)?;
+            Ok(Part::Gone(Code::Error, text))
+        }
+    }
+}
+
+/// Puts what came of a word behind the values that are done.
+pub(crate) fn behind(
     alloc: Global,
+    filled: Word,
     words: &Words,
     next: usize,
-    done: Values,
-    vars: &mut Vars,
-) -> Result<Reached, AllocError>
-    ensures rest { IfOk result (λ r. Reaches vars.old words.now next done r) }
-    ensures work { IfOk result (λ r. ReachesWork vars.old words.now next done r) }
-    ensures same { vars.new ≡ vars.old }
+    expand: bool,
+    done: &mut Values,
+    then: Then,
+    depth: u32,
+) -> Result<Filled, AllocError>
+    ensures rest { IfOk result (λ f. (k : Next) (st : State) → words_rest (λ done st. fill_words (eval depth) (drop next words.now) done k (then_rest depth then k) st) f done.new k st ≡ word_rest (eval depth) filled k (λ v st. on_said (spread expand v done.old) k (λ done st. fill_words (eval depth) (drop next words.now) done k (then_rest depth then k) st) st) st) }
+    ensures weight { IfOk result (λ f. words_weight then f ≤ word_weight filled + then_weight then) }
 {
-    let mut next = next;
-    let mut done = done;
-    'words: loop {
-        let Some((word, to)) = words.next(next) else {
-            return Ok(Reached::End(done));
-        };
-        let expand = word.is_expanded();
-        match begin_kept(alloc, word, vars)? {
-            Begun::Full(value) => match said(alloc, spread(alloc, expand, value, done))? {
-                Ok(more) => {
-                    done = more;
-                    next = to;
-                }
-                Err(text) => return Ok(Reached::Error(text)),
-            },
-            Begun::Script(filler, number) => {
-                return Ok(Reached::Script {
-                    filler,
-                    number,
-                    expand,
-                    next: to,
-                    done,
-                });
-            }
-            Begun::Failed(filler, fault) => {
-                return Ok(Reached::Error(unfilled(alloc, &filler, fault)?));
-            }
+    match filled {
+        Word::Gone(code, value) => Ok(Filled::Gone(code, value)),
+        Word::Full(value) => spread_onto(alloc, expand, value, done),
+        Word::Stopped(stop, filler) => {
+            let frame = Frame::Onward(Onward::Fill {
+                words: words.shared()?,
+                next,
+                expand,
+                filler: Box::into_inner(filler),
+                done: mem::replace(done, Values::new(alloc)),
+                then,
+                depth,
+            });
+            let stop = laid_on(stop, frame)?;
+            Ok(Filled::Stopped(stop))
         }
+    }
+}
+
+/// Puts a word's value behind those that are done, or the elements of its list where it stands behind `{*}`.
+fn spread_onto(
+    alloc: Global,
+    expand: bool,
+    value: Value,
+    done: &mut Values,
+) -> Result<Filled, AllocError>
+    ensures rest { IfOk result (λ f. (k : Next) (go : List (List ℕ) → State → Tree) (st : State) → words_rest go f done.new k st ≡ on_said (spread expand value done.old) k go st) }
+    ensures weight { (then : Then) → IfOk result (λ f. words_weight then f ≤ then_weight then) }
+{
+    if !expand {
+        done.push(value)?;
+        return Ok(Filled::Full);
+    }
+    match value.elements(alloc) {
+        Ok(elements) => {
+            done.push_all(alloc, elements.as_slice())?;
+            Ok(Filled::Full)
+        }
+        Err(ListFault::BadList) => {
+            let text = Value::from_slice(alloc, bad_list())?;
+            Ok(Filled::Gone(Code::Error, text))
+        }
+        Err(ListFault::Memory) => Err(AllocError),
     }
 }
 
 /// The error of a word that can't be filled.
-fn unfilled(alloc: Global, filler: &Filler, fault: SubstFault) -> Result<Value, AllocError>
+pub(crate) fn unfilled(
+    alloc: Global,
+    filler: &Filler,
+    fault: SubstFault,
+) -> Result<Value, AllocError>
     ensures { IfOk result (λ text. text ≡ not_read (refused_name filler.now.fault) fault) }
 {
     Value::from_text(alloc, not_read(alloc, filler.name(), fault)?)
@@ -278,6 +255,7 @@ pub(crate) fn resumed(
     vars: &mut Vars,
 ) -> Result<FillStep, AllocError>
     ensures told { IfOk result (λ s. told (s, filler.new) ≡ rest (given value filler.old) vars.old) }
+    ensures onward { IfOk result (λ s. IsOnward (given value filler.old) (s, filler.new)) }
     ensures same { vars.new ≡ vars.old }
 {
     filler.give(alloc, value)?;
@@ -297,26 +275,5 @@ pub(crate) fn script_of(
     match filler.recipe().script(number) {
         None => read.script(alloc, &[]),
         Some(text) => read.script(alloc, text.as_slice()),
-    }
-}
-
-/// A word's value behind those that are done; the elements of its list where it stands behind `{*}`.
-fn spread(alloc: Global, expand: bool, value: Value, done: Values) -> Result<Values, Complaint>
-    ensures { Says result (spread expand value done) }
-{
-    let mut done = done;
-    if !expand {
-        done.push(value)?;
-        return Ok(done);
-    }
-    let elements = value.elements(alloc);
-    drop(value);
-    match elements {
-        Ok(elements) => {
-            done.push_all(alloc, elements.as_slice())?;
-            Ok(done)
-        }
-        Err(ListFault::BadList) => Err(Complaint::Said(Text::from_slice(alloc, bad_list())?)),
-        Err(ListFault::Memory) => Err(Complaint::Memory),
     }
 }

@@ -2,6 +2,7 @@ pub mod Whites
 pub mod Execs
 pub mod Writings
 pub mod Serving
+pub mod Stacked
 pub mod Numbers
 pub mod Advancing
 pub mod Bounds

@@ -79,7 +79,7 @@ reverse_cons x xs = reverse-append (x ∷ []) xs
 reverse_some : (x : Item) (xs : List Item) → 0 < length (reverse (x ∷ xs))
 reverse_some x xs = omega (arith, ap length (reverse_cons x xs), length-append (reverse xs) (x ∷ []))
 
-drop_one : (xs ys : List Item) → 0 < length xs → drop 1 (xs ++ ys) ≡ drop 1 xs ++ ys
+pub drop_one : (xs ys : List Item) → 0 < length xs → drop 1 (xs ++ ys) ≡ drop 1 xs ++ ys
 drop_one [] ys h = absurd (omega arith)
 drop_one (x ∷ xs) ys h = refl
 

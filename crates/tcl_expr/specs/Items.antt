@@ -7,7 +7,7 @@ use Rattle.tcl_expr.specs.declared.faults.ExprFault.TheVariants.{Memory, NotNumb
 
 abbrev pub shown_text : Shown → List ℕ
 shown_text (Lent bytes) = bytes.now
-shown_text (Written text) = text
+shown_text (Written value) = value
 
 abbrev pub opposed : Bool → Bool → Bool
 opposed true b = not b

@@ -12,13 +12,13 @@ use crate::progress::Operands;
 use crate::script::has_script;
 use crate::turns::Turn;
 use std::alloc::Global;
-use tcl_words::Text;
+use tcl_values::Value;
 
 /// What an evaluation came to.
-#[derive(Debug, Drop)]
+#[derive(Drop)]
 pub enum Step {
     /// The value.
-    Value(Text),
+    Value(Value),
     /// The operand with this number is needed next, and filling it begins no command.
     NeedVar(usize),
     /// The operand with this number is needed next, and filling it may begin a command.
@@ -48,8 +48,8 @@ fn answer(alloc: Global, log: &Operands) -> Step
 {
     match log.stack.first() {
         None => Step::Fault(ExprFault::Syntax),
-        Some(item) => match log.text(alloc, item) {
-            Ok(text) => Step::Value(text),
+        Some(item) => match log.value(alloc, item) {
+            Ok(value) => Step::Value(value),
             Err(_) => Step::Fault(ExprFault::Memory),
         },
     }

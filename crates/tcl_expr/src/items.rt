@@ -14,13 +14,14 @@ use crate::stack::Item;
 use crate::values::{arithmetic, bit, holds, negated};
 use std::alloc::{AllocError, Global};
 use std::cmp::Ordering;
+use tcl_values::Value;
 use tcl_words::Text;
 
 /// The text of a value: lent where it is there, else written.
 #[derive(Drop)]
 pub(crate) enum Shown<'a> {
     Lent(&'a [u8]),
-    Written(Text),
+    Written(Value),
 }
 
 impl Shown<'_> {
@@ -29,7 +30,7 @@ impl Shown<'_> {
     {
         match self {
             Shown::Lent(bytes) => *bytes,
-            Shown::Written(text) => text.as_slice(),
+            Shown::Written(value) => value.as_slice(),
         }
     }
 }
@@ -47,18 +48,30 @@ impl Operands {
             Item::Word(word) => Ok(Shown::Lent(word.text())),
             Item::Given(k) => match self.given.as_slice().get(k) {
                 None => Ok(Shown::Lent(b"")),
-                Some(text) => Ok(Shown::Lent(text.as_slice())),
+                Some(value) => Ok(Shown::Lent(value.as_slice())),
             },
         }
     }
 
     /// The text of a value, as one of its own.
-    pub(crate) fn text(&self, alloc: Global, item: Item) -> Result<Text, AllocError>
+    fn text(&self, alloc: Global, item: Item) -> Result<Text, AllocError>
         ensures { IfOk result (λ t. t ≡ item_text self.now.given item) }
     {
-        match self.shown(alloc, item)? {
-            Shown::Lent(bytes) => Ok(Text::from_slice(alloc, bytes)?),
-            Shown::Written(text) => Ok(text),
+        let shown = self.shown(alloc, item)?;
+        Text::from_slice(alloc, shown.as_slice())
+    }
+
+    /// A value that waits, as one that the caller may keep. One that was given is shared with it.
+    pub(crate) fn value(&self, alloc: Global, item: Item) -> Result<Value, AllocError>
+        ensures { IfOk result (λ v. v ≡ item_text self.now.given item) }
+    {
+        match item {
+            Item::Number(z) => write_number(alloc, z),
+            Item::Word(word) => Value::from_slice(alloc, word.text()),
+            Item::Given(k) => match self.given.as_slice().get(k) {
+                None => Ok(Value::new(alloc)),
+                Some(value) => value.shared(alloc),
+            },
         }
     }
 
@@ -71,7 +84,7 @@ impl Operands {
             Item::Word(_) => None,
             Item::Given(k) => match self.given.as_slice().get(k) {
                 None => None,
-                Some(text) => read_number(text.as_slice()),
+                Some(value) => read_number(value.as_slice()),
             },
         }
     }
@@ -85,7 +98,7 @@ impl Operands {
             Item::Word(word) => Some(word.says()),
             Item::Given(k) => match self.given.as_slice().get(k) {
                 None => None,
-                Some(text) => read_truth(text.as_slice()),
+                Some(value) => read_truth(value.as_slice()),
             },
         }
     }

@@ -12,6 +12,7 @@ mod advance;
 mod bareword;
 mod code;
 mod faults;
+mod given;
 mod grammar;
 mod infix;
 mod items;

@@ -7,7 +7,7 @@ ghost use Rattle.tcl_expr.specs.Number.{is_digit, value_from, is_numeral as nume
 use crate::white::before;
 use itoa::Buffer;
 use std::alloc::{AllocError, Global};
-use tcl_words::Text;
+use tcl_values::Value;
 
 /// Whether a byte is an ASCII digit.
 pub(crate) fn is_digit(b: u8) -> bool
@@ -100,9 +100,10 @@ pub fn read_number(text: &[u8]) -> Option<i64>
 }
 
 /// The text of a number, which reads as that number and as no other: its decimal digits, behind `-` where it is below 0.
-pub fn write_number(alloc: Global, number: i64) -> Result<Text, AllocError>
+/// Of at most 16 bytes it takes no memory.
+pub fn write_number(alloc: Global, number: i64) -> Result<Value, AllocError>
     ensures text { IfOk result (λ t. t ≡ number_text number) }
 {
     let mut digits = Buffer::new();
-    Text::from_slice(alloc, digits.format(number).as_bytes())
+    Value::from_slice(alloc, digits.format(number).as_bytes())
 }

@@ -4,17 +4,18 @@ ghost use Rattle.std.specs.Prelude.{◌≡◌, ◌≤◌, ◌∷◌, ◌++◌, [
 ghost use Rattle.std.specs.List.{list_all};
 ghost use Rattle.tcl_expr.specs.Stack.{is_below};
 
+use crate::given::Given;
 use crate::stack::Stack;
 use std::alloc::{AllocError, Global};
-use tcl_words::{Text, Texts};
+use tcl_values::Value;
 
 /// The operands that were given to an expression's evaluation, and how far it has come with them.
 ///
 /// One `Operands` serves one expression. What was worked out is kept, so that nothing is done twice.
-#[derive(Debug, Drop)]
+#[derive(Drop)]
 pub struct Operands {
     /// The values that were given, in order.
-    pub(crate) given: Texts,
+    pub(crate) given: Given,
     /// How many of them were used.
     pub(crate) used: usize,
     /// The instruction that is next.
@@ -35,7 +36,7 @@ impl Operands {
         ensures serves { (t : Tree) → Serves t result }
     {
         Operands {
-            given: Texts::new(alloc),
+            given: Given::new(alloc),
             used: 0,
             at: 0,
             stack: Stack::new(alloc),
@@ -44,7 +45,7 @@ impl Operands {
 
     /// Puts a value behind those that were given: the value of the operand that was asked for last.
     /// A refused one leaves all as it was.
-    pub fn give(&mut self, value: Text) -> Result<(), AllocError>
+    pub fn give(&mut self, value: Value) -> Result<(), AllocError>
         ensures given { OnOk result (self.new.given ≡ self.old.given ++ value ∷ []) }
         ensures serves { OnOk result ((t : Tree) → Serves t self.old → Serves t self.new) }
         ensures kept { OnErr result (self.new ≡ self.old) }

@@ -1,9 +1,10 @@
 //! The values that wait for their operators.
 
-ghost use Rattle.std.specs.Prelude.{◌≡◌, ◌∷◌, ◌≤◌, ◌<◌, [], drop, length, OnOk, OnErr};
+ghost use Rattle.std.specs.Prelude.{◌≡◌, ◌∷◌, ◌<◌, [], drop, length, reverse, OnOk, OnErr};
 ghost use Rattle.tcl_expr.specs.Stack.{first};
 
 use crate::bareword::Bareword;
+use arrayvec::ArrayVec;
 use std::alloc::{AllocError, Global};
 use std::marker::Model;
 
@@ -16,27 +17,63 @@ pub(crate) enum Item {
     Given(usize),
 }
 
+impl Default for Item {
+    /// What stands at a place of a stack that holds no value.
+    fn default() -> Item {
+        Item::Number(0)
+    }
+}
+
+/// How many values a stack holds itself. The ones above them take memory.
+const FEW: usize = 4;
+
 /// Values, of which a contract sees the last one first.
-#[derive(Debug, Drop)]
+#[derive(Drop)]
 pub(crate) struct Stack {
-    items: Vec<Item>,
+    /// The lowest ones.
+    low: ArrayVec<Item, FEW>,
+    /// The ones above them.
+    high: Vec<Item>,
 }
 
 impl Model for Stack {
-    ghost use Rattle.std.specs.Prelude.{List, reverse};
+    ghost use Rattle.std.specs.Prelude.{List, reverse, ◌++◌};
     ghost use Rattle.tcl_expr.specs.declared.stack.Item.{Item};
 
     ghost Value = { List Item };
 
-    ghost view = { λ s. reverse s.items.items };
+    ghost view = { λ s. reverse (s.low.items ++ s.high.items) };
+}
+
+/// The last value.
+fn last(items: &[Item]) -> Option<Item>
+    ensures { result ≡ first (reverse items.now) }
+{
+    match items {
+        [] => None,
+        [.., item] => Some(*item),
+    }
+}
+
+/// The value before the last one.
+fn last_but_one(items: &[Item]) -> Option<Item>
+    ensures { result ≡ first (drop 1 (reverse items.now)) }
+{
+    match items {
+        [] => None,
+        [_] => None,
+        [.., item, _] => Some(*item),
+    }
 }
 
 impl Stack {
+    /// No values. It allocates nothing.
     pub(crate) fn new(alloc: Global) -> Stack
         ensures { result ≡ [] }
     {
         Stack {
-            items: Vec::new(alloc),
+            low: ArrayVec::new(),
+            high: Vec::new(alloc),
         }
     }
 
@@ -44,7 +81,11 @@ impl Stack {
         ensures pushed { OnOk result (self.new ≡ item ∷ self.old) }
         ensures kept { OnErr result (self.new ≡ self.old) }
     {
-        self.items.push(item)?;
+        if self.high.is_empty() && !self.low.is_full() {
+            self.low.push(item);
+            return Ok(());
+        }
+        self.high.push(item)?;
         Ok(())
     }
 
@@ -52,28 +93,32 @@ impl Stack {
     pub(crate) fn first(&self) -> Option<Item>
         ensures { result ≡ first self.now }
     {
-        match self.items.as_slice() {
-            [] => None,
-            [.., item] => Some(*item),
+        if self.high.is_empty() {
+            return last(self.low.as_slice());
         }
+        last(self.high.as_slice())
     }
 
     /// The value below the top.
     pub(crate) fn second(&self) -> Option<Item>
         ensures { result ≡ first (drop 1 self.now) }
     {
-        match self.items.as_slice() {
-            [] => None,
-            [_] => None,
-            [.., item, _] => Some(*item),
+        if self.high.is_empty() {
+            return last_but_one(self.low.as_slice());
         }
+        if self.high.len() == 1 {
+            return last(self.low.as_slice());
+        }
+        last_but_one(self.high.as_slice())
     }
 
     /// Takes the top value away, if there is one.
     pub(crate) fn pop(&mut self)
         ensures { self.new ≡ drop 1 self.old }
     {
-        let _top = self.items.pop();
+        if self.high.pop().is_none() {
+            let _top = self.low.pop();
+        }
     }
 
     /// Puts a value in the place of the top one.
@@ -81,7 +126,12 @@ impl Stack {
         requires { 0 < length self.old }
         ensures { self.new ≡ item ∷ drop 1 self.old }
     {
-        let last = self.items.as_slice().len() - 1;
-        self.items[last] = item;
+        let above = self.high.len();
+        if above != 0 {
+            self.high[above - 1] = item;
+            return;
+        }
+        let last = self.low.len() - 1;
+        self.low[last] = item;
     }
 }

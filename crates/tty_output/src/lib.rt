@@ -7,4 +7,4 @@ mod modes;
 mod output;
 
 pub use modes::{BadMode, Modes};
-pub use output::{convert, convert_behind};
+pub use output::{Seen, convert, convert_behind};

@@ -2,7 +2,7 @@ use Rattle.std.proofs.Common.{◌≡◌, List}
 use Rattle.tcl_eval.specs.Rest.{engine_rest}
 use Rattle.tcl_eval.specs.Steps.{left_of}
 use Rattle.tcl_eval.specs.Tree.{Reply, Leads}
-use Rattle.tcl_eval.specs.Work.{potential}
+use Rattle.tcl_eval.specs.Potential.{potential}
 use Rattle.tcl_eval.proofs.engine.Engine.go.Given as goal
 
 abbrev pub invariant-rounds : goal.invariant-rounds

@@ -3,7 +3,7 @@ use Rattle.tcl_subst.specs.Filling.{Full as Filled}
 use Rattle.tcl_eval.specs.declared.advance.Advance.{Advance}
 use Rattle.tcl_eval.specs.Advanced.{IsTold, NeedsFilled}
 use Rattle.tcl_eval.specs.Evaluated.{Evaluated, with_operand}
-use Rattle.tcl_eval.proofs.Told.{full_at, alike_given, alike_work_given}
+use Rattle.tcl_eval.proofs.Told.{full_at, alike_given, grown_given}
 use Rattle.tcl_eval.proofs.evaluation.Evaluation.advance.Goals as goal
 
 pub operands-preserved : goal.operands-preserved
@@ -18,5 +18,5 @@ operands-preserved c =
     record {
       same = c.in_ok-value.ensures.vars ∙ c.operands.invariant.same;
       alike = alike_given vars c.args.self.now old c.give.new.self value needed given c.operands.invariant.alike;
-      work = alike_work_given vars c.args.self.now old c.give.new.self value needed given c.operands.invariant.work;
+      grown = grown_given vars c.args.self.now old c.give.new.self value needed given (c.operands.invariant.grown);
     }

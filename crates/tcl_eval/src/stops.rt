@@ -1,0 +1,88 @@
+//! Runs that stand still, and the frames of what is still to be done behind them.
+
+ghost use Rattle.std.specs.Prelude.{◌≡◌, ℕ, ◌+◌, ◌∷◌, IfOk, OnOk};
+ghost use Rattle.tcl_eval.specs.Asked.{IsSettled};
+ghost use Rattle.tcl_eval.specs.Standings.{mode_of};
+ghost use Rattle.tcl_eval.specs.Tree.{State};
+ghost use Rattle.tcl_eval.specs.Meaning.{Next};
+ghost use Rattle.tcl_eval.specs.Native.{laid_rest, stop_rest, out_rest, stop_weight, out_weight};
+ghost use Rattle.tcl_eval.specs.Rest.{frame_rest, frames_rest, mode_rest, engine_rest, state_of};
+ghost use Rattle.tcl_eval.specs.Potential.{bodies, credit, frame_weight};
+
+use crate::engine::Engine;
+use crate::frame::{Frame, Mode};
+use crate::out::{Out, Standing, Stop};
+use crate::pile::Pile;
+use std::alloc::{AllocError, Global};
+
+/// A run that stands still, with nothing to be done behind it yet.
+#[cold]
+pub(crate) fn stop(alloc: Global, at: Standing) -> Result<Box<Stop>, AllocError>
+    ensures rest { IfOk result (λ s. (k : Next) (st : State) → stop_rest s.value k st ≡ mode_rest (mode_of at) k st) }
+    ensures weight { IfOk result (λ s. stop_weight s.value ≡ credit (mode_of at)) }
+{
+    let stop = Box::new(
+        alloc,
+        Stop {
+            at,
+            laid: Pile::new(alloc),
+        },
+    )?;
+    Ok(stop)
+}
+
+/// The same, as what came of a script or a command.
+#[cold]
+pub(crate) fn stopped(alloc: Global, at: Standing) -> Result<Out, AllocError>
+    ensures rest { IfOk result (λ out. (k : Next) (st : State) → out_rest out k st ≡ mode_rest (mode_of at) k st) }
+    ensures weight { IfOk result (λ out. out_weight out ≡ credit (mode_of at)) }
+{
+    let stop = stop(alloc, at)?;
+    Ok(Out::Stopped(stop))
+}
+
+/// One frame more, behind those that were laid.
+#[cold]
+pub(crate) fn laid_on(stop: Box<Stop>, frame: Frame) -> Result<Box<Stop>, AllocError>
+    ensures rest { IfOk result (λ s. (k : Next) (st : State) → stop_rest s.value k st ≡ stop_rest stop.value (frame_rest frame k) st) }
+    ensures weight { IfOk result (λ s. stop_weight s.value ≡ frame_weight frame + stop_weight stop.value) }
+{
+    let mut stop = stop;
+    stop.laid.push(frame)?;
+    Ok(stop)
+}
+
+/// The same, as what came of a script or a command.
+#[cold]
+pub(crate) fn below(stop: Box<Stop>, frame: Frame) -> Result<Out, AllocError>
+    ensures rest { IfOk result (λ out. (k : Next) (st : State) → out_rest out k st ≡ stop_rest stop.value (frame_rest frame k) st) }
+    ensures weight { IfOk result (λ out. out_weight out ≡ frame_weight frame + stop_weight stop.value) }
+{
+    let stop = laid_on(stop, frame)?;
+    Ok(Out::Stopped(stop))
+}
+
+/// Frames that were laid, on a stack: the outermost comes first.
+fn lay_on(stack: &mut Pile<Frame>, laid: Pile<Frame>) -> Result<(), AllocError>
+    ensures rest { OnOk result (frames_rest stack.new ≡ laid_rest laid (frames_rest stack.old)) }
+    ensures even { OnOk result (bodies stack.new ≡ bodies laid + bodies stack.old) }
+{
+    let mut laid = laid;
+    'frames: while let Some(frame) = laid.pop() {
+        stack.push(frame)?;
+    }
+    Ok(())
+}
+
+impl Engine {
+    /// Lays on the stack what is still to be done.
+    pub(crate) fn lay(&mut self, stop: Box<Stop>) -> Result<Mode, AllocError>
+        ensures rest { IfOk result (λ mode. (left : ℕ) → engine_rest self.new left mode ≡ stop_rest stop.value (frames_rest self.old.stack) (state_of self.old left)) }
+        ensures potential { IfOk result (λ mode. bodies self.new.stack + credit mode ≡ bodies self.old.stack + stop_weight stop.value) }
+        ensures settled { IfOk result IsSettled }
+    {
+        let Stop { at, laid } = Box::into_inner(stop);
+        lay_on(&mut self.stack, laid)?;
+        Ok(at.mode())
+    }
+}
