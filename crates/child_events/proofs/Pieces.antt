@@ -1,5 +1,5 @@
 -- A line of output, read from the left.
-use Rattle.std.proofs.Common.{◌≡◌, ℕ, ◌≤◌, List, [], ◌∷◌, length, Bool, true, false, not, ◌&&◌, Option, Some, Result, Ok, Err, refl, sym, ap, ◌∙◌, arith}
+use Rattle.std.proofs.Common.{◌≡◌, ℕ, ◌<◌, ◌≤◌, List, [], ◌∷◌, length, Bool, true, false, not, ◌&&◌, Option, Some, Result, Ok, Err, refl, sym, ap, ◌∙◌, arith}
 use Rattle.std.specs.Prelude.{◌==◌, ◌%◌, ◌||◌, nat_le, nat_lt, codes, if◌then◌else◌}
 use Rattle.std.specs.Str.{bytes_eq}
 use Rattle.std.proofs.lemmas.Bool.Decides.{nat_tests}
@@ -12,7 +12,7 @@ use Rattle.child_events.specs.declared.line.Line.TheVariants as line
 use Rattle.child_events.specs.declared.faults.LogFault.{LogFault}
 use Rattle.child_events.specs.declared.faults.LogFault.TheVariants as fault
 use Rattle.child_events.specs.Reading.{◌>>=◌, or_fault, parts, all_lower_hex, number_of, number_within, moment_of, stamp_of, stamped, piece_of, decoded, fields_event, line_event, NumberFirst}
-use Rattle.child_events.specs.Judging.{judged, said_event, ArePairs, IsStampOf, IsPieceLine}
+use Rattle.child_events.specs.Judging.{judged, said_event, Decodes, ArePairs, IsStampOf, IsPieceLine, SaysPiece}
 use Rattle.child_events.proofs.Judged.{lower_whole, piece_checked}
 
 -- a word that writes a number isn't empty
@@ -117,3 +117,9 @@ piece_event n line stamp digits bytes is decodes = is.event n ∙ ap (λ (r : Re
     piece =
         by_tests (bytes_eq digits (codes "-")) (length digits % 2 == 0) (all_lower_hex digits) (nat_lt 8192 (length digits)) (no_dash digits is.pairs.lower) even is.pairs.lower few
         ∙ ap (decoded n) decodes
+
+-- where the digits behind the head of a line are such, they are read with it
+pub piece_read : (text digits bytes : List ℕ) (stamp : Stamp) → (ArePairs digits → IsPieceLine text stamp digits) → 0 < length digits → length digits ≤ 8192
+    → Decodes digits (Some bytes) → SaysPiece text stamp bytes
+piece_read text digits bytes stamp head some few decodes = λ n.
+    piece_event n text stamp digits bytes (head (record { lower = decodes.1; even = decodes.0; some = some; few = few })) decodes.2

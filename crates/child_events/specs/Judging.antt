@@ -1,8 +1,10 @@
 -- A log that is judged first and read afterwards, or judged as it is read.
-use Rattle.std.specs.Prelude.{◌≡◌, ℕ, zero, suc, ◌+◌, ◌<◌, ◌≤◌, ◌%◌, ◌^◌, nat_le, ◌&&◌, IsTrue, List, [], ◌∷◌, ◌++◌, length, IsOk, Option, Some, None, Result, Ok, Err, ⊤}
+use Rattle.std.specs.Prelude.{◌≡◌, ℕ, zero, suc, ◌+◌, ◌<◌, ◌≤◌, ◌%◌, ◌^◌, nat_le, true, false, ◌==◌, ◌&&◌, IsTrue, List, [], ◌∷◌, ◌++◌, length, IsOk, Option, Some, None, Result, Ok, Err, ⊤}
+use Rattle.hex.specs.Hex.{decode_of}
 use Rattle.tcl_words.specs.Bytes as ascii
 use Rattle.child_events.specs.declared.event.What.TheVariants as what
 use Rattle.child_events.specs.declared.event.HallEvent.{HallEvent}
+use Rattle.child_events.specs.declared.event.HallEvent.TheVariants as hall
 use Rattle.child_events.specs.declared.faults.LogFault.{LogFault}
 use Rattle.child_events.specs.declared.faults.LogFault.TheVariants as fault
 use Rattle.child_events.specs.declared.version.Version.{Version}
@@ -83,6 +85,15 @@ pub record ArePairs (digits : List ℕ) : Type 0 where
   pub even : length digits % 2 ≡ 0
   pub some : 0 < length digits
   pub few : length digits ≤ 8192
+
+-- the bytes of pairs of lower-case digits; none where these are no such pairs
+abbrev pub Decodes : List ℕ → Option (List ℕ) → Type 0
+Decodes w (Some bytes) = (length w % 2 ≡ 0) × (all_lower_hex w ≡ true) × (decode_of w ≡ Ok bytes)
+Decodes w None = (length w % 2 == 0 && all_lower_hex w) ≡ false
+
+-- a line, whatever its number: these bytes as output
+abbrev pub SaysPiece : List ℕ → Stamp → List ℕ → Type 0
+SaysPiece text stamp bytes = (n : ℕ) → line_event n text ≡ Ok (hall.Child stamp.script stamp.child stamp.moment (what.Out bytes))
 
 -- a line without a fault, whatever its number: the output that these digits write
 pub record IsPieceLine (text : List ℕ) (stamp : Stamp) (digits : List ℕ) : Type 0 where

@@ -1,8 +1,9 @@
 //! The last word of a line, which may be the digits of a piece.
 
-ghost use Rattle.std.specs.Prelude.{◌≡◌, ◌%◌, length, Ok, IfOk, IsTrue};
-ghost use Rattle.hex.specs.Hex.{decode_of};
+ghost use Rattle.std.specs.Prelude.{◌≡◌, ◌*◌, ◌<◌, ℕ, true, length, Some, Ok, IfOk};
+ghost use Rattle.hex.specs.Hex.{decode_of, hex_digit_value, pair_value};
 ghost use Rattle.child_events.specs.Reading.{is_lower_hex_digit as is_digit, all_lower_hex};
+ghost use Rattle.child_events.specs.Judging.{Decodes};
 
 use std::alloc::{AllocError, Global};
 use std::marker::Model;
@@ -44,18 +45,53 @@ pub fn is_lower_hex(word: &[u8]) -> bool
     all
 }
 
-/// The bytes of pairs of lower-case digits.
-pub fn decoded(alloc: Global, word: &[u8]) -> Result<Text, AllocError>
-    requires lower { IsTrue (all_lower_hex word.now) }
-    requires even { length word.now % 2 ≡ 0 }
-    ensures { IfOk result (λ bytes. decode_of word.now ≡ Ok bytes) }
+/// The value of a lower-case digit. Of another byte nothing is said.
+fn value_of(digit: u8) -> u8
+    ensures value { is_digit digit ≡ true → hex_digit_value digit ≡ Some result }
+    ensures small { is_digit digit ≡ true → result < 16 }
 {
-    match hex::decode(alloc, word) {
-        Ok(bytes) => Ok(Text { bytes }),
-        Err(hex::FromHexError::OutOfMemory) => Err(AllocError),
-        Err(hex::FromHexError::OddLength) => unreachable!(),
-        Err(hex::FromHexError::InvalidStringLength) => unreachable!(),
-        Err(hex::FromHexError::InvalidHexCharacter { .. }) => unreachable!(),
+    if digit <= b'9' {
+        digit.wrapping_sub(b'0')
+    } else {
+        digit.wrapping_sub(b'a' - 10)
+    }
+}
+
+/// The byte of two lower-case digits. Of other bytes nothing is said.
+fn byte_of(high: u8, low: u8) -> u8
+    ensures { is_digit high ≡ true → is_digit low ≡ true → (at : ℕ) → pair_value high low at ≡ Ok result }
+{
+    value_of(high).wrapping_mul(16).wrapping_add(value_of(low))
+}
+
+/// Whether all are lower-case hexadecimal digits. Where they are, the bytes of their pairs are written. It is one pass over them.
+fn decode_lower(word: &[u8], out: &mut [u8]) -> bool
+    requires { length word.now ≡ 2 * length out.old }
+    ensures judged { result ≡ all_lower_hex word.now }
+    ensures decoded { result ≡ true → decode_of word.now ≡ Ok out.new }
+{
+    let mut lower = true;
+    'bytes: for i in 0..out.len() {
+        let high = word[2 * i];
+        let low = word[2 * i + 1];
+        lower = lower & is_lower_hex_digit(high) & is_lower_hex_digit(low);
+        out[i] = byte_of(high, low);
+    }
+    lower
+}
+
+/// The bytes of pairs of lower-case digits, which are judged and decoded in one pass; none where these are no such pairs.
+pub fn decoded(alloc: Global, word: &[u8]) -> Result<Option<Text>, AllocError>
+    ensures { IfOk result (Decodes word.now) }
+{
+    if word.len() % 2 != 0 {
+        return Ok(None);
+    }
+    let mut bytes = vec![in alloc; 0u8; word.len() / 2]?;
+    if decode_lower(word, bytes.as_mut_slice()) {
+        Ok(Some(Text { bytes }))
+    } else {
+        Ok(None)
     }
 }
 

@@ -213,7 +213,10 @@ pub fn piece(alloc: Global, line: usize, digits: &Digits) -> Result<Text, LogFau
     if is(word, b"-") {
         return Ok(Text::new(alloc));
     }
-    Ok(decoded(alloc, word)?)
+    let Some(bytes) = decoded(alloc, word)? else {
+        return Err(LogFault::Hex(line));
+    };
+    Ok(bytes)
 }
 
 /// The cause that a word names.

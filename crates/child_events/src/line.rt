@@ -4,14 +4,14 @@ ghost use Rattle.std.specs.Prelude.{◌≡◌, ◌∷◌, []};
 ghost use Rattle.child_events.specs.Reading.{parts, stamp_of, failed_event as failed_of, fields_event, line_event, Reads, SplitsAt};
 ghost use Rattle.child_events.specs.Judging.{said_event, says, judged};
 
-use crate::digits::{Digits, decoded};
+use crate::digits::Digits;
 use crate::event::{Answer, HallEvent, What};
 use crate::faults::LogFault;
 use crate::fields::{
     LONGEST, Stamp, StampWords, check_piece, is, moment, piece, read_stamp, split_first, status,
     what_alone, what_failed,
 };
-use crate::piece_line::piece_line;
+use crate::piece_line::{piece_line, read_piece};
 use std::alloc::Global;
 
 /// What a line says, as far as no memory is needed for it.
@@ -193,8 +193,7 @@ pub fn judge_line(number: usize, line: &[u8]) -> Result<(), LogFault>
 pub fn read_line(alloc: Global, number: usize, line: &[u8]) -> Result<HallEvent, LogFault>
     ensures { Reads result (line_event number line.now) }
 {
-    if let Some((stamp, digits)) = piece_line(line) {
-        let piece = decoded(alloc, digits)?;
+    if let Some((stamp, piece)) = read_piece(alloc, line)? {
         return Ok(stamp.bring(What::Out(piece)));
     }
     let said = read_words(number, line)?;

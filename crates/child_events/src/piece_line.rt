@@ -1,12 +1,14 @@
 //! A line of output, read from the left. Most lines of a log are such.
 
-ghost use Rattle.std.specs.Prelude.{◌≡◌, ◌≤◌, ◌<◌, ◌∷◌, take as first, length, codes, Some, IfSome};
+ghost use Rattle.std.specs.Prelude.{◌≡◌, ◌≤◌, ◌<◌, ◌∷◌, take as first, length, codes, Some, IfOk, IfSome};
 ghost use Rattle.std.specs.Bool.{OnTrue};
 ghost use Rattle.child_events.specs.Reading.{parts, digits_number, NumberFirst};
-ghost use Rattle.child_events.specs.Judging.{ArePairs, IsPieceLine, IsStampOf};
+ghost use Rattle.child_events.specs.Judging.{ArePairs, IsPieceLine, IsStampOf, SaysPiece};
 
-use crate::digits::is_lower_hex;
+use crate::digits::{decoded, is_lower_hex};
 use crate::fields::{LONGEST, MOST_DECIMALS, MOST_DIGITS, MOST_MOMENT, Stamp, starts_number};
+use std::alloc::{AllocError, Global};
+use tcl_words::Text;
 
 /// What stands behind the first word, where that is `out`.
 fn behind_out(line: &[u8]) -> Option<&[u8]>
@@ -102,9 +104,10 @@ fn stamp_of(script: u64, child: u64, moment: u64) -> Option<Stamp>
     })
 }
 
-/// Whose output a good line is, when, and the digits of its bytes. Where none is found, nothing is said of the line.
-pub fn piece_line(line: &[u8]) -> Option<(Stamp, &[u8])>
-    ensures { IfSome result (λ found. IsPieceLine line.now found.0 found.1.now) }
+/// Whose output a line is, when, and its last word: where that has the digits of a piece, the line is a good one. Where none is found, nothing is
+/// said of the line.
+fn head(line: &[u8]) -> Option<(Stamp, &[u8])>
+    ensures { IfSome result (λ found. ArePairs found.1.now → IsPieceLine line.now found.0 found.1.now) }
 {
     if line.len() > LONGEST {
         return None;
@@ -114,8 +117,34 @@ pub fn piece_line(line: &[u8]) -> Option<(Stamp, &[u8])>
     let (child, rest) = small_number(rest)?;
     let (moment, digits) = leading_number(rest)?;
     let stamp = stamp_of(script, child, moment)?;
+    Some((stamp, digits))
+}
+
+/// Whose output a good line is, when, and the digits of its bytes. Where none is found, nothing is said of the line.
+pub fn piece_line(line: &[u8]) -> Option<(Stamp, &[u8])>
+    ensures { IfSome result (λ found. IsPieceLine line.now found.0 found.1.now) }
+{
+    let (stamp, digits) = head(line)?;
     if !are_pairs(digits) {
         return None;
     }
     Some((stamp, digits))
+}
+
+/// Whose output a good line is, when, and its bytes, whose digits are judged and decoded in one pass. Where none is found, nothing is said of the
+/// line.
+#[tactic(auto, using(crate::proofs::Pieces::piece_read))]
+pub fn read_piece(alloc: Global, line: &[u8]) -> Result<Option<(Stamp, Text)>, AllocError>
+    ensures { IfOk result (λ found. IfSome found (λ p. SaysPiece line.now p.0 p.1)) }
+{
+    let Some((stamp, digits)) = head(line) else {
+        return Ok(None);
+    };
+    if digits.is_empty() || digits.len() > MOST_DIGITS {
+        return Ok(None);
+    }
+    match decoded(alloc, digits)? {
+        Some(piece) => Ok(Some((stamp, piece))),
+        None => Ok(None),
+    }
 }

@@ -1,11 +1,12 @@
 -- A match that ends behind a place has the last run's literal near that place or behind it.
-use Rattle.std.proofs.Common.{◌≡◌, inl, inr, ⊎_elim, ℕ, ◌+◌, ◌-◌, ◌<◌, ◌≤◌, drop, take, get_or-drop, get_or-take, length-drop, Bool, true, false, List, [], ◌∷◌, ◌++◌, length, None, refl, sym, ap, subst, arith}
-use Rattle.std.specs.Prelude.{Option, Some, MatchOption}
+use Rattle.std.proofs.Common.{◌≡◌, ◌∙◌, inl, inr, ⊎_elim, ℕ, ◌+◌, ◌-◌, ◌<◌, ◌≤◌, drop, take, get_or, get_or-drop, get_or-take, length-drop, Bool, true, false, List, [], ◌∷◌, ◌++◌, length, None, refl, sym, ap, subst, arith}
+use Rattle.std.specs.Prelude.{Option, Some, MatchOption, slice_index}
 use Rattle.std.specs.Option.{is_some}
 use Rattle.std.proofs.lemmas.Bool.{cases_lt}
-use Rattle.std.proofs.lemmas.List.{length-take-le, take_all}
+use Rattle.std.proofs.lemmas.List.{length-take-le, take_all, take_more}
 use Rattle.exp_glob.specs.declared.element.Element.{Element}
 use Rattle.exp_glob.specs.declared.element.Element.TheVariants.{Star, One, End}
+use Rattle.exp_glob.specs.declared.element.Single.{Single}
 use Rattle.exp_glob.specs.declared.pattern.Glob.{Glob}
 use Rattle.exp_glob.specs.Spans.{takes, Spans, GlobSpan, FindsFirst}
 use Rattle.exp_glob.specs.Stars.{behind_star}
@@ -27,6 +28,38 @@ module _ (nocase : Bool) (s : List ℕ) where
   join (Star ∷ es) fs a m b h t = (h.0, h.1, h.2, join es fs h.0 m b h.3 t)
   join (One single ∷ es) fs a m b h t = (h.0, h.1, join es fs (a + 1) m b h.2 t)
   join (End ∷ es) fs a m b h t = (h.0, join es fs a m b h.1 t)
+
+  -- the first elements are all but the last of them, and that
+  last_off : (es : List Element) (n a b : ℕ) (e f : Element) → 0 < n → n ≤ length es → e ≡ get_or es (n - 1) e → e ≡ f → Spans nocase (take n es) s a b
+      → (m : ℕ) × Spans nocase (take (n - 1) es) s a m × Spans nocase (f ∷ []) s m b
+  last_off es n a b e f some le is same h =
+      let whole : take n es ≡ take (n - 1) es ++ f ∷ []
+      = ap (λ i. take i es) (omega arith) ∙ take_more es (n - 1) e (omega arith) ∙ ap (λ (g : Element). take (n - 1) es ++ g ∷ []) (sym is ∙ same) in
+      split (take (n - 1) es) (f ∷ []) a b (subst (λ (l : List Element). Spans nocase l s a b) whole h)
+
+  -- what takes one byte took the last one of a match
+  pub one_off : (es : List Element) (n a b : ℕ) (e : Element) (single : Single) → 0 < n → n ≤ length es → e ≡ get_or es (n - 1) e → e ≡ One single
+      → Spans nocase (take n es) s a b → (0 < b) × (takes nocase single (slice_index s (b - 1)) ≡ true) × Spans nocase (take (n - 1) es) s a (b - 1)
+  one_off es n a b e single some le is same h =
+      let p = last_off es n a b e (One single) some le is same h in
+      let behind : p.0 + 1 ≡ b = p.2.2 in
+      let before : p.0 ≡ b - 1 = omega arith in
+      (omega arith, subst (λ i. takes nocase single (slice_index s i) ≡ true) before p.2.1, subst (λ i. Spans nocase (take (n - 1) es) s a i) before p.1)
+
+  -- and the end of the data none
+  pub end_off : (es : List Element) (n a b : ℕ) (e : Element) → 0 < n → n ≤ length es → e ≡ get_or es (n - 1) e → e ≡ End → Spans nocase (take n es) s a b
+      → Spans nocase (take (n - 1) es) s a b
+  end_off es n a b e some le is same h =
+      let p = last_off es n a b e End some le is same h in
+      subst (λ i. Spans nocase (take (n - 1) es) s a i) p.2.1 p.1
+
+  -- so what is before the end of the data ends there
+  pub end_whole : (es : List Element) (a b : ℕ) (e : Element) → 0 < length es → e ≡ get_or es (length es - 1) e → e ≡ End → Spans nocase es s a b
+      → Spans nocase (take (length es - 1) es) s a (length s)
+  end_whole es a b e some is same h =
+      let whole = subst (λ (l : List Element). Spans nocase l s a b) (sym (take_all (length es) es (omega arith))) h in
+      let p = last_off es (length es) a b e End some (omega arith) is same whole in
+      subst (λ i. Spans nocase (take (length es - 1) es) s a i) p.2.0 p.1
 
   -- stars match nothing too
   pub empty : (es : List Element) (a : ℕ) → a ≤ length s → AreStars es → Spans nocase es s a a

@@ -3,9 +3,11 @@
 ghost use Rattle.std.specs.Prelude.{◌≡◌, ◌≤◌, ◌<◌, ◌+◌, ℕ, true, drop, length, IfOk};
 ghost use Rattle.memchr.specs.Find.{OccursAt};
 ghost use Rattle.exp_glob.specs.Endings.{IsEnding, AreStars, HasNoStar};
+ghost use Rattle.exp_glob.specs.Spans.{Spans};
 
 use crate::element::Element;
 use crate::literal::Literal;
+use crate::matching::takes;
 use crate::places::after;
 use crate::plan::literal;
 use crate::runs::is_star;
@@ -86,5 +88,44 @@ impl Ending {
             Some(_) => false,
             None => true,
         }
+    }
+}
+
+/// Whether no match of these elements ends with the text. It looks at the last bytes alone, as many as stand behind the last star.
+fn ends_nowhere(elements: &[Element], text: &[u8], nocase: bool) -> bool
+    ensures { result ≡ true → (a : ℕ) → ¬ Spans nocase elements.now text.now a (length text.now) }
+{
+    let mut at = text.len();
+    let mut left = elements.len();
+    'run: while left > 0 {
+        match &elements[left - 1] {
+            Element::Star => return false,
+            Element::One(single) => {
+                if at == 0 || !takes(single, text[at - 1], nocase) {
+                    return true;
+                }
+                at -= 1;
+            }
+            Element::End => {}
+        }
+        left -= 1;
+    }
+    false
+}
+
+/// Whether an element is the end of the data.
+fn is_end(element: &Element) -> bool
+    ensures { result ≡ true → element.now ≡ Element.End }
+{
+    matches!(element, Element::End)
+}
+
+/// Whether a pattern that ends with `$` has no match in a text, by the text's last bytes alone.
+pub(crate) fn lacks_end(elements: &[Element], text: &[u8], nocase: bool) -> bool
+    ensures { result ≡ true → (a b : ℕ) → ¬ Spans nocase elements.now text.now a b }
+{
+    match elements {
+        [] => false,
+        [front @ .., last] => is_end(last) && ends_nowhere(front, text, nocase),
     }
 }

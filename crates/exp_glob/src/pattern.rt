@@ -8,6 +8,7 @@ ghost use Rattle.exp_glob.specs.Spans.{GlobSpan, FindsFirst};
 ghost use Rattle.exp_glob.specs.Stars.{behind_star};
 
 use crate::element::Elements;
+use crate::ending::lacks_end;
 use crate::literal::{lacks_literal, later_literals};
 use crate::places::after;
 use crate::plan::Plan;
@@ -95,9 +96,10 @@ impl Glob {
         Some((start, end))
     }
 
-    /// The same, where nothing was found in so many bytes of the text's front, or none were sought. A pattern that may begin anywhere is sought
-    /// there no more: one without a star is sought behind those bytes and in as many before them as it has elements, any other in the whole text
-    /// where the bytes behind have what a match ends with.
+    /// The same, where nothing was found in so many bytes of the text's front, or none were sought. A pattern that ends with `$` is sought only
+    /// where the text's last bytes are such as it ends with. One that may begin anywhere is sought in that front no more: one without a star is
+    /// sought behind those bytes and in as many before them as it has elements, any other in the whole text where the bytes behind have what a
+    /// match ends with.
     pub fn find_on(&self, text: &[u8], sought: usize, nocase: bool) -> Option<(usize, usize)>
         requires { self.now.anchored ≡ false → 0 < sought → FindsFirst self.now nocase (take sought text.now) None }
         ensures first { FindsFirst self.now nocase text.now result }
@@ -105,6 +107,9 @@ impl Glob {
         ensures within { IfSome result (λ r. (r.0 ≤ r.1) × (r.1 ≤ length text.now)) }
     {
         let elements = self.elements.as_slice();
+        if lacks_end(elements, text, nocase) {
+            return None;
+        }
         if !self.anchored && star_end(elements).is_none() {
             return self.find_run(text, sought.saturating_sub(elements.len()), nocase);
         }
