@@ -12,7 +12,7 @@ use tcl_words::Text;
 pub const MOST_CALLS: u64 = 1_099_511_627_776;
 
 /// How many bytes are asked for in one read.
-const PIECE: usize = 65_536;
+const PIECE: usize = 16_384;
 
 /// Why a reader's bytes are not there.
 #[derive(Clone, Copy, Debug, PartialEq, Eq)]
