@@ -326,20 +326,40 @@ fn check_command<'a>(alloc: Global) -> Result<Command<'a>, AllocError> {
         .arg(sources(alloc))
 }
 
-fn command<'a>(alloc: Global) -> Result<Command<'a>, AllocError> {
-    Command::new(alloc, "exprun")
+/// The program with the commands that its first word may mean: the one that it names, or all of them. So a start doesn't pay for the words of
+/// the others.
+fn with_commands<'a>(
+    alloc: Global,
+    program: Command<'a>,
+    first: &str,
+) -> Result<Command<'a>, AllocError> {
+    match first {
+        "run" => program.subcommand(run_command(alloc)?),
+        "replay" => program.subcommand(replay_command(alloc)?),
+        "show" => program.subcommand(show_command(alloc)?),
+        "explain" => program.subcommand(explain_command(alloc)?),
+        "plan" => program.subcommand(plan_command(alloc)?),
+        "check" => program.subcommand(check_command(alloc)?),
+        _ => program
+            .subcommand(run_command(alloc)?)?
+            .subcommand(replay_command(alloc)?)?
+            .subcommand(show_command(alloc)?)?
+            .subcommand(explain_command(alloc)?)?
+            .subcommand(plan_command(alloc)?)?
+            .subcommand(check_command(alloc)?),
+    }
+}
+
+/// The program, whose first word this is.
+fn command<'a>(alloc: Global, first: &str) -> Result<Command<'a>, AllocError> {
+    let program = Command::new(alloc, "exprun")
         .bin_name("exprun")?
         .about("Runs Expect scripts with real programs, or over a log of what programs did")
         .version(help::VERSION)
         .long_version(help::LONG_VERSION)
         .after_help(help::PROGRAM)
-        .subcommand_required(true)
-        .subcommand(run_command(alloc)?)?
-        .subcommand(replay_command(alloc)?)?
-        .subcommand(show_command(alloc)?)?
-        .subcommand(explain_command(alloc)?)?
-        .subcommand(plan_command(alloc)?)?
-        .subcommand(check_command(alloc)?)
+        .subcommand_required(true);
+    with_commands(alloc, program, first)
 }
 
 /// Seconds in milliseconds; of more seconds than a limit may have, at most the greatest number.
@@ -491,7 +511,8 @@ fn check_of<'a>(alloc: Global, matches: &ArgMatches<'a>) -> Result<Order<'a>, Al
 /// What is asked for by the words, the first of which is the program. An error's text is to be shown,
 /// and is a help where that was asked for.
 pub fn read_words<'a>(alloc: Global, words: &'a [String]) -> Result<Order<'a>, Error> {
-    let matches = command(alloc)?.try_get_matches_from(words)?;
+    let first = words.get(1).map_or("", |word| word.as_str());
+    let matches = command(alloc, first)?.try_get_matches_from(words)?;
     match matches.subcommand() {
         Some(("run", run)) => Ok(run_of(alloc, run)?),
         Some(("show", show)) => Ok(show_of(show)),
