@@ -5,6 +5,7 @@
 
 mod elements;
 mod faults;
+mod few;
 mod kept;
 mod listed;
 mod value;

@@ -7,22 +7,19 @@ ghost use Rattle.tcl_values.specs.Lists.{elements_of, with_elements};
 
 use crate::elements::Elements;
 use crate::faults::GrowFault;
+use crate::few::Few;
 use crate::kept::Kept;
 use crate::listed::Listed;
-use arrayvec::ArrayVec;
 use std::alloc::{AllocError, Global};
 use std::marker::Model;
 use std::rc::Rc;
 use tcl_words::{ListFault, Text};
 
-/// How many bytes a value holds itself. A longer text is shared.
-const SHORT: usize = 16;
-
 /// How the bytes of a value are held.
 #[derive(Drop)]
 pub enum Form {
     /// A short text, which lies in the value and takes no memory.
-    Short(ArrayVec<u8, SHORT>),
+    Short(Few),
     /// A text that may have several owners.
     Shared(Rc<Kept>),
     /// A list that may have several owners.
@@ -47,12 +44,13 @@ impl Model for Value {
 }
 
 /// The form of bytes that a value holds itself, where these are so few.
+#[inline(always)]
 fn short(bytes: &[u8]) -> Option<Form>
     ensures { IfSome result (λ f. bytes_of f ≡ bytes.now) }
 {
-    match ArrayVec::try_from(bytes) {
-        Ok(text) => Some(Form::Short(text)),
-        Err(_) => None,
+    match Few::of(bytes) {
+        Some(text) => Some(Form::Short(text)),
+        None => None,
     }
 }
 
@@ -62,7 +60,7 @@ impl Value {
         ensures { result ≡ [] }
     {
         Value {
-            form: Form::Short(ArrayVec::new()),
+            form: Form::Short(Few::new()),
         }
     }
 
@@ -79,6 +77,7 @@ impl Value {
     }
 
     /// The value of these bytes, copied. Short ones take no memory.
+    #[inline(always)]
     pub fn from_slice(alloc: Global, bytes: &[u8]) -> Result<Value, AllocError>
         ensures { IfOk result (λ v. v ≡ bytes.now) }
     {
@@ -99,6 +98,7 @@ impl Value {
     }
 
     /// The bytes, in order.
+    #[inline(always)]
     pub fn as_slice(&self) -> &[u8]
         ensures { result.now ≡ self.now }
     {
@@ -117,11 +117,12 @@ impl Value {
     }
 
     /// An equal value. It copies at most a short text, and takes no memory.
+    #[inline(always)]
     pub fn shared(&self, alloc: Global) -> Result<Value, AllocError>
         ensures { IfOk result (λ v. v ≡ self.now) }
     {
         let form = match &self.form {
-            Form::Short(text) => return Value::from_slice(alloc, text.as_slice()),
+            Form::Short(text) => Form::Short(*text),
             Form::Shared(text) => Form::Shared(text.clone()?),
             Form::Listed(list) => Form::Listed(list.clone()?),
         };
@@ -154,7 +155,7 @@ impl Value {
     {
         match &mut self.form {
             Form::Short(text) => {
-                if text.try_extend_from_slice(bytes).is_ok() {
+                if text.extend(bytes) {
                     return Ok(());
                 }
             }

@@ -1,0 +1,65 @@
+//! A short text.
+
+ghost use Rattle.std.specs.Prelude.{◌≡◌, ◌≤◌, ◌++◌, [], IfSome};
+ghost use Rattle.std.specs.Bool.{OnTrue, OnFalse};
+
+/// How many bytes a short text has at most.
+const SHORT: usize = 15;
+
+/// A text of at most 15 bytes, which takes no memory.
+#[derive(Clone, Copy, Drop)]
+pub struct Few {
+    bytes: [u8; SHORT],
+    len: u8,
+    ghost within: { len ≤ 15 },
+}
+
+impl Few {
+    ghost use Rattle.tcl_values.specs.Fews.{few_bytes};
+
+    /// No bytes.
+    #[inline(always)]
+    pub(crate) fn new() -> Few
+        ensures { few_bytes result ≡ [] }
+    {
+        Few {
+            bytes: [0; SHORT],
+            len: 0,
+        }
+    }
+
+    /// These bytes, where they are so few.
+    #[inline(always)]
+    pub(crate) fn of(bytes: &[u8]) -> Option<Few>
+        ensures { IfSome result (λ f. few_bytes f ≡ bytes.now) }
+    {
+        let mut few = Few::new();
+        if few.extend(bytes) {
+            return Some(few);
+        }
+        None
+    }
+
+    /// The bytes, in order.
+    #[inline(always)]
+    pub(crate) fn as_slice(&self) -> &[u8]
+        ensures { result.now ≡ few_bytes self.now }
+    {
+        &self.bytes[..usize::from(self.len)]
+    }
+
+    /// Puts bytes behind the others where there is room, and says whether there is. Where there is none, nothing changes.
+    #[inline(always)]
+    pub(crate) fn extend(&mut self, more: &[u8]) -> bool
+        ensures extended { OnTrue result (few_bytes self.new ≡ few_bytes self.old ++ more.now) }
+        ensures kept { OnFalse result (self.new ≡ self.old) }
+    {
+        let len = usize::from(self.len);
+        if SHORT - len < more.len() {
+            return false;
+        }
+        self.bytes[len..len + more.len()].copy_from_slice(more);
+        self.len = (len + more.len()) as u8;
+        true
+    }
+}
