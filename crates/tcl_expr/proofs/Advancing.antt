@@ -73,17 +73,23 @@ skipped code at n m e =
       | inr p ↦ drop_all (at + (1 + m)) code (omega (arith, p.1, e)) ∙ sym (drop_all (suc at + n) code (omega (arith, p.1))) ∙ sym (drop-drop n (suc at) code)
     ]
 
-pub went_serves : (ops : List Op) (t : Tree) (i : Instr) (n m : ℕ) (old new : Operands) → map op_view ops ≡ postfix t → IsNext i t old.at → Serves t old → WentOn n i old new
-    → m ≡ min n (length ops - old.at - 1)
-    → (more : Texts) → exec (drop (new.at + (1 + m)) (postfix t)) 0 (held new) (left new more) ≡ eval t (new.given ++ more)
-unfolding Serves
-went_serves ops t i n m old new e next serves w size more =
+-- what is left to do behind an instruction that was done
+pub went_done : (ops : List Op) (t : Tree) (i : Instr) (n m : ℕ) (old new : Operands) → map op_view ops ≡ postfix t → WentOn n i old new → m ≡ min n (length ops - old.at - 1)
+    → (more : Texts) → exec (drop (new.at + (1 + m)) (postfix t)) 0 (held new) (left new more) ≡ does i (exec (drop (suc old.at) (postfix t))) (held old) (left old more)
+went_done ops t i n m old new e w size more =
     let long : length (postfix t) ≡ length ops = ap length (sym e) ∙ length_view ops in
     let few : m ≡ min n (length (postfix t) - old.at - 1) = rw long size in
     ap (λ a. exec (drop (a + (1 + m)) (postfix t)) 0 (held new) (left new more)) w.at
     ∙ ap (λ c. exec c 0 (held new) (left new more)) (skipped (postfix t) old.at n m few)
     ∙ sym (exec_skip (drop (suc old.at) (postfix t)) n (held new) (left new more))
     ∙ sym (w.goes (exec (drop (suc old.at) (postfix t))) more)
+
+pub went_serves : (ops : List Op) (t : Tree) (i : Instr) (n m : ℕ) (old new : Operands) → map op_view ops ≡ postfix t → IsNext i t old.at → Serves t old → WentOn n i old new
+    → m ≡ min n (length ops - old.at - 1)
+    → (more : Texts) → exec (drop (new.at + (1 + m)) (postfix t)) 0 (held new) (left new more) ≡ eval t (new.given ++ more)
+unfolding Serves
+went_serves ops t i n m old new e next serves w size more =
+    went_done ops t i n m old new e w size more
     ∙ sym (exec_one i (drop (suc old.at) (postfix t)) (held old) (left old more))
     ∙ ap (λ c. exec c 0 (held old) (left old more)) (sym next.code)
     ∙ serves more
@@ -156,12 +162,16 @@ held_first given (x ∷ st) item text h e =
     let same : item ≡ x = (let is : Some item ≡ Some x = h in cc) in
     ap (λ v. v ∷ map (item_text given) st) (ap (item_text given) (sym same) ∙ sym e)
 
+-- nothing is left to do
+pub nothing_left : (ops : List Op) (t : Tree) (at : ℕ) (st vs : Texts) → map op_view ops ≡ postfix t → length ops ≤ at → exec (drop at (postfix t)) 0 st vs ≡ ended st vs
+unfolding exec
+nothing_left ops t at st vs code h =
+    let long : length (postfix t) ≡ length ops = ap length (sym code) ∙ length_view ops in
+    ap (λ c. exec c 0 st vs) (drop_all at (postfix t) (omega (arith, long)))
+
 over_is : (ops : List Op) (t : Tree) (log : Operands) (given : Texts) → map op_view ops ≡ postfix t → length ops ≤ log.at → Serves t log → log.given ≡ given
     → eval t given ≡ ended (held log) (left log [])
-unfolding exec
-over_is ops t log given code h serves e =
-    let long : length (postfix t) ≡ length ops = ap length (sym code) ∙ length_view ops in
-    eval_is t log given serves e ∙ ap (λ c. exec c 0 (held log) (left log [])) (drop_all log.at (postfix t) (omega (arith, long)))
+over_is ops t log given code h serves e = eval_is t log given serves e ∙ nothing_left ops t log.at (held log) (left log []) code h
 
 pub answer_tells : (step : Step) (ops : List Op) (t : Tree) (log : Operands) (given : Texts) → map op_view ops ≡ postfix t → length ops ≤ log.at → Serves t log → log.given ≡ given
     → Answers step (held log) → Tells step t given

@@ -5,6 +5,7 @@ pub mod Serving
 pub mod Stacked
 pub mod Numbers
 pub mod Advancing
+pub mod Counting
 pub mod Bounds
 pub mod Props
 pub mod Places

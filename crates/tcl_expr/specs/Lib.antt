@@ -19,3 +19,4 @@ pub mod Turns
 pub mod Script
 pub mod Numbered
 pub mod Tells
+pub mod Answers

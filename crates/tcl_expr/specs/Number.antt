@@ -12,6 +12,10 @@ abbrev pub value_from : ℕ → List ℕ → ℕ
 value_from n [] = n
 value_from n (b ∷ bs) = value_from (n * 10 + (b - ascii.digit_0)) bs
 
+-- the value of bytes, where each of them is a digit
+abbrev pub digits_value : List ℕ → Option ℕ
+digits_value ds = if list_all is_digit ds then Some (value_from 0 ds) else None
+
 abbrev pub begins_with_zero : List ℕ → Bool
 begins_with_zero [] = false
 begins_with_zero (b ∷ bs) = b == ascii.digit_0

@@ -45,6 +45,7 @@ impl Given {
     }
 
     /// Puts a value behind the others. A refused one leaves the list as it was.
+    #[inline(always)]
     pub(crate) fn push(&mut self, value: Value) -> Result<(), AllocError>
         ensures pushed { OnOk result (self.new ≡ self.old ++ value ∷ []) }
         ensures kept { OnErr result (self.new ≡ self.old) }

@@ -15,9 +15,10 @@ pub fn operands_are_bounded()
     ensures { (t : Tree) (given : List (List ℕ)) (w : Spelled) → outcome t given ≡ needs w → length given < operands_in t }
 {}
 
-/// A number's text reads as that number.
+/// A number's text reads as that number, and no other text does.
 pub fn numbers_round_trip()
-    ensures { (z : ℤ) → FitsSigned w64 z → number_of (number_text z) ≡ Some z }
+    ensures reads { (z : ℤ) → FitsSigned w64 z → number_of (number_text z) ≡ Some z }
+    ensures one { (text : List ℕ) (z : ℤ) → number_of text ≡ Some z → text ≡ number_text z }
 {}
 
 /// The grammar's law: a text is read as a tree just where the rules give it that tree, so they give a text one tree at most.

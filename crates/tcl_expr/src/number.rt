@@ -1,8 +1,7 @@
 //! Numbers as texts: an optional minus and digits without a needless zero, within 64 bits.
 
-ghost use Rattle.std.specs.Prelude.{◌≡◌, ◌≤◌, true, length, IfOk};
-ghost use Rattle.std.specs.List.{list_all};
-ghost use Rattle.tcl_expr.specs.Number.{is_digit, value_from, is_numeral as numeral_shape, numeral as numeral_of, negative, number_of, number_text};
+ghost use Rattle.std.specs.Prelude.{◌≡◌, ◌≤◌, ◌<◌, ◌==◌, ◌||◌, not, length, IfOk};
+ghost use Rattle.tcl_expr.specs.Number.{is_digit, digits_value, begins_with_zero, numeral as numeral_of, negative, number_of, number_text};
 
 use crate::white::before;
 use itoa::Buffer;
@@ -16,33 +15,27 @@ pub(crate) fn is_digit(b: u8) -> bool
     48 <= b && b <= 57
 }
 
-fn all_digits(text: &[u8]) -> bool
-    ensures { result ≡ list_all is_digit text.now }
-{
-    text.iter().all(|b| 48 <= *b && *b <= 57)
-}
-
-/// The value of at most 19 digits.
-fn value(digits: &[u8]) -> u64
-    requires few { length digits.now ≤ 19 }
-    requires digits { list_all is_digit digits.now ≡ true }
-    ensures { result ≡ value_from 0 digits.now }
+/// The value of at most 19 bytes, where each of them is a digit.
+fn value(text: &[u8]) -> Option<u64>
+    requires { length text.now ≤ 19 }
+    ensures { result ≡ digits_value text.now }
 {
     let mut n: u64 = 0;
-    for b in digits {
+    for b in text {
+        if !is_digit(*b) {
+            return None;
+        }
         n = n * 10 + u64::from(*b - b'0');
     }
-    n
+    Some(n)
 }
 
-/// Whether a text is 1 to 19 digits without a needless zero.
-fn is_numeral(text: &[u8]) -> bool
-    ensures { result ≡ numeral_shape text.now }
+/// Whether a text of 1 to 19 bytes begins with a needless zero, were they digits.
+fn is_padded(text: &[u8]) -> bool
+    requires { 0 < length text.now }
+    ensures { result ≡ not (length text.now == 1 || not (begins_with_zero text.now)) }
 {
-    if text.is_empty() || text.len() > 19 || !all_digits(text) {
-        return false;
-    }
-    text.len() == 1 || text[0] != b'0'
+    text.len() != 1 && text[0] == b'0'
 }
 
 /// The number that digits are, if it is at most so great.
@@ -50,10 +43,10 @@ pub(crate) fn numeral(most: u64, text: &[u8]) -> Option<u64>
     ensures value { result ≡ numeral_of most text.now }
     ensures within { IfSome result (λ n. n ≤ most) }
 {
-    if !is_numeral(text) {
+    if text.is_empty() || text.len() > 19 || is_padded(text) {
         return None;
     }
-    let n = value(text);
+    let n = value(text)?;
     if n <= most { Some(n) } else { None }
 }
 
@@ -100,7 +93,7 @@ pub fn read_number(text: &[u8]) -> Option<i64>
 }
 
 /// The text of a number, which reads as that number and as no other: its decimal digits, behind `-` where it is below 0.
-/// Of at most 16 bytes it takes no memory.
+/// Of at most 15 bytes it takes no memory.
 pub fn write_number(alloc: Global, number: i64) -> Result<Value, AllocError>
     ensures text { IfOk result (λ t. t ≡ number_text number) }
 {

@@ -45,6 +45,7 @@ impl Operands {
 
     /// Puts a value behind those that were given: the value of the operand that was asked for last.
     /// A refused one leaves all as it was.
+    #[inline(always)]
     pub fn give(&mut self, value: Value) -> Result<(), AllocError>
         ensures given { OnOk result (self.new.given ≡ self.old.given ++ value ∷ []) }
         ensures serves { OnOk result ((t : Tree) → Serves t self.old → Serves t self.new) }

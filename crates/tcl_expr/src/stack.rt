@@ -1,6 +1,6 @@
 //! The values that wait for their operators.
 
-ghost use Rattle.std.specs.Prelude.{◌≡◌, ◌∷◌, ◌<◌, [], drop, length, reverse, OnOk, OnErr};
+ghost use Rattle.std.specs.Prelude.{◌≡◌, ◌∷◌, ◌<◌, [], drop, length, reverse, Some, IfSome, OnOk, OnErr};
 ghost use Rattle.tcl_expr.specs.Stack.{first};
 
 use crate::bareword::Bareword;
@@ -77,6 +77,7 @@ impl Stack {
         }
     }
 
+    #[inline(always)]
     pub(crate) fn push(&mut self, item: Item) -> Result<(), AllocError>
         ensures pushed { OnOk result (self.new ≡ item ∷ self.old) }
         ensures kept { OnErr result (self.new ≡ self.old) }
@@ -90,6 +91,7 @@ impl Stack {
     }
 
     /// The value on top.
+    #[inline(always)]
     pub(crate) fn first(&self) -> Option<Item>
         ensures { result ≡ first self.now }
     {
@@ -99,7 +101,18 @@ impl Stack {
         last(self.high.as_slice())
     }
 
+    /// The number on top, where the value there is one.
+    pub(crate) fn number(&self) -> Option<i64>
+        ensures { IfSome result (λ z. first self.now ≡ Some (Item.Number z)) }
+    {
+        match self.first() {
+            Some(Item::Number(z)) => Some(z),
+            _ => None,
+        }
+    }
+
     /// The value below the top.
+    #[inline(always)]
     pub(crate) fn second(&self) -> Option<Item>
         ensures { result ≡ first (drop 1 self.now) }
     {
@@ -113,6 +126,7 @@ impl Stack {
     }
 
     /// Takes the top value away, if there is one.
+    #[inline(always)]
     pub(crate) fn pop(&mut self)
         ensures { self.new ≡ drop 1 self.old }
     {
@@ -122,6 +136,7 @@ impl Stack {
     }
 
     /// Puts a value in the place of the top one.
+    #[inline(always)]
     pub(crate) fn replace(&mut self, item: Item)
         requires { 0 < length self.old }
         ensures { self.new ≡ item ∷ drop 1 self.old }

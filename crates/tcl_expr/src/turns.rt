@@ -38,7 +38,7 @@ impl Operands {
     ghost use Rattle.tcl_expr.specs.Instr.{Instr};
 
     /// Puts a number on the stack.
-    fn hold_number(&mut self, number: i64) -> Turn
+    pub(crate) fn hold_number(&mut self, number: i64) -> Turn
         ensures { Turns result (push number) self.old self.new }
     {
         match self.stack.push(Item::Number(number)) {
