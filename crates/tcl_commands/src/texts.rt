@@ -11,11 +11,12 @@ use tcl_expr::ExprFault;
 use tcl_subst::SubstFault;
 use tcl_words::{Text, WordFault};
 
-/// Whether a word is this name.
+/// Whether a word is this name. One of another length costs no call.
+#[inline(always)]
 pub(crate) fn is(word: &[u8], name: &[u8]) -> bool
     ensures { result ≡ bytes_eq word.now name.now }
 {
-    word == name
+    word.len() == name.len() && word == name
 }
 
 /// A text is no list.

@@ -1,17 +1,19 @@
 //! The words of a command, kept to be filled.
 
-ghost use Rattle.std.specs.Prelude.{◌≡◌, [], ◌∷◌, ◌++◌, MatchOption, drop, length, IfOk, OnOk};
-ghost use Rattle.tcl_words.specs.Pieces.{word_view, words_view};
+ghost use Rattle.std.specs.Prelude.{◌≡◌, [], ◌∷◌, ◌++◌, MatchOption, drop, length, IfOk, IfSome, OnOk};
+ghost use Rattle.tcl_words.specs.Pieces.{script, no_pieces, piece, word_view, words_view};
 ghost use Rattle.tcl_subst.specs.Filling.{fill};
 ghost use Rattle.tcl_subst.specs.Plain.{is_plain, TellsValue};
 ghost use Rattle.tcl_subst.specs.Recipes.{begun, steps_onto};
+ghost use Rattle.tcl_subst.specs.Variables.{Variables};
+ghost use Rattle.tcl_scripts.specs.Literals.{IsLiteral, AreLiterals};
 
 use std::alloc::{AllocError, Global};
 use std::marker::Model;
 use std::rc::Rc;
 use tcl_subst::{Filler, Recipe, Vars};
 use tcl_values::Value;
-use tcl_words::Word;
+use tcl_words::{Text, Word};
 
 /// A word with the steps of filling it. A contract sees its parts.
 #[derive(Drop)]
@@ -75,6 +77,23 @@ impl KeptWord {
         self.recipe.plain_value(alloc, vars)
     }
 
+    /// Its value, where it is one literal, and isn't split as a list.
+    fn literal(&self, alloc: Global) -> Result<Option<Value>, AllocError>
+        ensures { IfOk result (λ o. IfSome o (λ value. IsLiteral self.now value)) }
+    {
+        if self.expand {
+            return Ok(None);
+        }
+        self.recipe.literal(alloc)
+    }
+
+    /// The script that it is, where it is one script alone.
+    pub fn only_script(&self) -> Option<&Text>
+        ensures { IfSome result (λ text. (vars : Variables) → fill self.now.pieces vars ≡ fill (piece (script text.now) no_pieces) vars) }
+    {
+        self.recipe.only_script()
+    }
+
     /// What fills it, at the first step.
     pub fn filler(&self, alloc: Global) -> Result<Filler, AllocError>
         ensures { IfOk result (λ f. f ≡ begun (steps_onto self.now.pieces [])) }
@@ -83,23 +102,33 @@ impl KeptWord {
     }
 }
 
+/// Words with their values, where each is one literal.
+#[derive(Drop)]
+pub struct KeptWords {
+    list: Vec<KeptWord>,
+    literals: Option<Vec<Value>>,
+}
+
 /// The words of a command, shared. A contract sees the list of them.
 #[derive(Drop)]
 pub struct Words {
-    list: Rc<Vec<KeptWord>>,
+    kept: Rc<KeptWords>,
 }
 
 impl Model for Words {
-    ghost use Rattle.std.specs.Prelude.{List};
+    ghost use Rattle.std.specs.Prelude.{List, IfSome};
     ghost use Rattle.std.specs.Coded.{coded_list};
     ghost use Rattle.tcl_words.specs.Pieces.{Spelled};
     ghost use Rattle.tcl_expr.specs.Codes.{coded_spelled};
+    ghost use Rattle.tcl_scripts.specs.Literals.{AreLiterals};
 
     ghost Value = { List Spelled };
 
     ghost coded = { coded_list coded_spelled };
 
-    ghost view = { λ w. w.list.value.items };
+    ghost view = { λ w. w.kept.value.list.items };
+
+    ghost invariant = { λ w. IfSome w.kept.value.literals (λ v. AreLiterals w.kept.value.list.items v.items) };
 }
 
 impl Words {
@@ -111,16 +140,14 @@ impl Words {
         for word in words {
             list.push(KeptWord::new(alloc, word)?)?;
         }
-        Ok(Words {
-            list: Rc::new(alloc, list)?,
-        })
+        Words::of(alloc, list)
     }
 
     /// The word at a place, where there is one, and the place behind it.
     pub fn next(&self, at: usize) -> Option<(&KeptWord, usize)>
         ensures { MatchOption result (drop at self.now ≡ []) (λ p. drop at self.now ≡ p.0.now ∷ drop p.1 self.now) }
     {
-        match self.list.get(at) {
+        match self.kept.list.get(at) {
             None => None,
             Some(word) => Some((word, at + 1)),
         }
@@ -130,15 +157,26 @@ impl Words {
     pub fn len(&self) -> usize
         ensures { result ≡ length self.now }
     {
-        self.list.len()
+        self.kept.list.len()
+    }
+
+    /// Their values, where each is one literal and a value can be as long as it.
+    pub fn literals(&self) -> Option<&[Value]>
+        ensures { IfSome result (λ values. AreLiterals self.now values.now) }
+    {
+        match &self.kept.literals {
+            None => None,
+            Some(values) => Some(values.as_slice()),
+        }
     }
 
     /// Words that were kept, in their order.
     pub(crate) fn of(alloc: Global, list: Vec<KeptWord>) -> Result<Words, AllocError>
         ensures { IfOk result (λ w. w ≡ list.items) }
     {
+        let literals = literals(alloc, list.as_slice())?;
         Ok(Words {
-            list: Rc::new(alloc, list)?,
+            kept: Rc::new(alloc, KeptWords { list, literals })?,
         })
     }
 
@@ -146,7 +184,7 @@ impl Words {
     pub(crate) fn copy_to(&self, list: &mut Vec<KeptWord>) -> Result<(), AllocError>
         ensures { OnOk result (list.new.items ≡ list.old.items ++ self.now) }
     {
-        for word in self.list.as_slice() {
+        for word in self.kept.list.as_slice() {
             list.push(word.shared()?)?;
         }
         Ok(())
@@ -157,7 +195,21 @@ impl Words {
         ensures { IfOk result (λ w. w ≡ self.now) }
     {
         Ok(Words {
-            list: self.list.clone()?,
+            kept: self.kept.clone()?,
         })
     }
+}
+
+/// The values of words, where each is one literal.
+fn literals(alloc: Global, words: &[KeptWord]) -> Result<Option<Vec<Value>>, AllocError>
+    ensures { IfOk result (λ o. IfSome o (λ v. AreLiterals words.now v.items)) }
+{
+    let mut values = Vec::new(alloc);
+    for word in words {
+        match word.literal(alloc)? {
+            None => return Ok(None),
+            Some(value) => values.push(value)?,
+        }
+    }
+    Ok(Some(values))
 }

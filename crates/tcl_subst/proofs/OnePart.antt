@@ -1,10 +1,10 @@
 -- What is told of a word that is one literal or one variable.
-use Rattle.std.proofs.Common.{◌≡◌, ℕ, ◌<◌, ◌≤◌, Bool, true, false, List, [], ◌∷◌, length, get_or, Option, Some, None, Result, Ok, Err, IfOk, refl, sym, ap, ◌∙◌, subst, arith}
+use Rattle.std.proofs.Common.{◌≡◌, ℕ, ◌<◌, ◌≤◌, Bool, true, false, List, [], ◌∷◌, length, get_or, Option, Some, None, Result, Ok, Err, IfOk, IfSome, refl, sym, ap, ◌∙◌, subst, arith}
 use Rattle.tcl_words.specs.declared.shapes.Part.{Part}
 use Rattle.tcl_words.specs.Pieces.{Piece, Pieces, literal, variable, member, script, no_pieces, piece, parts_view}
 use Rattle.tcl_subst.specs.declared.recipe.Step.{Step}
 use Rattle.tcl_subst.specs.declared.recipe.Step.TheVariants.{Text, Variable, Script, Open, Close}
-use Rattle.tcl_subst.specs.Filling.{Fill, fill}
+use Rattle.tcl_subst.specs.Filling.{Fill, Full, fill}
 use Rattle.tcl_subst.specs.Plain.{is_plain, TellsValue}
 use Rattle.tcl_subst.specs.Recipes.{piece_onto, steps_onto, begun}
 use Rattle.tcl_subst.specs.Rests.{rest}
@@ -56,6 +56,15 @@ told_alike o ps one vars same t =
 pub told_alike_if : {E : Type 0} (r : Result (Option (List ℕ)) E) (ps one : Pieces) (vars : Variables) → steps_onto ps [] ≡ steps_onto one [] → IfOk r (λ o. TellsValue o (is_plain one) (fill one vars)) → IfOk r (λ o. TellsValue o (is_plain ps) (fill ps vars))
 told_alike_if (Ok o) ps one vars same t = told_alike o ps one vars same t
 told_alike_if (Err e) ps one vars same t = tt
+
+-- what is told of a literal is so, whatever the variables are
+pub always_told : (o : Option (List ℕ)) (ps one : Pieces) → steps_onto ps [] ≡ steps_onto one [] → ((vars : Variables) → TellsValue o (is_plain one) (fill one vars)) → IfSome o (λ value. (vars : Variables) → fill ps vars ≡ Full value)
+always_told None ps one same t = tt
+always_told (Some value) ps one same t = λ vars. told_alike (Some value) ps one vars same (t vars)
+
+-- words with the same steps come to the same
+pub fills_alike : (ps one : Pieces) (vars : Variables) → steps_onto ps [] ≡ steps_onto one [] → fill ps vars ≡ fill one vars
+fills_alike ps one vars same = sym (begun_comes_to ps vars) ∙ ap (λ (s : List Step). rest (begun s) vars) same ∙ begun_comes_to one vars
 
 -- the only one of a list
 pub only_item : {X : Type 0} (xs : List X) (x : X) → x ≡ get_or xs 0 x → 0 < length xs → length xs < 2 → xs ≡ x ∷ []

@@ -37,6 +37,7 @@ impl<V> Names<V> {
     }
 
     /// What a name names.
+    #[inline(always)]
     pub fn get(&self, name: &[u8]) -> Option<&V>
         ensures { option_copied result ≡ find name.now self.now }
     {

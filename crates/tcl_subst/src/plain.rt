@@ -40,6 +40,7 @@ fn part_value(alloc: Global, part: &Part, vars: &mut Vars) -> Result<Option<Valu
 }
 
 /// The value of a word that is one literal.
+#[inline(always)]
 pub fn literal_value(text: Value) -> Option<Value>
     ensures { (vars : Variables) → TellsValue result true (fill (piece (literal text) no_pieces) vars) }
 {
@@ -50,6 +51,7 @@ pub fn literal_value(text: Value) -> Option<Value>
 }
 
 /// The value of a word that is one variable.
+#[inline(always)]
 pub fn variable_value(name: &[u8], vars: &mut Vars) -> Result<Option<Value>, AllocError>
     ensures value { IfOk result (λ o. TellsValue o true (fill (piece (variable name.now) no_pieces) vars.old)) }
     ensures same { vars.new ≡ vars.old }

@@ -10,6 +10,7 @@ use crate::scope::{Scope, Slot};
 use tcl_values::Value;
 
 /// The value of a variable or an element.
+#[inline(always)]
 pub fn read<'a>(scope: &'a Scope, name: &[u8]) -> Result<&'a Value, SubstFault>
     ensures { MatchResult result (λ v. read name.now scope.now ≡ Ok v.now) (λ f. read name.now scope.now ≡ Err f) }
 {
@@ -19,6 +20,7 @@ pub fn read<'a>(scope: &'a Scope, name: &[u8]) -> Result<&'a Value, SubstFault>
     }
 }
 
+#[inline(always)]
 fn text<'a>(scope: &'a Scope, name: &[u8]) -> Result<&'a Value, SubstFault>
     ensures { MatchResult result (λ v. text_in (find name.now scope.now) ≡ Ok v.now) (λ f. text_in (find name.now scope.now) ≡ Err f) }
 {

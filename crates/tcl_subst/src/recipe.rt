@@ -1,9 +1,10 @@
 //! A word as steps in one line.
 
-ghost use Rattle.std.specs.Prelude.{◌≡◌, ◌++◌, [], IfOk, OnOk};
+ghost use Rattle.std.specs.Prelude.{◌≡◌, ◌++◌, [], IfOk, IfSome, OnOk};
 ghost use Rattle.std.specs.Option.{option_copied};
-ghost use Rattle.tcl_words.specs.Pieces.{Pieces, part_view, parts_view, word_view};
-ghost use Rattle.tcl_subst.specs.Filling.{fill};
+ghost use Rattle.tcl_words.specs.Pieces.{Pieces, script, no_pieces, piece, part_view, parts_view, word_view};
+ghost use Rattle.tcl_subst.specs.Filling.{fill, Full};
+ghost use Rattle.tcl_subst.specs.Variables.{Variables};
 ghost use Rattle.tcl_subst.specs.Plain.{is_plain, TellsValue};
 ghost use Rattle.tcl_subst.specs.Recipes.{piece_onto, steps_onto, script_at, is_script};
 
@@ -74,6 +75,38 @@ impl Recipe {
             Step::Script(_) => Ok(None),
             Step::Open => Ok(None),
             Step::Close(_) => Ok(None),
+        }
+    }
+
+    /// The value of a word that is one literal. `None` for another word, and where that is too long a value.
+    pub fn literal(&self, alloc: Global) -> Result<Option<Value>, AllocError>
+        ensures { (ps : Pieces) → self.now.steps.items ≡ steps_onto ps [] → IfOk result (λ o. IfSome o (λ value. (vars : Variables) → fill ps vars ≡ Full value)) }
+    {
+        let [step] = self.steps.as_slice() else {
+            return Ok(None);
+        };
+        match step {
+            Step::Text(text) => Ok(literal_value(text.shared(alloc)?)),
+            Step::Variable(_) => Ok(None),
+            Step::Script(_) => Ok(None),
+            Step::Open => Ok(None),
+            Step::Close(_) => Ok(None),
+        }
+    }
+
+    /// The script of a word that is one script alone. `None` for another word.
+    pub fn only_script(&self) -> Option<&Text>
+        ensures { (ps : Pieces) → self.now.steps.items ≡ steps_onto ps [] → IfSome result (λ text. (vars : Variables) → fill ps vars ≡ fill (piece (script text.now) no_pieces) vars) }
+    {
+        let [step] = self.steps.as_slice() else {
+            return None;
+        };
+        match step {
+            Step::Text(_) => None,
+            Step::Variable(_) => None,
+            Step::Script(text) => Some(text),
+            Step::Open => None,
+            Step::Close(_) => None,
         }
     }
 

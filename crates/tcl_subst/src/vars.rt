@@ -98,6 +98,7 @@ impl Vars {
     }
 
     /// The scope in which a name is looked up.
+    #[inline(always)]
     fn home(&self, name: &[u8]) -> &Scope
         ensures { result.now ≡ home name.now self.now }
     {
@@ -105,6 +106,7 @@ impl Vars {
     }
 
     /// The scope in which a name, not of an element, is looked up.
+    #[inline(always)]
     fn home_of(&self, name: &[u8]) -> &Scope
         ensures { result.now ≡ home_in name.now self.now.globals self.now.locals }
     {
@@ -142,6 +144,7 @@ impl Vars {
     }
 
     /// The value of a variable or an element, shared: `NoVariable`, `IsArray` or `NotArray` where there is none.
+    #[inline(always)]
     pub fn get(&self, name: &[u8]) -> Result<Value, SubstFault>
         ensures { Gives result (value_of name.now self.now) }
     {
@@ -169,6 +172,7 @@ impl Vars {
 
     /// The value of a variable or an element, shared, as `get` gives it. Where one that was given earlier has been read as a list since,
     /// the elements are at hand from then on. No value changes.
+    #[inline(always)]
     pub fn settled(&mut self, name: &[u8]) -> Result<Value, SubstFault>
         ensures same { self.new ≡ self.old }
         ensures given { Gives result (value_of name.now self.old) }
