@@ -4,3 +4,4 @@ pub mod Led
 pub mod Natives
 pub mod Told
 pub mod Walked
+pub mod Answered

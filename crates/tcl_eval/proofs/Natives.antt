@@ -1,8 +1,13 @@
 -- What functions that evaluate come to.
-use Rattle.std.proofs.Common.{◌≡◌, ℕ, zero, suc, ◌==◌, ◌+◌, ◌-◌, ◌^◌, ◌<◌, ◌≤◌, Bool, true, false, List, [], ◌∷◌, drop, length, length-append, refl, sym, ◌∙◌, ap, arith}
+use Rattle.std.proofs.Common.{◌≡◌, ℕ, zero, suc, ◌==◌, ◌+◌, ◌-◌, ◌^◌, ◌<◌, ◌≤◌, Bool, true, false, List, [], ◌∷◌, ◌++◌, drop, length, length-append, append_assoc, refl, sym, ◌∙◌, ap, arith}
+use Rattle.std.proofs.Math.Path.{fun_ext}
+use Rattle.std.proofs.lemmas.List.{append-nil}
 use Rattle.tcl_words.specs.Pieces.{Spelled}
 use Rattle.tcl_expr.specs.Tree.{Tree as Expression}
 use Rattle.tcl_expr.specs.Value.{outcome, needs, operands_in}
+use Rattle.tcl_scripts.specs.Literals.{AreLiterals}
+use Rattle.tcl_subst.specs.Filling.{Fill}
+use Rattle.tcl_eval.specs.Alone.{IsAlone, WaitsAlone}
 use Rattle.tcl_subst.specs.Recipes.{Filling}
 use Rattle.tcl_subst.specs.Variables.{Variables}
 use Rattle.tcl_eval.specs.declared.halt.Halt.{Halt}
@@ -17,14 +22,14 @@ use Rattle.tcl_eval.specs.declared.out.Truth.{Truth}
 use Rattle.tcl_eval.specs.declared.out.Truth.TheVariants.{Holds, Gone as GoneTruth, Stopped as StoppedTruth}
 use Rattle.tcl_eval.specs.declared.frame.Then.{Then}
 use Rattle.tcl_eval.specs.declared.frame.Goal.{Goal}
-use Rattle.tcl_eval.specs.declared.frame.Onward.TheVariants.{Fill, Operand}
+use Rattle.tcl_eval.specs.declared.frame.Onward.TheVariants.{Fill as FillOn, Operand}
 use Rattle.tcl_eval.specs.declared.frame.Frame.{Frame}
 use Rattle.tcl_eval.specs.declared.frame.Frame.TheVariants.{Onward as OnwardFrame}
 use Rattle.tcl_eval.specs.declared.frame.End.TheVariants.{StepLimit}
 use Rattle.tcl_eval.specs.Evaluated.{Evaluated}
 use Rattle.tcl_eval.specs.Tree.{State, Tree, Over}
 use Rattle.tcl_eval.specs.Potential.{bodies, frame_weight}
-use Rattle.tcl_eval.specs.Meaning.{Next, Eval, eval, on_said, spread, stepped, fill_parts, fill_words, each}
+use Rattle.tcl_eval.specs.Meaning.{Next, Eval, eval, on_ok, on_said, spread, stepped, fill_word, fill_parts, fill_words, each}
 use Rattle.tcl_eval.specs.Rest.{frame_rest, frames_rest, goal_rest, then_rest}
 use Rattle.tcl_eval.specs.Native.{laid_rest, stop_rest, operand_on, word_on, OneMore, FewerLeft}
 
@@ -64,12 +69,12 @@ operand_below depth e f f' goal goal' frame s k st is same for =
 
 -- behind a script of a word
 pub word_below : (depth next : ℕ) (expand : Bool) (words words' : List Spelled) (f f' : Filling) (done done' : List (List ℕ)) (then : Then) (s : Stop) (k : Next) (st : State) → words' ≡ words → f' ≡ f → done' ≡ done
-    → stop_rest s (frame_rest (OnwardFrame (Fill words' next expand f' done' then depth)) k) st
+    → stop_rest s (frame_rest (OnwardFrame (FillOn words' next expand f' done' then depth)) k) st
     ≡ stop_rest s (word_on (eval depth) f k (λ v st. on_said (spread expand v done) k (λ done st. fill_words (eval depth) (drop next words) done k (then_rest depth then k) st) st)) st
 word_below depth next expand words words' f f' done done' then s k st same filler values =
-    ap (λ (x : List Spelled). stop_rest s (frame_rest (OnwardFrame (Fill x next expand f' done' then depth)) k) st) same
-    ∙ ap (λ (x : Filling). stop_rest s (frame_rest (OnwardFrame (Fill words next expand x done' then depth)) k) st) filler
-    ∙ ap (λ (x : List (List ℕ)). stop_rest s (frame_rest (OnwardFrame (Fill words next expand f x then depth)) k) st) values
+    ap (λ (x : List Spelled). stop_rest s (frame_rest (OnwardFrame (FillOn x next expand f' done' then depth)) k) st) same
+    ∙ ap (λ (x : Filling). stop_rest s (frame_rest (OnwardFrame (FillOn words next expand x done' then depth)) k) st) filler
+    ∙ ap (λ (x : List (List ℕ)). stop_rest s (frame_rest (OnwardFrame (FillOn words next expand f x then depth)) k) st) values
 
 -- an operand that was needed and has its value isn't needed again
 pub fewer_left : (w : Worked) (h : Halt) (vars : Variables) (old mid new : Evaluated) → ((t : Expression) (given : List (List ℕ)) (x : Spelled) → outcome t given ≡ needs x → length given < operands_in t)
@@ -102,3 +107,23 @@ pub each_spent : (ev : Eval) (names : List (List ℕ)) (left : List (List (List 
     → (length left == 0) ≡ false → st.left ≡ 0 → st' ≡ st → Over StepLimit st' ≡ each ev names left body k st
 each_spent ev names [] body k st st' some none same = absurd (cc)
 each_spent ev names (es ∷ left) body k st st' some none same = ap (λ (s : State). Over StepLimit s) same ∙ sym (stepped_none st.left st _ none)
+
+-- words that are literals are filled with those
+pub literals_fill : (ev : Eval) (words : List Spelled) (values done : List (List ℕ)) (k : Next) (go : List (List ℕ) → State → Tree) (st : State) → AreLiterals words values → fill_words ev words done k go st ≡ go (done ++ values) st
+literals_fill ev [] [] done k go st a = ap (λ (l : List (List ℕ)). go l st) (sym (append-nil done))
+literals_fill ev [] (v ∷ values) done k go st a = absurd a
+literals_fill ev (w ∷ words) [] done k go st a = absurd a
+literals_fill ev (w ∷ words) (v ∷ values) done k go st a =
+    ap (λ (f : Fill). fill_word ev f k (λ v st. on_said (spread w.expand v done) k (λ done st. fill_words ev words done k go st) st) st) (a.0.1 st.vars)
+    ∙ ap (λ (b : Bool). on_said (spread b v done) k (λ done st. fill_words ev words done k go st) st) a.0.0
+    ∙ literals_fill ev words values (done ++ v ∷ []) k go st a.1
+    ∙ ap (λ (l : List (List ℕ)). go l st) (append_assoc done (v ∷ []) values)
+
+-- a word that is one script alone, where that stands still
+pub alone_below : (ev : Eval) (w : Spelled) (text script : List ℕ) (f : Filling) (s : Stop) (k : Next) (go : List ℕ → State → Tree) (st now : State)
+    → IsAlone w text → script ≡ text → WaitsAlone f → ((k : Next) → stop_rest s k now ≡ ev script k st) → stop_rest s (word_on ev f k go) now ≡ fill_parts ev w k go st
+alone_below ev w text script f s k go st now only same waits run =
+    run (word_on ev f k go)
+    ∙ ap (λ (x : List ℕ). ev x (word_on ev f k go) st) same
+    ∙ ap (λ (h : List ℕ → State → Tree). ev text (on_ok h k) st) (fun_ext (λ v. fun_ext (λ (st : State). ap (λ (x : Fill). fill_word ev x k go st) (waits v st.vars))))
+    ∙ ap (λ (x : Fill). fill_word ev x k go st) (sym (only st.vars))

@@ -20,8 +20,8 @@ Fills f w = (vars : Variables) → rest f vars ≡ fill w.pieces vars
 -- what a word comes to whose filling was begun
 abbrev pub begun_fill : Begun → Fill
 begun_fill (Full value) = Filled value
-begun_fill (Script f number) = told (step.NeedScript number, f)
-begun_fill (Failed f fault) = told (step.Fault fault, f)
+begun_fill (Script f number) = told (step.NeedScript number, f.value)
+begun_fill (Failed f fault) = told (step.Fault fault, f.value)
 
 -- the operand that is needed, and what it comes to
 pub record NeedsFilled (vars : Variables) (p : Fill) (e : Evaluated) : Type 0 where

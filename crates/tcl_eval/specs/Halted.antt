@@ -15,8 +15,8 @@ use Rattle.tcl_eval.specs.Meaning.{Next, Eval, fill_word, fill_parts, value_from
 
 abbrev pub HaltsAt : Variables → Halt → Evaluated → Type 0
 HaltsAt vars (Value text) e = outcome e.tree e.given ≡ known text
-HaltsAt vars (Script f number) e = NeedsFilled vars (told (step.NeedScript number, f)) e
-HaltsAt vars (Failed f fault) e = NeedsFilled vars (told (step.Fault fault, f)) e
+HaltsAt vars (Script f number) e = NeedsFilled vars (told (step.NeedScript number, f.value)) e
+HaltsAt vars (Failed f fault) e = NeedsFilled vars (told (step.Fault fault, f.value)) e
 HaltsAt vars (Fault f) e = outcome e.tree e.given ≡ faulty f
 
 -- an expression's value, where some operands have theirs
@@ -35,7 +35,7 @@ HasGrown old new = (new.tree ≡ old.tree) × (length old.given ≤ length new.g
 abbrev pub halted_worth : Eval → Halt → Evaluated → Next → (List ℕ → State → Tree) → State → Tree
 halted_worth ev (Value v) e k go st = go v st
 halted_worth ev (Script f number) e k go st =
-    fill_word ev (told (step.NeedScript number, f)) k (λ v st. worth ev (with_operand v e) k go st) st
+    fill_word ev (told (step.NeedScript number, f.value)) k (λ v st. worth ev (with_operand v e) k go st) st
 halted_worth ev (Failed f fault) e k go st =
-    fill_word ev (told (step.Fault fault, f)) k (λ v st. worth ev (with_operand v e) k go st) st
+    fill_word ev (told (step.Fault fault, f.value)) k (λ v st. worth ev (with_operand v e) k go st) st
 halted_worth ev (Fault f) e k go st = k Error (expr_fault [] f) st

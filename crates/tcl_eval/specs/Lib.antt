@@ -14,5 +14,7 @@ pub mod Advanced
 pub mod Rest
 pub mod Potential
 pub mod Halted
+pub mod Handed
+pub mod Alone
 pub mod Native
 pub mod Standings

@@ -4,7 +4,6 @@ ghost use Rattle.std.specs.Prelude.{◌≡◌, ◌+◌, ◌≤◌, ◌*◌, IfOk
 ghost use Rattle.tcl_eval.specs.Steps.{left_of};
 ghost use Rattle.tcl_eval.specs.Meaning.{Next, eval, otherwise, arms};
 ghost use Rattle.tcl_eval.specs.Native.{arm_rest, truth_rest, out_rest, out_weight, stop_weight, truth_weight, CameIs};
-ghost use Rattle.tcl_eval.specs.Rest.{state_of};
 ghost use Rattle.tcl_eval.specs.Tree.{State};
 
 use crate::engine::Engine;

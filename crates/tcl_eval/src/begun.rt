@@ -19,9 +19,9 @@ pub(crate) enum Begun {
     /// It is filled with this value.
     Full(Value),
     /// The value of a script is needed: of the step of that number of what fills it.
-    Script(Filler, usize),
+    Script(Box<Filler>, usize),
     /// It can't be filled.
-    Failed(Filler, SubstFault),
+    Failed(Box<Filler>, SubstFault),
 }
 
 /// Begins to fill an operand of an expression.
@@ -57,8 +57,8 @@ fn begin(alloc: Global, mut filler: Filler, vars: &mut Vars) -> Result<Begun, Al
 {
     match advanced(alloc, &mut filler, vars)? {
         FillStep::Value(value) => Ok(Begun::Full(value)),
-        FillStep::NeedScript(number) => Ok(Begun::Script(filler, number)),
-        FillStep::Fault(fault) => Ok(Begun::Failed(filler, fault)),
+        FillStep::NeedScript(number) => Ok(Begun::Script(Box::new(alloc, filler)?, number)),
+        FillStep::Fault(fault) => Ok(Begun::Failed(Box::new(alloc, filler)?, fault)),
     }
 }
 

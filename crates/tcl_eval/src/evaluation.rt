@@ -1,6 +1,7 @@
 //! The evaluation of an expression, operand by operand.
 
-ghost use Rattle.std.specs.Prelude.{◌≡◌, ℕ, List, Some, Ok, IfOk, OnOk};
+ghost use Rattle.std.specs.Prelude.{◌≡◌, ℕ, List, Some, Ok, IfOk, IfSome, OnOk};
+ghost use Rattle.tcl_expr.specs.Answers.{Comes};
 ghost use Rattle.tcl_words.specs.Pieces.{Spelled};
 ghost use Rattle.tcl_expr.specs.Grammar.{parsed};
 ghost use Rattle.tcl_expr.specs.Numbered.{operand_at};
@@ -19,7 +20,7 @@ use crate::halt::Halt;
 use std::alloc::{AllocError, Global};
 use std::marker::Model;
 use std::rc::Rc;
-use tcl_expr::{Expr, ExprFault, Operands, Step, operands_are_bounded, parse};
+use tcl_expr::{Expr, ExprFault, Operands, Readings, Step, operands_are_bounded, parse};
 use tcl_subst::Vars;
 use tcl_values::Value;
 
@@ -70,6 +71,13 @@ impl Test {
         self.read.text.as_slice()
     }
 
+    /// The number that it is, where all operands that it needs are numbers that are known.
+    pub(crate) fn number<R: Readings>(&self, alloc: Global, readings: &R) -> Option<i64>
+        ensures { IfSome result (λ z. Comes (R.tells readings.now) self.now z) }
+    {
+        self.read.expr.number(alloc, readings)
+    }
+
     /// The same expression. Nothing is copied.
     pub(crate) fn shared(&self) -> Result<Test, AllocError>
         ensures { IfOk result (λ t. t ≡ self.now) }
@@ -112,6 +120,7 @@ impl Evaluation {
     }
 
     /// Takes the value of the operand that was needed.
+    #[inline(always)]
     pub(crate) fn give(&mut self, value: Value) -> Result<(), AllocError>
         ensures { OnOk result (self.new ≡ with_operand value self.old) }
     {
@@ -154,6 +163,7 @@ impl Evaluation {
     }
 
     /// Begins to fill the operand of a number.
+    #[inline(always)]
     fn operand(&self, alloc: Global, number: usize, vars: &mut Vars) -> Result<Begun, AllocError>
         ensures told { (w : Spelled) → operand_at self.now.tree number ≡ Some w → IfOk result (λ b. begun_fill b ≡ fill w.pieces vars.old) }
         ensures same { vars.new ≡ vars.old }

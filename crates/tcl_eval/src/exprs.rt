@@ -16,13 +16,14 @@ use crate::evaluation::{Evaluation, Test};
 use crate::frame::{Frame, Goal, Onward};
 use crate::halt::Halt;
 use crate::meter::Meter;
+use crate::numbers::{number_of, truth_by_numbers};
 use crate::out::{Held, Out, Part, Truth, Word, Worked};
 use crate::read_texts::ReadTexts;
 use crate::stops::below;
 use crate::words::unfilled;
 use std::alloc::{AllocError, Global};
 use tcl_commands::{Code, Complaint, expected_number, expr_fault, said};
-use tcl_expr::{ExprFault, operands_are_bounded, read_truth};
+use tcl_expr::{ExprFault, operands_are_bounded, read_truth, write_number};
 use tcl_subst::Filler;
 use tcl_values::Value;
 
@@ -88,6 +89,7 @@ impl Engine {
         match halt {
             Halt::Value(value) => Ok(Worked::Full(value)),
             Halt::Script(filler, number) => {
+                let filler = Box::into_inner(filler);
                 let word = self.fill_on(meter, filler, Part::Script(number), depth)?;
                 let worked = operand_done(word, evaluation)?;
                 Ok(worked)
@@ -106,6 +108,27 @@ impl Engine {
     /// Whether a condition holds.
     #[cycle(native)]
     pub(crate) fn truth(
+        &mut self,
+        meter: &mut Meter,
+        test: Test,
+        depth: u32,
+    ) -> Result<Truth, AllocError>
+        ensures kept { self.new.stack ≡ self.old.stack }
+        ensures rest { TruthIs (eval depth) self.old meter.old result self.new meter.new (λ k go st. condition (eval depth) test k go st) }
+        ensures potential { IfOk result (λ t. 8 * left_of meter.new + truth_weight t ≤ 8 * left_of meter.old) }
+        ensures bound { meter.new.bound ≡ meter.old.bound }
+    {
+        if let Some(holds) = truth_by_numbers(self.alloc, &test, &self.vars) {
+            return Ok(Truth::Holds(holds));
+        }
+        let truth = self.truth_by_operands(meter, test, depth)?;
+        Ok(truth)
+    }
+
+    /// Whether a condition holds, operand by operand.
+    #[cycle(native)]
+    #[inline(never)]
+    fn truth_by_operands(
         &mut self,
         meter: &mut Meter,
         test: Test,
@@ -157,6 +180,27 @@ impl Engine {
         ensures potential { IfOk result (λ out. 8 * left_of meter.new + out_weight out ≤ 8 * left_of meter.old) }
         ensures bound { meter.new.bound ≡ meter.old.bound }
     {
+        if let Some(number) = number_of(self.alloc, &test, &self.vars) {
+            return Ok(Out::Came(Code::Ok, write_number(self.alloc, number)?));
+        }
+        let out = self.result_by_operands(meter, test, depth)?;
+        Ok(out)
+    }
+
+    /// The value of an expression, as a command's, operand by operand.
+    #[cycle(native)]
+    #[inline(never)]
+    fn result_by_operands(
+        &mut self,
+        meter: &mut Meter,
+        test: Test,
+        depth: u32,
+    ) -> Result<Out, AllocError>
+        ensures kept { self.new.stack ≡ self.old.stack }
+        ensures rest { CameIs self.old meter.old result self.new meter.new (λ k st. expression (eval depth) test k (λ v st. k Code.Ok v st) st) }
+        ensures potential { IfOk result (λ out. 8 * left_of meter.new + out_weight out ≤ 8 * left_of meter.old) }
+        ensures bound { meter.new.bound ≡ meter.old.bound }
+    {
         let mut evaluation = Evaluation::new(self.alloc, test);
         let word = self.worth(meter, &mut evaluation, depth)?;
         let out = resulted(word, evaluation, depth)?;
@@ -181,6 +225,7 @@ pub(crate) fn operand_done(word: Word, evaluation: &mut Evaluation) -> Result<Wo
 }
 
 /// Decides by what came of a condition.
+#[inline(always)]
 pub(crate) fn decided(
     alloc: Global,
     word: Word,
@@ -200,6 +245,7 @@ pub(crate) fn decided(
 }
 
 /// The truth value that a value is.
+#[inline(always)]
 fn truth_of(alloc: Global, value: &Value) -> Result<Truth, AllocError>
     ensures rest { IfOk result (λ t. (ev : Eval) (k : Next) (go : Bool → State → Tree) (st : State) → truth_rest ev t k go st ≡ tested value.now k go st) }
     ensures weight { IfOk result (λ t. truth_weight t ≡ 0) }
@@ -214,6 +260,7 @@ fn truth_of(alloc: Global, value: &Value) -> Result<Truth, AllocError>
 }
 
 /// The result of a command by what came of its expression.
+#[inline(always)]
 pub(crate) fn resulted(word: Word, evaluation: Evaluation, depth: u32) -> Result<Out, AllocError>
     ensures rest { IfOk result (λ out. (k : Next) (st : State) → out_rest out k st ≡ worth_rest (eval depth) word evaluation k (λ v st. k Code.Ok v st) st) }
     ensures weight { IfOk result (λ out. out_weight out ≤ word_weight word) }

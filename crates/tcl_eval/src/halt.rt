@@ -10,9 +10,9 @@ pub(crate) enum Halt {
     /// At its value.
     Value(Value),
     /// At an operand that needs a script: what fills it, and the script's step.
-    Script(Filler, usize),
+    Script(Box<Filler>, usize),
     /// At an operand that can't be filled.
-    Failed(Filler, SubstFault),
+    Failed(Box<Filler>, SubstFault),
     /// At a fault.
     Fault(ExprFault),
 }

@@ -1,7 +1,7 @@
 //! The evaluation of scripts, over any host.
 //!
-//! A [`Machine`] runs a script's commands. It carries out those of the language itself, and asks a [`Host`] for all others; where the host
-//! waits, the machine pauses, and goes on where it stood when it is run again.
+//! A [`Machine`] runs a script's commands. It carries out those of the language itself, and calls of procedures, and asks a [`Host`] for
+//! all others; where the host waits, the machine pauses, and goes on where it stood when it is run again.
 //!
 //! What a script means is defined in `specs/Meaning`: a tree of the calls of the host that it needs, with what follows each reply.
 #![tactic(auto)]
@@ -21,6 +21,7 @@ mod laws;
 mod loops;
 mod machine;
 mod meter;
+mod numbers;
 mod out;
 mod pile;
 mod places;

@@ -1,6 +1,6 @@
 //! Procedures and `catch`.
 
-ghost use Rattle.std.specs.Prelude.{◌≡◌, ◌+◌, ◌≤◌, ◌*◌, ◌∷◌, [], drop, IfOk, ◌≢◌, ℕ};
+ghost use Rattle.std.specs.Prelude.{◌≡◌, ◌+◌, ◌≤◌, [], drop, IfOk, ◌≢◌, ℕ};
 ghost use Rattle.tcl_commands.specs.Texts.{quoted, not_set};
 ghost use Rattle.tcl_eval.specs.Meaning.{eval, caught, digit, Next, no_command, passed, scope_end, outside_loop, reserved, defined};
 ghost use Rattle.tcl_eval.specs.Rest.{AnyRestIs, state_of};
@@ -8,7 +8,7 @@ ghost use Rattle.tcl_eval.specs.Native.{entry_rest, other_command, out_weight, A
 ghost use Rattle.tcl_eval.specs.Potential.{bodies, credit, again};
 
 use crate::engine::Engine;
-use crate::frame::{Frame, Mode};
+use crate::frame::Mode;
 use crate::out::Out;
 use crate::procedure::Procedure;
 use crate::task::Entry;

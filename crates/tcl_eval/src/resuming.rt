@@ -21,7 +21,7 @@ use crate::loops::each_below;
 use crate::meter::Meter;
 use crate::out::{Filled, Out, Standing, Stepped, Turned, Word, Worked};
 use crate::stops::stopped;
-use crate::values::Values;
+use crate::values::{Handed, Values};
 use crate::words::{behind, part_of, resumed};
 use std::alloc::AllocError;
 use tcl_commands::{Code, Groups, word_fault};
@@ -355,7 +355,7 @@ impl Engine {
     {
         match then {
             Then::Command => {
-                let out = self.begun(meter, done, depth)?;
+                let out = self.begun(meter, Handed::Own(done), depth)?;
                 Ok(out)
             }
             Then::List(Some(fault)) => Ok(Out::Came(Code::Error, self.value(word_fault(fault))?)),

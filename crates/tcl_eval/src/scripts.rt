@@ -2,23 +2,23 @@
 
 ghost use Rattle.std.specs.Prelude.{◌≡◌, ℕ, ◌+◌, ◌++◌, ◌≤◌, ◌*◌, ◌∷◌, List, [], drop, take, IfOk, OnOk, if◌then◌else◌};
 ghost use Rattle.tcl_scripts.specs.Commands.{commands};
+ghost use Rattle.tcl_eval.specs.Handed.{handed_words};
 ghost use Rattle.tcl_eval.specs.Steps.{left_of};
-ghost use Rattle.tcl_eval.specs.Meaning.{Next, eval, command, invoke, invoked, noting, on_ok, sequence, caught, scope_end, otherwise, arms};
-ghost use Rattle.tcl_eval.specs.Native.{other_command, step_rest, task_rest, truth_rest, out_rest, out_weight, step_weight, stop_weight, task_weight, truth_weight, CameIs};
+ghost use Rattle.tcl_eval.specs.Meaning.{Next, eval, command, invoke, invoked, noting, on_ok, sequence, caught, scope_end, arms};
+ghost use Rattle.tcl_eval.specs.Native.{other_command, step_rest, task_rest, out_rest, out_weight, step_weight, task_weight, CameIs};
 ghost use Rattle.tcl_eval.specs.Rest.{frame_rest, then_rest, state_of};
-ghost use Rattle.tcl_eval.specs.Tree.{State};
 
 use crate::engine::Engine;
-use crate::frame::{End, Frame, Goal, Onward, Then};
+use crate::frame::{End, Frame, Onward, Then};
 use crate::meter::Meter;
-use crate::out::{Filled, Held, Out, Standing, Stepped, Stop, Truth};
+use crate::out::{Filled, Out, Standing, Stepped};
 use crate::stops::{below, laid_on, stopped};
 use crate::task::{Entry, Task};
 use crate::trail::Origin;
-use crate::values::Values;
+use crate::values::{Handed, Values};
 use std::alloc::AllocError;
 use std::mem;
-use tcl_commands::{Arms, Code, Verb, too_deep, verb_of, word_fault};
+use tcl_commands::{Code, Verb, plain, too_deep, verb_of, word_fault};
 use tcl_scripts::{Reading, Script, Words};
 use tcl_values::Value;
 
@@ -117,6 +117,7 @@ impl Engine {
     }
 
     /// Takes what came of a command of a script, which was read from a place on, and notes an error that it hands on.
+    #[inline(always)]
     pub(crate) fn behind_command(
         &mut self,
         out: Out,
@@ -162,10 +163,14 @@ impl Engine {
         ensures potential { IfOk result (λ out. 8 * left_of meter.new + out_weight out ≤ 8 * left_of meter.old) }
         ensures bound { meter.new.bound ≡ meter.old.bound }
     {
+        if let Some(values) = words.literals() {
+            let out = self.begun(meter, Handed::Lent(values), depth)?;
+            return Ok(out);
+        }
         let mut done = Values::with_room(self.alloc, words.len())?;
         match self.words(meter, words, 0, &mut done, Then::Command, depth)? {
             Filled::Full => {
-                let out = self.begun(meter, done, depth)?;
+                let out = self.begun(meter, Handed::Own(done), depth)?;
                 Ok(out)
             }
             Filled::Gone(code, value) => Ok(Out::Came(code, value)),
@@ -178,11 +183,11 @@ impl Engine {
     pub(crate) fn begun(
         &mut self,
         meter: &mut Meter,
-        words: Values,
+        words: Handed<'_>,
         depth: u32,
     ) -> Result<Out, AllocError>
         ensures kept { self.new.stack ≡ self.old.stack }
-        ensures rest { CameIs self.old meter.old result self.new meter.new (λ k st. then_rest depth Then.Command k words st) }
+        ensures rest { CameIs self.old meter.old result self.new meter.new (λ k st. then_rest depth Then.Command k (handed_words words.entry) st) }
         ensures potential { IfOk result (λ out. 8 * left_of meter.new + out_weight out ≤ 8 * left_of meter.old) }
         ensures bound { meter.new.bound ≡ meter.old.bound }
     {
@@ -196,9 +201,14 @@ impl Engine {
 
     /// Carries out a command that was begun.
     #[cycle(native)]
-    fn carry_out(&mut self, meter: &mut Meter, words: Values, depth: u32) -> Result<Out, AllocError>
+    fn carry_out(
+        &mut self,
+        meter: &mut Meter,
+        words: Handed<'_>,
+        depth: u32,
+    ) -> Result<Out, AllocError>
         ensures kept { self.new.stack ≡ self.old.stack }
-        ensures rest { CameIs self.old meter.old result self.new meter.new (λ k st. invoke (eval depth) words k st) }
+        ensures rest { CameIs self.old meter.old result self.new meter.new (λ k st. invoke (eval depth) (handed_words words.entry) k st) }
         ensures potential { IfOk result (λ out. 8 * left_of meter.new + out_weight out ≤ 8 * left_of meter.old + 6) }
         ensures bound { meter.new.bound ≡ meter.old.bound }
     {
@@ -207,6 +217,7 @@ impl Engine {
         };
         match verb_of(name.as_slice()) {
             None => {
+                let words = words.own(self.alloc)?;
                 let out = self.other(meter, words, depth)?;
                 Ok(out)
             }
@@ -219,6 +230,7 @@ impl Engine {
 
     /// Calls a procedure where there is one of the command's name, and else needs the host.
     #[cycle(native)]
+    #[inline(never)]
     fn other(&mut self, meter: &mut Meter, words: Values, depth: u32) -> Result<Out, AllocError>
         ensures kept { self.new.stack ≡ self.old.stack }
         ensures rest { CameIs self.old meter.old result self.new meter.new (λ k st. other_command (eval depth) words k st) }
@@ -267,6 +279,30 @@ impl Engine {
     /// Carries out a command of the language.
     #[cycle(native)]
     fn verb(
+        &mut self,
+        meter: &mut Meter,
+        verb: Verb,
+        name: &[u8],
+        args: &[Value],
+        depth: u32,
+    ) -> Result<Out, AllocError>
+        ensures kept { self.new.stack ≡ self.old.stack }
+        ensures rest { CameIs self.old meter.old result self.new meter.new (λ k st. invoked (eval depth) verb name.now args.now k st) }
+        ensures potential { IfOk result (λ out. 8 * left_of meter.new + out_weight out ≤ 8 * left_of meter.old + 6) }
+        ensures bound { meter.new.bound ≡ meter.old.bound }
+    {
+        if let Verb::Plain(kind) = verb {
+            let (code, value) = plain(self.alloc, kind, name, args, &mut self.vars)?;
+            return Ok(Out::Came(code, value));
+        }
+        let out = self.control(meter, verb, name, args, depth)?;
+        Ok(out)
+    }
+
+    /// Carries out a command of the language that may evaluate something.
+    #[cycle(native)]
+    #[inline(never)]
+    fn control(
         &mut self,
         meter: &mut Meter,
         verb: Verb,

@@ -1,6 +1,6 @@
 //! Runs that stand still, and the frames of what is still to be done behind them.
 
-ghost use Rattle.std.specs.Prelude.{◌≡◌, ℕ, ◌+◌, ◌∷◌, IfOk, OnOk};
+ghost use Rattle.std.specs.Prelude.{◌≡◌, ℕ, ◌+◌, IfOk, OnOk};
 ghost use Rattle.tcl_eval.specs.Asked.{IsSettled};
 ghost use Rattle.tcl_eval.specs.Standings.{mode_of};
 ghost use Rattle.tcl_eval.specs.Tree.{State};

@@ -1,6 +1,6 @@
 //! The arguments of commands of the language.
 
-ghost use Rattle.std.specs.Prelude.{◌≡◌, ℕ, ◌≤◌, ◌∷◌, [], Some, IfOk};
+ghost use Rattle.std.specs.Prelude.{◌≡◌, ℕ, ◌≤◌, Some, IfOk};
 ghost use Rattle.tcl_commands.specs.Texts.{wrong_args};
 ghost use Rattle.tcl_commands.specs.Verbs.{verb_of, exit_status};
 ghost use Rattle.tcl_eval.specs.Steps.{left_of};

@@ -1,6 +1,7 @@
 //! Values in order.
 
 ghost use Rattle.std.specs.Prelude.{◌≡◌, ◌++◌, ◌∷◌, [], length, take, IfOk, OnErr, OnOk};
+ghost use Rattle.tcl_eval.specs.Handed.{handed_words};
 
 use std::alloc::{AllocError, Global};
 use std::marker::Model;
@@ -55,6 +56,7 @@ impl Values {
     }
 
     /// Puts one behind the others. Where memory is refused, the list stays as it was.
+    #[inline(always)]
     pub fn push(&mut self, value: Value) -> Result<(), AllocError>
         ensures pushed { OnOk result (self.new ≡ self.old ++ value ∷ []) }
         ensures kept { OnErr result (self.new ≡ self.old) }
@@ -86,4 +88,44 @@ fn push_texts(list: &mut Vec<Value>, alloc: Global, texts: &[Text]) -> Result<()
         list.push(Value::from_slice(alloc, text.as_slice())?)?;
     }
     Ok(())
+}
+
+/// The values of a command's words: values of its own, or lent by the words, of which each is a literal.
+#[derive(Drop)]
+pub(crate) enum Handed<'w> {
+    Own(Values),
+    Lent(&'w [Value]),
+}
+
+impl Handed<'_> {
+    /// The values, in order.
+    pub(crate) fn as_slice(&self) -> &[Value]
+        ensures { result.now ≡ handed_words self.now }
+    {
+        match self {
+            Handed::Own(values) => values.as_slice(),
+            Handed::Lent(values) => *values,
+        }
+    }
+
+    /// The values as a list of its own. Lent ones are shared.
+    pub(crate) fn own(self, alloc: Global) -> Result<Values, AllocError>
+        ensures { IfOk result (λ v. v ≡ handed_words self.entry) }
+    {
+        match self {
+            Handed::Own(values) => Ok(values),
+            Handed::Lent(values) => shared(alloc, values),
+        }
+    }
+}
+
+/// These values in a list. Each is shared.
+fn shared(alloc: Global, values: &[Value]) -> Result<Values, AllocError>
+    ensures { IfOk result (λ v. v ≡ values.now) }
+{
+    let mut list = Values::with_room(alloc, values.len())?;
+    for value in values {
+        list.push(value.shared(alloc)?)?;
+    }
+    Ok(list)
 }

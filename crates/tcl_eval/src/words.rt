@@ -1,9 +1,10 @@
 //! How words are filled.
 
-ghost use Rattle.std.specs.Prelude.{◌≡◌, ℕ, ◌+◌, ◌≤◌, ◌*◌, List, ◌∷◌, [], drop, unwrap_or, IfOk};
+ghost use Rattle.std.specs.Prelude.{◌≡◌, ℕ, ◌+◌, ◌≤◌, ◌*◌, List, [], drop, unwrap_or, IfOk};
 ghost use Rattle.tcl_subst.specs.Recipes.{Filling, IsOnward, given, script_at, refused_name};
 ghost use Rattle.tcl_subst.specs.Rests.{rest, told};
 ghost use Rattle.tcl_commands.specs.Texts.{not_read};
+ghost use Rattle.tcl_eval.specs.Alone.{IsAlone, WaitsAlone, alone};
 ghost use Rattle.tcl_eval.specs.Steps.{left_of};
 ghost use Rattle.tcl_eval.specs.Tree.{State, Tree};
 ghost use Rattle.tcl_eval.specs.Meaning.{Next, Eval, eval, fill_word, fill_words, fill_parts, on_said, spread};
@@ -23,9 +24,9 @@ use std::alloc::{AllocError, Global};
 use std::mem;
 use tcl_commands::{Code, bad_list, not_read};
 use tcl_scripts::{KeptWord, Script, Words};
-use tcl_subst::{FillStep, Filler, SubstFault, Vars};
+use tcl_subst::{FillStep, Filler, SubstFault, VALUE_LIMIT, Vars};
 use tcl_values::Value;
-use tcl_words::ListFault;
+use tcl_words::{ListFault, Text};
 
 impl Engine {
     /// Evaluates a script of a word, and gives its value to what fills the word.
@@ -96,11 +97,43 @@ impl Engine {
         ensures potential { IfOk result (λ w. 8 * left_of meter.new + word_weight w ≤ 8 * left_of meter.old) }
         ensures bound { meter.new.bound ≡ meter.old.bound }
     {
+        if let Some(text) = word.only_script() {
+            let filled = self.only_script(meter, word, text, depth)?;
+            return Ok(filled);
+        }
         let mut filler = first(word.filler(self.alloc)?);
         let step = advanced(self.alloc, &mut filler, &mut self.vars)?;
         let part = part_of(self.alloc, step, &filler)?;
         let filled = self.fill_on(meter, filler, part, depth)?;
         Ok(filled)
+    }
+
+    /// Evaluates the script that a word is, whose value is the word's. What fills the word is wanted only where the script stands still.
+    #[cycle(native)]
+    fn only_script(
+        &mut self,
+        meter: &mut Meter,
+        word: &KeptWord,
+        text: &Text,
+        depth: u32,
+    ) -> Result<Word, AllocError>
+        requires alone { IsAlone word.now text.now }
+        ensures kept { self.new.stack ≡ self.old.stack }
+        ensures rest { WordIs (eval depth) self.old meter.old result self.new meter.new (λ k go st. fill_parts (eval depth) word.now k go st) }
+        ensures potential { IfOk result (λ w. 8 * left_of meter.new + word_weight w ≤ 8 * left_of meter.old) }
+        ensures bound { meter.new.bound ≡ meter.old.bound }
+    {
+        let script = self.read.script(self.alloc, text.as_slice())?;
+        match self.script(meter, &script, depth)? {
+            Out::Came(code, value) => match code {
+                Code::Ok => alone(self.alloc, value),
+                _ => Ok(Word::Gone(code, value)),
+            },
+            Out::Stopped(stop) => {
+                let filler = waiting(self.alloc, word, &mut self.vars)?;
+                Ok(Word::Stopped(stop, filler))
+            }
+        }
     }
 
     /// Fills words from a place on, behind those that are done.
@@ -176,7 +209,35 @@ pub(crate) fn part_of(alloc: Global, step: FillStep, filler: &Filler) -> Result<
     }
 }
 
+/// What a word comes to that is one script alone, with the value of that.
+#[tactic(auto, unfolding(tcl_subst::specs::Faults::is_too_long))]
+fn alone(alloc: Global, value: Value) -> Result<Word, AllocError>
+    ensures rest { IfOk result (λ w. (ev : Eval) (k : Next) (go : List ℕ → State → Tree) (st : State) → word_rest ev w k go st ≡ fill_word ev (alone value) k go st) }
+    ensures weight { IfOk result (λ w. word_weight w ≡ 0) }
+{
+    if VALUE_LIMIT < value.len() {
+        let text = Value::from_text(alloc, not_read(alloc, b"", SubstFault::TooLong)?)?;
+        return Ok(Word::Gone(Code::Error, text));
+    }
+    Ok(Word::Full(value))
+}
+
+/// What fills a word that is one script alone, where it waits for the value of that.
+#[cold]
+fn waiting(alloc: Global, word: &KeptWord, vars: &mut Vars) -> Result<Box<Filler>, AllocError>
+    ensures waits { (text : List ℕ) → IsAlone word.now text → IfOk result (λ f. WaitsAlone f.value) }
+    ensures same { vars.new ≡ vars.old }
+{
+    let mut filler = first(word.filler(alloc)?);
+    match advanced(alloc, &mut filler, vars)? {
+        FillStep::NeedScript(_) => Ok(Box::new(alloc, filler)?),
+        FillStep::Value(_) => Err(AllocError),
+        FillStep::Fault(_) => Err(AllocError),
+    }
+}
+
 /// Puts what came of a word behind the values that are done.
+#[inline(never)]
 pub(crate) fn behind(
     alloc: Global,
     filled: Word,
@@ -210,6 +271,7 @@ pub(crate) fn behind(
 }
 
 /// Puts a word's value behind those that are done, or the elements of its list where it stands behind `{*}`.
+#[inline(always)]
 fn spread_onto(
     alloc: Global,
     expand: bool,

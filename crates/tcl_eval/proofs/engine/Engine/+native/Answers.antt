@@ -1,7 +1,8 @@
-use Rattle.std.proofs.Common.{◌≡◌, ℕ, arith, Bool, List, Option, drop, refl, sym, ◌∙◌, ap}
+use Rattle.std.proofs.Common.{◌≡◌, ℕ, arith, Bool, List, [], Option, drop, refl, sym, ◌∙◌, ap}
 use Rattle.tcl_subst.specs.Recipes.{Filling}
 use Rattle.tcl_subst.specs.Variables.{Variables}
 use Rattle.tcl_eval.specs.declared.frame.Frame.TheVariants.{Turn, Onward as OnwardFrame}
+use Rattle.tcl_eval.specs.declared.frame.Then.TheVariants.{Command}
 use Rattle.tcl_eval.specs.declared.frame.Onward.TheVariants.{Next as NextTurn}
 use Rattle.tcl_eval.specs.declared.frame.Turning.{Turning}
 use Rattle.tcl_eval.specs.declared.meter.Meter.{Meter}
@@ -14,7 +15,7 @@ use Rattle.tcl_eval.specs.Native.{out_rest, part_rest, stop_rest, word_on, words
 use Rattle.tcl_eval.specs.Potential.{then_weight}
 use Rattle.tcl_eval.specs.Rest.{frame_rest, looped, then_rest, state_of}
 use Rattle.tcl_eval.specs.Steps.{left_of}
-use Rattle.tcl_eval.proofs.Natives.{each_spent, fewer_left, words_some}
+use Rattle.tcl_eval.proofs.Natives.{each_spent, fewer_left, words_some, literals_fill, alone_below}
 use Rattle.tcl_eval.proofs.Told.{halted_worth_is}
 use Rattle.tcl_eval.proofs.engine.Engine.+native.Goals as goal
 
@@ -103,3 +104,21 @@ words-returns-in-Stopped-clause-rest t c = λ k.
     ∙ c.in_ok-next_word.ensures.rest k
     ∙ words_some ev c.in-Some.to c.words.next c.in-Some.word.now c.args.words.now c.words.done k (then_rest c.args.depth c.args.then k) (state_of c.words.self (left_of c.words.meter)) c.in-Some.ensures
     ∙ c.words.invariant.same k
+
+pub command-returns-in-Some-clause-rest : goal.command-returns-in-Some-clause-rest
+command-returns-in-Some-clause-rest t c = λ k.
+    let ev = eval c.args.depth in
+    let st = state_of c.args.self.now (left_of c.args.meter.now) in
+    c.in_ok-out.ensures.rest k ∙ sym (literals_fill ev c.args.words.now c.in-Some.values.now [] k (then_rest c.args.depth Command k) st c.in-Some.ensures)
+
+pub only_script-returns-clause-rest : goal.only_script-returns-clause-rest
+only_script-returns-clause-rest t c = λ k go.
+    let ev = eval c.args.depth in
+    let st = state_of c.args.self.now (left_of c.args.meter.now) in
+    let now = state_of c.script-3.new.self (left_of c.script-3.new.meter) in
+    let text = c.args.text.now in
+    let f = c.in_ok-filler-in-Stopped.filler.value in
+    let stop = c.in-Stopped.stop.value in
+    ap (λ (v : Variables). stop_rest stop (word_on ev f k go) (record now { vars = v })) c.waiting.ensures.same
+    ∙ alone_below ev c.args.word.now text c.in_ok-script.script f stop k go st now c.requires.alone (c.in_ok-script.ensures ∙ c.as_slice.ensures) (c.in_ok-filler-in-Stopped.ensures.waits text c.requires.alone)
+    (λ k. ap (λ (o : Out). out_rest o k now) (sym c.in-Stopped.is) ∙ c.in_ok-code.ensures.rest k)

@@ -34,16 +34,16 @@ abbrev pub decreases-turn_by : goal.decreases-turn_by
 decreases-turn_by l = 32 * l.depth + 5
 
 abbrev pub decreases-turn_once : goal.decreases-turn_once
-decreases-turn_once l = 32 * l.depth + 7
+decreases-turn_once l = 32 * l.depth + 8
 
 abbrev pub decreases-turns : goal.decreases-turns
-decreases-turns l = 32 * l.depth + 8
+decreases-turns l = 32 * l.depth + 9
 
 abbrev pub decreases-started : goal.decreases-started
-decreases-started l = 32 * l.depth + 9
+decreases-started l = 32 * l.depth + 10
 
 abbrev pub decreases-start_loop : goal.decreases-start_loop
-decreases-start_loop l = 32 * l.depth + 10
+decreases-start_loop l = 32 * l.depth + 11
 
 abbrev pub decreases-each_body_by : goal.decreases-each_body_by
 decreases-each_body_by l = 32 * l.depth + 1
@@ -59,6 +59,9 @@ decreases-bracket l = 32 * l.depth + 1
 
 abbrev pub decreases-fill_on : goal.decreases-fill_on
 decreases-fill_on l = 32 * l.depth + 2
+
+abbrev pub decreases-only_script : goal.decreases-only_script
+decreases-only_script l = 32 * l.depth + 1
 
 abbrev pub decreases-word : goal.decreases-word
 decreases-word l = 32 * l.depth + 3
@@ -78,26 +81,35 @@ decreases-operand l = 32 * l.depth + 4
 abbrev pub decreases-worth : goal.decreases-worth
 decreases-worth l = 32 * l.depth + 5
 
+abbrev pub decreases-truth_by_operands : goal.decreases-truth_by_operands
+decreases-truth_by_operands l = 32 * l.depth + 6
+
 abbrev pub decreases-truth : goal.decreases-truth
-decreases-truth l = 32 * l.depth + 6
+decreases-truth l = 32 * l.depth + 7
+
+abbrev pub decreases-result_by_operands : goal.decreases-result_by_operands
+decreases-result_by_operands l = 32 * l.depth + 6
 
 abbrev pub decreases-text_truth : goal.decreases-text_truth
-decreases-text_truth l = 32 * l.depth + 7
+decreases-text_truth l = 32 * l.depth + 8
 
 abbrev pub decreases-result : goal.decreases-result
-decreases-result l = 32 * l.depth + 6
+decreases-result l = 32 * l.depth + 7
 
 abbrev pub decreases-otherwise : goal.decreases-otherwise
 decreases-otherwise l = 32 * l.depth + 2
 
 abbrev pub decreases-choose_by : goal.decreases-choose_by
-decreases-choose_by l = 32 * l.depth + 8
+decreases-choose_by l = 32 * l.depth + 9
 
 abbrev pub decreases-choose : goal.decreases-choose
-decreases-choose l = 32 * l.depth + 9
+decreases-choose l = 32 * l.depth + 10
 
 abbrev pub decreases-perform : goal.decreases-perform
-decreases-perform l = 32 * l.depth + 11
+decreases-perform l = 32 * l.depth + 12
+
+abbrev pub decreases-control : goal.decreases-control
+decreases-control l = 32 * l.depth + 13
 
 abbrev pub decreases-body : goal.decreases-body
 decreases-body l = 32 * l.depth + 1
@@ -106,22 +118,22 @@ abbrev pub decreases-other : goal.decreases-other
 decreases-other l = 32 * l.depth + 2
 
 abbrev pub decreases-verb : goal.decreases-verb
-decreases-verb l = 32 * l.depth + 12
+decreases-verb l = 32 * l.depth + 14
 
 abbrev pub decreases-carry_out : goal.decreases-carry_out
-decreases-carry_out l = 32 * l.depth + 13
+decreases-carry_out l = 32 * l.depth + 15
 
 abbrev pub decreases-begun : goal.decreases-begun
-decreases-begun l = 32 * l.depth + 14
+decreases-begun l = 32 * l.depth + 16
 
 abbrev pub decreases-command : goal.decreases-command
-decreases-command l = 32 * l.depth + 15
+decreases-command l = 32 * l.depth + 17
 
 abbrev pub decreases-step : goal.decreases-step
-decreases-step l = 32 * l.depth + 16
+decreases-step l = 32 * l.depth + 18
 
 abbrev pub decreases-sequence : goal.decreases-sequence
-decreases-sequence l = 32 * l.depth + 17
+decreases-sequence l = 32 * l.depth + 19
 
 abbrev pub invariant-sequence-commands : goal.invariant-sequence-commands
 invariant-sequence-commands l = record {
