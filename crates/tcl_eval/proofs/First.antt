@@ -7,7 +7,7 @@ use Rattle.tcl_subst.specs.Recipes.{Filling, begun, steps_onto}
 use Rattle.tcl_subst.specs.Rests.{rest, told}
 use Rattle.tcl_subst.specs.Variables.{Variables}
 use Rattle.tcl_eval.specs.Advanced.{Fills}
-use Rattle.tcl_eval.specs.Alone.{IsAlone, WaitsAlone}
+use Rattle.tcl_eval.specs.Alone.{WaitsAlone, asks_alone}
 
 pub fills_first : ((ps : Pieces) (vars : Variables) → rest (begun (steps_onto ps [])) vars ≡ fill ps vars) → (f : Filling) (w : Spelled) → f ≡ begun (steps_onto w.pieces []) → Fills f w
 fills_first law f w e vars = ap (λ f. rest f vars) e ∙ law w.pieces vars
@@ -19,5 +19,5 @@ following (Asks text more) value vars = more value vars
 following (Unfilled f name) value vars = Unfilled f name
 
 -- what fills a word that is one script alone, once it needs that
-pub waits_alone : (before f : Filling) (n : ℕ) (w : Spelled) (text : List ℕ) (vars : Variables) → told (NeedScript n, f) ≡ rest before vars → Fills before w → IsAlone w text → WaitsAlone f
-waits_alone before f n w text vars is fills alone = λ value at. ap (λ (x : Fill). following x value at) (is ∙ fills vars ∙ alone vars)
+pub waits_alone : (f : Filling) (n : ℕ) (text : List ℕ) → told (NeedScript n, f) ≡ asks_alone text → WaitsAlone f
+waits_alone f n text is = λ value at. ap (λ (x : Fill). following x value at) is

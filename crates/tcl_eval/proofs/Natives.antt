@@ -7,11 +7,11 @@ use Rattle.tcl_expr.specs.Tree.{Tree as Expression}
 use Rattle.tcl_expr.specs.Value.{outcome, needs, operands_in}
 use Rattle.tcl_scripts.specs.Literals.{AreLiterals}
 use Rattle.tcl_subst.specs.Filling.{Fill}
-use Rattle.tcl_eval.specs.Alone.{IsAlone, WaitsAlone}
+use Rattle.tcl_eval.specs.Alone.{WaitsAlone, asks_alone}
 use Rattle.tcl_subst.specs.Recipes.{Filling}
 use Rattle.tcl_subst.specs.Variables.{Variables}
 use Rattle.tcl_eval.specs.declared.halt.Halt.{Halt}
-use Rattle.tcl_eval.specs.declared.halt.Halt.TheVariants.{Value as HaltValue, Script as HaltScript, Failed as HaltFailed, Fault as HaltFault}
+use Rattle.tcl_eval.specs.declared.halt.Halt.TheVariants.{Value as HaltValue, Alone as HaltAlone, Script as HaltScript, Failed as HaltFailed, Fault as HaltFault}
 use Rattle.tcl_eval.specs.declared.out.Worked.{Worked}
 use Rattle.tcl_eval.specs.declared.out.Worked.TheVariants.{More as MoreWork, Full as FullWork, Gone as GoneWork, Stopped as StoppedWork}
 use Rattle.tcl_eval.specs.Halted.{HaltsAt, HasGrown}
@@ -31,7 +31,8 @@ use Rattle.tcl_eval.specs.Tree.{State, Tree, Over}
 use Rattle.tcl_eval.specs.Potential.{bodies, frame_weight}
 use Rattle.tcl_eval.specs.Meaning.{Next, Eval, eval, on_ok, on_said, spread, stepped, fill_word, fill_parts, fill_words, each}
 use Rattle.tcl_eval.specs.Rest.{frame_rest, frames_rest, goal_rest, then_rest}
-use Rattle.tcl_eval.specs.Native.{laid_rest, stop_rest, operand_on, word_on, OneMore, FewerLeft}
+use Rattle.tcl_eval.specs.Native.{laid_rest, stop_rest, operand_on, word_on, HasMore, OneMore, FewerLeft}
+use Rattle.tcl_eval.specs.Advanced.{NeedsFilled}
 
 -- so many turns are left of filling a word
 abbrev pub parts_left : Part → ℕ → ℕ
@@ -76,16 +77,22 @@ word_below depth next expand words words' f f' done done' then s k st same fille
     ∙ ap (λ (x : Filling). stop_rest s (frame_rest (OnwardFrame (FillOn words next expand x done' then depth)) k) st) filler
     ∙ ap (λ (x : List (List ℕ)). stop_rest s (frame_rest (OnwardFrame (FillOn words next expand f x then depth)) k) st) values
 
--- an operand that was needed and has its value isn't needed again
-pub fewer_left : (w : Worked) (h : Halt) (vars : Variables) (old mid new : Evaluated) → ((t : Expression) (given : List (List ℕ)) (x : Spelled) → outcome t given ≡ needs x → length given < operands_in t)
-    → HasGrown old mid → HaltsAt vars h mid → OneMore h w mid new → FewerLeft w old new
-fewer_left MoreWork (HaltScript f n) vars old mid new law g t m =
+-- an operand that was needed and has its value is one less to be worked out
+one_less : (vars : Variables) (p : Fill) (old mid new : Evaluated) → ((t : Expression) (given : List (List ℕ)) (x : Spelled) → outcome t given ≡ needs x → length given < operands_in t)
+    → HasGrown old mid → NeedsFilled vars p mid → HasMore MoreWork mid new → FewerLeft MoreWork old new
+one_less vars p old mid new law g t m =
     let less : length mid.given < operands_in mid.tree = law mid.tree mid.given t.word t.is in
     let more : length new.given ≡ length mid.given + 1 = ap (λ (x : Evaluated). length x.given) m.1 ∙ length-append mid.given (m.0 ∷ []) in
     let now : operands_in new.tree ≡ operands_in mid.tree = ap (λ (x : Evaluated). operands_in x.tree) m.1 in
     let same : operands_in mid.tree ≡ operands_in old.tree = ap operands_in g.0 in
     let grown : length old.given ≤ length mid.given = g.1 in
     omega arith
+
+-- an operand that was needed and has its value isn't needed again
+pub fewer_left : (w : Worked) (h : Halt) (vars : Variables) (old mid new : Evaluated) → ((t : Expression) (given : List (List ℕ)) (x : Spelled) → outcome t given ≡ needs x → length given < operands_in t)
+    → HasGrown old mid → HaltsAt vars h mid → OneMore h w mid new → FewerLeft w old new
+fewer_left MoreWork (HaltAlone script) vars old mid new law g t m = one_less vars _ old mid new law g t m
+fewer_left MoreWork (HaltScript f n) vars old mid new law g t m = one_less vars _ old mid new law g t m
 fewer_left MoreWork (HaltValue v) vars old mid new law g t m = absurd m
 fewer_left MoreWork (HaltFailed f fault) vars old mid new law g t m = absurd m
 fewer_left MoreWork (HaltFault f) vars old mid new law g t m = absurd m
@@ -120,10 +127,8 @@ literals_fill ev (w ∷ words) (v ∷ values) done k go st a =
     ∙ ap (λ (l : List (List ℕ)). go l st) (append_assoc done (v ∷ []) values)
 
 -- a word that is one script alone, where that stands still
-pub alone_below : (ev : Eval) (w : Spelled) (text script : List ℕ) (f : Filling) (s : Stop) (k : Next) (go : List ℕ → State → Tree) (st now : State)
-    → IsAlone w text → script ≡ text → WaitsAlone f → ((k : Next) → stop_rest s k now ≡ ev script k st) → stop_rest s (word_on ev f k go) now ≡ fill_parts ev w k go st
-alone_below ev w text script f s k go st now only same waits run =
+pub alone_below : (ev : Eval) (script : List ℕ) (f : Filling) (s : Stop) (k : Next) (go : List ℕ → State → Tree) (st now : State)
+    → WaitsAlone f → ((k : Next) → stop_rest s k now ≡ ev script k st) → stop_rest s (word_on ev f k go) now ≡ fill_word ev (asks_alone script) k go st
+alone_below ev script f s k go st now waits run =
     run (word_on ev f k go)
-    ∙ ap (λ (x : List ℕ). ev x (word_on ev f k go) st) same
-    ∙ ap (λ (h : List ℕ → State → Tree). ev text (on_ok h k) st) (fun_ext (λ v. fun_ext (λ (st : State). ap (λ (x : Fill). fill_word ev x k go st) (waits v st.vars))))
-    ∙ ap (λ (x : Fill). fill_word ev x k go st) (sym (only st.vars))
+    ∙ ap (λ (h : List ℕ → State → Tree). ev script (on_ok h k) st) (fun_ext (λ v. fun_ext (λ (st : State). ap (λ (x : Fill). fill_word ev x k go st) (waits v st.vars))))

@@ -5,7 +5,7 @@ use Rattle.tcl_subst.specs.Variables.{Variables}
 use Rattle.tcl_eval.specs.declared.begun.Begun.{Begun}
 use Rattle.tcl_eval.specs.declared.begun.Begun.TheVariants.{Full}
 use Rattle.tcl_eval.specs.declared.halt.Halt.{Halt}
-use Rattle.tcl_eval.specs.declared.halt.Halt.TheVariants.{Value, Script, Failed, Fault}
+use Rattle.tcl_eval.specs.declared.halt.Halt.TheVariants.{Value, Alone, Script, Failed, Fault}
 use Rattle.tcl_eval.specs.Advanced.{NeedsFilled, begun_fill}
 use Rattle.tcl_eval.specs.Evaluated.{Evaluated, with_operand}
 use Rattle.tcl_eval.specs.Halted.{HaltsAt, Alike, HasGrown, worth, halted_worth}
@@ -22,6 +22,7 @@ needs_worth p e ev k go st n =
 pub halted_worth_is : (ev : Eval) (h : Halt) (e : Evaluated) (k : Next) (go : List ℕ → State → Tree) (st : State) → HaltsAt st.vars h e → halted_worth ev h e k go st ≡ worth ev e k go st
 halted_worth_is ev (Value v) e k go st t = sym (value_known (fill_parts ev) e.tree e.given k go st v t)
 halted_worth_is ev (Fault f) e k go st t = sym (value_faulty (fill_parts ev) e.tree e.given k go st f t)
+halted_worth_is ev (Alone script) e k go st t = needs_worth _ e ev k go st t
 halted_worth_is ev (Script f number) e k go st t = needs_worth _ e ev k go st t
 halted_worth_is ev (Failed f fault) e k go st t = needs_worth _ e ev k go st t
 

@@ -10,7 +10,8 @@ use Rattle.tcl_subst.specs.Variables.{Variables}
 use Rattle.tcl_eval.specs.declared.advance.Advance.{Advance}
 use Rattle.tcl_eval.specs.declared.advance.Advance.TheVariants.{Value, Operand, Fault}
 use Rattle.tcl_eval.specs.declared.begun.Begun.{Begun}
-use Rattle.tcl_eval.specs.declared.begun.Begun.TheVariants.{Full, Script, Failed}
+use Rattle.tcl_eval.specs.declared.begun.Begun.TheVariants.{Full, Alone, Script, Failed}
+use Rattle.tcl_eval.specs.Alone.{asks_alone}
 use Rattle.tcl_eval.specs.Evaluated.{Evaluated}
 
 -- A filler that was just begun comes to what the word's parts come to.
@@ -20,6 +21,7 @@ Fills f w = (vars : Variables) → rest f vars ≡ fill w.pieces vars
 -- what a word comes to whose filling was begun
 abbrev pub begun_fill : Begun → Fill
 begun_fill (Full value) = Filled value
+begun_fill (Alone script) = asks_alone script
 begun_fill (Script f number) = told (step.NeedScript number, f.value)
 begun_fill (Failed f fault) = told (step.Fault fault, f.value)
 

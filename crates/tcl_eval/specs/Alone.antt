@@ -1,18 +1,17 @@
 -- Words that are one script alone.
 use Rattle.std.specs.Prelude.{◌≡◌, ℕ, List, []}
-use Rattle.tcl_words.specs.Pieces.{Spelled, script, no_pieces, piece}
-use Rattle.tcl_subst.specs.Filling.{Fill, Full, fill, behind}
+use Rattle.tcl_subst.specs.Filling.{Fill, Full, Asks, behind}
 use Rattle.tcl_subst.specs.Recipes.{Filling, given}
 use Rattle.tcl_subst.specs.Rests.{rest}
 use Rattle.tcl_subst.specs.Variables.{Variables}
 
--- a word is this script, and nothing beside it
-abbrev pub IsAlone : Spelled → List ℕ → Type 0
-IsAlone w text = (vars : Variables) → fill w.pieces vars ≡ fill (piece (script text) no_pieces) vars
-
--- what such a word comes to with the value of its script
+-- what a word that is one script alone comes to with the value of that
 abbrev pub alone : List ℕ → Fill
 alone value = behind [] value (λ text. Full text)
+
+-- what such a word comes to
+abbrev pub asks_alone : List ℕ → Fill
+asks_alone text = Asks text (λ value vars. alone value)
 
 -- what fills such a word waits for that value
 abbrev pub WaitsAlone : Filling → Type 0

@@ -31,7 +31,7 @@ use Rattle.tcl_eval.specs.declared.task.Task.TheVariants.{Done, Stand, Script as
 use Rattle.tcl_eval.specs.declared.task.Entry.{Entry}
 use Rattle.tcl_eval.specs.declared.task.Entry.TheVariants.{Host, Body, Done as DoneEntry}
 use Rattle.tcl_eval.specs.declared.halt.Halt.{Halt}
-use Rattle.tcl_eval.specs.declared.halt.Halt.TheVariants.{Value as HaltValue, Script as HaltScript, Failed as HaltFailed, Fault as HaltFault}
+use Rattle.tcl_eval.specs.declared.halt.Halt.TheVariants.{Value as HaltValue, Alone as HaltAlone, Script as HaltScript, Failed as HaltFailed, Fault as HaltFault}
 use Rattle.tcl_eval.specs.declared.frame.Frame.{Frame}
 use Rattle.tcl_eval.specs.declared.frame.Then.{Then}
 use Rattle.tcl_eval.specs.declared.frame.Frame.TheVariants.{Each, Onward as OnwardFrame}
@@ -115,6 +115,7 @@ IsLast (StoppedWork s f) = Unit {0}
 
 -- an operand has its value at a halt alone that needs one
 abbrev pub OneMore : Halt → Worked → Evaluated → Evaluated → Type 0
+OneMore (HaltAlone script) w old new = HasMore w old new
 OneMore (HaltScript f number) w old new = HasMore w old new
 OneMore (HaltValue v) w old new = IsLast w
 OneMore (HaltFailed f fault) w old new = IsLast w

@@ -1,23 +1,29 @@
 //! Words whose filling was begun.
 
-ghost use Rattle.std.specs.Prelude.{◌≡◌, [], IfOk};
-ghost use Rattle.tcl_words.specs.Pieces.{Spelled, word_view};
+ghost use Rattle.std.specs.Prelude.{◌≡◌, [], IfOk, IfSome};
+ghost use Rattle.tcl_words.specs.Pieces.{Spelled, script, no_pieces, piece, part_view, word_view};
 ghost use Rattle.tcl_subst.specs.Filling.{fill};
 ghost use Rattle.tcl_subst.specs.Recipes.{IsOnward, begun, steps_onto};
 ghost use Rattle.tcl_subst.specs.Rests.{rest, told};
 ghost use Rattle.tcl_eval.specs.Advanced.{Fills, begun_fill};
+ghost use Rattle.tcl_eval.specs.Alone.{WaitsAlone, asks_alone};
+ghost use Rattle.tcl_subst.specs.Variables.{Variables};
 
+use crate::read_texts::ReadTexts;
 use std::alloc::{AllocError, Global};
 use std::rc::Rc;
+use tcl_scripts::Script;
 use tcl_subst::{FillStep, Filler, Recipe, SubstFault, Vars, filling_is_fill, plain_value};
 use tcl_values::Value;
-use tcl_words::Word;
+use tcl_words::{Part, Text, Word};
 
 /// A word whose filling was begun.
 #[derive(Drop)]
 pub(crate) enum Begun {
     /// It is filled with this value.
     Full(Value),
+    /// It is one script alone, whose value is needed.
+    Alone(Script),
     /// The value of a script is needed: of the step of that number of what fills it.
     Script(Box<Filler>, usize),
     /// It can't be filled.
@@ -28,6 +34,7 @@ pub(crate) enum Begun {
 pub(crate) fn begin_operand(
     alloc: Global,
     word: &Word,
+    read: &mut ReadTexts,
     vars: &mut Vars,
 ) -> Result<Begun, AllocError>
     ensures told { IfOk result (λ b. begun_fill b ≡ fill (word_view word.now).pieces vars.old) }
@@ -36,9 +43,65 @@ pub(crate) fn begin_operand(
     if let Some(value) = plain_value(alloc, word, vars)? {
         return Ok(Begun::Full(value));
     }
+    if let Some(text) = script_alone(word) {
+        return Ok(Begun::Alone(read.script(alloc, text.as_slice())?));
+    }
     let filler = operand_filler(alloc, word)?;
     let begun = begin(alloc, filler, vars)?;
     Ok(begun)
+}
+
+/// The script that a word is, where it is one script alone.
+fn script_alone(word: &Word) -> Option<&Text>
+    ensures { IfSome result (λ text. (word_view word.now).pieces ≡ piece (script text.now) no_pieces) }
+{
+    match word.parts.as_slice() {
+        [part] => part_script(part),
+        _ => None,
+    }
+}
+
+/// The script that a part of a word is, where it is one.
+fn part_script(part: &Part) -> Option<&Text>
+    ensures { IfSome result (λ text. part_view part.now ≡ script text.now) }
+{
+    match part {
+        Part::Lit(_) => None,
+        Part::Var(_, _) => None,
+        Part::Script(text) => Some(text),
+    }
+}
+
+/// What fills a word that is one script alone, where it waits for the value of that.
+#[cold]
+pub(crate) fn waiting(
+    alloc: Global,
+    alone: &Script,
+    vars: &mut Vars,
+) -> Result<Box<Filler>, AllocError>
+    ensures waits { IfOk result (λ f. WaitsAlone f.value) }
+    ensures same { vars.new ≡ vars.old }
+{
+    let mut filler = alone_filler(alloc, alone)?;
+    match advanced(alloc, &mut filler, vars)? {
+        FillStep::NeedScript(_) => Ok(Box::new(alloc, filler)?),
+        FillStep::Value(_) => Err(AllocError),
+        FillStep::Fault(_) => Err(AllocError),
+    }
+}
+
+/// What fills a word that is one script alone, at its first step.
+fn alone_filler(alloc: Global, alone: &Script) -> Result<Filler, AllocError>
+    ensures { IfOk result (λ f. (vars : Variables) → rest f vars ≡ asks_alone alone.now) }
+{
+    let mut parts = Vec::new(alloc);
+    parts.push(Part::Script(Text::from_slice(alloc, alone.text())?))?;
+    let word = Word {
+        expand: false,
+        parts,
+    };
+    let filler = operand_filler(alloc, &word)?;
+    Ok(filler)
 }
 
 /// What fills an operand, at its first step.

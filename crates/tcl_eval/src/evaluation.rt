@@ -17,6 +17,7 @@ ghost use Rattle.tcl_eval.specs.Halted.{HaltsAt, Alike, HasGrown};
 use crate::advance::Advance;
 use crate::begun::{Begun, begin_operand};
 use crate::halt::Halt;
+use crate::read_texts::ReadTexts;
 use std::alloc::{AllocError, Global};
 use std::marker::Model;
 use std::rc::Rc;
@@ -128,7 +129,12 @@ impl Evaluation {
     }
 
     /// Goes on until the value is known, a fault is met, or an operand needs a script or can't be filled.
-    pub(crate) fn advance(&mut self, alloc: Global, vars: &mut Vars) -> Result<Halt, AllocError>
+    pub(crate) fn advance(
+        &mut self,
+        alloc: Global,
+        read: &mut ReadTexts,
+        vars: &mut Vars,
+    ) -> Result<Halt, AllocError>
         ensures halts { IfOk result (λ h. HaltsAt vars.old h self.new) }
         ensures alike { OnOk result (Alike vars.old self.old self.new) }
         ensures grown { OnOk result (HasGrown self.old self.new) }
@@ -136,11 +142,12 @@ impl Evaluation {
     {
         operands_are_bounded();
         'operands: loop {
-            match self.step(alloc, vars)? {
+            match self.step(alloc, read, vars)? {
                 Advance::Value(value) => return Ok(Halt::Value(value)),
                 Advance::Fault(fault) => return Ok(Halt::Fault(fault)),
                 Advance::Operand(begun) => match begun {
                     Begun::Full(value) => self.give(value)?,
+                    Begun::Alone(script) => return Ok(Halt::Alone(script)),
                     Begun::Script(filler, number) => return Ok(Halt::Script(filler, number)),
                     Begun::Failed(filler, fault) => return Ok(Halt::Failed(filler, fault)),
                 },
@@ -149,28 +156,41 @@ impl Evaluation {
     }
 
     /// Goes on until the value is known, a fault is met or an operand is needed, and begins to fill that.
-    fn step(&mut self, alloc: Global, vars: &mut Vars) -> Result<Advance, AllocError>
+    fn step(
+        &mut self,
+        alloc: Global,
+        read: &mut ReadTexts,
+        vars: &mut Vars,
+    ) -> Result<Advance, AllocError>
         ensures told { IfOk result (λ a. IsTold vars.old a self.old) }
         ensures same { self.new ≡ self.old }
         ensures vars { vars.new ≡ vars.old }
     {
         match self.test.read.expr.advance(alloc, &mut self.log) {
             Step::Value(value) => Ok(Advance::Value(value)),
-            Step::NeedVar(number) => Ok(Advance::Operand(self.operand(alloc, number, vars)?)),
-            Step::NeedScript(number) => Ok(Advance::Operand(self.operand(alloc, number, vars)?)),
+            Step::NeedVar(number) => Ok(Advance::Operand(self.operand(alloc, number, read, vars)?)),
+            Step::NeedScript(number) => Ok(Advance::Operand(self.operand(
+                alloc, number, read, vars,
+            )?)),
             Step::Fault(fault) => Ok(Advance::Fault(told(fault)?)),
         }
     }
 
     /// Begins to fill the operand of a number.
     #[inline(always)]
-    fn operand(&self, alloc: Global, number: usize, vars: &mut Vars) -> Result<Begun, AllocError>
+    fn operand(
+        &self,
+        alloc: Global,
+        number: usize,
+        read: &mut ReadTexts,
+        vars: &mut Vars,
+    ) -> Result<Begun, AllocError>
         ensures told { (w : Spelled) → operand_at self.now.tree number ≡ Some w → IfOk result (λ b. begun_fill b ≡ fill w.pieces vars.old) }
         ensures same { vars.new ≡ vars.old }
     {
         match self.test.read.expr.operand(number) {
             None => Err(AllocError),
-            Some(word) => begin_operand(alloc, word, vars),
+            Some(word) => begin_operand(alloc, word, read, vars),
         }
     }
 }

@@ -66,7 +66,7 @@ impl Engine {
         ensures bound { meter.new.bound ≡ meter.old.bound }
     {
         operands_are_bounded();
-        let halt = evaluation.advance(self.alloc, &mut self.vars)?;
+        let halt = evaluation.advance(self.alloc, &mut self.read, &mut self.vars)?;
         let worked = self.halted(meter, halt, evaluation, depth)?;
         Ok(worked)
     }
@@ -88,6 +88,11 @@ impl Engine {
     {
         match halt {
             Halt::Value(value) => Ok(Worked::Full(value)),
+            Halt::Alone(script) => {
+                let word = self.alone_script(meter, &script, depth)?;
+                let worked = operand_done(word, evaluation)?;
+                Ok(worked)
+            }
             Halt::Script(filler, number) => {
                 let filler = Box::into_inner(filler);
                 let word = self.fill_on(meter, filler, Part::Script(number), depth)?;

@@ -4,7 +4,7 @@ ghost use Rattle.std.specs.Prelude.{◌≡◌, ℕ, ◌+◌, ◌≤◌, ◌*◌,
 ghost use Rattle.tcl_subst.specs.Recipes.{Filling, IsOnward, given, script_at, refused_name};
 ghost use Rattle.tcl_subst.specs.Rests.{rest, told};
 ghost use Rattle.tcl_commands.specs.Texts.{not_read};
-ghost use Rattle.tcl_eval.specs.Alone.{IsAlone, WaitsAlone, alone};
+ghost use Rattle.tcl_eval.specs.Alone.{alone, asks_alone};
 ghost use Rattle.tcl_eval.specs.Steps.{left_of};
 ghost use Rattle.tcl_eval.specs.Tree.{State, Tree};
 ghost use Rattle.tcl_eval.specs.Meaning.{Next, Eval, eval, fill_word, fill_words, fill_parts, on_said, spread};
@@ -12,7 +12,7 @@ ghost use Rattle.tcl_eval.specs.Native.{part_rest, word_rest, words_rest, part_w
 ghost use Rattle.tcl_eval.specs.Rest.{then_rest, state_of};
 ghost use Rattle.tcl_eval.specs.Potential.{then_weight};
 
-use crate::begun::{advanced, first};
+use crate::begun::{advanced, first, waiting};
 use crate::engine::Engine;
 use crate::frame::{Frame, Onward, Then};
 use crate::meter::Meter;
@@ -26,7 +26,7 @@ use tcl_commands::{Code, bad_list, not_read};
 use tcl_scripts::{KeptWord, Script, Words};
 use tcl_subst::{FillStep, Filler, SubstFault, VALUE_LIMIT, Vars};
 use tcl_values::Value;
-use tcl_words::{ListFault, Text};
+use tcl_words::ListFault;
 
 impl Engine {
     /// Evaluates a script of a word, and gives its value to what fills the word.
@@ -98,7 +98,8 @@ impl Engine {
         ensures bound { meter.new.bound ≡ meter.old.bound }
     {
         if let Some(text) = word.only_script() {
-            let filled = self.only_script(meter, word, text, depth)?;
+            let script = self.read.script(self.alloc, text.as_slice())?;
+            let filled = self.alone_script(meter, &script, depth)?;
             return Ok(filled);
         }
         let mut filler = first(word.filler(self.alloc)?);
@@ -110,27 +111,24 @@ impl Engine {
 
     /// Evaluates the script that a word is, whose value is the word's. What fills the word is wanted only where the script stands still.
     #[cycle(native)]
-    fn only_script(
+    pub(crate) fn alone_script(
         &mut self,
         meter: &mut Meter,
-        word: &KeptWord,
-        text: &Text,
+        script: &Script,
         depth: u32,
     ) -> Result<Word, AllocError>
-        requires alone { IsAlone word.now text.now }
         ensures kept { self.new.stack ≡ self.old.stack }
-        ensures rest { WordIs (eval depth) self.old meter.old result self.new meter.new (λ k go st. fill_parts (eval depth) word.now k go st) }
+        ensures rest { WordIs (eval depth) self.old meter.old result self.new meter.new (λ k go st. fill_word (eval depth) (asks_alone script.now) k go st) }
         ensures potential { IfOk result (λ w. 8 * left_of meter.new + word_weight w ≤ 8 * left_of meter.old) }
         ensures bound { meter.new.bound ≡ meter.old.bound }
     {
-        let script = self.read.script(self.alloc, text.as_slice())?;
-        match self.script(meter, &script, depth)? {
+        match self.script(meter, script, depth)? {
             Out::Came(code, value) => match code {
                 Code::Ok => alone(self.alloc, value),
                 _ => Ok(Word::Gone(code, value)),
             },
             Out::Stopped(stop) => {
-                let filler = waiting(self.alloc, word, &mut self.vars)?;
+                let filler = waiting(self.alloc, script, &mut self.vars)?;
                 Ok(Word::Stopped(stop, filler))
             }
         }
@@ -220,20 +218,6 @@ fn alone(alloc: Global, value: Value) -> Result<Word, AllocError>
         return Ok(Word::Gone(Code::Error, text));
     }
     Ok(Word::Full(value))
-}
-
-/// What fills a word that is one script alone, where it waits for the value of that.
-#[cold]
-fn waiting(alloc: Global, word: &KeptWord, vars: &mut Vars) -> Result<Box<Filler>, AllocError>
-    ensures waits { (text : List ℕ) → IsAlone word.now text → IfOk result (λ f. WaitsAlone f.value) }
-    ensures same { vars.new ≡ vars.old }
-{
-    let mut filler = first(word.filler(alloc)?);
-    match advanced(alloc, &mut filler, vars)? {
-        FillStep::NeedScript(_) => Ok(Box::new(alloc, filler)?),
-        FillStep::Value(_) => Err(AllocError),
-        FillStep::Fault(_) => Err(AllocError),
-    }
 }
 
 /// Puts what came of a word behind the values that are done.

@@ -1,13 +1,13 @@
 -- What is told of a word that is one literal or one variable.
-use Rattle.std.proofs.Common.{◌≡◌, ℕ, ◌<◌, ◌≤◌, Bool, true, false, List, [], ◌∷◌, length, get_or, Option, Some, None, Result, Ok, Err, IfOk, IfSome, refl, sym, ap, ◌∙◌, subst, arith}
+use Rattle.std.proofs.Common.{◌≡◌, ◌≢◌, ℕ, ◌<◌, ◌≤◌, Bool, true, false, List, [], ◌∷◌, length, get_or, Option, Some, None, Result, Ok, Err, IfOk, IfSome, refl, sym, ap, ◌∙◌, subst, arith}
 use Rattle.tcl_words.specs.declared.shapes.Part.{Part}
 use Rattle.tcl_words.specs.Pieces.{Piece, Pieces, literal, variable, member, script, no_pieces, piece, parts_view}
 use Rattle.tcl_subst.specs.declared.recipe.Step.{Step}
 use Rattle.tcl_subst.specs.declared.recipe.Step.TheVariants.{Text, Variable, Script, Open, Close}
 use Rattle.tcl_subst.specs.Filling.{Fill, Full, fill}
 use Rattle.tcl_subst.specs.Plain.{is_plain, TellsValue}
-use Rattle.tcl_subst.specs.Recipes.{piece_onto, steps_onto, begun}
-use Rattle.tcl_subst.specs.Rests.{rest}
+use Rattle.tcl_subst.specs.Recipes.{piece_onto, steps_onto, begun, nothing}
+use Rattle.tcl_subst.specs.Rests.{rest, rest_of_steps}
 use Rattle.tcl_subst.specs.Variables.{Variables}
 use Rattle.tcl_subst.proofs.FillingLaw.{begun_comes_to}
 
@@ -19,7 +19,7 @@ is_plain_step Open = false
 is_plain_step (Close array) = false
 
 -- the steps of a plain word
-abbrev are_plain : List Step → Bool
+abbrev pub are_plain : List Step → Bool
 are_plain [] = false
 are_plain (s ∷ []) = is_plain_step s
 are_plain (s ∷ t ∷ more) = false
@@ -85,3 +85,22 @@ pub several_parts : (parts : List Part) (f : Fill) → 2 ≤ length parts → Te
 several_parts [] f many = absurd (omega arith)
 several_parts (p ∷ []) f many = absurd (omega arith)
 several_parts (p ∷ q ∷ more) f many = not_told false f refl
+
+-- steps that aren't one
+pub not_one : (steps : List Step) → length steps ≢ 1 → are_plain steps ≡ false
+not_one [] n = refl
+not_one (s ∷ []) n = absurd (n refl)
+not_one (s ∷ t ∷ more) n = refl
+
+-- what the steps of a word are joined to that hasn't one part is the word's value
+joined_told : (o : Option (List ℕ)) (ps : Pieces) (steps : List Step) (vars : Variables) → steps ≡ steps_onto ps [] → are_plain steps ≡ false → IfSome o (λ value. rest_of_steps steps nothing vars ≡ Full value) → TellsValue o (is_plain ps) (fill ps vars)
+joined_told None ps steps vars same several t = not_told (is_plain ps) (fill ps vars) (sym (plain_steps ps) ∙ ap are_plain (sym same) ∙ several)
+joined_told (Some value) ps steps vars same several t = sym (begun_comes_to ps vars) ∙ ap (λ (s : List Step). rest (begun s) vars) (sym same) ∙ t
+
+pub joined_told_if : {E : Type 0} (r : Result (Option (List ℕ)) E) (ps : Pieces) (steps : List Step) (vars : Variables) → steps ≡ steps_onto ps [] → are_plain steps ≡ false → IfOk r (λ o. IfSome o (λ value. rest_of_steps steps nothing vars ≡ Full value)) → IfOk r (λ o. TellsValue o (is_plain ps) (fill ps vars))
+joined_told_if (Ok o) ps steps vars same several t = joined_told o ps steps vars same several t
+joined_told_if (Err e) ps steps vars same several t = tt
+
+-- the item of a list that has one
+pub one_item : {X : Type 0} (xs : List X) (x : X) → x ≡ get_or xs 0 x → length xs ≡ 1 → xs ≡ x ∷ []
+one_item xs x is one = only_item xs x is (omega (arith, one)) (omega (arith, one))

@@ -1,6 +1,6 @@
 //! What the values of a word's parts were joined to.
 
-ghost use Rattle.std.specs.Prelude.{◌≡◌, ◌∷◌, [], Ok, Err, IfOk, OnErr};
+ghost use Rattle.std.specs.Prelude.{◌≡◌, ◌∷◌, [], Ok, Err, IfOk, IfSome, OnErr};
 ghost use Rattle.tcl_subst.specs.Filling.{element_name};
 ghost use Rattle.tcl_subst.specs.Recipes.{Takes, joined, joined_if_read, nothing, around, taken, fault_of, name_of};
 ghost use Rattle.tcl_subst.specs.Variables.{value_of, member_of};
@@ -168,6 +168,9 @@ impl Joined {
         ensures taken { Takes result (joined_if_read (member_of array.now index.now vars.old) (element_name array.now index.now) self.old) self.new }
         ensures same { vars.new ≡ vars.old }
     {
+        if let Some(value) = unread_member(array, index, vars) {
+            return self.join(alloc, value);
+        }
         let name = element_name(alloc, array, index)?;
         let read = vars.settled_member(array, index, name.as_slice());
         self.join_read(alloc, read, name.as_slice())
@@ -185,6 +188,21 @@ impl Joined {
             Step::Open => self.open(alloc),
             Step::Close(array) => self.close(alloc, array, vars),
         }
+    }
+}
+
+/// The value of an array's element, where there is one that no owner of its bytes read as a list since.
+fn unread_member(array: &[u8], index: &[u8], vars: &Vars) -> Option<Value>
+    ensures { IfSome result (λ value. member_of array.now index.now vars.now ≡ Ok value) }
+{
+    match vars.get_member(array, index) {
+        Ok(value) => {
+            if value.was_read() {
+                return None;
+            }
+            Some(value)
+        }
+        Err(_) => None,
     }
 }
 

@@ -1,13 +1,16 @@
 //! A word as steps in one line.
 
-ghost use Rattle.std.specs.Prelude.{◌≡◌, ◌++◌, [], IfOk, IfSome, OnOk};
+ghost use Rattle.std.specs.Prelude.{◌≡◌, ◌++◌, [], IfOk, IfSome, IsTrue, OnOk};
+ghost use Rattle.std.specs.List.{list_any};
 ghost use Rattle.std.specs.Option.{option_copied};
 ghost use Rattle.tcl_words.specs.Pieces.{Pieces, script, no_pieces, piece, part_view, parts_view, word_view};
-ghost use Rattle.tcl_subst.specs.Filling.{fill, Full};
+ghost use Rattle.tcl_subst.specs.Filling.{Fill, fill, Full};
 ghost use Rattle.tcl_subst.specs.Variables.{Variables};
 ghost use Rattle.tcl_subst.specs.Plain.{is_plain, TellsValue};
-ghost use Rattle.tcl_subst.specs.Recipes.{piece_onto, steps_onto, script_at, is_script};
+ghost use Rattle.tcl_subst.specs.Recipes.{piece_onto, steps_onto, script_at, is_script, nothing};
+ghost use Rattle.tcl_subst.specs.Rests.{rest_of_step, rest_of_steps};
 
+use crate::joined::{Joined, Refusal};
 use crate::plain::{literal_value, variable_value};
 use crate::vars::Vars;
 use std::alloc::{AllocError, Global};
@@ -61,14 +64,16 @@ impl Recipe {
         Ok(Recipe { steps })
     }
 
-    /// The value of a word that is one literal or one variable. `None` for another word, and where the word can't be filled.
+    /// The value of a word without a script. `None` where there is one, and where the word can't be filled.
     pub fn plain_value(&self, alloc: Global, vars: &mut Vars) -> Result<Option<Value>, AllocError>
         ensures value { (ps : Pieces) → self.now.steps.items ≡ steps_onto ps [] → IfOk result (λ o. TellsValue o (is_plain ps) (fill ps vars.old)) }
         ensures same { vars.new ≡ vars.old }
     {
-        let [step] = self.steps.as_slice() else {
-            return Ok(None);
-        };
+        let steps = self.steps.as_slice();
+        if steps.len() != 1 {
+            return joined_value(alloc, steps, vars);
+        }
+        let step = &steps[0];
         match step {
             Step::Text(text) => Ok(literal_value(text.shared(alloc)?)),
             Step::Variable(name) => variable_value(name.as_slice(), vars),
@@ -122,6 +127,57 @@ impl Recipe {
             Some(Step::Open) => None,
             Some(Step::Close(_)) => None,
         }
+    }
+}
+
+/// The value of a word of these steps, joined part by part. `None` where one of them is a script, and where the word can't be filled.
+fn joined_value(alloc: Global, steps: &[Step], vars: &mut Vars) -> Result<Option<Value>, AllocError>
+    ensures value { IfOk result (λ o. IfSome o (λ value. rest_of_steps steps.now nothing vars.old ≡ Full value)) }
+    ensures same { vars.new ≡ vars.old }
+{
+    if has_script(steps) {
+        return Ok(None);
+    }
+    let mut joined = Joined::new(alloc);
+    for step in steps {
+        if !joins(&mut joined, alloc, step, vars)? {
+            return Ok(None);
+        }
+    }
+    let Joined { current, outer: _ } = joined;
+    Ok(Some(current))
+}
+
+/// Whether one of the steps is a script.
+fn has_script(steps: &[Step]) -> bool
+    ensures { result ≡ list_any is_script steps.now }
+{
+    for step in steps {
+        if step.is_script() {
+            return true;
+        }
+    }
+    false
+}
+
+/// Takes a step, where it is no script and can be taken; whether it was.
+fn joins(
+    joined: &mut Joined,
+    alloc: Global,
+    step: &Step,
+    vars: &mut Vars,
+) -> Result<bool, AllocError>
+    ensures taken { IfOk result (λ b. IsTrue b → (k : Joined → Variables → Fill) → rest_of_step step.now joined.old k vars.old ≡ k joined.new vars.old) }
+    ensures same { vars.new ≡ vars.old }
+{
+    if step.is_script() {
+        return Ok(false);
+    }
+    match joined.take(alloc, step, vars) {
+        Ok(()) => Ok(true),
+        Err(Refusal::Memory) => Err(AllocError),
+        Err(Refusal::TooLong) => Ok(false),
+        Err(Refusal::Unread(_, _)) => Ok(false),
     }
 }
 

@@ -111,14 +111,13 @@ command-returns-in-Some-clause-rest t c = λ k.
     let st = state_of c.args.self.now (left_of c.args.meter.now) in
     c.in_ok-out.ensures.rest k ∙ sym (literals_fill ev c.args.words.now c.in-Some.values.now [] k (then_rest c.args.depth Command k) st c.in-Some.ensures)
 
-pub only_script-returns-clause-rest : goal.only_script-returns-clause-rest
-only_script-returns-clause-rest t c = λ k go.
+pub alone_script-returns-in_ok-filler-in-Stopped-clause-rest : goal.alone_script-returns-in_ok-filler-in-Stopped-clause-rest
+alone_script-returns-in_ok-filler-in-Stopped-clause-rest t c = λ k go.
     let ev = eval c.args.depth in
     let st = state_of c.args.self.now (left_of c.args.meter.now) in
-    let now = state_of c.script-3.new.self (left_of c.script-3.new.meter) in
-    let text = c.args.text.now in
+    let now = state_of c.script.new.self (left_of c.script.new.meter) in
     let f = c.in_ok-filler-in-Stopped.filler.value in
     let stop = c.in-Stopped.stop.value in
     ap (λ (v : Variables). stop_rest stop (word_on ev f k go) (record now { vars = v })) c.waiting.ensures.same
-    ∙ alone_below ev c.args.word.now text c.in_ok-script.script f stop k go st now c.requires.alone (c.in_ok-script.ensures ∙ c.as_slice.ensures) (c.in_ok-filler-in-Stopped.ensures.waits text c.requires.alone)
+    ∙ alone_below ev c.args.script.now f stop k go st now c.in_ok-filler-in-Stopped.ensures.waits
     (λ k. ap (λ (o : Out). out_rest o k now) (sym c.in-Stopped.is) ∙ c.in_ok-code.ensures.rest k)

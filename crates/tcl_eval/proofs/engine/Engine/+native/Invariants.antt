@@ -60,8 +60,8 @@ decreases-bracket l = 32 * l.depth + 1
 abbrev pub decreases-fill_on : goal.decreases-fill_on
 decreases-fill_on l = 32 * l.depth + 2
 
-abbrev pub decreases-only_script : goal.decreases-only_script
-decreases-only_script l = 32 * l.depth + 1
+abbrev pub decreases-alone_script : goal.decreases-alone_script
+decreases-alone_script l = 32 * l.depth + 1
 
 abbrev pub decreases-word : goal.decreases-word
 decreases-word l = 32 * l.depth + 3
