@@ -1,5 +1,5 @@
 -- Entries whose names are the bytes of their keys.
-use Rattle.std.proofs.Common.{◌≡◌, ℕ, Bool, true, false, cond, List, [], ◌∷◌, Option, Some, unwrap_or, is_some, Result, Ok, Err, if◌then◌else◌, map, refl, sym, ap, ◌∙◌}
+use Rattle.std.proofs.Common.{◌≡◌, ℕ, Bool, true, false, cond, List, [], ◌∷◌, Option, Some, None, unwrap_or, is_some, Result, Ok, Err, if◌then◌else◌, map, refl, sym, ap, ◌∙◌}
 use Rattle.std.specs.Ordering.{match_ordering}
 use Rattle.std.specs.declared.cmp.Ordering.{Ordering}
 use Rattle.std.specs.declared.cmp.Ordering.TheVariants.{Less, Equal, Greater}
@@ -46,8 +46,8 @@ module _ {K X : Type 0} (name_of : K → List ℕ) where
       ∙ ap (λ r. match_ordering (order (name_of k) (name_of e.0)) ((name_of k, x) ∷ (name_of e.0, e.1) ∷ named es) ((name_of e.0, x) ∷ named es) ((name_of e.0, e.1) ∷ r)) (insert_named k x es)
 
 -- a name that isn't there is put in
-pub put_new : {X : Type 0} (name : List ℕ) (x : X) (es : Entries X) → is_some (find name es) ≡ false → insert_entry order es name x ≡ with_entry name x es
-put_new name x es none = sym (ap (λ t. if t then changed name x es else insert_entry order es name x) none)
+pub put_new : {X : Type 0} (name : List ℕ) (x : X) (es : Entries X) → find name es ≡ None → insert_entry order es name x ≡ with_entry name x es
+put_new name x es none = sym (ap (λ o. if is_some o then changed name x es else insert_entry order es name x) none)
 
 -- what a name names already is changed
 pub put_old : {X : Type 0} (name : List ℕ) (x y : X) (es : Entries X) → Some x ≡ find name es → with_entry name y es ≡ changed name y es

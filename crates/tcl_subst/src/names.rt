@@ -1,6 +1,6 @@
 //! Entries by name.
 
-ghost use Rattle.std.specs.Prelude.{◌≡◌, [], map, IfNone, OnOk, OnErr};
+ghost use Rattle.std.specs.Prelude.{◌≡◌, [], map, None, IfNone, OnOk, OnErr};
 ghost use Rattle.std.specs.Option.{option_copied, option_copied_mut};
 ghost use Rattle.std.specs.Borrow.{sem};
 ghost use Rattle.tcl_subst.specs.Entries.{find, without, with_entry};
@@ -88,6 +88,21 @@ impl<V> Names<V> {
             *held = value;
             return Ok(());
         }
+        self.insert_new(alloc, name, value)
+    }
+
+    /// Lets a name that names nothing name a value. A refusal leaves the names as they were.
+    pub(crate) fn insert_new(
+        &mut self,
+        alloc: Global,
+        name: &[u8],
+        value: V,
+    ) -> Result<(), AllocError>
+    where
+        V: Drop,
+        ensures put { OnOk result (find name.now self.old ≡ None → self.new ≡ with_entry name.now value self.old) }
+        ensures kept { OnErr result (self.new ≡ self.old) }
+    {
         self.tree.insert(Vec::from_slice(alloc, name)?, value)?;
         Ok(())
     }

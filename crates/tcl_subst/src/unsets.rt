@@ -80,6 +80,6 @@ fn link_name(scope: &mut Scope, alloc: Global, name: &[u8]) -> Result<(), SubstF
         Some(Slot::Array(_)) => return Err(SubstFault::Exists),
         Some(Slot::Link) => return Ok(()),
     }
-    scope.insert(alloc, name, Slot::Link)?;
+    scope.insert_new(alloc, name, Slot::Link)?;
     Ok(())
 }

@@ -42,7 +42,7 @@ fn write_text(
     }
     let mut slot = Slot::Text(Value::new(alloc));
     write_slot(&mut slot, alloc, write)?;
-    scope.insert(alloc, name, slot)?;
+    scope.insert_new(alloc, name, slot)?;
     Ok(())
 }
 
@@ -75,7 +75,7 @@ fn write_element(
     }
     let mut slot = Slot::Array(Names::new(alloc));
     write_member(&mut slot, alloc, index, write)?;
-    scope.insert(alloc, array, slot)?;
+    scope.insert_new(alloc, array, slot)?;
     Ok(())
 }
 
@@ -112,6 +112,6 @@ fn write_entry(
     }
     let mut value = Value::new(alloc);
     write_value(&mut value, alloc, write)?;
-    elements.insert(alloc, index, value)?;
+    elements.insert_new(alloc, index, value)?;
     Ok(())
 }
