@@ -69,7 +69,7 @@ impl KeptWord {
         self.expand
     }
 
-    /// Its value, where it is one literal or one variable. `None` for another word, and where it can't be filled.
+    /// Its value, where no script is in it. `None` for another word, and where it can't be filled.
     pub fn plain_value(&self, alloc: Global, vars: &mut Vars) -> Result<Option<Value>, AllocError>
         ensures value { IfOk result (λ o. TellsValue o (is_plain self.now.pieces) (fill self.now.pieces vars.old)) }
         ensures same { vars.new ≡ vars.old }
