@@ -1,11 +1,12 @@
 -- The turns of a loop over a list, one by one.
-use Rattle.std.proofs.Common.{◌≡◌, ℕ, zero, suc, ◌+◌, ◌<◌, ◌≤◌, false, nat_le, ◌==◌, List, [], ◌∷◌, length, take, drop, refl, ap, sym, ◌∙◌, arith, length-drop, min, drop-drop, ⊎_elim}
-use Rattle.std.proofs.lemmas.List.{take_min, drop_min}
+use Rattle.std.proofs.Common.{◌≡◌, ℕ, zero, suc, ◌+◌, ◌<◌, ◌≤◌, false, nat_le, ◌==◌, List, [], ◌∷◌, length, take, drop, refl, ap, sym, ◌∙◌, arith, length-drop, min, drop-drop, ⊎_elim, slice_get, unwrap_or}
+use Rattle.std.proofs.lemmas.List.{take_min, drop_min, drop-take, length-take}
 use Rattle.std.proofs.lemmas.Bool.Decides.{leb_tells, nat_tests}
+use Rattle.std.proofs.Math.Nat.{min-le_left}
 use Rattle.std.proofs.Math.ListN.{drop_of_length-le}
 use Rattle.tcl_subst.specs.Variables.{Variables}
 use Rattle.tcl_commands.specs.declared.code.Code.TheVariants as code
-use Rattle.tcl_commands.specs.Groups.{groups_within, groups, Turns, turned, turned_by, behind, assigned}
+use Rattle.tcl_commands.specs.Groups.{groups_within, groups, Turns, turned, turned_by, behind, assigned, first, others}
 
 enough : (n m size : ℕ) (es : List (List ℕ)) → 0 < size → length es ≤ n → length es ≤ m → groups_within n size es ≡ groups_within m size es
 enough zero zero size es some h k = refl
@@ -69,3 +70,31 @@ next_turn names es rest at size r s some more =
     ∙ ap (λ (k : ℕ). take k (drop at es) ∷ groups (length names) (drop k (drop at es))) (sym size_is)
     ∙ ap (λ (l : List (List ℕ)). take size l ∷ groups (length names) (drop size (drop at es))) (sym r)
     ∙ ap (λ (l : List (List ℕ)). take size rest ∷ groups (length names) l) (drop-drop size at es)
+
+-- the first of the elements from one index up to another, and those behind it
+pub first_from : (from to : ℕ) (es : List (List ℕ)) → from < to → first (drop from (take to es)) ≡ unwrap_or (slice_get es from) []
+first_from from zero es some = absurd (omega arith)
+first_from zero (suc to) [] some = refl
+first_from zero (suc to) (e ∷ es) some = refl
+first_from (suc from) (suc to) [] some = refl
+first_from (suc from) (suc to) (e ∷ es) some = first_from from to es (omega arith)
+
+pub none_from : (from to : ℕ) (es : List (List ℕ)) → to ≤ from → drop from (take to es) ≡ []
+none_from from to es over = drop_of_length-le (take to es) (omega (arith, length-take to es, min-le_left to (length es)))
+
+pub first_of_none : (from to : ℕ) (es : List (List ℕ)) → to ≤ from → first (drop from (take to es)) ≡ []
+first_of_none from to es over = ap first (none_from from to es over)
+
+others_is : (es : List (List ℕ)) → others es ≡ drop 1 es
+others_is [] = refl
+others_is (e ∷ es) = refl
+
+pub others_from : (from to : ℕ) (es : List (List ℕ)) → drop (from + 1) (take to es) ≡ others (drop from (take to es))
+others_from from to es = sym (others_is (drop from (take to es)) ∙ drop-drop 1 from (take to es))
+
+pub others_of_none : (from to : ℕ) (es : List (List ℕ)) → to ≤ from → drop from (take to es) ≡ others (drop from (take to es))
+others_of_none from to es over = none_from from to es over ∙ sym (ap others (none_from from to es over))
+
+-- a turn's elements
+pub turn_from : (from size : ℕ) (es rest : List (List ℕ)) → rest ≡ drop from es → take size rest ≡ drop from (take (from + size) es)
+turn_from from size es rest is = ap (take size) is ∙ sym (drop-take from size es)

@@ -1,6 +1,6 @@
 //! The turns of `foreach`.
 
-ghost use Rattle.std.specs.Prelude.{◌≡◌, ◌==◌, drop, length, min, IfOk, ◌<◌};
+ghost use Rattle.std.specs.Prelude.{◌≡◌, ◌==◌, take, drop, length, min, IfOk, ◌<◌};
 ghost use Rattle.tcl_commands.specs.Groups.{assigned, each_of, turned, behind, first, others, names_of, read_each};
 ghost use Rattle.tcl_commands.specs.Says.{Says};
 
@@ -58,7 +58,14 @@ impl Groups {
         let rest = self.elements.as_slice().split_at(from).1;
         let size = smaller(self.names.len(), rest.len());
         self.at = from + size;
-        assign_all(alloc, self.names.as_slice(), rest.split_at(size).0, vars)
+        assign_all(
+            alloc,
+            self.names.as_slice(),
+            &self.elements,
+            from,
+            from + size,
+            vars,
+        )
     }
 }
 
@@ -68,47 +75,52 @@ fn smaller(a: usize, b: usize) -> usize
     if a < b { a } else { b }
 }
 
-/// Sets each name to its element, and to nothing where there is none, up to the first that can't be set.
+/// Sets each name to its element of those from an index up to another, and to nothing where there is none, up to the first that
+/// can't be set.
 fn assign_all(
     alloc: Global,
     names: &[Text],
-    elements: &[Text],
+    elements: &Elements,
+    from: usize,
+    to: usize,
     vars: &mut Vars,
 ) -> Result<(Code, Value), AllocError>
-    ensures { IfOk result (λ r. assigned names.now elements.now vars.old ≡ (r.0, r.1, vars.new)) }
+    ensures { IfOk result (λ r. assigned names.now (drop from (take to elements.now)) vars.old ≡ (r.0, r.1, vars.new)) }
 {
     let mut rest = names;
-    let mut left = elements;
+    let mut at = from;
     while let [name, more @ ..] = rest {
         let name = name.as_slice();
-        let value = Value::from_slice(alloc, first(left))?;
+        let value = first(alloc, elements, at, to)?;
         if let Err(fault) = vars.set(name, value) {
             return error(alloc, not_set(alloc, name, fault)?);
         }
         rest = more;
-        left = others(left);
+        at = others(elements, at, to);
     }
     Ok((Code::Ok, Value::new(alloc)))
 }
 
-/// The first element, empty where there is none.
-fn first(elements: &[Text]) -> &[u8]
-    ensures { result.now ≡ first elements.now }
+/// The first element of those from an index up to another, empty where there is none.
+#[tactic(auto, using(crate::proofs::Grouped::first_from, crate::proofs::Grouped::first_of_none))]
+fn first(alloc: Global, elements: &Elements, from: usize, to: usize) -> Result<Value, AllocError>
+    ensures { IfOk result (λ v. v ≡ first (drop from (take to elements.now))) }
 {
-    match elements {
-        [] => &[],
-        [element, ..] => element.as_slice(),
+    if to <= from {
+        return Ok(Value::new(alloc));
+    }
+    match elements.value(alloc, from)? {
+        Some(element) => Ok(element),
+        None => Ok(Value::new(alloc)),
     }
 }
 
-/// The elements behind the first.
-fn others(elements: &[Text]) -> &[Text]
-    ensures { result.now ≡ others elements.now }
+/// From which index the elements behind the first of these stand.
+#[tactic(auto, using(crate::proofs::Grouped::others_from, crate::proofs::Grouped::others_of_none))]
+fn others(elements: &Elements, from: usize, to: usize) -> usize
+    ensures { drop result (take to elements.now) ≡ others (drop from (take to elements.now)) }
 {
-    match elements {
-        [] => elements,
-        [_, rest @ ..] => rest,
-    }
+    if from < to { from + 1 } else { from }
 }
 
 /// Names that are a list of at least one.

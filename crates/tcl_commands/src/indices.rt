@@ -1,14 +1,14 @@
 //! Indices of lists and strings.
 
-ghost use Rattle.std.specs.Prelude.{◌≡◌, min, codes, take, drop, true, false, bytes_eq, MatchOption, ◌-ℤ◌};
+ghost use Rattle.std.specs.Prelude.{◌≡◌, min, codes, take, drop, true, false, bytes_eq, IfOk, MatchOption, ◌-ℤ◌};
 ghost use Rattle.tcl_commands.specs.Indices.{place_of, index_of, before, up_to, between, element_at, last};
 ghost use Rattle.tcl_commands.specs.Says.{Says};
 
 use crate::complaint::Complaint;
 use crate::texts::{bad_index, is};
-use std::alloc::Global;
+use std::alloc::{AllocError, Global};
 use tcl_expr::read_number;
-use tcl_values::Elements;
+use tcl_values::{Elements, Value};
 
 /// A text without its first four bytes, where they are `end-`.
 fn behind_end(text: &[u8]) -> Option<&[u8]>
@@ -93,17 +93,21 @@ pub(crate) fn between<T>(from: i128, to: i128, items: &[T]) -> &[T]
 }
 
 /// The element at a place, empty where there is none.
-pub(crate) fn element_at(place: i128, elements: &Elements) -> &[u8]
-    ensures { result.now ≡ element_at place elements.now }
+pub(crate) fn element_at(
+    alloc: Global,
+    place: i128,
+    elements: &Elements,
+) -> Result<Value, AllocError>
+    ensures { IfOk result (λ v. v ≡ element_at place elements.now) }
 {
     if place < 0 {
-        return &[];
+        return Ok(Value::new(alloc));
     }
     if elements.len() as i128 <= place {
-        return &[];
+        return Ok(Value::new(alloc));
     }
-    match elements.get(place as usize) {
-        Some(element) => element.as_slice(),
-        None => &[],
+    match elements.value(alloc, place as usize)? {
+        Some(element) => Ok(element),
+        None => Ok(Value::new(alloc)),
     }
 }

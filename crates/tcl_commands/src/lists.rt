@@ -62,7 +62,7 @@ fn list_element(alloc: Global, list: &Value, index: &[u8]) -> Result<Value, Comp
 {
     let elements = list_of(alloc, list)?;
     let place = index_of(alloc, elements.len(), index)?;
-    Ok(Value::from_slice(alloc, element_at(place, &elements))?)
+    Ok(element_at(alloc, place, &elements)?)
 }
 
 /// `lrange list from to`

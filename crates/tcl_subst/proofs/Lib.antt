@@ -5,3 +5,6 @@ pub mod Steps
 pub mod FillingLaw
 pub mod Onward
 pub mod OnePart
+pub mod Padded
+pub mod Spelt
+pub mod Sorted

@@ -1,5 +1,10 @@
 -- Entries whose names are the bytes of their keys.
 use Rattle.std.proofs.Common.{◌≡◌, ℕ, Bool, true, false, cond, List, [], ◌∷◌, Option, Some, None, unwrap_or, is_some, Result, Ok, Err, if◌then◌else◌, map, refl, sym, ap, ◌∙◌}
+use mathlib.Core.Option as mathlib
+use Rattle.std.proofs.Math.Path.{fun_ext}
+use base.Fml.{GName}
+use borrow.Follows.Closed.{read_of}
+use Rattle.std.specs.Prelude.{OnOk}
 use Rattle.std.specs.Ordering.{match_ordering}
 use Rattle.std.specs.declared.cmp.Ordering.{Ordering}
 use Rattle.std.specs.declared.cmp.Ordering.TheVariants.{Less, Equal, Greater}
@@ -45,6 +50,14 @@ module _ {K X : Type 0} (name_of : K → List ℕ) where
       of_ordering named (order (name_of k) (name_of e.0)) ((k, x) ∷ e ∷ es) ((e.0, x) ∷ es) (e ∷ insert_entry (λ a b. order (name_of a) (name_of b)) es k x)
       ∙ ap (λ r. match_ordering (order (name_of k) (name_of e.0)) ((name_of k, x) ∷ (name_of e.0, e.1) ∷ named es) ((name_of e.0, x) ∷ named es) ((name_of e.0, e.1) ∷ r)) (insert_named k x es)
 
+-- what is lent of entries is put in as they are
+module _ {K Y X : Type 0} (name_of : K → List ℕ) (value_of : Y → X) where
+  pub insert_seen : (k : K) (y : Y) (es : List (K × Y)) → map (λ e. (name_of e.0, value_of e.1)) (insert_entry (λ a b. order (name_of a) (name_of b)) es k y) ≡ insert_entry order (map (λ e. (name_of e.0, value_of e.1)) es) (name_of k) (value_of y)
+  insert_seen k y [] = refl
+  insert_seen k y (e ∷ es) =
+      of_ordering (map (λ e. (name_of e.0, value_of e.1))) (order (name_of k) (name_of e.0)) ((k, y) ∷ e ∷ es) ((e.0, y) ∷ es) (e ∷ insert_entry (λ a b. order (name_of a) (name_of b)) es k y)
+      ∙ ap (λ r. match_ordering (order (name_of k) (name_of e.0)) ((name_of k, value_of y) ∷ (name_of e.0, value_of e.1) ∷ map (λ e. (name_of e.0, value_of e.1)) es) ((name_of e.0, value_of y) ∷ map (λ e. (name_of e.0, value_of e.1)) es) ((name_of e.0, value_of e.1) ∷ r)) (insert_seen k y es)
+
 -- a name that isn't there is put in
 pub put_new : {X : Type 0} (name : List ℕ) (x : X) (es : Entries X) → find name es ≡ None → insert_entry order es name x ≡ with_entry name x es
 put_new name x es none = sym (ap (λ o. if is_some o then changed name x es else insert_entry order es name x) none)
@@ -70,3 +83,11 @@ pub entry_changes : {X Y : Type 0} (r : Result Y SubstFault) (meant : Result X S
     → Changes r (entered name es meant) es (changed name y es)
 entry_changes (Ok u) meant name es x y there is = ap (entered name es) is ∙ ap (λ es. Ok es) (put_old name x y es there)
 entry_changes (Err f) meant name es x y there is = (ap (λ z. changed name z es) is.0 ∙ changed_same name x es there, λ n. ap (entered name es) (is.1 n))
+
+pub on_ok : {Y E : Type 0} (r : Result Y E) (A B : Type 0) → (A → B) → OnOk r A → OnOk r B
+on_ok (Ok y) A B f a = f a
+on_ok (Err e) A B f a = tt
+
+-- what a loan leaves, for each value that is written and where nothing is lent
+pub left_alike : {D E : Type 0} (loan : mathlib.Option GName) (f g : E → D) (u v : D) → ((w : E) → f w ≡ g w) → u ≡ v → read_of loan f u ≡ read_of loan g v
+left_alike loan f g u v each none = ap (λ h. read_of loan h u) (fun_ext each) ∙ ap (λ x. read_of loan g x) none

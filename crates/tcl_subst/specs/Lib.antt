@@ -1,12 +1,16 @@
+pub mod Both
 pub mod Entries
 pub mod Faults
 pub mod Filling
 pub mod HomeLending
 pub mod Lending
+pub mod LongLending
 pub mod Plain
 pub mod Recipes
 pub mod Report
 pub mod Rests
+pub mod ShortLending
+pub mod Shorts
 pub mod Slots
 pub mod Variables
 pub mod Writes

@@ -1,27 +1,31 @@
 //! Entries by name.
 
-ghost use Rattle.std.specs.Prelude.{◌≡◌, [], map, None, IfNone, OnOk, OnErr};
+ghost use Rattle.std.specs.Prelude.{◌≡◌, [], map, None, IfNone, IfOk, OnOk, OnErr};
 ghost use Rattle.std.specs.Option.{option_copied, option_copied_mut};
 ghost use Rattle.std.specs.Borrow.{sem};
 ghost use Rattle.tcl_subst.specs.Entries.{find, without, with_entry};
 
+use crate::long_names::LongNames;
+use crate::short::{SHORT, Short};
+use crate::short_names::ShortNames;
 use std::alloc::{AllocError, Global};
 use std::collections::BTreeMap;
-use std::collections::btree_map::{IntoIter, Iter};
 use std::marker::Model;
 
 /// What names name. A contract sees a list of names and what they name, in byte order of names.
 #[derive(Drop)]
 pub struct Names<V> {
-    tree: BTreeMap<Vec<u8>, V>,
+    short: ShortNames<V>,
+    long: LongNames<V>,
 }
 
 impl<V> Model for Names<V> {
-    ghost use Rattle.std.specs.Prelude.{List, ℕ, map};
+    ghost use Rattle.std.specs.Prelude.{List, ℕ};
+    ghost use Rattle.tcl_subst.specs.Both.{both};
 
     ghost Value = { List (List ℕ × V) };
 
-    ghost view = { λ n. map (λ e. (e.0.items, e.1)) n.tree.entries };
+    ghost view = { λ n. both n.short n.long };
 }
 
 impl<V> Names<V> {
@@ -32,7 +36,8 @@ impl<V> Names<V> {
         ensures { result ≡ [] }
     {
         Names {
-            tree: BTreeMap::new(alloc),
+            short: ShortNames::new(alloc),
+            long: LongNames::new(alloc),
         }
     }
 
@@ -41,23 +46,26 @@ impl<V> Names<V> {
     pub fn get(&self, name: &[u8]) -> Option<&V>
         ensures { option_copied result ≡ find name.now self.now }
     {
-        self.tree.get(name)
+        match Short::of(name) {
+            Some(short) => self.short.get(&short),
+            None => self.long.get(name),
+        }
     }
 
     /// The names and what they name, in order.
-    pub fn entries(&self) -> Iter<'_, Vec<u8>, V>
-        ensures { map (λ e. (e.0.items, e.1)) result ≡ self.now }
+    pub fn entries(&self, alloc: Global) -> Result<BTreeMap<&[u8], &V>, AllocError>
+        ensures { IfOk result (λ m. map (λ e. (e.0.now, e.1.now)) m.entries ≡ self.now) }
     {
-        self.tree.iter()
-    }
-
-    /// The names and what they name, in order, by value.
-    pub fn into_entries(self) -> IntoIter<Vec<u8>, V>
-    where
-        V: Drop,
-        ensures { map (λ e. (e.0.items, e.1)) result ≡ self }
-    {
-        self.tree.into_iter()
+        let mut all = BTreeMap::new(alloc);
+        for (name, value) in self.long.entries() {
+            if SHORT < name.len() {
+                all.insert(name.as_slice(), value)?;
+            }
+        }
+        for (name, value) in self.short.entries() {
+            all.insert(name.as_slice(), value)?;
+        }
+        Ok(all)
     }
 
     /// What a name names, to be changed.
@@ -65,7 +73,10 @@ impl<V> Names<V> {
         ensures* writes_back { sem 𝓛 (lends_entry V.row name.now self.entry result) }
         ensures value { option_copied_mut result ≡ find name.now self.old }
     {
-        self.tree.get_mut(name)
+        match Short::of(name) {
+            Some(short) => self.short.get_mut(&short),
+            None => self.long.get_mut(name),
+        }
     }
 
     /// Takes a name out, and answers what it named.
@@ -74,7 +85,10 @@ impl<V> Names<V> {
         ensures removed { self.new ≡ without name.now self.old }
         ensures left { IfNone result (self.new ≡ self.old) }
     {
-        self.tree.remove(name)
+        match Short::of(name) {
+            Some(short) => self.short.remove(&short),
+            None => self.long.remove(name),
+        }
     }
 
     /// Lets a name name a value. A refusal leaves the names as they were.
@@ -103,7 +117,9 @@ impl<V> Names<V> {
         ensures put { OnOk result (find name.now self.old ≡ None → self.new ≡ with_entry name.now value self.old) }
         ensures kept { OnErr result (self.new ≡ self.old) }
     {
-        self.tree.insert(Vec::from_slice(alloc, name)?, value)?;
-        Ok(())
+        match Short::of(name) {
+            Some(short) => self.short.insert_new(&short, value),
+            None => self.long.insert_new(alloc, name, value),
+        }
     }
 }

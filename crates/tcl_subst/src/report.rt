@@ -15,8 +15,8 @@ use tcl_words::Text;
 pub fn add_scope(values: &mut Names<Text>, alloc: Global, scope: &Scope) -> Result<(), AllocError>
     ensures { OnOk result (values.new ≡ scope_onto values.old scope.now) }
 {
-    for (name, slot) in scope.entries() {
-        add_slot(values, alloc, name.as_slice(), slot)?;
+    for (name, slot) in scope.entries(alloc)?.into_iter() {
+        add_slot(values, alloc, name, slot)?;
     }
     Ok(())
 }
@@ -56,8 +56,8 @@ fn add_elements(
 ) -> Result<(), AllocError>
     ensures { OnOk result (values.new ≡ elements_onto values.old array.now elements.now) }
 {
-    for (index, value) in elements.entries() {
-        let name = element_name(alloc, array, index.as_slice())?;
+    for (index, value) in elements.entries(alloc)?.into_iter() {
+        let name = element_name(alloc, array, index)?;
         add_value(values, alloc, name.as_slice(), value)?;
     }
     Ok(())
@@ -68,8 +68,9 @@ pub fn listed_values(alloc: Global, values: Names<Text>) -> Result<Vec<(Text, Te
     ensures { IfOk result (λ v. v.items ≡ values) }
 {
     let mut list = Vec::new(alloc);
-    for (name, value) in values.into_entries() {
-        list.push((Text { bytes: name }, value))?;
+    for (name, value) in values.entries(alloc)?.into_iter() {
+        let value = Text::from_slice(alloc, value.as_slice())?;
+        list.push((Text::from_slice(alloc, name)?, value))?;
     }
     Ok(list)
 }

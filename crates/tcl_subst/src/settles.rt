@@ -5,58 +5,59 @@ ghost use Rattle.std.specs.Prelude.{◌≡◌};
 use crate::element::element;
 use crate::names::Names;
 use crate::scope::{Scope, Slot};
+use std::alloc::Global;
 use tcl_values::Value;
 
 /// Takes up the list that another owner of the bytes of a variable or an element read. No value changes.
-pub fn settle(scope: &mut Scope, name: &[u8])
+pub fn settle(scope: &mut Scope, alloc: Global, name: &[u8])
     ensures { scope.new ≡ scope.old }
 {
     match element(name) {
-        None => settle_text(scope, name),
-        Some((array, index)) => settle_element(scope, array, index),
+        None => settle_text(scope, alloc, name),
+        Some((array, index)) => settle_element(scope, alloc, array, index),
     }
 }
 
-fn settle_text(scope: &mut Scope, name: &[u8])
+fn settle_text(scope: &mut Scope, alloc: Global, name: &[u8])
     ensures { scope.new ≡ scope.old }
 {
     if let Some(slot) = scope.get_mut(name) {
-        settle_slot(slot);
+        settle_slot(slot, alloc);
     }
 }
 
-fn settle_slot(slot: &mut Slot)
+fn settle_slot(slot: &mut Slot, alloc: Global)
     ensures { slot.new ≡ slot.old }
 {
     match slot {
-        Slot::Text(value) => value.settle(),
+        Slot::Text(value) => value.settle(alloc),
         Slot::Array(_) => {}
         Slot::Link => {}
     }
 }
 
-fn settle_element(scope: &mut Scope, array: &[u8], index: &[u8])
+fn settle_element(scope: &mut Scope, alloc: Global, array: &[u8], index: &[u8])
     ensures { scope.new ≡ scope.old }
 {
     if let Some(slot) = scope.get_mut(array) {
-        settle_member(slot, index);
+        settle_member(slot, alloc, index);
     }
 }
 
-fn settle_member(slot: &mut Slot, index: &[u8])
+fn settle_member(slot: &mut Slot, alloc: Global, index: &[u8])
     ensures { slot.new ≡ slot.old }
 {
     match slot {
         Slot::Text(_) => {}
-        Slot::Array(elements) => settle_entry(elements, index),
+        Slot::Array(elements) => settle_entry(elements, alloc, index),
         Slot::Link => {}
     }
 }
 
-fn settle_entry(elements: &mut Names<Value>, index: &[u8])
+fn settle_entry(elements: &mut Names<Value>, alloc: Global, index: &[u8])
     ensures { elements.new ≡ elements.old }
 {
     if let Some(value) = elements.get_mut(index) {
-        value.settle();
+        value.settle(alloc);
     }
 }

@@ -164,10 +164,11 @@ impl Vars {
     fn settle(&mut self, name: &[u8])
         ensures { self.new ≡ self.old }
     {
+        let alloc = self.alloc;
         if let Some(scope) = self.local_mut(name) {
-            return settle(scope, name);
+            return settle(scope, alloc, name);
         }
-        settle(&mut self.globals, name)
+        settle(&mut self.globals, alloc, name)
     }
 
     /// The value of a variable or an element, shared, as `get` gives it. Where one that was given earlier has been read as a list since,

@@ -7,4 +7,4 @@ use Rattle.tcl_values.specs.declared.value.Form.TheVariants.{Short, Shared, List
 abbrev pub bytes_of : Form → List ℕ
 bytes_of (Short text) = few_bytes text
 bytes_of (Shared text) = text.value
-bytes_of (Listed list) = list.value
+bytes_of (Listed list) = list

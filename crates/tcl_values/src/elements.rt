@@ -1,11 +1,13 @@
 //! The elements of a list, shared.
 
-ghost use Rattle.std.specs.Prelude.{◌≡◌, length, slice_get};
+ghost use Rattle.std.specs.Prelude.{◌≡◌, length, slice_get, IfOk};
 ghost use Rattle.std.specs.Option.{option_copied};
 ghost use Rattle.tcl_words.specs.Lists.{ReadsAs};
 
 use crate::listed::Listed;
-use std::alloc::Global;
+use crate::rows::Rows;
+use crate::value::Value;
+use std::alloc::{AllocError, Global};
 use std::marker::Model;
 use std::rc::Rc;
 use tcl_words::Text;
@@ -15,6 +17,8 @@ use tcl_words::Text;
 pub struct Elements {
     /// The list that they are the elements of.
     list: Rc<Listed>,
+    /// What was taken out of the list, where it is kept.
+    rows: Option<Rc<Rows>>,
 }
 
 impl Model for Elements {
@@ -28,11 +32,11 @@ impl Model for Elements {
 
 impl Elements {
     /// The elements of a list.
-    pub(crate) fn new(list: Rc<Listed>) -> Elements
+    pub(crate) fn new(list: Rc<Listed>, rows: Option<Rc<Rows>>) -> Elements
         ensures { ReadsAs list.value result }
     {
         list.elements();
-        Elements { list }
+        Elements { list, rows }
     }
 
     /// The elements, in order.
@@ -54,5 +58,21 @@ impl Elements {
         ensures { option_copied result ≡ slice_get self.now index }
     {
         self.as_slice().get(index)
+    }
+
+    /// The element at an index from 0 as a value.
+    ///
+    /// Where the list lies in a variable, all who take out the same long element share its bytes, and find the list that one of them
+    /// read them as. It copies an element that is short, and one that isn't taken out yet.
+    pub fn value(&self, alloc: Global, index: usize) -> Result<Option<Value>, AllocError>
+        ensures { IfOk result (λ v. v ≡ slice_get self.now index) }
+    {
+        match self.get(index) {
+            Some(element) => {
+                let value = Value::element(alloc, &self.rows, index, element.as_slice())?;
+                Ok(Some(value))
+            }
+            None => Ok(None),
+        }
     }
 }

@@ -8,6 +8,8 @@ mod faults;
 mod few;
 mod kept;
 mod listed;
+mod rows;
+mod sheet;
 mod value;
 
 pub use elements::Elements;

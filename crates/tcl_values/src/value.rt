@@ -10,6 +10,8 @@ use crate::faults::GrowFault;
 use crate::few::Few;
 use crate::kept::Kept;
 use crate::listed::Listed;
+use crate::rows::Rows;
+use crate::sheet::Sheet;
 use std::alloc::{AllocError, Global};
 use std::marker::Model;
 use std::rc::Rc;
@@ -23,7 +25,7 @@ pub enum Form {
     /// A text that may have several owners.
     Shared(Rc<Kept>),
     /// A list that may have several owners.
-    Listed(Rc<Listed>),
+    Listed(Sheet),
 }
 
 /// A value: bytes of any kind and number. A contract sees it as the list of its bytes.
@@ -52,6 +54,13 @@ fn short(bytes: &[u8]) -> Option<Form>
         Some(text) => Some(Form::Short(text)),
         None => None,
     }
+}
+
+/// The list that another owner of a value's bytes read, for the value itself.
+fn taken_up(alloc: Global, list: &Rc<Listed>) -> Result<Sheet, AllocError>
+    ensures { IfOk result (λ s. s ≡ list.now.value) }
+{
+    Sheet::new(alloc, list.clone()?)
 }
 
 impl Value {
@@ -93,8 +102,28 @@ impl Value {
     {
         let list = Rc::new(alloc, Listed::write(alloc, elements)?)?;
         Ok(Value {
-            form: Form::Listed(list),
+            form: Form::Listed(Sheet::new(alloc, list)?),
         })
+    }
+
+    /// The value of these bytes, which are a list's element at an index.
+    pub(crate) fn element(
+        alloc: Global,
+        rows: &Option<Rc<Rows>>,
+        index: usize,
+        bytes: &[u8],
+    ) -> Result<Value, AllocError>
+        ensures { IfOk result (λ v. v ≡ bytes.now) }
+    {
+        if let Some(form) = short(bytes) {
+            return Ok(Value { form });
+        }
+        match rows {
+            Some(rows) => Ok(Value {
+                form: Form::Shared(rows.text(alloc, index, bytes)?),
+            }),
+            None => Value::from_slice(alloc, bytes),
+        }
     }
 
     /// The bytes, in order.
@@ -124,7 +153,7 @@ impl Value {
         let form = match &self.form {
             Form::Short(text) => Form::Short(*text),
             Form::Shared(text) => Form::Shared(text.clone()?),
-            Form::Listed(list) => Form::Listed(list.clone()?),
+            Form::Listed(list) => Form::Listed(list.shared()?),
         };
         Ok(Value { form })
     }
@@ -139,10 +168,7 @@ impl Value {
                 Ok(text) => Ok(text.into_text()),
                 Err(text) => Text::from_slice(alloc, text.as_slice()),
             },
-            Form::Listed(list) => match Rc::try_unwrap(list) {
-                Ok(list) => Ok(list.into_text()),
-                Err(list) => Text::from_slice(alloc, list.as_slice()),
-            },
+            Form::Listed(list) => list.into_text(alloc),
         }
     }
 
@@ -187,14 +213,13 @@ impl Value {
         ensures refused { IfErr result (λ f. f ≢ GrowFault.Memory → with_elements limit self.old more.now ≡ Err f) }
         ensures kept { OnErr result (self.new ≡ self.old) }
     {
-        if let Form::Listed(shared) = &mut self.form {
-            if let Some(list) = Rc::get_mut(shared) {
-                list.push_all(alloc, more, limit)?;
+        if let Form::Listed(list) = &mut self.form {
+            if list.push_all(alloc, more, limit)? {
                 return Ok(());
             }
         }
         let list = self.list(alloc)?.with_more(alloc, more, limit)?;
-        self.form = Form::Listed(Rc::new(alloc, list)?);
+        self.form = Form::Listed(Sheet::new(alloc, Rc::new(alloc, list)?)?);
         Ok(())
     }
 
@@ -209,12 +234,12 @@ impl Value {
 
     /// Takes up the list that another owner of the value's bytes read, where one did, so that its elements are at hand from then on.
     /// The value stays the same.
-    pub fn settle(&mut self)
+    pub fn settle(&mut self, alloc: Global)
         ensures { self.new ≡ self.old }
     {
         if let Form::Shared(text) = &self.form {
             if let Some(list) = text.found() {
-                if let Ok(list) = list.clone() {
+                if let Ok(list) = taken_up(alloc, list) {
                     self.form = Form::Listed(list);
                 }
             }
@@ -229,7 +254,11 @@ impl Value {
         ensures found { OnOk result (ReadsAs self.old (elements_of self.old)) }
         ensures bad { result ≡ Err ListFault.BadList → elements self.old ≡ None }
     {
-        self.form = Form::Listed(self.list(alloc)?);
+        let list = self.list(alloc)?;
+        if let Form::Listed(_) = &self.form {
+            return Ok(());
+        }
+        self.form = Form::Listed(Sheet::new(alloc, list)?);
         Ok(())
     }
 
@@ -240,7 +269,16 @@ impl Value {
         ensures found { IfOk result (λ e. ReadsAs self.now e) }
         ensures bad { result ≡ Err ListFault.BadList → elements self.now ≡ None }
     {
-        Ok(Elements::new(self.list(alloc)?))
+        Ok(Elements::new(self.list(alloc)?, self.rows()?))
+    }
+
+    /// What was taken out of the list that the value holds.
+    fn rows(&self) -> Result<Option<Rc<Rows>>, AllocError> {
+        match &self.form {
+            Form::Short(_) => Ok(None),
+            Form::Shared(_) => Ok(None),
+            Form::Listed(list) => Ok(Some(list.rows()?)),
+        }
     }
 
     /// The value as a list with its elements. It copies nothing where the value was read as one already.
@@ -256,9 +294,10 @@ impl Value {
                 Ok(Rc::new(alloc, list)?)
             }
             Form::Shared(text) => text.list(alloc),
-            Form::Listed(list) => {
+            Form::Listed(sheet) => {
+                let list = sheet.list()?;
                 list.elements();
-                Ok(list.clone()?)
+                Ok(list)
             }
         }
     }

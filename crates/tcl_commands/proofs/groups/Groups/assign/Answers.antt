@@ -2,7 +2,7 @@ use Rattle.std.proofs.Common.{◌≡◌, ℕ, ◌+◌, List, [], ◌∷◌, leng
 use Rattle.tcl_commands.specs.declared.code.Code.TheVariants as code
 use Rattle.tcl_commands.specs.Groups.{Turns, groups, assigned}
 use Rattle.tcl_commands.specs.Said.{Outcome}
-use Rattle.tcl_commands.proofs.Grouped.{none_left, turned_none, behind_none, turned_some, behind_some, next_turn}
+use Rattle.tcl_commands.proofs.Grouped.{none_left, turned_none, behind_none, turned_some, behind_some, next_turn, turn_from}
 use Rattle.tcl_commands.proofs.groups.Groups.assign.Goals as goal
 
 pub returns-then-len-from-clause-set : goal.returns-then-len-from-clause-set
@@ -28,7 +28,7 @@ returns-clause-set c =
     sym (ap (λ (t : Turns). t.left) c.self.view_is) ∙ next_turn names es rest at size rest_is size_is c.self.invariant.0 (omega (arith, c.if-len-from.false, c.len.ensures)) in
     let same = turned_some c.args.self.now (take size rest) (groups (length names) (drop (at + size) es)) c.args.vars.now turn in
     let named : c.args.self.now.names ≡ c.as_slice-2.result.now = sym (ap (λ (t : Turns). t.names) c.self.view_is) ∙ sym c.as_slice-2.ensures in
-    let whole = same ∙ ap (λ (ns : List (List ℕ)). assigned ns (take size rest) c.args.vars.now) named ∙ ap (λ (g : List (List ℕ)). assigned c.as_slice-2.result.now g c.args.vars.now) (sym c.split_at-2.ensures.front) in
+    let whole = same ∙ ap (λ (ns : List (List ℕ)). assigned ns (take size rest) c.args.vars.now) named ∙ ap (λ (g : List (List ℕ)). assigned c.as_slice-2.result.now g c.args.vars.now) (turn_from at size es rest rest_is) in
     subst (λ (o : Outcome). IfOk c.assign_all.result (λ r. o ≡ (r.0, r.1, c.assign_all.new.vars))) (sym whole) c.assign_all.ensures
 
 pub returns-clause-left : goal.returns-clause-left

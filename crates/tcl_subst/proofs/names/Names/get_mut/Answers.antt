@@ -1,23 +1,32 @@
-use Rattle.std.proofs.Common.{◌≡◌, ap, ◌∙◌}
-use mathlib.Core.Option.{Option}
-use Rattle.std.proofs.Math.Path.{fun_ext}
-use base.Fml.{GName}
-use borrow.Follows.Closed.{read_of}
-use Rattle.tcl_subst.specs.Entries.{is_name, find, changed}
-use Rattle.tcl_subst.proofs.Named.{named, lookup_named, set_named}
+use Rattle.std.proofs.Common.{sym, ap, ◌∙◌}
+use Rattle.tcl_subst.specs.Both.{both}
+use Rattle.tcl_subst.specs.Entries.{find, changed}
+use Rattle.tcl_subst.proofs.Named.{left_alike}
+use Rattle.tcl_subst.proofs.Sorted.{short_so, long_so, find_short, find_long, change_short, change_long}
 use Rattle.tcl_subst.proofs.names.Names.get_mut.Goals as goal
 
--- what a loan leaves, for each value that is written and where nothing is lent
-left_alike : {D E : Type 0} (loan : Option GName) (f g : E → D) (u v : D) → ((w : E) → f w ≡ g w) → u ≡ v → read_of loan f u ≡ read_of loan g v
-left_alike loan f g u v each none = ap (λ h. read_of loan h u) (fun_ext each) ∙ ap (λ x. read_of loan g x) none
+pub returns-in-Some : goal.returns-in-Some
+returns-in-Some g c =
+    let is = short_so c.args.name.now c.in-Some.ensures.short.1 in (
+      left_alike _ _ _ _ _
+          (λ x. ap (λ n. both (changed n x c.self.inside.short) c.self.inside.long) c.in-Some.ensures.short.0
+          ∙ sym (change_short c.args.name.now x c.self.inside.short c.self.inside.long is)
+          ∙ ap (changed c.args.name.now x) c.self.view_is)
+          c.self.view_is,
+      record {
+        writes_back = tt;
+        value = c.get_mut.ensures.value ∙ ap (λ n. find n c.self.inside.short) c.in-Some.ensures.short.0 ∙ find_short c.args.name.now c.self.inside.short c.self.inside.long is ∙ ap (find c.args.name.now) c.self.view_is;
+      },
+    )
 
-pub returns : goal.returns
-returns g c = (
-  left_alike _ _ _ _ _
-      (λ x. ap (named (λ k. k.items)) (c.get_mut.follows.holds x).0 ∙ set_named (λ k. k.items) (is_name c.args.name.now) c.self.inside.tree.entries x ∙ ap (changed c.args.name.now x) c.self.view_is)
-      (ap (λ t. named (λ k. k.items) t.entries) c.get_mut.follows.holds-at-none ∙ c.self.view_is),
-  record {
-    writes_back = tt;
-    value = c.get_mut.ensures.value ∙ lookup_named (λ k. k.items) (is_name c.args.name.now) c.self.inside.tree.entries ∙ ap (find c.args.name.now) c.self.view_is;
-  },
-)
+pub returns-in-None : goal.returns-in-None
+returns-in-None g c =
+    let is = long_so c.args.name.now c.in-None.ensures.long in (
+      left_alike _ _ _ _ _
+          (λ x. sym (change_long c.args.name.now x c.self.inside.short c.self.inside.long is) ∙ ap (changed c.args.name.now x) c.self.view_is)
+          c.self.view_is,
+      record {
+        writes_back = tt;
+        value = c.get_mut-in-None.ensures.value ∙ find_long c.args.name.now c.self.inside.short c.self.inside.long is ∙ ap (find c.args.name.now) c.self.view_is;
+      },
+    )
