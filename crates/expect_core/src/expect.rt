@@ -287,7 +287,8 @@ impl Dialogue {
         let count = self.own.children.count_kept(i);
         let mut stores = Stores::new(alloc);
         self.own.push_met(alloc, &mut stores, i, count)?;
-        self.meet(alloc, vars, plan, i, index, stores, count)
+        let step = self.meet(alloc, vars, plan, i, index, stores, count)?;
+        Ok(step)
     }
 
     /// The output ended, and the child was let go, or not.

@@ -1,6 +1,6 @@
 //! The arguments of `expect`.
 
-ghost use Rattle.std.specs.Prelude.{◌≡◌, ◌++◌, [], IfOk, OnOk, option_map, slice_index_or, take};
+ghost use Rattle.std.specs.Prelude.{◌≡◌, ◌++◌, [], ◌∷◌, IfOk, OnOk, option_map, slice_index_or, take};
 ghost use Rattle.exp_match.specs.Arguments.{Gives, patterns_of};
 ghost use Rattle.script_check.specs.Expects.{plain_texts, by_patterns, expect_fault, is_braced, is_list, list_span, is_expect, is_listing, list_of, gathered, spread_by};
 
@@ -24,10 +24,18 @@ fn plain_texts(alloc: Global, words: &[Placed]) -> Result<Option<Vec<Value>>, Al
         let Some(text) = &word.value else {
             return Ok(None);
         };
-        texts.push(Value::from_slice(alloc, text.as_slice())?)?;
+        push_text(&mut texts, alloc, text)?;
         rest = more;
     }
     Ok(Some(texts))
+}
+
+/// Puts a text behind others, as a value.
+fn push_text(texts: &mut Vec<Value>, alloc: Global, text: &Text) -> Result<(), AllocError>
+    ensures { OnOk result (texts.new.items ≡ texts.old.items ++ text.now ∷ []) }
+{
+    texts.push(Value::from_slice(alloc, text.as_slice())?)?;
+    Ok(())
 }
 
 /// The text at an index.

@@ -13,7 +13,7 @@ use std::marker::Model;
 use std::rc::Rc;
 use tcl_subst::{Filler, Recipe, Vars};
 use tcl_values::Value;
-use tcl_words::{Text, Word};
+use tcl_words::{Part, Text, Word};
 
 /// A word with the steps of filling it. A contract sees its parts.
 #[derive(Drop)]
@@ -41,11 +41,11 @@ impl Model for KeptWord {
 }
 
 impl KeptWord {
-    /// Keeps a word.
-    pub fn new(alloc: Global, word: &Word) -> Result<KeptWord, AllocError>
+    /// Keeps a word. Where it is taken as a list and is one literal, that is read as a list once for all its uses.
+    pub fn new(alloc: Global, word: &Word, as_list: bool) -> Result<KeptWord, AllocError>
         ensures { IfOk result (λ w. w ≡ word_view word.now) }
     {
-        let recipe = Recipe::of(alloc, word)?;
+        let recipe = recipe_of(alloc, word, as_list)?;
         Ok(KeptWord {
             expand: word.expand,
             recipe: Rc::new(alloc, recipe)?,
@@ -136,9 +136,11 @@ impl Words {
     pub fn new(alloc: Global, words: &[Word]) -> Result<Words, AllocError>
         ensures { IfOk result (λ w. w ≡ words_view words.now) }
     {
+        let lists = lists_of(words);
         let mut list = Vec::new(alloc);
         for word in words {
-            list.push(KeptWord::new(alloc, word)?)?;
+            let as_list = list.len() < lists;
+            list.push(KeptWord::new(alloc, word, as_list)?)?;
         }
         Words::of(alloc, list)
     }
@@ -197,6 +199,45 @@ impl Words {
         Ok(Words {
             kept: self.kept.clone()?,
         })
+    }
+}
+
+/// The steps of a word. A word of several parts is no literal, so its literals are no lists.
+fn recipe_of(alloc: Global, word: &Word, as_list: bool) -> Result<Recipe, AllocError>
+    ensures { IfOk result (λ r. r.steps.items ≡ steps_onto (word_view word.now).pieces []) }
+{
+    if as_list {
+        if word.parts.len() == 1 {
+            return Recipe::of_list(alloc, word);
+        }
+    }
+    Recipe::of(alloc, word)
+}
+
+/// How many words of a command may be read as lists, from the first on, where that is the plain name of one that reads lists. Only the
+/// time of its turns depends on it, so no clause speaks of it.
+fn lists_of(words: &[Word]) -> usize {
+    let Some(first) = words.first() else {
+        return 0;
+    };
+    let [part] = first.parts.as_slice() else {
+        return 0;
+    };
+    match part {
+        Part::Lit(name) => lists_by(name.as_slice(), words.len()),
+        Part::Var(_, _) => 0,
+        Part::Script(_) => 0,
+    }
+}
+
+/// How many of so many words a command of this name may read as lists. The last one of a `foreach` is its script.
+fn lists_by(name: &[u8], count: usize) -> usize {
+    match name {
+        b"lindex" => count,
+        b"llength" => count,
+        b"lrange" => count,
+        b"foreach" => count.saturating_sub(1),
+        _ => 0,
     }
 }
 

@@ -17,7 +17,7 @@ use Rattle.std.specs.FinMap.{nat_cmp-IsAntisymmetric, slice_cmp-IsAntisymmetric}
 use Rattle.std.specs.FinMap.Entries as fin
 use Rattle.tcl_subst.specs.Entries.{Entries, order, is_name, find, without, changed}
 use Rattle.tcl_subst.specs.declared.short.Short.{Short}
-use Rattle.tcl_subst.specs.Shorts.{text_in}
+use Rattle.tcl_subst.specs.Shorts.{text_of}
 use Rattle.tcl_subst.specs.Both.{is_short, in_order, both, Sorted}
 
 equal : (o : Ordering) → is_eq o ≡ true → o ≡ Equal
@@ -309,11 +309,11 @@ module _ {X : Type 0} where
       ∙ listed (is_short q) (find q short) (find q long) (ap (find q) (sym are) ∙ find_where is_short q short)
       ∙ sym (find_both q short long))
 
-  pub all_short : (es : List (Short × X)) → fin.where_key order is_short (named (λ k. text_in k.bytes) es) ≡ named (λ k. text_in k.bytes) es
+  pub all_short : (es : List (Short × X)) → fin.where_key order is_short (named (λ k. text_of k.key) es) ≡ named (λ k. text_of k.key) es
   all_short [] = refl
   all_short (e ∷ es) =
-      ap (λ b. cond b ((text_in e.0.bytes, e.1) ∷ fin.where_key order is_short (named (λ k. text_in k.bytes) es)) (fin.where_key order is_short (named (λ k. text_in k.bytes) es))) (short_so (text_in e.0.bytes) e.0.padded.few)
-      ∙ ap (λ r. (text_in e.0.bytes, e.1) ∷ r) (all_short es)
+      ap (λ b. cond b ((text_of e.0.key, e.1) ∷ fin.where_key order is_short (named (λ k. text_of k.key) es)) (fin.where_key order is_short (named (λ k. text_of k.key) es))) (short_so (text_of e.0.key) e.0.is_key.few)
+      ∙ ap (λ r. (text_of e.0.key, e.1) ∷ r) (all_short es)
 
 module _ {K X : Type 0} (name_of : K → List ℕ) where
   below_named : (k : K) (es : List (K × X)) → AllByRecursion (λ y. order (name_of k) (name_of y) ≡ Less) (keys_of es) → T (fin.below_all order (name_of k) (named name_of es))

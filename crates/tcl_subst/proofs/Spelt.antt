@@ -1,6 +1,9 @@
--- Bytes as the number that they spell.
-use Rattle.std.proofs.Common.{◌≡◌, ℕ, suc, ◌+◌, ◌*◌, ◌<◌, List, [], ◌∷◌, length, refl, sym, ap, ◌∙◌, arith}
-use Rattle.std.specs.Int.{w128, from_be_bytes}
+-- Bytes as the number that they spell, the greatest first.
+use Rattle.std.proofs.Common.{◌≡◌, ℕ, zero, suc, ◌+◌, ◌*◌, ◌%◌, ◌^◌, ◌<◌, ◌≤◌, List, [], ◌∷◌, length, drop, slice_index, refl, sym, ap, subst, ◌∙◌, arith, pow-add}
+use Rattle.std.proofs.lemmas.Nat.{div-mul-add, mod-mul-add, mul-add-lt}
+use Rattle.std.proofs.Math.Nat.{pow-le-pow_right}
+use Rattle.std.proofs.lemmas.List.{drop_more}
+use Rattle.std.specs.Int.{byte_at, bytes_high_first}
 use Rattle.std.specs.Ordering.{nat_cmp, ordering_then, MatchOrdering}
 use Rattle.std.specs.declared.cmp.Ordering.{Ordering}
 use Rattle.std.specs.declared.cmp.Ordering.TheVariants.{Less, Equal, Greater}
@@ -9,25 +12,64 @@ use Rattle.std.specs.Slice.Scan.{big_endian}
 use Rattle.tcl_subst.specs.Entries.{order}
 use Rattle.tcl_subst.specs.Shorts.{Small}
 
-spelt : (xs : List ℕ) → length xs ≡ 16 → from_be_bytes w128 xs ≡ big_endian 0 xs
-spelt [] e = absurd (omega arith)
-spelt (b0 ∷ []) e = absurd (omega arith)
-spelt (b0 ∷ b1 ∷ []) e = absurd (omega arith)
-spelt (b0 ∷ b1 ∷ b2 ∷ []) e = absurd (omega arith)
-spelt (b0 ∷ b1 ∷ b2 ∷ b3 ∷ []) e = absurd (omega arith)
-spelt (b0 ∷ b1 ∷ b2 ∷ b3 ∷ b4 ∷ []) e = absurd (omega arith)
-spelt (b0 ∷ b1 ∷ b2 ∷ b3 ∷ b4 ∷ b5 ∷ []) e = absurd (omega arith)
-spelt (b0 ∷ b1 ∷ b2 ∷ b3 ∷ b4 ∷ b5 ∷ b6 ∷ []) e = absurd (omega arith)
-spelt (b0 ∷ b1 ∷ b2 ∷ b3 ∷ b4 ∷ b5 ∷ b6 ∷ b7 ∷ []) e = absurd (omega arith)
-spelt (b0 ∷ b1 ∷ b2 ∷ b3 ∷ b4 ∷ b5 ∷ b6 ∷ b7 ∷ b8 ∷ []) e = absurd (omega arith)
-spelt (b0 ∷ b1 ∷ b2 ∷ b3 ∷ b4 ∷ b5 ∷ b6 ∷ b7 ∷ b8 ∷ b9 ∷ []) e = absurd (omega arith)
-spelt (b0 ∷ b1 ∷ b2 ∷ b3 ∷ b4 ∷ b5 ∷ b6 ∷ b7 ∷ b8 ∷ b9 ∷ b10 ∷ []) e = absurd (omega arith)
-spelt (b0 ∷ b1 ∷ b2 ∷ b3 ∷ b4 ∷ b5 ∷ b6 ∷ b7 ∷ b8 ∷ b9 ∷ b10 ∷ b11 ∷ []) e = absurd (omega arith)
-spelt (b0 ∷ b1 ∷ b2 ∷ b3 ∷ b4 ∷ b5 ∷ b6 ∷ b7 ∷ b8 ∷ b9 ∷ b10 ∷ b11 ∷ b12 ∷ []) e = absurd (omega arith)
-spelt (b0 ∷ b1 ∷ b2 ∷ b3 ∷ b4 ∷ b5 ∷ b6 ∷ b7 ∷ b8 ∷ b9 ∷ b10 ∷ b11 ∷ b12 ∷ b13 ∷ []) e = absurd (omega arith)
-spelt (b0 ∷ b1 ∷ b2 ∷ b3 ∷ b4 ∷ b5 ∷ b6 ∷ b7 ∷ b8 ∷ b9 ∷ b10 ∷ b11 ∷ b12 ∷ b13 ∷ b14 ∷ []) e = absurd (omega arith)
-spelt (b0 ∷ b1 ∷ b2 ∷ b3 ∷ b4 ∷ b5 ∷ b6 ∷ b7 ∷ b8 ∷ b9 ∷ b10 ∷ b11 ∷ b12 ∷ b13 ∷ b14 ∷ b15 ∷ []) e = omega arith
-spelt (b0 ∷ b1 ∷ b2 ∷ b3 ∷ b4 ∷ b5 ∷ b6 ∷ b7 ∷ b8 ∷ b9 ∷ b10 ∷ b11 ∷ b12 ∷ b13 ∷ b14 ∷ b15 ∷ x ∷ xs) e = absurd (omega arith)
+pub next_power : (n : ℕ) → 256 ^ suc n ≡ 256 ^ n * 256
+next_power n =
+    let next : suc n ≡ n + 1 = omega arith in
+    ap (λ k. 256 ^ k) next ∙ pow-add 256 n 1
+
+split : (a b p : ℕ) → (a * 256 + b) * p ≡ a * (p * 256) + b * p
+split a b p = grind arith
+
+-- what bytes spell behind a number
+pub spelt_behind : (a : ℕ) (bs : List ℕ) → big_endian a bs ≡ a * 256 ^ length bs + big_endian 0 bs
+spelt_behind a [] = grind arith
+spelt_behind a (b ∷ bs) =
+    let p = 256 ^ length bs in
+    let r = big_endian 0 bs in
+    let here : big_endian (a * 256 + b) bs ≡ a * (p * 256) + b * p + r = spelt_behind (a * 256 + b) bs ∙ ap (λ x. x + r) (split a b p) in
+    let first : big_endian (0 * 256 + b) bs ≡ b * p + r = spelt_behind (0 * 256 + b) bs ∙ ap (λ x. x * p + r) (zero_in b) in
+    here ∙ omega (arith, first) ∙ ap (λ x. a * x + big_endian (0 * 256 + b) bs) (sym (next_power (length bs)))
+  where
+    zero_in : (b : ℕ) → 0 * 256 + b ≡ b
+    zero_in b = omega arith
+
+-- what n bytes spell is below 256 to the n
+pub spelt_below : (bs : List ℕ) → Small bs → big_endian 0 bs < 256 ^ length bs
+spelt_below [] s = omega arith
+spelt_below (b ∷ bs) s =
+    let small : b < 256 = s 0 in
+    let zero_in : 0 * 256 + b ≡ b = omega arith in
+    let first = ap (λ x. big_endian x bs) zero_in ∙ spelt_behind b bs in
+    subst (λ x. x < 256 ^ suc (length bs)) (sym first)
+    (subst (λ x. b * 256 ^ length bs + big_endian 0 bs < x) (sym (next_power (length bs))) (mul-add-lt b (256 ^ length bs) (big_endian 0 bs) 256 small (spelt_below bs (λ k. s (suc k)))))
+
+first_byte : (n a r : ℕ) → r < 256 ^ n → byte_at n (a * 256 ^ n + r) ≡ a % 256
+first_byte zero a r small =
+    let none : a * 256 ^ 0 + r ≡ a = omega (arith, small) in
+    ap (λ x. x % 256) none
+first_byte (suc n) a r small = ap (λ x. x % 256) (div-mul-add a (256 ^ suc n) r small)
+
+-- the bytes of what bytes spell are these
+pub spelt_back : (a : ℕ) (bs : List ℕ) → Small bs → bytes_high_first (length bs) (big_endian a bs) ≡ bs
+spelt_back a [] s = refl
+spelt_back a (b ∷ bs) s =
+    let small : b < 256 = s 0 in
+    let rest : Small bs = λ k. s (suc k) in
+    let byte = ap (byte_at (length bs)) (spelt_behind (a * 256 + b) bs) ∙ first_byte (length bs) (a * 256 + b) (big_endian 0 bs) (spelt_below bs rest) ∙ mod-mul-add a 256 b small in
+    (λ i. byte i ∷ spelt_back (a * 256 + b) bs rest i)
+
+-- a byte more spells less than 256 to the number of bytes
+pub below_next : (n i b : ℕ) → n < 256 ^ i → b < 256 → n * 256 + b < 256 ^ (i + 1)
+below_next n i b below small = subst (λ x. n * 256 + b < x) (omega (arith, pow-add 256 i 1)) (mul-add-lt n 256 b (256 ^ i) below small)
+
+pub below_all : (n i : ℕ) → n < 256 ^ i → i ≤ 15 → n < 2 ^ 120
+below_all n i below few =
+    let most : 256 ^ i ≤ 256 ^ 15 = pow-le-pow_right (omega arith) few in
+    omega (arith, below, most)
+
+-- the next byte is spelt
+pub spelt_next : (n i : ℕ) (bs : List ℕ) → i < length bs → big_endian (n * 256 + slice_index bs i) (drop (i + 1) bs) ≡ big_endian n (drop i bs)
+spelt_next n i bs some = sym (ap (big_endian n) (drop_more bs i 0 some))
 
 rises : (a b : ℕ) (us vs : List ℕ) → length us ≡ length vs → Small us → a < b → big_endian a us < big_endian b vs
 rises a b [] [] e s l = l
@@ -37,7 +79,8 @@ rises a b (u ∷ us) (v ∷ vs) e s l =
     let small : u < 256 = s 0 in
     rises (a * 256 + u) (b * 256 + v) us vs (omega arith) (λ k. s (suc k)) (omega arith)
 
-spells : (a : ℕ) (us vs : List ℕ) → length us ≡ length vs → Small us → Small vs → nat_cmp (big_endian a us) (big_endian a vs) ≡ order us vs
+-- numbers compare as the bytes do that spell them
+pub spells : (a : ℕ) (us vs : List ℕ) → length us ≡ length vs → Small us → Small vs → nat_cmp (big_endian a us) (big_endian a vs) ≡ order us vs
 spells a [] [] e s t = sym (nat_cmp_is a a Equal refl)
 spells a [] (v ∷ vs) e s t = absurd (omega arith)
 spells a (u ∷ us) [] e s t = absurd (omega arith)
@@ -61,6 +104,3 @@ spells a (u ∷ us) (v ∷ vs) e s t = by (spells (a * 256 + u) us vs (omega ari
         ap (λ w. nat_cmp (big_endian (a * 256 + u) us) (big_endian (a * 256 + w) vs)) (sym same)
         ∙ rest
         ∙ sym (ap (λ r. ordering_then r (order us vs)) is)
-
-pub as_numbers : (xs ys : List ℕ) → length xs ≡ 16 → length ys ≡ 16 → Small xs → Small ys → nat_cmp (from_be_bytes w128 xs) (from_be_bytes w128 ys) ≡ order xs ys
-as_numbers xs ys p q s t = (λ i. nat_cmp (spelt xs p i) (spelt ys q i)) ∙ spells 0 xs ys (p ∙ sym q) s t

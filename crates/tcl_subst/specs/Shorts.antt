@@ -1,5 +1,7 @@
--- Short names as bytes that compare as numbers.
+-- Short names as numbers that compare as the names do.
 use Rattle.std.specs.Prelude.{◌≡◌, ℕ, zero, suc, ◌<◌, ◌≤◌, List, [], ◌∷◌, length, take, slice_index}
+use Rattle.std.specs.Int.{w128, to_be_bytes}
+use Rattle.std.specs.Slice.Scan.{big_endian}
 
 -- n places: a text, zeros behind it, and c in one place more
 abbrev pub padded : ℕ → List ℕ → ℕ → List ℕ
@@ -10,11 +12,17 @@ padded (suc n) (b ∷ text) c = b ∷ padded n text c
 abbrev pub text_in : List ℕ → List ℕ
 text_in bytes = take (slice_index bytes 15) bytes
 
+-- the number of a text of at most 15 bytes, and the text of such a number
+abbrev pub key_of : List ℕ → ℕ
+key_of text = big_endian 0 (padded 15 text (length text))
+
+abbrev pub text_of : ℕ → List ℕ
+text_of key = text_in (to_be_bytes w128 key)
+
 abbrev pub Small : List ℕ → Type 0
 Small xs = (k : ℕ) → slice_index xs k < 256
 
--- the bytes are a text of at most 15, zeros behind it, and its length
-pub record IsPadded (bytes : List ℕ) : Type 0 where
-  pub small : Small bytes
-  pub few : length (text_in bytes) ≤ 15
-  pub is : bytes ≡ padded 15 (text_in bytes) (length (text_in bytes))
+pub record IsKey (key : ℕ) : Type 0 where
+  pub small : Small (text_of key)
+  pub few : length (text_of key) ≤ 15
+  pub is : key ≡ key_of (text_of key)

@@ -53,17 +53,17 @@ impl<V> Names<V> {
     }
 
     /// The names and what they name, in order.
-    pub fn entries(&self, alloc: Global) -> Result<BTreeMap<&[u8], &V>, AllocError>
-        ensures { IfOk result (λ m. map (λ e. (e.0.now, e.1.now)) m.entries ≡ self.now) }
+    pub fn entries(&self, alloc: Global) -> Result<BTreeMap<Vec<u8>, &V>, AllocError>
+        ensures { IfOk result (λ m. map (λ e. (e.0.items, e.1.now)) m.entries ≡ self.now) }
     {
         let mut all = BTreeMap::new(alloc);
         for (name, value) in self.long.entries() {
             if SHORT < name.len() {
-                all.insert(name.as_slice(), value)?;
+                all.insert(Vec::from_slice(alloc, name.as_slice())?, value)?;
             }
         }
         for (name, value) in self.short.entries() {
-            all.insert(name.as_slice(), value)?;
+            all.insert(name.name(alloc)?, value)?;
         }
         Ok(all)
     }

@@ -15,7 +15,12 @@ use crate::plain::{literal_value, variable_value};
 use crate::vars::Vars;
 use std::alloc::{AllocError, Global};
 use tcl_values::Value;
-use tcl_words::{Part, Text, Word};
+use tcl_words::{ListFault, Part, Text, Word};
+
+/// From this many bytes on a literal that is taken as a list is read as one with its word. At each use of a shorter one the list
+/// that was read of it is found by comparing so few bytes, which takes less time than what else is done there, and keeping the
+/// elements of every short literal would take memory for nothing.
+const LONG: usize = 256;
 
 /// A step of filling a word.
 #[derive(Drop)]
@@ -59,9 +64,14 @@ impl Recipe {
     pub fn of(alloc: Global, word: &Word) -> Result<Recipe, AllocError>
         ensures { IfOk result (λ r. r.steps.items ≡ steps_onto (word_view word.now).pieces []) }
     {
-        let mut steps = Vec::new(alloc);
-        push_parts(&mut steps, alloc, word.parts.as_slice())?;
-        Ok(Recipe { steps })
+        recipe_of(alloc, word, false)
+    }
+
+    /// The steps of a word whose literal is read as a list. So a long one has its elements at hand at each use.
+    pub fn of_list(alloc: Global, word: &Word) -> Result<Recipe, AllocError>
+        ensures { IfOk result (λ r. r.steps.items ≡ steps_onto (word_view word.now).pieces []) }
+    {
+        recipe_of(alloc, word, true)
     }
 
     /// The value of a word without a script. `None` where there is one, and where the word can't be filled.
@@ -181,17 +191,57 @@ fn joins(
     }
 }
 
+/// The steps of a word. Whether its literals are read as lists is a matter of time alone.
+fn recipe_of(alloc: Global, word: &Word, as_list: bool) -> Result<Recipe, AllocError>
+    ensures { IfOk result (λ r. r.steps.items ≡ steps_onto (word_view word.now).pieces []) }
+{
+    let mut steps = Vec::new(alloc);
+    push_parts(&mut steps, alloc, word.parts.as_slice(), as_list)?;
+    Ok(Recipe { steps })
+}
+
+/// The value of a literal, which is read as a list where that is asked for.
+fn literal(alloc: Global, text: &[u8], as_list: bool) -> Result<Value, AllocError>
+    ensures { IfOk result (λ v. v ≡ text.now) }
+{
+    if as_list {
+        return listed_literal(alloc, text);
+    }
+    Value::from_slice(alloc, text)
+}
+
+/// The value of a literal that is taken as a list. Where it is long, and reads as one, its elements are at hand from then on.
+fn listed_literal(alloc: Global, text: &[u8]) -> Result<Value, AllocError>
+    ensures { IfOk result (λ v. v ≡ text.now) }
+{
+    let mut value = Value::from_slice(alloc, text)?;
+    if text.len() < LONG {
+        return Ok(value);
+    }
+    match value.listed(alloc) {
+        Ok(()) => Ok(value),
+        Err(ListFault::BadList) => Ok(value),
+        Err(ListFault::Memory) => Err(AllocError),
+    }
+}
+
+/// Puts the steps of a part behind others. A literal in an array's index is no list.
 #[cycle(push)]
-fn push_part(steps: &mut Vec<Step>, alloc: Global, part: &Part) -> Result<(), AllocError>
+fn push_part(
+    steps: &mut Vec<Step>,
+    alloc: Global,
+    part: &Part,
+    as_list: bool,
+) -> Result<(), AllocError>
     ensures { OnOk result (steps.new.items ≡ steps.old.items ++ piece_onto (part_view part.now) []) }
 {
     match part {
-        Part::Lit(text) => steps.push(Step::Text(Value::from_slice(alloc, text.as_slice())?))?,
+        Part::Lit(text) => steps.push(Step::Text(literal(alloc, text.as_slice(), as_list)?))?,
         Part::Var(name, index) => match index {
             None => steps.push(Step::Variable(name.copied(alloc)?))?,
             Some(index) => {
                 steps.push(Step::Open)?;
-                push_parts(steps, alloc, index.as_slice())?;
+                push_parts(steps, alloc, index.as_slice(), false)?;
                 steps.push(Step::Close(name.copied(alloc)?))?;
             }
         },
@@ -200,12 +250,18 @@ fn push_part(steps: &mut Vec<Step>, alloc: Global, part: &Part) -> Result<(), Al
     Ok(())
 }
 
+/// Puts the steps of parts behind others, in their order.
 #[cycle(push)]
-fn push_parts(steps: &mut Vec<Step>, alloc: Global, parts: &[Part]) -> Result<(), AllocError>
+fn push_parts(
+    steps: &mut Vec<Step>,
+    alloc: Global,
+    parts: &[Part],
+    as_list: bool,
+) -> Result<(), AllocError>
     ensures { OnOk result (steps.new.items ≡ steps.old.items ++ steps_onto (parts_view parts.now) []) }
 {
     for part in parts {
-        push_part(steps, alloc, part)?;
+        push_part(steps, alloc, part, as_list)?;
     }
     Ok(())
 }

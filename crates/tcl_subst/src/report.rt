@@ -16,7 +16,7 @@ pub fn add_scope(values: &mut Names<Text>, alloc: Global, scope: &Scope) -> Resu
     ensures { OnOk result (values.new ≡ scope_onto values.old scope.now) }
 {
     for (name, slot) in scope.entries(alloc)?.into_iter() {
-        add_slot(values, alloc, name, slot)?;
+        add_slot(values, alloc, name.as_slice(), slot)?;
     }
     Ok(())
 }
@@ -57,7 +57,7 @@ fn add_elements(
     ensures { OnOk result (values.new ≡ elements_onto values.old array.now elements.now) }
 {
     for (index, value) in elements.entries(alloc)?.into_iter() {
-        let name = element_name(alloc, array, index)?;
+        let name = element_name(alloc, array, index.as_slice())?;
         add_value(values, alloc, name.as_slice(), value)?;
     }
     Ok(())
@@ -70,7 +70,7 @@ pub fn listed_values(alloc: Global, values: Names<Text>) -> Result<Vec<(Text, Te
     let mut list = Vec::new(alloc);
     for (name, value) in values.entries(alloc)?.into_iter() {
         let value = Text::from_slice(alloc, value.as_slice())?;
-        list.push((Text::from_slice(alloc, name)?, value))?;
+        list.push((Text { bytes: name }, value))?;
     }
     Ok(list)
 }

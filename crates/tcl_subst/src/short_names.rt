@@ -4,7 +4,7 @@ ghost use Rattle.std.specs.Prelude.{◌≡◌, [], map, IfNone, OnOk, OnErr};
 ghost use Rattle.std.specs.Option.{option_copied, option_copied_mut};
 ghost use Rattle.std.specs.Borrow.{sem};
 ghost use Rattle.tcl_subst.specs.Entries.{order, find, without};
-ghost use Rattle.tcl_subst.specs.Shorts.{text_in};
+ghost use Rattle.tcl_subst.specs.Shorts.{text_of};
 ghost use Rattle.tcl_subst.specs.Both.{Sorted};
 ghost use Rattle.std.specs.BTreeMap.{insert_entry};
 
@@ -22,11 +22,11 @@ pub struct ShortNames<V> {
 
 impl<V> Model for ShortNames<V> {
     ghost use Rattle.std.specs.Prelude.{List, ℕ, map};
-    ghost use Rattle.tcl_subst.specs.Shorts.{text_in};
+    ghost use Rattle.tcl_subst.specs.Shorts.{text_of};
 
     ghost Value = { List (List ℕ × V) };
 
-    ghost view = { λ n. map (λ e. (text_in e.0.bytes, e.1)) n.tree.entries };
+    ghost view = { λ n. map (λ e. (text_of e.0.key, e.1)) n.tree.entries };
 }
 
 impl<V> ShortNames<V> {
@@ -44,14 +44,14 @@ impl<V> ShortNames<V> {
     /// What a name names.
     #[inline(always)]
     pub fn get(&self, name: &Short) -> Option<&V>
-        ensures { option_copied result ≡ find (text_in name.now.bytes) self.now }
+        ensures { option_copied result ≡ find (text_of name.now.key) self.now }
     {
         self.tree.get(name)
     }
 
     /// The names and what they name, in order.
     pub fn entries(&self) -> Iter<'_, Short, V>
-        ensures entries { map (λ e. (text_in e.0.bytes, e.1)) result ≡ self.now }
+        ensures entries { map (λ e. (text_of e.0.key, e.1)) result ≡ self.now }
         ensures sorted { Sorted self.now }
     {
         self.tree.iter()
@@ -59,16 +59,16 @@ impl<V> ShortNames<V> {
 
     /// What a name names, to be changed.
     pub fn get_mut(&mut self, name: &Short) -> Option<&mut V>
-        ensures* writes_back { sem 𝓛 (lends_entry V.row (text_in name.now.bytes) self.entry result) }
-        ensures value { option_copied_mut result ≡ find (text_in name.now.bytes) self.old }
+        ensures* writes_back { sem 𝓛 (lends_entry V.row (text_of name.now.key) self.entry result) }
+        ensures value { option_copied_mut result ≡ find (text_of name.now.key) self.old }
     {
         self.tree.get_mut(name)
     }
 
     /// Takes a name out, and answers what it named.
     pub fn remove(&mut self, name: &Short) -> Option<V>
-        ensures found { result ≡ find (text_in name.now.bytes) self.old }
-        ensures removed { self.new ≡ without (text_in name.now.bytes) self.old }
+        ensures found { result ≡ find (text_of name.now.key) self.old }
+        ensures removed { self.new ≡ without (text_of name.now.key) self.old }
         ensures left { IfNone result (self.new ≡ self.old) }
         ensures sorted { Sorted self.old }
     {
@@ -80,7 +80,7 @@ impl<V> ShortNames<V> {
     pub fn insert_new(&mut self, name: &Short, value: V) -> Result<(), AllocError>
     where
         V: Drop,
-        ensures put { OnOk result (self.new ≡ insert_entry order self.old (text_in name.now.bytes) value) }
+        ensures put { OnOk result (self.new ≡ insert_entry order self.old (text_of name.now.key) value) }
         ensures kept { OnErr result (self.new ≡ self.old) }
     {
         self.tree.insert(*name, value)?;

@@ -1,3 +1,4 @@
 pub mod Lists
 pub mod Fews
 pub mod Forms
+pub mod Rooms

@@ -1,17 +1,20 @@
 //! A short text.
 
-ghost use Rattle.std.specs.Prelude.{◌≡◌, ◌≤◌, ◌++◌, [], IfSome};
+ghost use Rattle.std.specs.Prelude.{◌≡◌, ◌++◌, [], slice_index, IfSome};
 ghost use Rattle.std.specs.Bool.{OnTrue, OnFalse};
+ghost use Rattle.tcl_values.specs.Rooms.{IsRoom};
 
 /// How many bytes a short text has at most.
 const SHORT: usize = 15;
 
-/// A text of at most 15 bytes, which takes no memory.
+/// A text of at most 15 bytes, which takes no memory: its bytes, what is left of their room, and how many they are.
+///
+/// Its bytes begin where a word of the machine begins, so that a value is moved by whole words, whichever form it has.
 #[derive(Clone, Copy, Drop)]
 pub struct Few {
-    bytes: [u8; SHORT],
-    len: u8,
-    ghost within: { len ≤ 15 },
+    bytes: [u8; 16],
+    aligned: [u64; 0],
+    ghost room: { IsRoom bytes },
 }
 
 impl Few {
@@ -23,8 +26,8 @@ impl Few {
         ensures { few_bytes result ≡ [] }
     {
         Few {
-            bytes: [0; SHORT],
-            len: 0,
+            bytes: [0; 16],
+            aligned: [],
         }
     }
 
@@ -40,12 +43,20 @@ impl Few {
         None
     }
 
+    /// How many bytes there are.
+    #[inline(always)]
+    fn len(&self) -> usize
+        ensures { result ≡ slice_index self.now.bytes 15 }
+    {
+        usize::from(self.bytes[SHORT])
+    }
+
     /// The bytes, in order.
     #[inline(always)]
     pub(crate) fn as_slice(&self) -> &[u8]
         ensures { result.now ≡ few_bytes self.now }
     {
-        &self.bytes[..usize::from(self.len)]
+        &self.bytes[..self.len()]
     }
 
     /// Puts bytes behind the others where there is room, and says whether there is. Where there is none, nothing changes.
@@ -54,12 +65,12 @@ impl Few {
         ensures extended { OnTrue result (few_bytes self.new ≡ few_bytes self.old ++ more.now) }
         ensures kept { OnFalse result (self.new ≡ self.old) }
     {
-        let len = usize::from(self.len);
+        let len = self.len();
         if SHORT - len < more.len() {
             return false;
         }
         self.bytes[len..len + more.len()].copy_from_slice(more);
-        self.len = (len + more.len()) as u8;
+        self.bytes[SHORT] = (len + more.len()) as u8;
         true
     }
 }

@@ -1,10 +1,10 @@
-use Rattle.std.proofs.Common.{◌≡◌, ℕ, List, [], ◌∷◌, true, false, sym, ap, subst, ◌∙◌, arith}
+use Rattle.std.proofs.Common.{◌≡◌, ℕ, List, [], ◌∷◌, true, sym, subst, ◌∙◌}
 use Rattle.tcl_words.specs.Pieces.{literal, variable, no_pieces, piece}
 use Rattle.tcl_subst.specs.declared.recipe.Step.{Step}
 use Rattle.tcl_subst.specs.declared.recipe.Step.TheVariants.{Text, Variable}
 use Rattle.tcl_subst.specs.Filling.{fill}
 use Rattle.tcl_subst.specs.Plain.{TellsValue}
-use Rattle.tcl_subst.proofs.OnePart.{are_plain, told_alike, told_alike_if, joined_told_if, not_one, one_item}
+use Rattle.tcl_subst.proofs.OnePart.{told_alike, told_alike_if, joined_told_if, not_one, one_item}
 use Rattle.tcl_subst.proofs.recipe.Recipe.plain_value.Goals as goal
 
 pub returns-then-steps-ne1-clause-value : goal.returns-then-steps-ne1-clause-value
