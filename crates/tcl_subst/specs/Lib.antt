@@ -4,7 +4,7 @@ pub mod Faults
 pub mod Filling
 pub mod HomeLending
 pub mod Lending
-pub mod LongLending
+pub mod ByteLending
 pub mod Plain
 pub mod Recipes
 pub mod Report

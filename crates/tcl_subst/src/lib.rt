@@ -4,6 +4,7 @@
 //! and asks for the value of each script in its turn; `filling_is_fill` says what that means.
 #![tactic(auto)]
 
+mod byte_names;
 mod element;
 mod faults;
 mod fill_step;
@@ -12,7 +13,6 @@ mod joined;
 mod laws;
 mod limits;
 mod lists;
-mod long_names;
 mod names;
 mod plain;
 mod reads;

@@ -5,7 +5,7 @@ ghost use Rattle.std.specs.Option.{option_copied, option_copied_mut};
 ghost use Rattle.std.specs.Borrow.{sem};
 ghost use Rattle.tcl_subst.specs.Entries.{find, without, with_entry};
 
-use crate::long_names::LongNames;
+use crate::byte_names::ByteNames;
 use crate::short::{SHORT, Short};
 use crate::short_names::ShortNames;
 use std::alloc::{AllocError, Global};
@@ -16,7 +16,7 @@ use std::marker::Model;
 #[derive(Drop)]
 pub struct Names<V> {
     short: ShortNames<V>,
-    long: LongNames<V>,
+    long: ByteNames<V>,
 }
 
 impl<V> Model for Names<V> {
@@ -37,7 +37,7 @@ impl<V> Names<V> {
     {
         Names {
             short: ShortNames::new(alloc),
-            long: LongNames::new(alloc),
+            long: ByteNames::new(alloc),
         }
     }
 

@@ -4,6 +4,7 @@ ghost use Rattle.std.specs.Prelude.{◌≡◌, IfOk, OnOk};
 ghost use Rattle.tcl_subst.specs.Entries.{with_entry};
 ghost use Rattle.tcl_subst.specs.Report.{elements_onto, slot_onto, scope_onto};
 
+use crate::byte_names::ByteNames;
 use crate::joined::element_name;
 use crate::names::Names;
 use crate::scope::{Scope, Slot};
@@ -12,7 +13,11 @@ use tcl_values::Value;
 use tcl_words::Text;
 
 /// Adds the values of a scope, each under its name.
-pub fn add_scope(values: &mut Names<Text>, alloc: Global, scope: &Scope) -> Result<(), AllocError>
+pub fn add_scope(
+    values: &mut ByteNames<Text>,
+    alloc: Global,
+    scope: &Scope,
+) -> Result<(), AllocError>
     ensures { OnOk result (values.new ≡ scope_onto values.old scope.now) }
 {
     for (name, slot) in scope.entries(alloc)?.into_iter() {
@@ -22,7 +27,7 @@ pub fn add_scope(values: &mut Names<Text>, alloc: Global, scope: &Scope) -> Resu
 }
 
 fn add_slot(
-    values: &mut Names<Text>,
+    values: &mut ByteNames<Text>,
     alloc: Global,
     name: &[u8],
     slot: &Slot,
@@ -37,7 +42,7 @@ fn add_slot(
 }
 
 fn add_value(
-    values: &mut Names<Text>,
+    values: &mut ByteNames<Text>,
     alloc: Global,
     name: &[u8],
     value: &Value,
@@ -49,7 +54,7 @@ fn add_value(
 }
 
 fn add_elements(
-    values: &mut Names<Text>,
+    values: &mut ByteNames<Text>,
     alloc: Global,
     array: &[u8],
     elements: &Names<Value>,
@@ -64,12 +69,14 @@ fn add_elements(
 }
 
 /// Names and what they name, as a list.
-pub fn listed_values(alloc: Global, values: Names<Text>) -> Result<Vec<(Text, Text)>, AllocError>
+pub fn listed_values(
+    alloc: Global,
+    values: ByteNames<Text>,
+) -> Result<Vec<(Text, Text)>, AllocError>
     ensures { IfOk result (λ v. v.items ≡ values) }
 {
     let mut list = Vec::new(alloc);
-    for (name, value) in values.entries(alloc)?.into_iter() {
-        let value = Text::from_slice(alloc, value.as_slice())?;
+    for (name, value) in values.into_entries() {
         list.push((Text { bytes: name }, value))?;
     }
     Ok(list)

@@ -8,6 +8,7 @@ ghost use Rattle.tcl_subst.specs.Variables.{list_of, base, home, home_in, member
 ghost use Rattle.tcl_subst.specs.Entries.{find};
 ghost use Rattle.tcl_subst.specs.Writes.{write_of, set_to, appended, elements_appended};
 
+use crate::byte_names::ByteNames;
 use crate::element::element;
 use crate::faults::SubstFault;
 use crate::lists::list;
@@ -171,8 +172,8 @@ impl Vars {
         settle(&mut self.globals, alloc, name)
     }
 
-    /// The value of a variable or an element, shared, as `get` gives it. Where one that was given earlier has been read as a list since,
-    /// the elements are at hand from then on. No value changes.
+    /// The value of a variable or an element, shared, as `get` gives it. Where one that was given earlier, or an element that
+    /// was taken out of it, has been read as a list since, the elements are at hand from then on. No value changes.
     #[inline(always)]
     pub fn settled(&mut self, name: &[u8]) -> Result<Value, SubstFault>
         ensures same { self.new ≡ self.old }
@@ -180,6 +181,7 @@ impl Vars {
     {
         let value = self.get(name)?;
         if value.was_read() {
+            drop(value);
             self.settle(name);
             return self.get(name);
         }
@@ -198,6 +200,7 @@ impl Vars {
     {
         let value = self.get_member(array, index)?;
         if value.was_read() {
+            drop(value);
             self.settle(name);
             return self.get_member(array, index);
         }
@@ -270,7 +273,7 @@ impl Vars {
     pub fn globals(&self) -> Result<Vec<(Text, Text)>, AllocError>
         ensures { IfOk result (λ v. v.items ≡ values_of self.now.globals) }
     {
-        let mut values = Names::new(self.alloc);
+        let mut values = ByteNames::new(self.alloc);
         add_scope(&mut values, self.alloc, &self.globals)?;
         listed_values(self.alloc, values)
     }

@@ -2,3 +2,4 @@ pub mod Lists
 pub mod Fews
 pub mod Forms
 pub mod Rooms
+pub mod Rows

@@ -1,6 +1,8 @@
 //! The elements of a list, shared.
 
-ghost use Rattle.std.specs.Prelude.{◌≡◌, length, slice_get, IfOk};
+ghost use Rattle.std.specs.Prelude.{◌≡◌, All, length, slice_get, Some, IfOk, IfSome};
+ghost use Rattle.tcl_values.specs.Lists.{elements_of};
+ghost use Rattle.tcl_values.specs.Rows.{IsRow};
 ghost use Rattle.std.specs.Option.{option_copied};
 ghost use Rattle.tcl_words.specs.Lists.{ReadsAs};
 
@@ -22,21 +24,36 @@ pub struct Elements {
 }
 
 impl Model for Elements {
-    ghost use Rattle.std.specs.Prelude.{List, ℕ};
+    ghost use Rattle.std.specs.Prelude.{List, ℕ, All, IfSome};
     ghost use Rattle.tcl_values.specs.Lists.{elements_of};
+    ghost use Rattle.tcl_values.specs.Rows.{IsRow};
 
     ghost Value = { List (List ℕ) };
 
     ghost view = { λ e. elements_of e.list.value };
+
+    ghost invariant = { λ e. IfSome e.rows (λ r. All (IsRow (elements_of e.list.value)) r.value) };
 }
 
 impl Elements {
-    /// The elements of a list.
-    pub(crate) fn new(list: Rc<Listed>, rows: Option<Rc<Rows>>) -> Elements
+    /// The elements of a list of which nothing that is taken out is kept.
+    pub(crate) fn new(list: Rc<Listed>) -> Elements
         ensures { ReadsAs list.value result }
     {
         list.elements();
-        Elements { list, rows }
+        Elements { list, rows: None }
+    }
+
+    /// The elements of a list, with what was taken out of it.
+    pub(crate) fn with_rows(list: Rc<Listed>, rows: Rc<Rows>) -> Elements
+        requires { All (IsRow (elements_of list.value)) rows.value }
+        ensures { ReadsAs list.value result }
+    {
+        list.elements();
+        Elements {
+            list,
+            rows: Some(rows),
+        }
     }
 
     /// The elements, in order.
@@ -63,10 +80,14 @@ impl Elements {
     /// The element at an index from 0 as a value.
     ///
     /// Where the list lies in a variable, all who take out the same long element share its bytes, and find the list that one of them
-    /// read them as. It copies an element that is short, and one that isn't taken out yet.
+    /// read them as; from the variable's next use on that list is at hand. It copies an element that is short, and one that isn't taken
+    /// out yet.
     pub fn value(&self, alloc: Global, index: usize) -> Result<Option<Value>, AllocError>
         ensures { IfOk result (λ v. v ≡ slice_get self.now index) }
     {
+        if let Some(value) = self.at_hand(alloc, index)? {
+            return Ok(Some(value));
+        }
         match self.get(index) {
             Some(element) => {
                 let value = Value::element(alloc, &self.rows, index, element.as_slice())?;
@@ -74,5 +95,19 @@ impl Elements {
             }
             None => Ok(None),
         }
+    }
+
+    /// The element at an index, where it is a list that is at hand.
+    fn at_hand(&self, alloc: Global, index: usize) -> Result<Option<Value>, AllocError>
+        ensures { IfOk result (λ o. IfSome o (λ v. slice_get self.now index ≡ Some v)) }
+    {
+        let Some(rows) = &self.rows else {
+            return Ok(None);
+        };
+        let Some(list) = rows.row(index) else {
+            return Ok(None);
+        };
+        let value = Value::of_list(alloc, list.clone()?)?;
+        Ok(Some(value))
     }
 }

@@ -1,30 +1,105 @@
-//! The elements of a list that were taken out as values.
+//! The elements of a list that were taken out as values, and those that are lists themselves.
 
-ghost use Rattle.std.specs.Prelude.{◌≡◌, IfOk, IfSome};
+ghost use Rattle.std.specs.Prelude.{◌≡◌, ℕ, List, [], All, slice_get, Some, IfOk, IfSome, IsTrue};
+ghost use Rattle.tcl_values.specs.Rows.{IsRow};
 
 use crate::kept::Kept;
+use crate::listed::Listed;
 use std::alloc::{AllocError, Global};
-use std::cell::RefCell;
+use std::cell::{Cell, RefCell};
+use std::collections::BTreeMap;
+use std::marker::Model;
 use std::rc::Rc;
 use tcl_words::Text;
 
-/// The elements of a list that were taken out as values and take memory, each at its index. Whoever takes such a one out again gets
-/// the text that was made then, and so the list that it was read as.
+/// An element of a list that is a list itself.
+#[derive(Drop)]
+pub struct Row {
+    /// Its index.
+    index: usize,
+    /// The list that it was read as.
+    list: Rc<Listed>,
+}
+
+/// The elements of a list that were taken out as values and take memory, and those of them that are at hand as lists. A contract sees
+/// the latter, the rows.
 ///
-/// No contract knows what a cell holds. So a text is taken only where it is the list's element: comparing the two takes a small part
-/// of the time in which the element would be read as a list again.
+/// Whoever takes an element out again gets the text that was made then, and so finds the list that it was read as. No contract knows
+/// what a cell holds, so what is found there is taken only where it has the element's bytes. An element that was read becomes a row at the
+/// next use of the variable that holds the list (`Sheet::settle`), and of a row nothing is compared.
 #[derive(Drop)]
 pub struct Rows {
-    /// The texts, as far as the last that was taken out.
+    /// The texts that were taken out, each at its index, as far as the last.
     texts: RefCell<Vec<Option<Rc<Kept>>>>,
+    /// The index of the one that was taken out last.
+    last: Cell<usize>,
+    /// The rows, each at its index.
+    rows: BTreeMap<usize, Row>,
+}
+
+impl Model for Rows {
+    ghost use Rattle.std.specs.Prelude.{List};
+    ghost use Rattle.std.specs.Map.{values_of};
+    ghost use Rattle.tcl_values.specs.declared.rows.Row.{Row};
+
+    ghost Value = { List Row };
+
+    ghost view = { λ r. values_of r.rows.entries };
 }
 
 impl Rows {
     /// None that was taken out.
-    pub fn new(alloc: Global) -> Rows {
+    pub fn new(alloc: Global) -> Rows
+        ensures { result ≡ [] }
+    {
         Rows {
             texts: RefCell::new(Vec::new(alloc)),
+            last: Cell::new(0),
+            rows: BTreeMap::new(alloc),
         }
+    }
+
+    /// Whether there is no row.
+    pub fn has_none(&self) -> bool
+        ensures { IsTrue result → self.now ≡ [] }
+    {
+        self.rows.is_empty()
+    }
+
+    /// The list that the element at an index is, where it is a row.
+    pub fn row(&self, index: usize) -> Option<&Rc<Listed>>
+        ensures { (es : List (List ℕ)) → All (IsRow es) self.now → IfSome result (λ l. slice_get es index ≡ Some l.now.value) }
+    {
+        let row = self.rows.get(&index)?;
+        if row.index == index {
+            return Some(&row.list);
+        }
+        None
+    }
+
+    /// Keeps the list that the element at an index is. Where memory is refused, it is no row.
+    pub fn keep_row(&mut self, index: usize, list: Rc<Listed>) -> Result<(), AllocError>
+        ensures { (es : List (List ℕ)) → All (IsRow es) self.old → slice_get es index ≡ Some list.value → All (IsRow es) self.new }
+    {
+        self.rows.insert(index, Row { index, list })?;
+        Ok(())
+    }
+
+    /// The text that was taken out last, and its index, where an owner read it as a list and it is no row yet. Takes constant time but
+    /// for a look at the rows.
+    pub fn read_last(&self) -> Option<(usize, Rc<Kept>)> {
+        let index = self.last.get();
+        if self.rows.get(&index).is_some() {
+            return None;
+        }
+        let Ok(texts) = self.texts.try_borrow() else {
+            return None;
+        };
+        let text = texts.get(index)?.as_ref()?;
+        if text.was_read() {
+            return Some((index, text.clone().ok()?));
+        }
+        None
     }
 
     /// What was taken out at an index, where it has these bytes.
@@ -59,6 +134,7 @@ impl Rows {
     pub fn text(&self, alloc: Global, index: usize, bytes: &[u8]) -> Result<Rc<Kept>, AllocError>
         ensures { IfOk result (λ t. t.value ≡ bytes.now) }
     {
+        self.last.set(index);
         if let Some(text) = self.found(index, bytes) {
             return Ok(text);
         }

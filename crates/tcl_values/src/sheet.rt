@@ -1,9 +1,11 @@
 //! A list that several values share, with its elements that were taken out.
 
-ghost use Rattle.std.specs.Prelude.{◌≡◌, ◌≢◌, Ok, Err, IfOk, IfErr, OnErr, IsTrue, IsFalse};
+ghost use Rattle.std.specs.Prelude.{◌≡◌, ◌≢◌, ℕ, List, [], All, slice_get, Some, Ok, Err, IfOk, IfErr, OnOk, OnErr, IsTrue, IsFalse};
 ghost use Rattle.tcl_words.specs.Lists.{ReadsAs};
-ghost use Rattle.tcl_values.specs.Lists.{with_elements};
+ghost use Rattle.tcl_values.specs.Rows.{IsRow};
+ghost use Rattle.tcl_values.specs.Lists.{elements_of, with_elements};
 
+use crate::elements::Elements;
 use crate::faults::GrowFault;
 use crate::listed::Listed;
 use crate::rows::Rows;
@@ -12,7 +14,7 @@ use std::marker::Model;
 use std::rc::Rc;
 use tcl_words::Text;
 
-/// A list that may have several owners, and those of its elements that were taken out. A contract sees the text.
+/// A list that may have several owners, with its elements that were taken out, and those that are lists. A contract sees the text.
 #[derive(Drop)]
 pub struct Sheet {
     /// The list.
@@ -22,11 +24,51 @@ pub struct Sheet {
 }
 
 impl Model for Sheet {
-    ghost use Rattle.std.specs.Prelude.{List, ℕ};
+    ghost use Rattle.std.specs.Prelude.{List, ℕ, All};
+    ghost use Rattle.tcl_values.specs.Lists.{elements_of};
+    ghost use Rattle.tcl_values.specs.Rows.{IsRow};
 
     ghost Value = { List ℕ };
 
     ghost view = { λ s. s.list.value };
+
+    ghost invariant = { λ s. All (IsRow (elements_of s.list.value)) s.rows.value };
+}
+
+/// Lets go of all rows, and of what was taken out with them. Where there are none nothing happens.
+fn let_go(alloc: Global, rows: &mut Rc<Rows>) -> Result<(), AllocError>
+    ensures gone { OnOk result (rows.new.value ≡ []) }
+    ensures kept { OnErr result (rows.new ≡ rows.old) }
+{
+    if rows.has_none() {
+        return Ok(());
+    }
+    *rows = Rc::new(alloc, Rows::new(alloc))?;
+    Ok(())
+}
+
+/// A row alone.
+fn one_row(alloc: Global, index: usize, list: Rc<Listed>) -> Result<Rc<Rows>, AllocError>
+    ensures { (es : List (List ℕ)) → slice_get es index ≡ Some list.value → IfOk result (λ r. All (IsRow es) r.value) }
+{
+    let mut rows = Rows::new(alloc);
+    rows.keep_row(index, list)?;
+    Ok(Rc::new(alloc, rows)?)
+}
+
+/// Whether the element at an index has these bytes.
+fn has_bytes(elements: &[Text], index: usize, bytes: &[u8]) -> bool
+    ensures { IsTrue result → slice_get elements.now index ≡ Some bytes.now }
+{
+    match elements.get(index) {
+        None => false,
+        Some(element) => {
+            if element.as_slice() == bytes {
+                return true;
+            }
+            false
+        }
+    }
 }
 
 impl Sheet {
@@ -61,9 +103,52 @@ impl Sheet {
         self.list.clone()
     }
 
-    /// What was taken out of the list.
-    pub fn rows(&self) -> Result<Rc<Rows>, AllocError> {
-        self.rows.clone()
+    /// The elements.
+    pub fn elements(&self) -> Result<Elements, AllocError>
+        ensures { IfOk result (λ e. ReadsAs self.now e) }
+    {
+        let list = self.list.clone()?;
+        let rows = self.rows.clone()?;
+        Ok(Elements::with_rows(list, rows))
+    }
+
+    /// Whether an element that was taken out was read as a list, so that `settle` may have something to do. Takes constant time but for
+    /// a look at the rows.
+    pub fn was_read(&self) -> bool {
+        self.rows.read_last().is_some()
+    }
+
+    /// Makes the element that was taken out last a row, where an owner read it as a list. The text stays the same.
+    pub fn settle(&mut self, alloc: Global)
+        ensures { self.new ≡ self.old }
+    {
+        if let Some((index, text)) = self.rows.read_last() {
+            if let Some(list) = text.found() {
+                self.settle_row(alloc, index, list);
+            }
+        }
+    }
+
+    /// Makes an element a row, where it has this list's bytes. Where others share the rows, it is the first of rows of its own.
+    fn settle_row(&mut self, alloc: Global, index: usize, list: &Rc<Listed>)
+        ensures { self.new ≡ self.old }
+    {
+        if !has_bytes(self.list.elements(), index, list.as_slice()) {
+            return;
+        }
+        let Ok(list) = list.clone() else {
+            return;
+        };
+        match Rc::get_mut(&mut self.rows) {
+            Some(rows) => {
+                let _ = rows.keep_row(index, list);
+            }
+            None => {
+                if let Ok(rows) = one_row(alloc, index, list) {
+                    self.rows = rows;
+                }
+            }
+        }
     }
 
     /// The text. It copies one that has other owners.
@@ -77,7 +162,7 @@ impl Sheet {
     }
 
     /// Puts more elements behind the others, as `Listed::push_all` does, where the list has no other owner; whether it has none.
-    /// What was taken out stays.
+    /// No element is a row then.
     pub fn push_all(
         &mut self,
         alloc: Global,
@@ -89,6 +174,7 @@ impl Sheet {
         ensures refused { IfErr result (λ f. f ≢ GrowFault.Memory → with_elements limit self.old more.now ≡ Err f) }
         ensures kept { OnErr result (self.new ≡ self.old) }
     {
+        let_go(alloc, &mut self.rows)?;
         match Rc::get_mut(&mut self.list) {
             Some(list) => {
                 list.push_all(alloc, more, limit)?;

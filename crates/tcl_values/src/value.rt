@@ -100,7 +100,13 @@ impl Value {
     pub fn written(alloc: Global, elements: Vec<Text>) -> Result<Value, AllocError>
         ensures { IfOk result (λ v. v ≡ written elements.items) }
     {
-        let list = Rc::new(alloc, Listed::write(alloc, elements)?)?;
+        Value::of_list(alloc, Rc::new(alloc, Listed::write(alloc, elements)?)?)
+    }
+
+    /// The value that a list is.
+    pub(crate) fn of_list(alloc: Global, list: Rc<Listed>) -> Result<Value, AllocError>
+        ensures { IfOk result (λ v. v ≡ list.value) }
+    {
         Ok(Value {
             form: Form::Listed(Sheet::new(alloc, list)?),
         })
@@ -228,13 +234,24 @@ impl Value {
         match &self.form {
             Form::Short(_) => false,
             Form::Shared(text) => text.was_read(),
-            Form::Listed(_) => false,
+            Form::Listed(sheet) => sheet.was_read(),
         }
     }
 
-    /// Takes up the list that another owner of the value's bytes read, where one did, so that its elements are at hand from then on.
-    /// The value stays the same.
+    /// Takes up the list that another owner of the value's bytes, or of an element's that was taken out, read, where one did, so that its
+    /// elements are at hand from then on. The value stays the same.
     pub fn settle(&mut self, alloc: Global)
+        ensures { self.new ≡ self.old }
+    {
+        match &mut self.form {
+            Form::Short(_) => {}
+            Form::Shared(_) => self.take_up(alloc),
+            Form::Listed(sheet) => sheet.settle(alloc),
+        }
+    }
+
+    /// Takes up the list that another owner of the value's bytes read.
+    fn take_up(&mut self, alloc: Global)
         ensures { self.new ≡ self.old }
     {
         if let Form::Shared(text) = &self.form {
@@ -269,16 +286,10 @@ impl Value {
         ensures found { IfOk result (λ e. ReadsAs self.now e) }
         ensures bad { result ≡ Err ListFault.BadList → elements self.now ≡ None }
     {
-        Ok(Elements::new(self.list(alloc)?, self.rows()?))
-    }
-
-    /// What was taken out of the list that the value holds.
-    fn rows(&self) -> Result<Option<Rc<Rows>>, AllocError> {
-        match &self.form {
-            Form::Short(_) => Ok(None),
-            Form::Shared(_) => Ok(None),
-            Form::Listed(list) => Ok(Some(list.rows()?)),
+        if let Form::Listed(sheet) = &self.form {
+            return Ok(sheet.elements()?);
         }
+        Ok(Elements::new(self.list(alloc)?))
     }
 
     /// The value as a list with its elements. It copies nothing where the value was read as one already.

@@ -2,7 +2,7 @@ use Rattle.std.proofs.Common.{ap, ◌∙◌}
 use Rattle.std.specs.BTreeMap.{insert_entry}
 use Rattle.tcl_subst.specs.Entries.{order}
 use Rattle.tcl_subst.proofs.Named.{named, insert_named}
-use Rattle.tcl_subst.proofs.long_names.LongNames.insert_new.Goals as goal
+use Rattle.tcl_subst.proofs.byte_names.ByteNames.insert_new.Goals as goal
 
 pub returns-clause-put : goal.returns-clause-put
 returns-clause-put g c =

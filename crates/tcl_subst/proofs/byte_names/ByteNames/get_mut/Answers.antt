@@ -1,7 +1,7 @@
 use Rattle.std.proofs.Common.{ap, ◌∙◌}
 use Rattle.tcl_subst.specs.Entries.{is_name, find, changed}
 use Rattle.tcl_subst.proofs.Named.{left_alike, named, lookup_named, set_named}
-use Rattle.tcl_subst.proofs.long_names.LongNames.get_mut.Goals as goal
+use Rattle.tcl_subst.proofs.byte_names.ByteNames.get_mut.Goals as goal
 
 pub returns : goal.returns
 returns g c = (

@@ -3,7 +3,7 @@ use Rattle.tcl_subst.specs.Entries.{is_name, find, without}
 use Rattle.tcl_subst.proofs.Named.{named, lookup_named, remove_named}
 use Rattle.tcl_subst.specs.Both.{Sorted}
 use Rattle.tcl_subst.proofs.Sorted.{sorted_named}
-use Rattle.tcl_subst.proofs.long_names.LongNames.remove.Goals as goal
+use Rattle.tcl_subst.proofs.byte_names.ByteNames.remove.Goals as goal
 
 pub returns-clause-found : goal.returns-clause-found
 returns-clause-found g c = c.remove.ensures.value ∙ lookup_named (λ k. k.items) (is_name c.args.name.now) c.self.inside.tree.entries ∙ ap (find c.args.name.now) c.self.view_is

@@ -1,7 +1,7 @@
--- What long names name once one of them has been lent to be changed.
+-- What names name once one of them has been lent to be changed.
 use Rattle.std.specs.Prelude.{ℕ, List, Option}
 use Rattle.std.specs.Borrow.{Fml, RattleType, MutBor, LendsIf}
-use Rattle.tcl_subst.specs.contracts.long_names.LongNames.{the_row}
+use Rattle.tcl_subst.specs.contracts.byte_names.ByteNames.{the_row}
 use Rattle.tcl_subst.specs.Entries.{Entries, changed}
 
 module _ (V : RattleType) where

@@ -1,24 +1,24 @@
-//! Entries by long names.
+//! Entries by the bytes of their names.
 
 ghost use Rattle.std.specs.Prelude.{◌≡◌, [], map, IfNone, OnOk, OnErr};
 ghost use Rattle.std.specs.Option.{option_copied, option_copied_mut};
 ghost use Rattle.std.specs.Borrow.{sem};
-ghost use Rattle.tcl_subst.specs.Entries.{order, find, without};
+ghost use Rattle.tcl_subst.specs.Entries.{order, find, without, with_entry};
 ghost use Rattle.tcl_subst.specs.Both.{Sorted};
 ghost use Rattle.std.specs.BTreeMap.{insert_entry};
 
 use std::alloc::{AllocError, Global};
 use std::collections::BTreeMap;
-use std::collections::btree_map::Iter;
+use std::collections::btree_map::{IntoIter, Iter};
 use std::marker::Model;
 
-/// What long names name. A contract sees a list of names and what they name, in byte order of names.
+/// What names of any length name. A contract sees a list of names and what they name, in byte order of names.
 #[derive(Drop)]
-pub struct LongNames<V> {
+pub struct ByteNames<V> {
     tree: BTreeMap<Vec<u8>, V>,
 }
 
-impl<V> Model for LongNames<V> {
+impl<V> Model for ByteNames<V> {
     ghost use Rattle.std.specs.Prelude.{List, ℕ, map};
 
     ghost Value = { List (List ℕ × V) };
@@ -26,14 +26,14 @@ impl<V> Model for LongNames<V> {
     ghost view = { λ n. map (λ e. (e.0.items, e.1)) n.tree.entries };
 }
 
-impl<V> LongNames<V> {
-    ghost use Rattle.tcl_subst.specs.LongLending.{lends_entry};
+impl<V> ByteNames<V> {
+    ghost use Rattle.tcl_subst.specs.ByteLending.{lends_entry};
 
     /// No names. It allocates nothing.
-    pub fn new(alloc: Global) -> LongNames<V>
+    pub fn new(alloc: Global) -> ByteNames<V>
         ensures { result ≡ [] }
     {
-        LongNames {
+        ByteNames {
             tree: BTreeMap::new(alloc),
         }
     }
@@ -54,6 +54,15 @@ impl<V> LongNames<V> {
         self.tree.iter()
     }
 
+    /// The names and what they name, in order, by value.
+    pub fn into_entries(self) -> IntoIter<Vec<u8>, V>
+    where
+        V: Drop,
+        ensures { map (λ e. (e.0.items, e.1)) result ≡ self }
+    {
+        self.tree.into_iter()
+    }
+
     /// What a name names, to be changed.
     pub fn get_mut(&mut self, name: &[u8]) -> Option<&mut V>
         ensures* writes_back { sem 𝓛 (lends_entry V.row name.now self.entry result) }
@@ -71,6 +80,20 @@ impl<V> LongNames<V> {
     {
         let _len = self.tree.len();
         self.tree.remove(name)
+    }
+
+    /// Lets a name name a value. A refusal leaves the names as they were.
+    pub fn insert(&mut self, alloc: Global, name: &[u8], value: V) -> Result<(), AllocError>
+    where
+        V: Drop,
+        ensures put { OnOk result (self.new ≡ with_entry name.now value self.old) }
+        ensures kept { OnErr result (self.new ≡ self.old) }
+    {
+        if let Some(held) = self.get_mut(name) {
+            *held = value;
+            return Ok(());
+        }
+        self.insert_new(alloc, name, value)
     }
 
     /// Lets a name that names nothing name a value. A refusal leaves the names as they were.
