@@ -68,6 +68,8 @@ pub struct Settings {
     pub limit_ms: Option<u64>,
     /// The elements of the array `env`; of two with one name the last counts.
     pub env: Pairs,
+    /// Whether the script's report tells its variables. Where it doesn't, none of them is copied for it.
+    pub tells_vars: bool,
 }
 
 impl Settings {
@@ -79,6 +81,7 @@ impl Settings {
             steps: self.steps,
             limit_ms: self.limit_ms,
             env: self.env.copied(alloc)?,
+            tells_vars: self.tells_vars,
         })
     }
 }

@@ -19,10 +19,15 @@ fn is_special(b: u8) -> bool
     is_white(b) || matches!(b, b'"' | b'{' | b'}' | b'[' | b']' | b'$' | b';' | b'\\')
 }
 
+/// Looks at each byte, so that many are looked at together: where one is found, they are all written one by one anyway.
 fn has_special(e: &[u8]) -> bool
     ensures { result ≡ list_any is_special e.now }
 {
-    e.iter().any(|b| is_special(*b))
+    let mut found = false;
+    for b in e {
+        found |= is_special(*b);
+    }
+    found
 }
 
 fn has_slash(e: &[u8]) -> bool
