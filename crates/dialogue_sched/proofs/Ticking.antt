@@ -6,7 +6,7 @@ use Rattle.child_events.specs.World.{moment_of, horizon_from, horizon_of}
 use Rattle.expect_core.specs.declared.dialogue.Dialogue.{Dialogue}
 use Rattle.expect_core.specs.Lanes.{arrived, offered, extended}
 use Rattle.expect_core.specs.Calls.{fresh}
-use Rattle.session.specs.Play.{play}
+use Rattle.session.specs.Play.{play, told}
 use Rattle.session.specs.Meaning.{steps_of, tree_of, meaning}
 use Rattle.session.specs.Growth.{Continues}
 use Rattle.session.proofs.Lefts.{extended_append}
@@ -62,7 +62,7 @@ behind_all es more p up limit =
     ∙ extended_append es (event.Tick h ∷ []) first
 
 pub ticks_are_one : TicksAreOne
-ticks_are_one source settings events more up p = ap (play (steps_of settings.steps) (tree_of source settings)) (behind_all events more p up settings.limit_ms)
+ticks_are_one source settings events more up p = ap (λ (d : Dialogue). told settings.tells_vars (play (steps_of settings.steps) (tree_of source settings) d)) (behind_all events more p up settings.limit_ms)
 
 pub ticks_change_nothing : TicksChangeNothing
 ticks_change_nothing source settings events more up p ends =

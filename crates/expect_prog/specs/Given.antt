@@ -13,22 +13,22 @@ use Rattle.dialogue_sched.specs.declared.script.Script.{Script}
 abbrev pub steps_given : Option ℕ → ℕ
 steps_given asked = unwrap_or asked 1000000
 
--- what each script of an order is given: its steps, its last moment in milliseconds, and an empty environment
-abbrev pub settings_given : ℕ → Option ℕ → Settings
-settings_given steps limit = record { steps = steps; limit_ms = limit; env = [] }
+-- what each script of an order is given: its steps, its last moment in milliseconds, an empty environment, and whether it tells its variables
+abbrev pub settings_given : ℕ → Option ℕ → Bool → Settings
+settings_given steps limit tells = record { steps = steps; limit_ms = limit; env = []; tells_vars = tells }
 
-abbrev pub script_given : ℕ → Option ℕ → List ℕ → Script
-script_given steps limit source = record { source = source; settings = settings_given steps limit }
+abbrev pub script_given : ℕ → Option ℕ → Bool → List ℕ → Script
+script_given steps limit tells source = record { source = source; settings = settings_given steps limit tells }
 
 -- the scripts of sources, in their order
-abbrev pub scripts_given : ℕ → Option ℕ → List (List ℕ) → List Script
-scripts_given steps limit sources = map (script_given steps limit) sources
+abbrev pub scripts_given : ℕ → Option ℕ → Bool → List (List ℕ) → List Script
+scripts_given steps limit tells sources = map (script_given steps limit tells) sources
 
 -- the scripts of files: each has one, in their order
-pub record AreOfFiles (steps : ℕ) (limit : Option ℕ) (files : List (Bor (List ℕ))) (scripts : List Script) : Type 0 where
+pub record AreOfFiles (steps : ℕ) (limit : Option ℕ) (tells : Bool) (files : List (Bor (List ℕ))) (scripts : List Script) : Type 0 where
   pub sources : List (List ℕ)
   pub each : length sources ≡ length files
-  pub given : scripts ≡ scripts_given steps limit sources
+  pub given : scripts ≡ scripts_given steps limit tells sources
 
 abbrev pub names_of : List (Bor (List ℕ)) → List (List ℕ)
 names_of files = map (λ file. file.now) files

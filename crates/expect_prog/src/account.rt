@@ -6,7 +6,6 @@ use crate::complaint::Complaint;
 use child_events::Counted;
 use course_texts::explain;
 use dialogue_sched::Script;
-use session::Settings;
 use std::alloc::{AllocError, Global};
 use std::fs;
 use std::io::Write;
@@ -26,11 +25,7 @@ fn copied(alloc: Global, script: &Script) -> Result<Script, AllocError>
 {
     Ok(Script {
         source: script.source.copied(alloc)?,
-        settings: Settings {
-            steps: script.settings.steps,
-            limit_ms: script.settings.limit_ms,
-            env: script.settings.env.copied(alloc)?,
-        },
+        settings: script.settings.copied(alloc)?,
     })
 }
 

@@ -68,8 +68,14 @@ fn read_sources<'a, R: Files>(
 }
 
 /// The script of a source, which is given an empty environment.
-fn script_of(alloc: Global, steps: u64, limit_ms: Option<u64>, source: Text) -> Script
-    ensures { result ≡ script_given steps limit_ms source }
+fn script_of(
+    alloc: Global,
+    steps: u64,
+    limit_ms: Option<u64>,
+    tells_vars: bool,
+    source: Text,
+) -> Script
+    ensures { result ≡ script_given steps limit_ms tells_vars source }
 {
     Script {
         source,
@@ -77,6 +83,7 @@ fn script_of(alloc: Global, steps: u64, limit_ms: Option<u64>, source: Text) -> 
             steps,
             limit_ms,
             env: Pairs::new(alloc),
+            tells_vars,
         },
     }
 }
@@ -86,13 +93,14 @@ fn scripts_of(
     alloc: Global,
     steps: u64,
     limit_ms: Option<u64>,
+    tells_vars: bool,
     sources: Texts,
 ) -> Result<Vec<Script>, AllocError>
-    ensures { IfOk result (λ ss. ss.items ≡ scripts_given steps limit_ms sources) }
+    ensures { IfOk result (λ ss. ss.items ≡ scripts_given steps limit_ms tells_vars sources) }
 {
     let mut scripts = Vec::new(alloc);
     for source in sources.list {
-        let Ok(()) = scripts.push(script_of(alloc, steps, limit_ms, source)) else {
+        let Ok(()) = scripts.push(script_of(alloc, steps, limit_ms, tells_vars, source)) else {
             return Err(AllocError);
         };
     }
@@ -105,10 +113,16 @@ pub fn scripts<'a, R: Files>(
     alloc: Global,
     order: &Scripts<'a>,
 ) -> Result<Vec<Script>, Complaint<'a>>
-    ensures { IfOk result (λ ss. AreOfFiles order.now.steps order.now.limit_ms order.now.sources.items ss.items) }
+    ensures { IfOk result (λ ss. AreOfFiles order.now.steps order.now.limit_ms order.now.form.shown.vars order.now.sources.items ss.items) }
 {
     let sources = read_sources(rt, alloc, order.sources.as_slice())?;
-    let scripts = scripts_of(alloc, order.steps, order.limit_ms, sources)?;
+    let scripts = scripts_of(
+        alloc,
+        order.steps,
+        order.limit_ms,
+        order.form.shown.vars,
+        sources,
+    )?;
     Ok(scripts)
 }
 
@@ -207,7 +221,7 @@ pub fn plan_file<'a, R: Files + Print>(
     order: &Plan<'a>,
 ) -> Result<Outcome, Complaint<'a>> {
     let source = source(rt, alloc, order.source)?;
-    let script = script_of(alloc, order.steps, order.limit_ms, source);
+    let script = script_of(alloc, order.steps, order.limit_ms, false, source);
     let timing = timing(rt, alloc, order.timing)?;
     let mut timeline = Counted::new(opened(rt, order.timeline)?);
     let mut out = Counted::new(io::writer(rt));

@@ -15,6 +15,7 @@ fn script(alloc: Global, source: &[u8]) -> Result<Script, Fail> {
             steps: 1_000_000,
             limit_ms: None,
             env: Pairs::new(alloc),
+            tells_vars: true,
         },
     })
 }

@@ -1,5 +1,5 @@
 -- More events only make a waiting script go on.
-use Rattle.std.proofs.Common.{◌≡◌, ◌⊎◌, inl, inr, ℕ, ◌-◌, List, ◌++◌, refl, sym, subst}
+use Rattle.std.proofs.Common.{◌≡◌, ◌⊎◌, inl, inr, ℕ, ◌-◌, Bool, List, ◌++◌, refl, sym, ap, subst}
 use Rattle.child_events.specs.declared.event.Event.{Event}
 use Rattle.tcl_subst.specs.Variables.{Variables}
 use Rattle.tcl_eval.specs.declared.ending.Ending.TheVariants as ending
@@ -16,7 +16,7 @@ use Rattle.expect_core.specs.Laws.{IsFront, Keeps}
 use Rattle.expect_core.proofs.Goodness.{GoodAfter, outcome_good, good_fresh}
 use Rattle.expect_core.proofs.Fronts.{KeptAfter, front_same, keeps_same, outcome_kept}
 use Rattle.session.specs.declared.report.Report.{Report}
-use Rattle.session.specs.Play.{behind, ending_of, fault_of, trail_of, play}
+use Rattle.session.specs.Play.{behind, ending_of, fault_of, trail_of, play, told}
 use Rattle.session.specs.Meaning.{steps_of, tree_of, meaning}
 use Rattle.session.specs.Growth.{Continues, EndingStays, OnlyGrows}
 use Rattle.session.proofs.Suspending.{onwards, outcomes_onward, good_extended}
@@ -84,11 +84,16 @@ module _ (es : List Event) where
   play_grows bound (Ask (AfterBody c v vars) left go) d g =
       call_grows (bound - left) (λ r. play bound (go r)) (λ o r. play_since o bound (go r)) (λ r. play_grows bound (go r)) (AfterBody c v vars) d g
 
+-- whether variables are told changes nothing in it
+told_grows : (tells : Bool) (first second : Report) → Grows first second → Grows (told tells first) (told tells second)
+told_grows tells first second (inl same) = inl (ap (told tells) same)
+told_grows tells first second (inr grown) = inr (grown.0, record { more = grown.1.more; asked = grown.1.asked; further = grown.1.further; told = grown.1.told })
+
 meaning_grows : (source : List ℕ) (settings : Settings) (events later : List Event) → Grows (meaning source settings events) (meaning source settings (events ++ later))
 meaning_grows source settings events later =
     let first : Dialogue = fresh settings.limit_ms in
-    subst (λ (d : Dialogue). Grows (meaning source settings events) (play (steps_of settings.steps) (tree_of source settings) d)) (extended_append events later first)
-    (play_grows later (steps_of settings.steps) (tree_of source settings) (extended events first) (good_extended events first (good_fresh settings.limit_ms)))
+    subst (λ (d : Dialogue). Grows (meaning source settings events) (told settings.tells_vars (play (steps_of settings.steps) (tree_of source settings) d))) (extended_append events later first)
+    (told_grows settings.tells_vars _ _ (play_grows later (steps_of settings.steps) (tree_of source settings) (extended events first) (good_extended events first (good_fresh settings.limit_ms))))
 
 pub ending_stays : EndingStays
 ending_stays source settings events later ends = elim (meaning_grows source settings events later) [

@@ -20,7 +20,7 @@ use Rattle.session.specs.declared.place.Place.{Place}
 use Rattle.session.specs.declared.report.Report.{Report}
 use Rattle.session.specs.declared.session.Session.TheInside.{Inside}
 use Rattle.session.specs.Left.{Kept, left, Fed, HandsOut}
-use Rattle.session.specs.Play.{said, ending_of, fault_of, trail_of, play}
+use Rattle.session.specs.Play.{said, ending_of, fault_of, trail_of, play, told}
 use Rattle.session.specs.Shown.{shown, Ran}
 use Rattle.session.specs.Sound.{Sound, kept_of}
 
@@ -63,20 +63,23 @@ passed_over k es over = record {
   handed = refl;
   lived = λ h. h;
   over = λ h. refl;
-  says = λ h later. over_says k.bound k.engine k.mode k.steps k.dialogue later (es ++ later) over;
+  says = λ h later. ap (told k.tells) (over_says k.bound k.engine k.mode k.steps k.dialogue later (es ++ later) over);
 }
 
-pub fed : (k k' : Kept) (es : List Event) (before : Dialogue) → k'.handed ≡ k.handed → k'.bound ≡ k.bound → IsTrue k.lives → (IsOver k.mode → ⊥) → (IsTrue before.lives → before ≡ extended es k.dialogue) → (IsTrue k'.lives → Ran k.engine k.mode k.steps before k'.engine k'.mode k'.steps k'.dialogue) → Fed k es k'
+pub fed : (k k' : Kept) (es : List Event) (before : Dialogue) → k'.handed ≡ k.handed → k'.bound ≡ k.bound → k'.tells ≡ k.tells → IsTrue k.lives → (IsOver k.mode → ⊥) → (IsTrue before.lives → before ≡ extended es k.dialogue) → (IsTrue k'.lives → Ran k.engine k.mode k.steps before k'.engine k'.mode k'.steps k'.dialogue) → Fed k es k'
 unfolding left
-fed k k' es before handed bound lives goes came ran = record {
+fed k k' es before handed bound tells lives goes came ran = record {
   handed = handed;
   lived = λ h. lives;
   over = λ h. absurd (goes h);
   says = λ h later.
+      ap (told k'.tells) (
       (ran h).says k'.bound later
       ∙ ap (λ (d : Dialogue). play k'.bound (engine_rest k.engine k.steps k.mode) (extended later d)) (came (ran h).lived)
       ∙ ap (λ (d : Dialogue). play k'.bound (engine_rest k.engine k.steps k.mode) d) (extended_append es later k.dialogue)
-      ∙ ap (λ (n : ℕ). play n (engine_rest k.engine k.steps k.mode) (extended (es ++ later) k.dialogue)) bound;
+      ∙ ap (λ (n : ℕ). play n (engine_rest k.engine k.steps k.mode) (extended (es ++ later) k.dialogue)) bound
+      )
+      ∙ ap (λ (tells : Bool). told tells (play k.bound (engine_rest k.engine k.steps k.mode) (extended (es ++ later) k.dialogue))) tells;
 }
 
 pub shown_requests : (bound : ℕ) (engine : Engine) (mode : Mode) (steps : ℕ) (d : Dialogue) → (shown bound engine mode steps d).requests ≡ d.own.requests

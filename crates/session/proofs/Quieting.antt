@@ -8,6 +8,7 @@ use Rattle.expect_core.specs.declared.dialogue.Dialogue.{Dialogue}
 use Rattle.expect_core.specs.Deadlines.{IsWithin, deadline_of}
 use Rattle.session.specs.declared.session.Session.TheInside.{Inside}
 use Rattle.session.specs.Left.{left}
+use Rattle.session.specs.Play.{told}
 use Rattle.session.specs.Quiet.{deadline_in, waits_until, QuietUntil}
 use Rattle.session.specs.Sound.{Sound, kept_of}
 
@@ -22,4 +23,4 @@ waits_as_long a lives none = while_it_lives a lives ∙ while_suspended a.machin
 
 pub stays_quiet : (a : Inside) (last : Option ℕ) → Sound a → IsTrue a.lives → last ≡ waits_until (kept_of a) → QuietUntil (kept_of a) last
 unfolding left
-stays_quiet a last sound lives is = λ m le. (sound.quiet lives).tick a.bound m (subst (IsWithin m) (is ∙ while_it_lives a lives) le)
+stays_quiet a last sound lives is = λ m le. ap (told a.tells_vars) ((sound.quiet lives).tick a.bound m (subst (IsWithin m) (is ∙ while_it_lives a lives) le))

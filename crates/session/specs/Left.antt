@@ -9,12 +9,13 @@ use Rattle.expect_core.specs.declared.request.Request.{Request}
 use Rattle.expect_core.specs.declared.dialogue.Dialogue.{Dialogue}
 use Rattle.expect_core.specs.Lanes.{extended}
 use Rattle.session.specs.declared.report.Report.{Report}
-use Rattle.session.specs.Play.{play}
+use Rattle.session.specs.Play.{play, told}
 
--- What a session keeps: its machine, the steps that are left, and its dialogue, without the events that were taken. One that was refused
+-- What a session keeps: whether it tells the variables, its machine, the steps that are left, and its dialogue, without the events that were taken. One that was refused
 -- memory doesn't live, and nothing is promised of it but that it reports so.
 pub record Kept : Type 0 where
   pub bound : ℕ
+  pub tells : Bool
   pub engine : Engine
   pub mode : Mode
   pub steps : ℕ
@@ -24,7 +25,7 @@ pub record Kept : Type 0 where
 
 -- the report that the session, as it stands, gives for later events
 unfoldable pub left : Kept → List Event → Report
-left k later = play k.bound (engine_rest k.engine k.steps k.mode) (extended later k.dialogue)
+left k later = told k.tells (play k.bound (engine_rest k.engine k.steps k.mode) (extended later k.dialogue))
 
 -- from old to new these events came, unless memory was refused; where it is over, they change nothing
 pub record Fed (old : Kept) (events : List Event) (new : Kept) : Type 0 where

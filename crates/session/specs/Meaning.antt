@@ -9,7 +9,7 @@ use Rattle.expect_core.specs.Lanes.{extended}
 use Rattle.expect_core.specs.Calls.{fresh}
 use Rattle.session.specs.declared.report.Report.{Report}
 use Rattle.session.specs.First.{first_variables}
-use Rattle.session.specs.Play.{play}
+use Rattle.session.specs.Play.{play, told}
 
 -- a bound of more than 1,000,000,000,000 steps counts as that
 abbrev pub steps_of : ℕ → ℕ
@@ -21,4 +21,4 @@ tree_of source settings = eval 200 source at_the_end (record { vars = first_vari
 
 -- The meaning of a source, its settings and the script's own events, whose moments are raised as they come: each call sees all of them.
 abbrev pub meaning : List ℕ → Settings → List Event → Report
-meaning source settings events = play (steps_of settings.steps) (tree_of source settings) (extended events (fresh settings.limit_ms))
+meaning source settings events = told settings.tells_vars (play (steps_of settings.steps) (tree_of source settings) (extended events (fresh settings.limit_ms)))

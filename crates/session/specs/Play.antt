@@ -1,5 +1,5 @@
 -- What a script's tree comes to with a dialogue.
-use Rattle.std.specs.Prelude.{ℕ, ◌-◌, List, [], ◌∷◌, map, codes}
+use Rattle.std.specs.Prelude.{ℕ, ◌-◌, Bool, List, [], ◌∷◌, map, codes, if◌then◌else◌}
 use Rattle.tcl_subst.specs.Report.{values_of}
 use Rattle.tcl_subst.specs.Variables.{Variables}
 use Rattle.tcl_commands.specs.declared.code.Code.{Code}
@@ -31,6 +31,10 @@ said e fault trail steps vars st = record {
   sent = map (λ child. child.sent) st.own.children;
   steps = steps;
 }
+
+-- a report as it is told: without the variables where it doesn't tell them
+abbrev pub told : Bool → Report → Report
+told tells r = record r { vars = if tells then r.vars else [] }
 
 -- A script's end: code 2 is one too, and another code than 0 is an error.
 abbrev pub ending_at : Code → Ending

@@ -12,6 +12,7 @@ use Rattle.session.specs.Shown.{shown}
 abbrev pub kept_of : Inside → Kept
 kept_of a = record {
   bound = a.bound;
+  tells = a.tells_vars;
   engine = a.machine.engine;
   mode = a.machine.mode;
   steps = left_of a.meter;

@@ -50,7 +50,7 @@ pub struct Report {
     pub trail: Places,
     /// What it wrote, and the output of its children that it took.
     pub transcript: Text,
-    /// The global variables that have a value, in byte order of names.
+    /// The global variables that have a value, in byte order of names; none where the settings don't ask for them.
     pub vars: Pairs,
     /// What it asked of its children, in order.
     pub requests: Requests,

@@ -161,6 +161,7 @@ fn nothing(alloc: Global) -> Result<Dialogue, AllocError> {
         steps: 0,
         limit_ms: None,
         env: Pairs::new(alloc),
+        tells_vars: false,
     };
     Dialogue::new(alloc, &settings)
 }
@@ -230,6 +231,8 @@ pub struct Session {
     alloc: Global,
     /// How many steps may be begun.
     bound: u64,
+    /// Whether its report tells the variables.
+    tells_vars: bool,
     machine: Machine<Dialogue>,
     dialogue: Dialogue,
     meter: Meter,
@@ -286,6 +289,7 @@ impl Session {
         let session = Session {
             alloc,
             bound,
+            tells_vars: settings.tells_vars,
             machine,
             dialogue,
             meter,
@@ -533,6 +537,7 @@ impl Session {
         shown(
             self.alloc,
             self.bound,
+            self.tells_vars,
             &self.machine,
             self.meter.left(),
             &self.dialogue,
@@ -557,6 +562,7 @@ impl Session {
         let Session {
             alloc,
             bound,
+            tells_vars,
             machine,
             mut dialogue,
             meter,
@@ -566,7 +572,14 @@ impl Session {
         if !lives {
             return Report::of_memory(alloc);
         }
-        match shown_last(alloc, bound, &machine, meter.left(), &mut dialogue) {
+        match shown_last(
+            alloc,
+            bound,
+            tells_vars,
+            &machine,
+            meter.left(),
+            &mut dialogue,
+        ) {
             Ok(report) => report,
             Err(_) => Report::of_memory(alloc),
         }

@@ -1,8 +1,8 @@
 //! What a machine that has paused shows.
 
-ghost use Rattle.std.specs.Prelude.{◌≡◌, ◌-◌, map, IfOk};
+ghost use Rattle.std.specs.Prelude.{◌≡◌, ◌-◌, [], map, IfOk, if◌then◌else◌};
 ghost use Rattle.tcl_subst.specs.Report.{values_of};
-ghost use Rattle.session.specs.Play.{ending_at as ending_told, ending_of as ending_meant, fault_at as fault_told, fault_of as fault_meant, trail_at as trail_told, trail_of as trail_meant, said as said_of};
+ghost use Rattle.session.specs.Play.{ending_at as ending_told, ending_of as ending_meant, fault_at as fault_told, fault_of as fault_meant, trail_at as trail_told, trail_of as trail_meant, said as said_of, told};
 ghost use Rattle.session.specs.Shown.{shown as shown_of};
 
 use crate::place::Places;
@@ -86,8 +86,22 @@ fn trail_of(alloc: Global, end: &End, trail: &[Origin]) -> Result<Places, AllocE
     }
 }
 
+/// The variables that a report tells.
+fn told_vars(alloc: Global, tells: bool, vars: &Vars) -> Result<Pairs, AllocError>
+    ensures { IfOk result (λ p. p ≡ (if tells then values_of vars.now.globals else [])) }
+{
+    if tells {
+        Ok(Pairs {
+            list: vars.globals()?,
+        })
+    } else {
+        Ok(Pairs::new(alloc))
+    }
+}
+
 fn said(
     alloc: Global,
+    tells: bool,
     ending: Ending,
     fault: Text,
     trail: Places,
@@ -95,16 +109,14 @@ fn said(
     vars: &Vars,
     dialogue: &Dialogue,
 ) -> Result<Report, AllocError>
-    ensures { IfOk result (λ r. r ≡ said_of ending fault trail steps vars.now dialogue.now) }
+    ensures { IfOk result (λ r. r ≡ told tells (said_of ending fault trail steps vars.now dialogue.now)) }
 {
     Ok(Report {
         ending,
         fault,
         trail,
         transcript: Text::from_slice(alloc, dialogue.transcript())?,
-        vars: Pairs {
-            list: vars.globals()?,
-        },
+        vars: told_vars(alloc, tells, vars)?,
         requests: dialogue.requests_copied(alloc)?,
         sent: Counts {
             list: dialogue.sent(alloc)?,
@@ -117,16 +129,18 @@ fn said(
 pub(crate) fn shown(
     alloc: Global,
     bound: u64,
+    tells: bool,
     machine: &Machine<Dialogue>,
     left: u64,
     dialogue: &Dialogue,
 ) -> Result<Report, AllocError>
-    ensures { IfOk result (λ r. r ≡ shown_of bound machine.now.engine machine.now.mode left dialogue.now) }
+    ensures { IfOk result (λ r. r ≡ told tells (shown_of bound machine.now.engine machine.now.mode left dialogue.now)) }
 {
     let steps = bound.saturating_sub(left);
     match machine.end() {
         Some(end) => said(
             alloc,
+            tells,
             ending_of(end),
             fault_of(alloc, end)?,
             trail_of(alloc, end, machine.trail())?,
@@ -136,6 +150,7 @@ pub(crate) fn shown(
         ),
         None => said(
             alloc,
+            tells,
             Ending::Waiting,
             Text::new(alloc),
             Places::new(alloc),
@@ -149,6 +164,7 @@ pub(crate) fn shown(
 /// The same as `said`, for which the dialogue gives up its transcript and its requests.
 fn said_last(
     alloc: Global,
+    tells: bool,
     ending: Ending,
     fault: Text,
     trail: Places,
@@ -156,9 +172,9 @@ fn said_last(
     vars: &Vars,
     dialogue: &mut Dialogue,
 ) -> Result<Report, AllocError>
-    ensures { IfOk result (λ r. r ≡ said_of ending fault trail steps vars.now dialogue.old) }
+    ensures { IfOk result (λ r. r ≡ told tells (said_of ending fault trail steps vars.now dialogue.old)) }
 {
-    let globals = vars.globals()?;
+    let vars = told_vars(alloc, tells, vars)?;
     let counts = dialogue.sent(alloc)?;
     let (transcript, requests) = dialogue.give_told();
     Ok(Report {
@@ -166,7 +182,7 @@ fn said_last(
         fault,
         trail,
         transcript,
-        vars: Pairs { list: globals },
+        vars,
         requests,
         sent: Counts { list: counts },
         steps,
@@ -177,16 +193,18 @@ fn said_last(
 pub(crate) fn shown_last(
     alloc: Global,
     bound: u64,
+    tells: bool,
     machine: &Machine<Dialogue>,
     left: u64,
     dialogue: &mut Dialogue,
 ) -> Result<Report, AllocError>
-    ensures { IfOk result (λ r. r ≡ shown_of bound machine.now.engine machine.now.mode left dialogue.old) }
+    ensures { IfOk result (λ r. r ≡ told tells (shown_of bound machine.now.engine machine.now.mode left dialogue.old)) }
 {
     let steps = bound.saturating_sub(left);
     match machine.end() {
         Some(end) => said_last(
             alloc,
+            tells,
             ending_of(end),
             fault_of(alloc, end)?,
             trail_of(alloc, end, machine.trail())?,
@@ -196,6 +214,7 @@ pub(crate) fn shown_last(
         ),
         None => said_last(
             alloc,
+            tells,
             Ending::Waiting,
             Text::new(alloc),
             Places::new(alloc),

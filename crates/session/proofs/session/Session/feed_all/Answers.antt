@@ -14,7 +14,7 @@ go_on-self-inside-requires c = λ h. good_fed_all c.args.events.items c.self.ins
 pub returns : goal.returns
 returns c =
     rw (← c.self.view_is)
-    (fed (kept_of c.self.inside) _ c.args.events.items c.offer_all.new.dialogue refl refl c.if-not-self.false
+    (fed (kept_of c.self.inside) _ c.args.events.items c.offer_all.new.dialogue refl refl refl c.if-not-self.false
     (goes_on c.self.inside.machine.mode _ c.is_over.ensures c.if-is_over.false)
     (c.offer_all.ensures.came (c.self.invariant.good c.if-not-self.false)) c.go_on-self-inside.ensures.ran)
 

@@ -23,7 +23,7 @@ invariant_of-self g c =
 pub returns-clause-fed : goal.returns-clause-fed
 returns-clause-fed g c =
     rw (← c.self.view_is)
-    (fed (kept_of c.self.inside) _ (c.args.came ∷ []) c.offer.new.self refl refl c.if-not-self.false
+    (fed (kept_of c.self.inside) _ (c.args.came ∷ []) c.offer.new.self refl refl refl c.if-not-self.false
     (goes_on c.self.inside.machine.mode _ c.is_over.ensures c.if-is_over.false)
     (c.offer.ensures.came (c.self.invariant.good c.if-not-self.false)) c.go_on_watched-lives.ensures.ran)
 

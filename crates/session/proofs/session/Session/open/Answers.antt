@@ -10,7 +10,7 @@ use Rattle.expect_core.specs.Calls.{fresh}
 use Rattle.session.specs.First.{first_variables}
 use Rattle.session.specs.Left.{left}
 use Rattle.session.specs.Meaning.{tree_of}
-use Rattle.session.specs.Play.{play}
+use Rattle.session.specs.Play.{play, told}
 use Rattle.session.specs.Watching.{meets, met_from}
 use Rattle.session.proofs.Suspending.{good_new}
 use Rattle.session.proofs.session.Session.open.Goals as goal
@@ -25,6 +25,7 @@ returns-clause-left g c = λ h later.
     let machine = c.in_ok-machine.machine in
     let d = c.in_ok-dialogue.dialogue in
     let source = c.args.source.now in
+    ap (told c.args.settings.now.tells_vars) (
     (c.go_on_watched-lives.ensures.ran h).says bound later
     ∙ ap (λ (n : ℕ). play bound (engine_rest machine.engine n machine.mode) (extended later d)) c.new-meter.ensures.left
     ∙ ap (λ (t : Tree). play bound t (extended later d)) (c.in_ok-machine.ensures bound)
@@ -32,6 +33,7 @@ returns-clause-left g c = λ h later.
     ∙ ap (λ (env : List (List ℕ × List ℕ)). play bound (eval 200 source at_the_end (record { vars = first_variables env; procs = []; left = bound; trail = [] })) (extended later d)) c.as_slice.ensures
     ∙ ap (λ (x : Dialogue). play bound (eval 200 source at_the_end (record { vars = first_variables c.args.settings.now.env; procs = []; left = bound; trail = [] })) (extended later x)) c.in_ok-dialogue.ensures
     ∙ ap (λ (n : ℕ). play n (eval 200 source at_the_end (record { vars = first_variables c.args.settings.now.env; procs = []; left = n; trail = [] })) (extended later (fresh c.args.settings.now.limit_ms))) c.bounded-bound.ensures
+    )
 
 pub returns-clause-seen : goal.returns-clause-seen
 unfolding met_from tree_of
