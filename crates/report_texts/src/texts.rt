@@ -14,7 +14,7 @@ use tcl_words::Text;
 /// What a report's text has behind its transcript and its fault.
 #[derive(Clone, Copy, Debug)]
 pub struct Shown {
-    /// The global variables.
+    /// The global variables, where the script's settings have them told.
     pub vars: bool,
     /// What was asked of the children.
     pub requests: bool,
