@@ -5,6 +5,12 @@ use Rattle.log_plan.specs.Plan.{others}
 use Rattle.log_plan.proofs.Looping.{goes_on, fails_later, told_all}
 use Rattle.log_plan.proofs.planner.Planner.tell_all.Goals as goal
 
+pub tell-requires-clause-stands : goal.tell-requires-clause-stands
+tell-requires-clause-stands c =
+    let s = c.requires.stands.0 in
+    let way = c.loop-event.invariant s c.requires.stands.1 c.requires.stands.2 in
+    (s, way.stands, way.quiet)
+
 pub loop-event-preserved : goal.loop-event-preserved
 loop-event-preserved c s st quiet =
     let way = c.loop-event.invariant s st quiet in
