@@ -55,7 +55,8 @@ fn modes_by(alloc: Global, list: Option<Value>) -> Result<Modes, Complaint>
         None => Ok(Modes::sane()),
         Some(list) => {
             let elements = list_of(alloc, &list)?;
-            modes_in(alloc, elements.as_slice())
+            let words = elements.texts(alloc)?;
+            modes_in(alloc, words.as_slice())
         }
     }
 }

@@ -3,7 +3,7 @@
 use crate::complaint::Complaint;
 use std::alloc::{AllocError, Global};
 use std::str::{self, FromStr};
-use tcl_words::{Text, read_list};
+use tcl_words::{Text, Texts, read_list};
 
 fn put(calls: &mut Vec<Vec<Text>>, words: Vec<Text>) -> Result<(), AllocError> {
     calls.push(words)?;
@@ -14,7 +14,7 @@ fn put(calls: &mut Vec<Vec<Text>>, words: Vec<Text>) -> Result<(), AllocError> {
 pub fn calls(alloc: Global, src: &[u8]) -> Result<Vec<Vec<Text>>, Complaint> {
     let mut calls = Vec::new(alloc);
     'lines: for line in src.split(|b| *b == b'\n') {
-        let words = read_list(alloc, line)?;
+        let Texts { list: words } = read_list(alloc, line)?.texts(alloc)?;
         if words.len() > 0 {
             put(&mut calls, words)?;
         }

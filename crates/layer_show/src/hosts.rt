@@ -17,7 +17,7 @@ use std::mem;
 use tcl_eval::{Code, Ending, Host, HostStep, Values};
 use tcl_subst::{SubstFault, Vars};
 use tcl_values::Value;
-use tcl_words::{Text, write_list};
+use tcl_words::{Packed, Text, write_list};
 
 /// What a script was asked for.
 #[derive(Clone, Copy, Debug, PartialEq, Eq)]
@@ -120,11 +120,11 @@ fn copied(alloc: Global, words: &Values) -> Result<Values, AllocError> {
 
 /// Values as a list.
 fn listed(alloc: Global, words: &[Value]) -> Result<Value, AllocError> {
-    let mut texts = Vec::new(alloc);
+    let mut packed = Packed::new(alloc);
     'words: for word in words {
-        texts.push(Text::from_slice(alloc, word.as_slice())?)?;
+        packed.push(word.as_slice())?;
     }
-    Value::from_text(alloc, write_list(alloc, texts.as_slice())?)
+    Value::from_text(alloc, write_list(alloc, &packed)?)
 }
 
 /// A code and a value as a list.

@@ -121,7 +121,7 @@ pub fn shown_scan(alloc: Global, src: &[u8]) -> Result<Text, Complaint> {
     let [_, data @ ..] = rest else {
         return Err(Complaint::Call);
     };
-    let words = read_list(alloc, line)?;
+    let words = read_list(alloc, line)?.texts(alloc)?;
     let found = count_of(alloc, words.as_slice(), data)?;
     Ok(Text::from_slice(alloc, format!(in alloc; "{found}\n")?.as_bytes())?)
 }

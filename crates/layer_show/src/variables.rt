@@ -9,7 +9,7 @@ use crate::spell::push_labelled;
 use std::alloc::Global;
 use tcl_subst::{SubstFault, Vars};
 use tcl_values::Value;
-use tcl_words::Text;
+use tcl_words::{Packed, Text};
 
 /// `ok`, or the fault.
 fn push_done(text: &mut Text, done: Result<(), SubstFault>) -> Result<(), Complaint>
@@ -50,7 +50,7 @@ fn push_element(
 ) -> Result<(), Complaint> {
     match value.elements(alloc) {
         Ok(elements) => match elements.get(index) {
-            Some(element) => push_labelled(alloc, text, b"value ", element.as_slice())?,
+            Some(element) => push_labelled(alloc, text, b"value ", element)?,
             None => text.extend(b"none")?,
         },
         Err(fault) => push_refusal(text, SubstFault::from(fault))?,
@@ -135,6 +135,21 @@ fn set(
     push_done(text, vars.set(name, value))
 }
 
+/// Puts words behind the elements of a variable.
+fn append_elements(
+    alloc: Global,
+    text: &mut Text,
+    vars: &mut Vars,
+    name: &[u8],
+    words: &[Text],
+) -> Result<(), Complaint> {
+    let mut more = Packed::new(alloc);
+    'words: for word in words {
+        more.push(word.as_slice())?;
+    }
+    push_done(text, vars.append_elements(name, &more))
+}
+
 /// The element at a place of a variable.
 fn push_element_of(
     alloc: Global,
@@ -176,10 +191,9 @@ fn perform(
     words: &[Text],
 ) -> Result<(), Complaint> {
     match words {
-        [name, more @ ..] if act == b"lappend".as_slice() => push_done(
-            text,
-            vars.append_elements(name.as_slice(), more),
-        ),
+        [name, more @ ..] if act == b"lappend".as_slice() => {
+            append_elements(alloc, text, vars, name.as_slice(), more)
+        }
         [] => on_scopes(alloc, text, vars, act),
         [name] => on_name(alloc, text, vars, act, name.as_slice()),
         [name, word] => on_word(alloc, text, vars, act, name.as_slice(), word),

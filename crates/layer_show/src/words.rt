@@ -7,7 +7,7 @@ ghost use Rattle.layer_show.specs.Shown.{hex_lines, list_shown, bad_list};
 use crate::spell::{fault_name, push_command, push_hex_line, push_labelled, push_parts};
 use std::alloc::{AllocError, Global};
 use tcl_words::{
-    ListFault, Text, WordFault, next_command, one_list, operand, read_list, write_list,
+    ListFault, Packed, Text, WordFault, next_command, one_list, operand, read_list, write_list,
 };
 
 /// Puts a fault's line behind a text, where it isn't want of memory.
@@ -66,11 +66,11 @@ fn push_elements(alloc: Global, text: &mut Text, list: &[Text]) -> Result<(), Al
 }
 
 /// The elements of a list, a line for each, and a line of the list written again.
-fn shown_elements(alloc: Global, list: &[Text]) -> Result<Text, AllocError>
+fn shown_elements(alloc: Global, list: &Packed) -> Result<Text, AllocError>
     ensures { IfOk result (λ t. t ≡ list_shown list.now) }
 {
     let mut text = Text::new(alloc);
-    push_elements(alloc, &mut text, list)?;
+    push_elements(alloc, &mut text, list.texts(alloc)?.as_slice())?;
     let written = write_list(alloc, list)?;
     push_hex_line(alloc, &mut text, written.as_slice())?;
     Ok(text)
@@ -83,7 +83,7 @@ pub fn shown_list(alloc: Global, src: &[u8]) -> Result<Text, AllocError>
 {
     one_list();
     match read_list(alloc, src) {
-        Ok(list) => shown_elements(alloc, list.as_slice()),
+        Ok(list) => shown_elements(alloc, &list),
         Err(ListFault::BadList) => Text::from_slice(alloc, b"bad list\n"),
         Err(ListFault::Memory) => Err(AllocError),
     }

@@ -20,17 +20,21 @@ use Rattle.session.specs.declared.place.Place.{Place}
 use Rattle.session.specs.declared.place.Place.TheVariants.{Command, Procedure}
 use Rattle.session.specs.declared.report.Report.{Report}
 
-abbrev pub said : Ending → List ℕ → List Place → ℕ → Variables → Dialogue → Report
-said e fault trail steps vars st = record {
+-- what is said with these variables
+abbrev pub said_with : Ending → List ℕ → List Place → ℕ → List (List ℕ × List ℕ) → Dialogue → Report
+said_with e fault trail steps values st = record {
   ending = e;
   fault = fault;
   trail = trail;
   transcript = st.own.transcript;
-  vars = values_of vars.globals;
+  vars = values;
   requests = st.own.requests;
   sent = map (λ child. child.sent) st.own.children;
   steps = steps;
 }
+
+abbrev pub said : Ending → List ℕ → List Place → ℕ → Variables → Dialogue → Report
+said e fault trail steps vars st = said_with e fault trail steps (values_of vars.globals) st
 
 -- a report as it is told: without the variables where it doesn't tell them
 abbrev pub told : Bool → Report → Report

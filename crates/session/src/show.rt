@@ -2,7 +2,7 @@
 
 ghost use Rattle.std.specs.Prelude.{◌≡◌, ◌-◌, [], map, IfOk, if◌then◌else◌};
 ghost use Rattle.tcl_subst.specs.Report.{values_of};
-ghost use Rattle.session.specs.Play.{ending_at as ending_told, ending_of as ending_meant, fault_at as fault_told, fault_of as fault_meant, trail_at as trail_told, trail_of as trail_meant, said as said_of, told};
+ghost use Rattle.session.specs.Play.{ending_at as ending_told, ending_of as ending_meant, fault_at as fault_told, fault_of as fault_meant, trail_at as trail_told, trail_of as trail_meant, said_with, told};
 ghost use Rattle.session.specs.Shown.{shown as shown_of};
 
 use crate::place::Places;
@@ -101,22 +101,21 @@ fn told_vars(alloc: Global, tells: bool, vars: &Vars) -> Result<Pairs, AllocErro
 
 fn said(
     alloc: Global,
-    tells: bool,
     ending: Ending,
     fault: Text,
     trail: Places,
     steps: u64,
-    vars: &Vars,
+    vars: Pairs,
     dialogue: &Dialogue,
 ) -> Result<Report, AllocError>
-    ensures { IfOk result (λ r. r ≡ told tells (said_of ending fault trail steps vars.now dialogue.now)) }
+    ensures { IfOk result (λ r. r ≡ said_with ending fault trail steps vars dialogue.now) }
 {
     Ok(Report {
         ending,
         fault,
         trail,
         transcript: Text::from_slice(alloc, dialogue.transcript())?,
-        vars: told_vars(alloc, tells, vars)?,
+        vars,
         requests: dialogue.requests_copied(alloc)?,
         sent: Counts {
             list: dialogue.sent(alloc)?,
@@ -137,25 +136,24 @@ pub(crate) fn shown(
     ensures { IfOk result (λ r. r ≡ told tells (shown_of bound machine.now.engine machine.now.mode left dialogue.now)) }
 {
     let steps = bound.saturating_sub(left);
+    let vars = told_vars(alloc, tells, machine.vars())?;
     match machine.end() {
         Some(end) => said(
             alloc,
-            tells,
             ending_of(end),
             fault_of(alloc, end)?,
             trail_of(alloc, end, machine.trail())?,
             steps,
-            machine.vars(),
+            vars,
             dialogue,
         ),
         None => said(
             alloc,
-            tells,
             Ending::Waiting,
             Text::new(alloc),
             Places::new(alloc),
             steps,
-            machine.vars(),
+            vars,
             dialogue,
         ),
     }
@@ -164,17 +162,15 @@ pub(crate) fn shown(
 /// The same as `said`, for which the dialogue gives up its transcript and its requests.
 fn said_last(
     alloc: Global,
-    tells: bool,
     ending: Ending,
     fault: Text,
     trail: Places,
     steps: u64,
-    vars: &Vars,
+    vars: Pairs,
     dialogue: &mut Dialogue,
 ) -> Result<Report, AllocError>
-    ensures { IfOk result (λ r. r ≡ told tells (said_of ending fault trail steps vars.now dialogue.old)) }
+    ensures { IfOk result (λ r. r ≡ said_with ending fault trail steps vars dialogue.old) }
 {
-    let vars = told_vars(alloc, tells, vars)?;
     let counts = dialogue.sent(alloc)?;
     let (transcript, requests) = dialogue.give_told();
     Ok(Report {
@@ -201,25 +197,24 @@ pub(crate) fn shown_last(
     ensures { IfOk result (λ r. r ≡ told tells (shown_of bound machine.now.engine machine.now.mode left dialogue.old)) }
 {
     let steps = bound.saturating_sub(left);
+    let vars = told_vars(alloc, tells, machine.vars())?;
     match machine.end() {
         Some(end) => said_last(
             alloc,
-            tells,
             ending_of(end),
             fault_of(alloc, end)?,
             trail_of(alloc, end, machine.trail())?,
             steps,
-            machine.vars(),
+            vars,
             dialogue,
         ),
         None => said_last(
             alloc,
-            tells,
             Ending::Waiting,
             Text::new(alloc),
             Places::new(alloc),
             steps,
-            machine.vars(),
+            vars,
             dialogue,
         ),
     }

@@ -11,7 +11,7 @@ ghost use Rattle.tcl_words.specs.Lists.{written};
 use crate::complaint::Complaint;
 use crate::formals::{Formal, Formals};
 use crate::texts::{is, not_set, wrong};
-use crate::values::{listed, texts_of};
+use crate::values::packed;
 use std::alloc::{AllocError, Global};
 use tcl_subst::Vars;
 use tcl_values::Value;
@@ -95,7 +95,7 @@ fn value_of(alloc: Global, formal: &Formal, args: &[Value]) -> Result<Value, All
 fn list_of(alloc: Global, values: &[Value]) -> Result<Value, AllocError>
     ensures { IfOk result (λ v. v ≡ written values.now) }
 {
-    listed(alloc, texts_of(alloc, values)?)
+    Value::written(alloc, packed(alloc, values)?)
 }
 
 /// Sets the names of formal arguments in a scope of their own, in turn, where there are neither too few nor too many arguments.

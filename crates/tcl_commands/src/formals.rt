@@ -69,7 +69,10 @@ fn formal_in(alloc: Global, text: &[u8]) -> Result<Option<Formal>, AllocError>
     ensures { IfOk result (λ o. o ≡ formal_in (elements text.now)) }
 {
     match Value::from_slice(alloc, text)?.elements(alloc) {
-        Ok(elements) => formal_of(alloc, elements.as_slice()),
+        Ok(elements) => {
+            let texts = elements.texts(alloc)?;
+            formal_of(alloc, texts.as_slice())
+        }
         Err(ListFault::BadList) => Ok(None),
         Err(ListFault::Memory) => Err(AllocError),
     }
@@ -95,7 +98,8 @@ fn formals_in(alloc: Global, texts: &[Text]) -> Result<Option<Formals>, AllocErr
 pub fn formals_of(alloc: Global, text: &Value) -> Result<Formals, Complaint>
     ensures { Says result (formals_of text.now) }
 {
-    let texts = list_of(alloc, text)?;
+    let elements = list_of(alloc, text)?;
+    let texts = elements.texts(alloc)?;
     match formals_in(alloc, texts.as_slice())? {
         Some(formals) => Ok(formals),
         None => Err(no_list(alloc)),

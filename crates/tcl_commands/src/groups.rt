@@ -13,13 +13,13 @@ use std::alloc::{AllocError, Global};
 use std::marker::Model;
 use tcl_subst::Vars;
 use tcl_values::{Elements, Value};
-use tcl_words::Text;
+use tcl_words::{Text, Texts};
 
 /// The names of a `foreach`, and the elements of the turns that are left. A contract sees the elements of each turn.
 #[derive(Drop)]
 pub struct Groups {
     /// The names, at least one.
-    names: Elements,
+    names: Texts,
     /// The elements of all turns.
     elements: Elements,
     /// How many of them earlier turns took.
@@ -55,8 +55,7 @@ impl Groups {
         if self.elements.len() <= from {
             return Ok((Code::Ok, Value::new(alloc)));
         }
-        let rest = self.elements.as_slice().split_at(from).1;
-        let size = smaller(self.names.len(), rest.len());
+        let size = smaller(self.names.len(), self.elements.len() - from);
         self.at = from + size;
         assign_all(
             alloc,
@@ -124,7 +123,7 @@ fn others(elements: &Elements, from: usize, to: usize) -> usize
 }
 
 /// Names that are a list of at least one.
-fn names_of(alloc: Global, text: &Value) -> Result<Elements, Complaint>
+fn names_of(alloc: Global, text: &Value) -> Result<Texts, Complaint>
     ensures said { Says result (names_of text.now) }
     ensures some { IfOk result (λ ns. 0 < length ns) }
 {
@@ -132,7 +131,7 @@ fn names_of(alloc: Global, text: &Value) -> Result<Elements, Complaint>
     if names.len() == 0 {
         return Err(no_list(alloc));
     }
-    Ok(names)
+    Ok(names.texts(alloc)?)
 }
 
 /// The turns and the body of `foreach names list body`.

@@ -9,6 +9,7 @@ use crate::texts::{bad_index, is};
 use std::alloc::{AllocError, Global};
 use tcl_expr::read_number;
 use tcl_values::{Elements, Value};
+use tcl_words::Packed;
 
 /// A text without its first four bytes, where they are `end-`.
 fn behind_end(text: &[u8]) -> Option<&[u8]>
@@ -90,6 +91,20 @@ pub(crate) fn between<T>(from: i128, to: i128, items: &[T]) -> &[T]
 {
     let front = items.split_at(up_to(to, items.len())).0;
     front.split_at(before(from, front.len())).1
+}
+
+/// The elements from one place to another, copied.
+#[tactic(auto, using(std::proofs::lemmas::List::take_min, std::proofs::lemmas::List::drop_min))]
+pub(crate) fn elements_between(
+    alloc: Global,
+    from: i128,
+    to: i128,
+    elements: &Elements,
+) -> Result<Packed, AllocError>
+    ensures { IfOk result (λ p. p ≡ between from to elements.now) }
+{
+    let count = up_to(to, elements.len());
+    elements.part(alloc, before(from, count), count)
 }
 
 /// The element at a place, empty where there is none.

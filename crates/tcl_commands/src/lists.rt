@@ -6,25 +6,25 @@ ghost use Rattle.tcl_commands.specs.Says.{Says};
 ghost use Rattle.tcl_words.specs.Lists.{written};
 
 use crate::complaint::Complaint;
-use crate::indices::{between, element_at, index_of};
+use crate::indices::{element_at, elements_between, index_of};
 use crate::texts::wrong;
-use crate::values::{count_text, limited, list_of, listed, texts_of};
+use crate::values::{count_text, limited, list_of, packed};
 use std::alloc::Global;
 use tcl_values::Value;
-use tcl_words::{Texts, copied_texts};
+use tcl_words::Packed;
 
-/// The list of texts, where it isn't too long.
-fn list_text(alloc: Global, texts: Texts) -> Result<Value, Complaint>
-    ensures { Says result (limited (written texts)) }
+/// The list of elements, where it isn't too long.
+fn list_text(alloc: Global, elements: Packed) -> Result<Value, Complaint>
+    ensures { Says result (limited (written elements)) }
 {
-    limited(alloc, listed(alloc, texts)?)
+    limited(alloc, Value::written(alloc, elements)?)
 }
 
 /// `list value ..`
 pub(crate) fn list(alloc: Global, args: &[Value]) -> Result<Value, Complaint>
     ensures { Says result (limited (written args.now)) }
 {
-    list_text(alloc, texts_of(alloc, args)?)
+    list_text(alloc, packed(alloc, args)?)
 }
 
 /// `llength list`
@@ -84,6 +84,5 @@ fn list_range(alloc: Global, list: &Value, from: &[u8], to: &[u8]) -> Result<Val
     let elements = list_of(alloc, list)?;
     let from = index_of(alloc, elements.len(), from)?;
     let to = index_of(alloc, elements.len(), to)?;
-    let texts = copied_texts(alloc, between(from, to, elements.as_slice()))?;
-    list_text(alloc, texts)
+    list_text(alloc, elements_between(alloc, from, to, &elements)?)
 }

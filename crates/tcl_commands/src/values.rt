@@ -6,7 +6,6 @@ ghost use Rattle.tcl_commands.specs.Says.{Says};
 ghost use Rattle.tcl_commands.specs.Strings.{count_text};
 ghost use Rattle.tcl_expr.specs.Number.{number_text};
 ghost use Rattle.tcl_subst.specs.Faults.{is_too_long};
-ghost use Rattle.tcl_words.specs.Lists.{written};
 
 use crate::complaint::Complaint;
 use crate::texts::{expected_number, no_list, too_long};
@@ -15,7 +14,7 @@ use std::alloc::{AllocError, Global};
 use tcl_expr::read_number;
 use tcl_subst::VALUE_LIMIT;
 use tcl_values::{Elements, Value};
-use tcl_words::{ListFault, Text, Texts};
+use tcl_words::{ListFault, Packed, Text, Texts};
 
 /// The elements of the list that a value is.
 pub fn list_of(alloc: Global, value: &Value) -> Result<Elements, Complaint>
@@ -66,12 +65,15 @@ pub fn texts_of(alloc: Global, values: &[Value]) -> Result<Texts, AllocError>
     Ok(texts)
 }
 
-/// The list of texts, with its elements kept.
-pub(crate) fn listed(alloc: Global, texts: Texts) -> Result<Value, AllocError>
-    ensures { IfOk result (λ v. v ≡ written texts) }
+/// The texts of values, in order and one behind another.
+pub(crate) fn packed(alloc: Global, values: &[Value]) -> Result<Packed, AllocError>
+    ensures { IfOk result (λ p. p ≡ values.now) }
 {
-    let Texts { list } = texts;
-    Value::written(alloc, list)
+    let mut packed = Packed::new(alloc);
+    for value in values {
+        packed.push(value.as_slice())?;
+    }
+    Ok(packed)
 }
 
 /// The text of a number.

@@ -14,7 +14,7 @@ use crate::complaint::Complaint;
 use crate::strings::bit_text;
 use crate::texts::{bad_option, is, is_missing, not_read, not_set, not_unset, wrong};
 use crate::told::{error, told, wrong_call};
-use crate::values::{as_number, number_text, texts_of};
+use crate::values::{as_number, number_text, packed};
 use std::alloc::{AllocError, Global};
 use tcl_subst::Vars;
 use tcl_values::Value;
@@ -254,8 +254,8 @@ fn lappend_to(
 ) -> Result<(Code, Value), AllocError>
     ensures { IfOk result (λ r. written_to name.now vars.old (with_value (elements_appended values.now) name.now vars.old) ≡ (r.0, r.1, vars.new)) }
 {
-    let texts = texts_of(alloc, values)?;
-    match vars.append_elements(name, texts.as_slice()) {
+    let more = packed(alloc, values)?;
+    match vars.append_elements(name, &more) {
         Ok(()) => told(alloc, read(alloc, name, vars)),
         Err(fault) => error(alloc, not_set(alloc, name, fault)?),
     }

@@ -5,8 +5,7 @@ ghost use Rattle.tcl_eval.specs.Handed.{handed_words};
 
 use std::alloc::{AllocError, Global};
 use std::marker::Model;
-use tcl_values::Value;
-use tcl_words::Text;
+use tcl_values::{Elements, Value};
 
 /// Values in order, such as the words of a command. A contract sees a list of byte lists.
 #[derive(Drop)]
@@ -65,13 +64,13 @@ impl Values {
         Ok(())
     }
 
-    /// Puts the values of texts behind the others, in order. Where memory is refused, the list stays as it was.
-    pub fn push_all(&mut self, alloc: Global, texts: &[Text]) -> Result<(), AllocError>
-        ensures pushed { OnOk result (self.new ≡ self.old ++ texts.now) }
+    /// Puts the elements of a list behind the others, in order. Where memory is refused, the values stay as they were.
+    pub fn push_all(&mut self, alloc: Global, elements: &Elements) -> Result<(), AllocError>
+        ensures pushed { OnOk result (self.new ≡ self.old ++ elements.now) }
         ensures kept { OnErr result (self.new ≡ self.old) }
     {
         let count = self.list.len();
-        let pushed = push_texts(&mut self.list, alloc, texts);
+        let pushed = push_elements(&mut self.list, alloc, elements);
         if pushed.is_err() {
             self.list.truncate(count);
         }
@@ -79,13 +78,19 @@ impl Values {
     }
 }
 
-/// Puts the values of texts behind others, in order. Where memory is refused, some of them stand there, and the others are as they were.
-fn push_texts(list: &mut Vec<Value>, alloc: Global, texts: &[Text]) -> Result<(), AllocError>
-    ensures pushed { OnOk result (list.new.items ≡ list.old.items ++ texts.now) }
+/// Puts the elements of a list behind values, in order. Where memory is refused, some of them stand there, and the values are as they were.
+fn push_elements(
+    list: &mut Vec<Value>,
+    alloc: Global,
+    elements: &Elements,
+) -> Result<(), AllocError>
+    ensures pushed { OnOk result (list.new.items ≡ list.old.items ++ elements.now) }
     ensures front { take (length list.old.items) list.new.items ≡ list.old.items }
 {
-    for text in texts {
-        list.push(Value::from_slice(alloc, text.as_slice())?)?;
+    let mut at = 0;
+    while let Some(value) = elements.value(alloc, at)? {
+        list.push(value)?;
+        at += 1;
     }
     Ok(())
 }

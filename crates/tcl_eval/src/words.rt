@@ -271,7 +271,7 @@ fn spread_onto(
     }
     match value.elements(alloc) {
         Ok(elements) => {
-            done.push_all(alloc, elements.as_slice())?;
+            done.push_all(alloc, &elements)?;
             Ok(Filled::Full)
         }
         Err(ListFault::BadList) => {

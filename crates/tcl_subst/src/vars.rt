@@ -24,7 +24,7 @@ use std::alloc::{AllocError, Global};
 use std::collections::LinkedList;
 use std::marker::Model;
 use tcl_values::Value;
-use tcl_words::Text;
+use tcl_words::{Packed, Text};
 
 /// The variables of a script: scopes, of which the innermost one is the current one (Tcl(n), proc(n), global(n)).
 ///
@@ -250,7 +250,7 @@ impl Vars {
     /// the written text of them all: `IsArray`, `NotArray`, `BadList` or `TooLong` where it can't be. A fault changes nothing.
     ///
     /// Takes time in the length of what is added, where the value isn't shared and got its elements in this way.
-    pub fn append_elements(&mut self, name: &[u8], more: &[Text]) -> Result<(), SubstFault>
+    pub fn append_elements(&mut self, name: &[u8], more: &Packed) -> Result<(), SubstFault>
         ensures { Changes result (with_value (elements_appended more.now) name.now self.old) self.old self.new }
     {
         self.write(name, Write::Elements(more))

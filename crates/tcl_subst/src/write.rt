@@ -7,7 +7,7 @@ use crate::faults::SubstFault;
 use crate::limits::{VALUE_LIMIT, are_too_long, is_too_long};
 use std::alloc::Global;
 use tcl_values::Value;
-use tcl_words::Text;
+use tcl_words::Packed;
 
 /// A way to write a value.
 #[derive(Drop)]
@@ -17,7 +17,7 @@ pub enum Write<'a> {
     /// Bytes behind the old value.
     Append(&'a [u8]),
     /// Elements behind those of the list that the old value is.
-    Elements(&'a [Text]),
+    Elements(&'a Packed),
 }
 
 /// Writes a value. A fault leaves it as it was.
@@ -52,7 +52,7 @@ fn append_bytes(value: &mut Value, alloc: Global, bytes: &[u8]) -> Result<(), Su
 }
 
 #[tactic(auto, unfolding(crate::specs::Faults::limit))]
-fn append_elements(value: &mut Value, alloc: Global, more: &[Text]) -> Result<(), SubstFault>
+fn append_elements(value: &mut Value, alloc: Global, more: &Packed) -> Result<(), SubstFault>
     ensures { Changes result (elements_appended more.now value.old) value.old value.new }
 {
     value.append_elements(alloc, more, VALUE_LIMIT)?;

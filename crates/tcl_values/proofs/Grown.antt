@@ -6,18 +6,6 @@ use Rattle.tcl_words.specs.Lists.{balances, written_element, written_rest, writt
 use Rattle.tcl_values.specs.declared.faults.GrowFault.TheVariants.{TooLong}
 use Rattle.tcl_values.specs.Lists.{within, grown, with_elements}
 
--- an empty element in front is two braces
-pub empty_in_front : (es : List (List ℕ)) → written ([] ∷ es) ≡ 123 ∷ 125 ∷ written_rest es
-unfolding balances
-empty_in_front es = refl
-
-two_off : (text rest : List ℕ) → text ≡ 123 ∷ 125 ∷ rest → rest ≡ take (length text - 2) (drop 2 text)
-two_off text rest is = grind (arith, common_steps)
-
--- and behind them stands what the others are written as behind elements
-pub behind_empty : (text : List ℕ) (es : List (List ℕ)) → text ≡ written ([] ∷ es) → written_rest es ≡ take (length text - 2) (drop 2 text)
-behind_empty text es is = two_off text (written_rest es) (is ∙ empty_in_front es)
-
 rest_grown : (es more : List (List ℕ)) → written_rest (es ++ more) ≡ written_rest es ++ written_rest more
 rest_grown [] more = refl
 rest_grown (e ∷ es) more = ap (λ s. (32 ∷ written_element false e) ++ s) (rest_grown es more) ∙ sym (append_assoc (32 ∷ written_element false e) (written_rest es) (written_rest more))

@@ -1,6 +1,6 @@
 //! The elements of a list, shared.
 
-ghost use Rattle.std.specs.Prelude.{◌≡◌, All, length, slice_get, Some, IfOk, IfSome};
+ghost use Rattle.std.specs.Prelude.{◌≡◌, All, drop, take, length, slice_get, Some, IfOk, IfSome};
 ghost use Rattle.tcl_values.specs.Lists.{elements_of};
 ghost use Rattle.tcl_values.specs.Rows.{IsRow};
 ghost use Rattle.std.specs.Option.{option_copied};
@@ -12,7 +12,7 @@ use crate::value::Value;
 use std::alloc::{AllocError, Global};
 use std::marker::Model;
 use std::rc::Rc;
-use tcl_words::Text;
+use tcl_words::{Packed, Texts};
 
 /// The elements of a list. A contract sees them as a list of byte lists.
 #[derive(Drop)]
@@ -56,25 +56,32 @@ impl Elements {
         }
     }
 
-    /// The elements, in order.
-    pub fn as_slice(&self) -> &[Text]
-        ensures { result.now ≡ self.now }
-    {
-        self.list.elements()
-    }
-
     /// How many elements there are.
     pub fn len(&self) -> usize
         ensures { result ≡ length self.now }
     {
-        self.as_slice().len()
+        self.list.elements().len()
     }
 
     /// The element at an index from 0.
-    pub fn get(&self, index: usize) -> Option<&Text>
+    pub fn get(&self, index: usize) -> Option<&[u8]>
         ensures { option_copied result ≡ slice_get self.now index }
     {
-        self.as_slice().get(index)
+        self.list.elements().get(index)
+    }
+
+    /// The elements, each copied on its own.
+    pub fn texts(&self, alloc: Global) -> Result<Texts, AllocError>
+        ensures { IfOk result (λ ts. ts ≡ self.now) }
+    {
+        self.list.elements().texts(alloc)
+    }
+
+    /// The elements from an index up to another, copied, as far as there are any.
+    pub fn part(&self, alloc: Global, from: usize, to: usize) -> Result<Packed, AllocError>
+        ensures { IfOk result (λ p. p ≡ drop from (take to self.now)) }
+    {
+        self.list.elements().part(alloc, from, to)
     }
 
     /// The element at an index from 0 as a value.
@@ -90,7 +97,7 @@ impl Elements {
         }
         match self.get(index) {
             Some(element) => {
-                let value = Value::element(alloc, &self.rows, index, element.as_slice())?;
+                let value = Value::element(alloc, &self.rows, index, element)?;
                 Ok(Some(value))
             }
             None => Ok(None),

@@ -1,13 +1,13 @@
 //! A text that is a list, with its elements beside it.
 
-ghost use Rattle.std.specs.Prelude.{◌≡◌, ◌≢◌, ◌+◌, ◌++◌, nat_lt, ℕ, List, Ok, Err, IfOk, IfErr, OnOk, OnErr, IsTrue, IsFalse};
-ghost use Rattle.tcl_words.specs.Lists.{ReadsAs, written, written_rest};
+ghost use Rattle.std.specs.Prelude.{◌≡◌, ◌≢◌, ◌+◌, nat_lt, ℕ, List, Ok, Err, IfOk, IfErr, OnOk, OnErr, IsTrue, IsFalse};
+ghost use Rattle.tcl_words.specs.Lists.{ReadsAs, written};
 ghost use Rattle.tcl_values.specs.Lists.{with_elements};
 
 use crate::faults::GrowFault;
 use std::alloc::{AllocError, Global};
 use std::marker::Model;
-use tcl_words::{ListFault, Text, Texts, copied_texts, one_list, read_list, write_list};
+use tcl_words::{ListFault, Packed, Text, one_list, read_list, write_behind, write_list};
 
 /// A text that reads as a list, and the elements that it reads as. A contract sees the text.
 #[derive(Drop)]
@@ -15,7 +15,7 @@ pub struct Listed {
     /// The text.
     text: Text,
     /// The elements that the text reads as.
-    elements: Vec<Text>,
+    elements: Packed,
     /// Whether the text is the written text of the elements.
     is_written: bool,
 }
@@ -28,7 +28,7 @@ impl Model for Listed {
 
     ghost view = { λ l. l.text };
 
-    ghost invariant = { λ l. ReadsAs l.text l.elements.items × (l.is_written ≡ true → l.text ≡ written l.elements.items) };
+    ghost invariant = { λ l. ReadsAs l.text l.elements × (l.is_written ≡ true → l.text ≡ written l.elements) };
 }
 
 impl Listed {
@@ -48,11 +48,11 @@ impl Listed {
     }
 
     /// The written text of elements, with them.
-    pub fn write(alloc: Global, elements: Vec<Text>) -> Result<Listed, AllocError>
-        ensures { IfOk result (λ l. l ≡ written elements.items) }
+    pub fn write(alloc: Global, elements: Packed) -> Result<Listed, AllocError>
+        ensures { IfOk result (λ l. l ≡ written elements) }
     {
         one_list();
-        let text = write_list(alloc, elements.as_slice())?;
+        let text = write_list(alloc, &elements)?;
         Ok(Listed {
             text,
             elements,
@@ -68,10 +68,10 @@ impl Listed {
     }
 
     /// The elements that the text reads as.
-    pub fn elements(&self) -> &[Text]
+    pub fn elements(&self) -> &Packed
         ensures { ReadsAs self.now result.now }
     {
-        self.elements.as_slice()
+        &self.elements
     }
 
     /// The text, without its elements.
@@ -87,13 +87,12 @@ impl Listed {
     }
 
     /// The written text of the elements with more behind them, where it has `limit` bytes at most.
-    pub fn with_more(&self, alloc: Global, more: &[Text], limit: usize) -> Result<Listed, GrowFault>
+    pub fn with_more(&self, alloc: Global, more: &Packed, limit: usize) -> Result<Listed, GrowFault>
         ensures grown { IfOk result (λ m. with_elements limit self.now more.now ≡ Ok m) }
         ensures refused { IfErr result (λ f. f ≢ GrowFault.Memory → with_elements limit self.now more.now ≡ Err f) }
     {
-        let Texts { list: mut all } = copied_texts(alloc, self.elements())?;
-        let Texts { list: mut copies } = copied_texts(alloc, more)?;
-        all.append(&mut copies)?;
+        let mut all = self.elements.part(alloc, 0, self.elements.len())?;
+        all.push_all(more)?;
         let list = Listed::write(alloc, all)?;
         if limit < list.as_slice().len() {
             return Err(GrowFault::TooLong);
@@ -105,7 +104,7 @@ impl Listed {
     /// at most. A refusal leaves it as it was.
     ///
     /// Takes time in the length of what is added, where the text is a written one already.
-    pub fn push_all(&mut self, alloc: Global, more: &[Text], limit: usize) -> Result<(), GrowFault>
+    pub fn push_all(&mut self, alloc: Global, more: &Packed, limit: usize) -> Result<(), GrowFault>
         ensures grown { OnOk result (with_elements limit self.old more.now ≡ Ok self.new) }
         ensures refused { IfErr result (λ f. f ≢ GrowFault.Memory → with_elements limit self.old more.now ≡ Err f) }
         ensures kept { OnErr result (self.new ≡ self.old) }
@@ -117,7 +116,7 @@ impl Listed {
     }
 
     /// The same, where there are elements already and the text is their written one; whether it is.
-    fn push_behind(&mut self, alloc: Global, more: &[Text], limit: usize) -> Result<bool, GrowFault>
+    fn push_behind(&mut self, alloc: Global, more: &Packed, limit: usize) -> Result<bool, GrowFault>
         ensures grown { IfOk result (λ done. IsTrue done → with_elements limit self.old more.now ≡ Ok self.new) }
         ensures left { IfOk result (λ done. IsFalse done → self.new ≡ self.old) }
         ensures refused { IfErr result (λ f. f ≢ GrowFault.Memory → with_elements limit self.old more.now ≡ Err f) }
@@ -131,12 +130,11 @@ impl Listed {
             return Ok(false);
         }
         one_list();
-        let behind = written_behind(alloc, more)?;
+        let behind = write_behind(alloc, more)?;
         if exceeds(limit, self.text.len(), behind.len()) {
             return Err(GrowFault::TooLong);
         }
-        let Texts { list: mut copies } = copied_texts(alloc, more)?;
-        self.elements.append(&mut copies)?;
+        self.elements.push_all(more)?;
         match self.text.extend(behind.as_slice()) {
             Ok(()) => Ok(true),
             Err(_) => {
@@ -152,18 +150,4 @@ fn exceeds(limit: usize, one: usize, other: usize) -> bool
     ensures { result ≡ nat_lt limit (one + other) }
 {
     limit < one || limit - one < other
-}
-
-/// What stands behind the elements of a written list once these are put behind them: a space before each.
-#[tactic(auto, using(crate::proofs::Grown::empty_in_front))]
-fn written_behind(alloc: Global, elements: &[Text]) -> Result<Text, AllocError>
-    ensures { IfOk result (λ t. t ≡ written_rest elements.now) }
-{
-    // behind an empty element, which is written as two braces
-    let mut list = Vec::new(alloc);
-    list.push(Text::new(alloc))?;
-    let Texts { list: mut copies } = copied_texts(alloc, elements)?;
-    list.append(&mut copies)?;
-    let text = write_list(alloc, list.as_slice())?;
-    Text::from_slice(alloc, &text.as_slice()[2..])
 }

@@ -12,7 +12,7 @@ use crate::rows::Rows;
 use std::alloc::{AllocError, Global};
 use std::marker::Model;
 use std::rc::Rc;
-use tcl_words::Text;
+use tcl_words::{Packed, Text};
 
 /// A list that may have several owners, with its elements that were taken out, and those that are lists. A contract sees the text.
 #[derive(Drop)]
@@ -57,13 +57,13 @@ fn one_row(alloc: Global, index: usize, list: Rc<Listed>) -> Result<Rc<Rows>, Al
 }
 
 /// Whether the element at an index has these bytes.
-fn has_bytes(elements: &[Text], index: usize, bytes: &[u8]) -> bool
+fn has_bytes(elements: &Packed, index: usize, bytes: &[u8]) -> bool
     ensures { IsTrue result → slice_get elements.now index ≡ Some bytes.now }
 {
     match elements.get(index) {
         None => false,
         Some(element) => {
-            if element.as_slice() == bytes {
+            if element == bytes {
                 return true;
             }
             false
@@ -166,7 +166,7 @@ impl Sheet {
     pub fn push_all(
         &mut self,
         alloc: Global,
-        more: &[Text],
+        more: &Packed,
         limit: usize,
     ) -> Result<bool, GrowFault>
         ensures grown { IfOk result (λ done. IsTrue done → with_elements limit self.old more.now ≡ Ok self.new) }

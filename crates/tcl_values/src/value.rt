@@ -15,7 +15,7 @@ use crate::sheet::Sheet;
 use std::alloc::{AllocError, Global};
 use std::marker::Model;
 use std::rc::Rc;
-use tcl_words::{ListFault, Text};
+use tcl_words::{ListFault, Packed, Text};
 
 /// How the bytes of a value are held.
 #[derive(Drop)]
@@ -97,8 +97,8 @@ impl Value {
     }
 
     /// The written text of elements, which are at hand from then on.
-    pub fn written(alloc: Global, elements: Vec<Text>) -> Result<Value, AllocError>
-        ensures { IfOk result (λ v. v ≡ written elements.items) }
+    pub fn written(alloc: Global, elements: Packed) -> Result<Value, AllocError>
+        ensures { IfOk result (λ v. v ≡ written elements) }
     {
         Value::of_list(alloc, Rc::new(alloc, Listed::write(alloc, elements)?)?)
     }
@@ -212,7 +212,7 @@ impl Value {
     pub fn append_elements(
         &mut self,
         alloc: Global,
-        more: &[Text],
+        more: &Packed,
         limit: usize,
     ) -> Result<(), GrowFault>
         ensures grown { OnOk result (with_elements limit self.old more.now ≡ Ok self.new) }

@@ -8,3 +8,4 @@ pub mod Operands
 pub mod Tokens
 pub mod ListRules
 pub mod ListCommand
+pub mod Packed

@@ -37,6 +37,11 @@ abbrev pub with_byte : ℕ → ℕ → Option (List ℕ × ℕ) → Option (List
 with_byte b n None = None
 with_byte b n (Some p) = Some (b ∷ p.0, n + p.1)
 
+-- a value that bytes which were read before it are in front of
+abbrev pub with_text : List ℕ → ℕ → Option (List ℕ × ℕ) → Option (List ℕ × ℕ)
+with_text front n None = None
+with_text front n (Some p) = Some (front ++ p.0, n + p.1)
+
 -- what ends an element, in quotes or not
 abbrev pub stops_element : Bool → ℕ → Bool
 stops_element true b = b == ascii.quote
@@ -98,6 +103,10 @@ elements_behind on (Some e) = option_map (λ es. e.0 ∷ es) (on (e.1 - 1))
 
 abbrev pub elements_step : (ℕ → Option (List (List ℕ))) → ℕ → List ℕ → Option (List (List ℕ))
 elements_step on b bytes = if is_white b then on 0 else elements_behind on (element (b ∷ bytes))
+
+-- an element that was read behind others, and how many bytes it takes
+abbrev pub put_behind : List (List ℕ) → Option (List ℕ × ℕ) → Option (List (List ℕ) × ℕ)
+put_behind es e = option_map (λ p. (es ++ p.0 ∷ [], p.1)) e
 
 -- the elements of a text, where it is a list
 unfoldable pub elements : List ℕ → Option (List (List ℕ))

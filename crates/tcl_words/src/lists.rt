@@ -1,11 +1,12 @@
 //! Lists as text.
 
-ghost use Rattle.std.specs.Prelude.{◌≡◌, ℕ, List, Err, ◌<◌, ◌≤◌, length, IfOk, IfSome, IsTrue};
-ghost use Rattle.tcl_words.specs.Lists.{GivesOption, stops_element, is_white, begins_white, content, closing, element, elements, ReadsAs};
+ghost use Rattle.std.specs.Prelude.{◌≡◌, ℕ, List, Err, ◌<◌, ◌≤◌, length, take, drop, IfOk, IfSome, IsTrue};
+ghost use Rattle.tcl_words.specs.Lists.{GivesOption, stops_element, is_white, begins_white, content, closing, element, elements, with_text, put_behind, ReadsAs};
 
 use crate::bytes::Text;
 use crate::escapes::backslash;
 use crate::faults::ListFault;
+use crate::packed::Packed;
 use crate::places::{after, before};
 use crate::scan::is_blank;
 use std::alloc::{AllocError, Global};
@@ -62,6 +63,44 @@ fn content(alloc: Global, bytes: &[u8], quoted: bool) -> Result<(Text, usize), L
     Ok((Text { bytes: text }, at))
 }
 
+/// How many bytes stand before one that ends an element or is a backslash.
+fn plain_len(bytes: &[u8], quoted: bool) -> usize
+    ensures within { result ≤ length bytes.now }
+    ensures read { with_text (take result bytes.now) result (content quoted (drop result bytes.now)) ≡ content quoted bytes.now }
+{
+    let mut at = 0;
+    while at < bytes.len() {
+        let b = bytes[at];
+        if b == b'\\' || stops_element(quoted, b) {
+            return at;
+        }
+        at += 1;
+    }
+    at
+}
+
+/// Puts the bytes up to the end of an element behind other elements, and how many they are. Those without a backslash are copied as
+/// they stand.
+fn push_content(
+    list: &mut Packed,
+    alloc: Global,
+    bytes: &[u8],
+    quoted: bool,
+) -> Result<usize, ListFault>
+    ensures value { GivesOption (λ n. (list.new, n)) result (put_behind list.old (content quoted bytes.now)) }
+    ensures within { IfOk result (λ n. n ≤ length bytes.now) }
+    ensures quote { IsTrue quoted → IfOk result (λ n. n < length bytes.now) }
+{
+    let n = plain_len(bytes, quoted);
+    if n < bytes.len() && stops_element(quoted, bytes[n]) {
+        list.push(before(bytes, n))?;
+        return Ok(n);
+    }
+    let (text, n) = content(alloc, bytes, quoted)?;
+    list.push(text.as_slice())?;
+    Ok(n)
+}
+
 /// How many bytes stand before the brace that closes.
 pub(crate) fn closing(bytes: &[u8]) -> Option<usize>
     ensures value { result ≡ closing bytes.now 0 }
@@ -89,14 +128,17 @@ pub(crate) fn closing(bytes: &[u8]) -> Option<usize>
     None
 }
 
-/// The element at the front of a text, and how many bytes it takes.
+/// Puts the element at the front of a text behind others, and how many bytes it takes.
 #[tactic(auto, unfolding(crate::specs::Lists::element))]
-fn element(alloc: Global, bytes: &[u8]) -> Result<(Text, usize), ListFault>
-    ensures value { GivesOption (λ x. (x.0, x.1)) result (element bytes.now) }
-    ensures within { IfOk result (λ x. x.1 ≤ length bytes.now) }
+fn push_element(list: &mut Packed, alloc: Global, bytes: &[u8]) -> Result<usize, ListFault>
+    ensures value { GivesOption (λ n. (list.new, n)) result (put_behind list.old (element bytes.now)) }
+    ensures within { IfOk result (λ n. n ≤ length bytes.now) }
 {
     match bytes {
-        [] => Ok((Text::from_slice(alloc, bytes)?, 0)),
+        [] => {
+            list.push(bytes)?;
+            Ok(0)
+        }
         [b'{', rest @ ..] => {
             let Some(n) = closing(rest) else {
                 return Err(ListFault::BadList);
@@ -104,41 +146,41 @@ fn element(alloc: Global, bytes: &[u8]) -> Result<(Text, usize), ListFault>
             if !begins_white(after(rest, n + 1)) {
                 return Err(ListFault::BadList);
             }
-            Ok((Text::from_slice(alloc, before(rest, n))?, n + 2))
+            list.push(before(rest, n))?;
+            Ok(n + 2)
         }
         [b'"', rest @ ..] => {
-            let (text, n) = content(alloc, rest, true)?;
+            let n = push_content(list, alloc, rest, true)?;
             if !begins_white(after(rest, n + 1)) {
                 return Err(ListFault::BadList);
             }
-            Ok((text, n + 2))
+            Ok(n + 2)
         }
-        [_, ..] => content(alloc, bytes, false),
+        [_, ..] => push_content(list, alloc, bytes, false),
     }
 }
 
 /// The elements of a text in order, where it is a list.
 ///
 /// `BadList` exactly where the text reads as no list.
-pub fn read_list(alloc: Global, text: &[u8]) -> Result<Vec<Text>, ListFault>
-    ensures found { IfOk result (λ v. ReadsAs text.now v.items) }
+pub fn read_list(alloc: Global, text: &[u8]) -> Result<Packed, ListFault>
+    ensures found { IfOk result (λ l. ReadsAs text.now l) }
     ensures bad { result ≡ Err ListFault.BadList → (l : List (List ℕ)) → ¬ ReadsAs text.now l }
 {
     split(alloc, text)
 }
 
 /// The elements of a text, by the definition that the crate's laws are about.
-fn split(alloc: Global, text: &[u8]) -> Result<Vec<Text>, ListFault>
-    ensures { GivesOption (λ v. v.items) result (elements text.now) }
+fn split(alloc: Global, text: &[u8]) -> Result<Packed, ListFault>
+    ensures { GivesOption (λ l. l) result (elements text.now) }
 {
-    let mut list = Vec::new(alloc);
+    let mut list = Packed::new(alloc);
     let mut at = 0;
     while at < text.len() {
         if is_white(text[at]) {
             at += 1;
         } else {
-            let (e, n) = element(alloc, after(text, at))?;
-            list.push(e)?;
+            let n = push_element(&mut list, alloc, after(text, at))?;
             at += n;
         }
     }

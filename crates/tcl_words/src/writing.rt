@@ -1,6 +1,6 @@
 //! The one written text of a list.
 
-ghost use Rattle.std.specs.Prelude.{◌≡◌, ◌↔◌, ◌∷◌, Ok, Some, map, length, ℕ, List, ◌++◌, ◌==◌, IfOk, OnOk};
+ghost use Rattle.std.specs.Prelude.{◌≡◌, ◌↔◌, ◌∷◌, Ok, Some, map, length, drop, ℕ, List, ◌++◌, ◌==◌, IfOk, OnOk};
 ghost use Rattle.std.specs.List.{list_any};
 ghost use Rattle.tcl_words.specs.Commands.{next_command};
 ghost use Rattle.tcl_words.specs.ListCommand.{word_of};
@@ -9,6 +9,7 @@ ghost use Rattle.tcl_words.specs.Lists.{is_special, needs_quoting, balances, fit
 
 use crate::bytes::Text;
 use crate::lists::is_white;
+use crate::packed::Packed;
 use crate::scan::begins_with;
 use std::alloc::{AllocError, Global};
 
@@ -19,7 +20,7 @@ fn is_special(b: u8) -> bool
     is_white(b) || matches!(b, b'"' | b'{' | b'}' | b'[' | b']' | b'$' | b';' | b'\\')
 }
 
-/// Looks at each byte, so that many are looked at together: where one is found, they are all written one by one anyway.
+/// Looks at each byte, so that many are looked at together: an element with one is looked at and written as a whole anyway.
 fn has_special(e: &[u8]) -> bool
     ensures { result ≡ list_any is_special e.now }
 {
@@ -120,26 +121,35 @@ fn push_element(out: &mut Vec<u8>, first: bool, e: &[u8]) -> Result<(), AllocErr
     push_escaped(out, e)
 }
 
-/// Writes elements at the end, with a space before each.
-fn push_rest(out: &mut Vec<u8>, list: &[Text]) -> Result<(), AllocError>
-    ensures { OnOk result (out.new.items ≡ out.old.items ++ written_rest list.now) }
+/// Writes the elements from an index on at the end, with a space before each.
+fn push_from(out: &mut Vec<u8>, list: &Packed, from: usize) -> Result<(), AllocError>
+    ensures { OnOk result (out.new.items ≡ out.old.items ++ written_rest (drop from list.now)) }
 {
-    for e in list {
+    for index in from..list.len() {
         out.push(b' ')?;
-        push_element(out, false, e.as_slice())?;
+        push_element(out, false, list.at(index))?;
     }
     Ok(())
 }
 
 /// The list as text, which reads as the list.
-pub fn write_list(alloc: Global, list: &[Text]) -> Result<Text, AllocError>
+pub fn write_list(alloc: Global, list: &Packed) -> Result<Text, AllocError>
     ensures { IfOk result (λ t. t ≡ written list.now) }
 {
     let mut out = Vec::new(alloc);
-    if let [first, rest @ ..] = list {
-        push_element(&mut out, true, first.as_slice())?;
-        push_rest(&mut out, rest)?;
+    if let Some(first) = list.get(0) {
+        push_element(&mut out, true, first)?;
+        push_from(&mut out, list, 1)?;
     }
+    Ok(Text { bytes: out })
+}
+
+/// What stands behind the elements of a written list once these are put behind them: a space before each.
+pub fn write_behind(alloc: Global, list: &Packed) -> Result<Text, AllocError>
+    ensures { IfOk result (λ t. t ≡ written_rest list.now) }
+{
+    let mut out = Vec::new(alloc);
+    push_from(&mut out, list, 0)?;
     Ok(Text { bytes: out })
 }
 
