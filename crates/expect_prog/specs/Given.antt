@@ -1,5 +1,5 @@
 -- The scripts that an order's settings and files make.
-use Rattle.std.specs.Prelude.{◌≡◌, ℕ, ◌*◌, List, [], map, length, Option, unwrap_or, option_map, codes, Bool, if◌then◌else◌}
+use Rattle.std.specs.Prelude.{◌≡◌, ℕ, ◌*◌, List, [], map, length, Option, unwrap_or, option_map, codes, Bool, false, if◌then◌else◌}
 use Rattle.std.specs.Str.{bytes_eq}
 use Rattle.std.specs.Borrow.{Bor}
 use Rattle.clap.specs.Matches.{found_of, matched_of, raw_values}
@@ -12,6 +12,14 @@ use Rattle.dialogue_sched.specs.declared.script.Script.{Script}
 -- as many steps as are asked for, or a million
 abbrev pub steps_given : Option ℕ → ℕ
 steps_given asked = unwrap_or asked 1000000
+
+-- whether reports in a format have the variables in them, where that is asked for: a summary and TAP never do
+abbrev pub vars_told : Format → Bool → Bool
+vars_told Text asked = asked
+vars_told Escaped asked = asked
+vars_told Summary asked = false
+vars_told Json asked = asked
+vars_told Tap asked = false
 
 -- what each script of an order is given: its steps, its last moment in milliseconds, an empty environment, and whether it tells its variables
 abbrev pub settings_given : ℕ → Option ℕ → Bool → Settings

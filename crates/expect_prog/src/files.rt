@@ -1,7 +1,7 @@
 //! The files of an order.
 
 ghost use Rattle.std.specs.Prelude.{◌≡◌, ◌≤◌, length, IfOk, OnOk};
-ghost use Rattle.expect_prog.specs.Given.{script_given, scripts_given, AreOfFiles};
+ghost use Rattle.expect_prog.specs.Given.{script_given, scripts_given, vars_told, AreOfFiles};
 
 use crate::command_line::{Check, Explain, Plan, Replay, Scripts, Show};
 use crate::complaint::Complaint;
@@ -10,7 +10,7 @@ use crate::outcome::Outcome;
 use child_events::Counted;
 use course_texts::{explain, show_log};
 use dialogue_sched::Script;
-use report_texts::{ReadFault, read_all};
+use report_texts::{Form, Format, ReadFault, read_all};
 use script_runs::{CheckFault, NoShelf, Shelf, check_source, plan_log, replay};
 use session::{Pairs, SOURCE_LIMIT, Settings};
 use std::alloc::{AllocError, Global};
@@ -107,20 +107,33 @@ fn scripts_of(
     Ok(scripts)
 }
 
+/// Whether reports in a form have the variables in them.
+fn tells_vars(form: &Form) -> bool
+    ensures { result ≡ vars_told form.now.format form.now.shown.vars }
+{
+    match form.format {
+        Format::Text => form.shown.vars,
+        Format::Escaped => form.shown.vars,
+        Format::Summary => false,
+        Format::Json => form.shown.vars,
+        Format::Tap => false,
+    }
+}
+
 /// The scripts of an order: their sources are read in order, and the first that can't be read is complained of.
 pub fn scripts<'a, R: Files>(
     rt: &R,
     alloc: Global,
     order: &Scripts<'a>,
 ) -> Result<Vec<Script>, Complaint<'a>>
-    ensures { IfOk result (λ ss. AreOfFiles order.now.steps order.now.limit_ms order.now.form.shown.vars order.now.sources.items ss.items) }
+    ensures { IfOk result (λ ss. AreOfFiles order.now.steps order.now.limit_ms (vars_told order.now.form.format order.now.form.shown.vars) order.now.sources.items ss.items) }
 {
     let sources = read_sources(rt, alloc, order.sources.as_slice())?;
     let scripts = scripts_of(
         alloc,
         order.steps,
         order.limit_ms,
-        order.form.shown.vars,
+        tells_vars(&order.form),
         sources,
     )?;
     Ok(scripts)
