@@ -1,5 +1,6 @@
 //! The commands on lists.
 
+ghost use Rattle.std.specs.Prelude.{◌∷◌, []};
 ghost use Rattle.tcl_commands.specs.Plain.{list_length, llength, list_element, lindex, list_range, lrange};
 ghost use Rattle.tcl_commands.specs.Said.{limited};
 ghost use Rattle.tcl_commands.specs.Says.{Says};
@@ -11,7 +12,7 @@ use crate::texts::wrong;
 use crate::values::{count_text, limited, list_of, packed};
 use std::alloc::Global;
 use tcl_values::Value;
-use tcl_words::Packed;
+use tcl_words::{Packed, stands_bare};
 
 /// The list of elements, where it isn't too long.
 fn list_text(alloc: Global, elements: Packed) -> Result<Value, Complaint>
@@ -24,7 +25,27 @@ fn list_text(alloc: Global, elements: Packed) -> Result<Value, Complaint>
 pub(crate) fn list(alloc: Global, args: &[Value]) -> Result<Value, Complaint>
     ensures { Says result (limited (written args.now)) }
 {
-    list_text(alloc, packed(alloc, args)?)
+    match args {
+        [value] => list_of_one(alloc, value),
+        values => list_text(alloc, packed(alloc, values)?),
+    }
+}
+
+/// The list that has a value alone. A value that is written as it stands is shared; a long one is read as a list then, so that this is
+/// known at its next use.
+fn list_of_one(alloc: Global, value: &Value) -> Result<Value, Complaint>
+    ensures { Says result (limited (written (value.now ∷ []))) }
+{
+    if value.is_word() {
+        return limited(alloc, value.shared(alloc)?);
+    }
+    if stands_bare(value.as_slice()) {
+        let _ = value.elements(alloc);
+        return limited(alloc, value.shared(alloc)?);
+    }
+    let mut elements = Packed::new(alloc);
+    elements.push(value.as_slice())?;
+    list_text(alloc, elements)
 }
 
 /// `llength list`

@@ -1,13 +1,15 @@
 //! A text that is a list, with its elements beside it.
 
-ghost use Rattle.std.specs.Prelude.{◌≡◌, ◌≢◌, ◌+◌, nat_lt, ℕ, List, Ok, Err, IfOk, IfErr, OnOk, OnErr, IsTrue, IsFalse};
+ghost use Rattle.std.specs.Prelude.{◌≡◌, ◌≢◌, ◌+◌, ◌∷◌, [], nat_lt, ℕ, List, Ok, Err, IfOk, IfErr, OnOk, OnErr, IsTrue, IsFalse};
 ghost use Rattle.tcl_words.specs.Lists.{ReadsAs, written};
 ghost use Rattle.tcl_values.specs.Lists.{with_elements};
 
 use crate::faults::GrowFault;
 use std::alloc::{AllocError, Global};
 use std::marker::Model;
-use tcl_words::{ListFault, Packed, Text, one_list, read_list, write_behind, write_list};
+use tcl_words::{
+    ListFault, Packed, Text, one_list, read_list, stands_bare, write_behind, write_list,
+};
 
 /// A text that reads as a list, and the elements that it reads as. A contract sees the text.
 #[derive(Drop)]
@@ -31,6 +33,18 @@ impl Model for Listed {
     ghost invariant = { λ l. ReadsAs l.text l.elements × (l.is_written ≡ true → l.text ≡ written l.elements) };
 }
 
+/// Whether a text that reads as these elements is known to be their written text: a word with nothing to quote.
+fn is_bare(text: &[u8], elements: &Packed) -> bool
+    requires { ReadsAs text.now elements.now }
+    ensures { IsTrue result → text.now ≡ written elements.now }
+{
+    one_list();
+    if elements.len() != 1 {
+        return false;
+    }
+    stands_bare(text)
+}
+
 impl Listed {
     /// The text with its elements, where it is a list.
     ///
@@ -40,10 +54,11 @@ impl Listed {
         ensures bad { result ≡ Err ListFault.BadList → (l : List (List ℕ)) → ¬ ReadsAs text.now l }
     {
         let elements = read_list(alloc, text)?;
+        let is_written = is_bare(text, &elements);
         Ok(Listed {
             text: Text::from_slice(alloc, text)?,
             elements,
-            is_written: false,
+            is_written,
         })
     }
 
@@ -72,6 +87,22 @@ impl Listed {
         ensures { ReadsAs self.now result.now }
     {
         &self.elements
+    }
+
+    /// Whether the text is known to be the written text of the list that has it alone. Takes constant time.
+    pub fn is_word(&self) -> bool
+        ensures { IsTrue result → written (self.now ∷ []) ≡ self.now }
+    {
+        if !self.is_written {
+            return false;
+        }
+        if self.elements.len() != 1 {
+            return false;
+        }
+        match self.elements.get(0) {
+            Some(element) => element.len() == self.text.len(),
+            None => false,
+        }
     }
 
     /// The text, without its elements.

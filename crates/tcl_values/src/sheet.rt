@@ -1,7 +1,7 @@
 //! A list that several values share, with its elements that were taken out.
 
-ghost use Rattle.std.specs.Prelude.{◌≡◌, ◌≢◌, ℕ, List, [], All, slice_get, Some, Ok, Err, IfOk, IfErr, OnOk, OnErr, IsTrue, IsFalse};
-ghost use Rattle.tcl_words.specs.Lists.{ReadsAs};
+ghost use Rattle.std.specs.Prelude.{◌≡◌, ◌≢◌, ◌∷◌, ℕ, List, [], All, slice_get, Some, Ok, Err, IfOk, IfErr, OnOk, OnErr, IsTrue, IsFalse};
+ghost use Rattle.tcl_words.specs.Lists.{ReadsAs, written};
 ghost use Rattle.tcl_values.specs.Rows.{IsRow};
 ghost use Rattle.tcl_values.specs.Lists.{elements_of, with_elements};
 
@@ -94,6 +94,13 @@ impl Sheet {
         let list = self.list.clone()?;
         let rows = self.rows.clone()?;
         Ok(Sheet { list, rows })
+    }
+
+    /// Whether the text is known to be the written text of the list that has it alone. Takes constant time.
+    pub fn is_word(&self) -> bool
+        ensures { IsTrue result → written (self.now ∷ []) ≡ self.now }
+    {
+        self.list.is_word()
     }
 
     /// The list alone.

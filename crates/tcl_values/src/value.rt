@@ -1,6 +1,6 @@
 //! A value of a variable or a word: a short text that lies in it, or a longer one that is shared.
 
-ghost use Rattle.std.specs.Prelude.{◌≡◌, ◌≢◌, ◌++◌, [], length, None, Ok, Err, IfOk, IfErr, IfSome, OnOk, OnErr};
+ghost use Rattle.std.specs.Prelude.{◌≡◌, ◌≢◌, ◌++◌, ◌∷◌, [], length, None, Ok, Err, IfOk, IfErr, IfSome, OnOk, OnErr, IsTrue};
 ghost use Rattle.tcl_words.specs.Lists.{ReadsAs, elements, written};
 ghost use Rattle.tcl_values.specs.Forms.{bytes_of};
 ghost use Rattle.tcl_values.specs.Lists.{elements_of, with_elements};
@@ -15,7 +15,7 @@ use crate::sheet::Sheet;
 use std::alloc::{AllocError, Global};
 use std::marker::Model;
 use std::rc::Rc;
-use tcl_words::{ListFault, Packed, Text};
+use tcl_words::{ListFault, Packed, Text, stands_bare};
 
 /// How the bytes of a value are held.
 #[derive(Drop)]
@@ -227,6 +227,18 @@ impl Value {
         let list = self.list(alloc)?.with_more(alloc, more, limit)?;
         self.form = Form::Listed(Sheet::new(alloc, Rc::new(alloc, list)?)?);
         Ok(())
+    }
+
+    /// Whether the value is known to be the written text of the list that has it alone. Takes constant time: of a long value it is known
+    /// once the value was read as a list.
+    pub fn is_word(&self) -> bool
+        ensures { IsTrue result → written (self.now ∷ []) ≡ self.now }
+    {
+        match &self.form {
+            Form::Short(text) => stands_bare(text.as_slice()),
+            Form::Shared(_) => false,
+            Form::Listed(sheet) => sheet.is_word(),
+        }
     }
 
     /// Whether an owner of the value's bytes read them as a list, so that `settle` may have something to take up. Takes constant time.

@@ -28,4 +28,4 @@ pub use operands::operand;
 pub use packed::Packed;
 pub use scan::{ends_command, is_blank, is_continued};
 pub use shapes::{Command, Part, Word, copied_part, copied_parts};
-pub use writing::{list_is_command, list_rules, one_list, write_behind, write_list};
+pub use writing::{list_is_command, list_rules, one_list, stands_bare, write_behind, write_list};

@@ -96,6 +96,10 @@ fn push_content(
         list.push(before(bytes, n))?;
         return Ok(n);
     }
+    if n == bytes.len() && !quoted {
+        list.push(bytes)?;
+        return Ok(n);
+    }
     let (text, n) = content(alloc, bytes, quoted)?;
     list.push(text.as_slice())?;
     Ok(n)

@@ -1,6 +1,6 @@
 //! The one written text of a list.
 
-ghost use Rattle.std.specs.Prelude.{◌≡◌, ◌↔◌, ◌∷◌, Ok, Some, map, length, drop, ℕ, List, ◌++◌, ◌==◌, IfOk, OnOk};
+ghost use Rattle.std.specs.Prelude.{◌≡◌, ◌↔◌, ◌∷◌, Ok, Some, map, length, drop, ℕ, List, [], ◌++◌, ◌==◌, IfOk, OnOk, IsTrue};
 ghost use Rattle.std.specs.List.{list_any};
 ghost use Rattle.tcl_words.specs.Commands.{next_command};
 ghost use Rattle.tcl_words.specs.ListCommand.{word_of};
@@ -45,6 +45,13 @@ fn needs_quoting(first: bool, e: &[u8]) -> bool
         return true;
     }
     first && begins_with(b'#', e)
+}
+
+/// Whether bytes are the written text of the list that has them alone.
+pub fn stands_bare(e: &[u8]) -> bool
+    ensures { IsTrue result → written (e.now ∷ []) ≡ e.now }
+{
+    !needs_quoting(true, e)
 }
 
 /// Whether each brace has its other one.
