@@ -31,14 +31,15 @@ class Tried(NamedTuple):
 class Trying:
     """The edits of one crate while they are tried, each check over what those before it proved.
 
-    Of each that a round refused it has the goals to note in it. What an earlier run saw refused is not tried again, unless all is anew.
+    Of each that a round refused it has the goals to note in it, and of each that is refused the goal for the ledger. What an
+    earlier run on this machine saw refused is not tried again, nor what the ledger says, unless all is anew.
     """
 
-    def __init__(self, crate, anew):
+    def __init__(self, crate, anew, ledger):
         self.source = source_of(crate)
-        self.keeping = Keeping(crate, anew)
-        self.tried, self.controls, self.seconds, self.rounds, self.earlier = [], [], 0, 0, 0
-        self.goals = {}
+        self.keeping, self.ledger = Keeping(crate, anew), ledger
+        self.tried, self.controls, self.seconds, self.rounds, self.earlier, self.believed = [], [], 0, 0, 0, 0
+        self.goals, self.refusals = {}, {}
         self.kept = None
 
     def tell(self, edit, is_refused, said):
@@ -50,15 +51,28 @@ class Trying:
         self.tell(edit, True, f"{said} {goal}")
         if is_sound:
             self.keeping.put(edit, goal)
+            self.refusals[edit] = goal
+
+    def is_known(self, name):
+        """Whether an edit needn't be tried; what is known of it is told then."""
+        goal = self.keeping.goal_of(name)
+        if goal is not None:
+            self.earlier += 1
+            self.tell(name, True, f"refused at {goal}, as an earlier run saw")
+        else:
+            goal = self.ledger.goal_of(name)
+            if goal is None:
+                return False
+            self.believed += 1
+            self.tell(name, True, f"refused at {goal}, as the ledger says")
+        self.refusals[name] = goal
+        return True
 
     def trials(self):
         """The edits that can be applied and are to be tried; the others are told."""
         found = []
         for path in sorted(pathlib.Path(self.source.crate.folder).glob("edits/*.edit")):
-            goal = self.keeping.goal_of(path.stem)
-            if goal is not None:
-                self.earlier += 1
-                self.tell(path.stem, True, f"refused at {goal}, as an earlier run saw")
+            if self.is_known(path.stem):
                 continue
             try:
                 edit = read_edit(path)
