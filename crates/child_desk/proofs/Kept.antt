@@ -27,8 +27,8 @@ use Rattle.child_events.specs.declared.event.What.TheVariants as what
 use Rattle.child_events.specs.declared.event.Event.TheVariants as event
 use Rattle.child_events.specs.declared.event.HallEvent.TheVariants as hall
 use Rattle.child_events.specs.World.{after_own}
-use Rattle.tcl_eval.specs.declared.ending.Ending.{Ending}
-use Rattle.tcl_eval.specs.declared.ending.Ending.TheVariants.{Waiting, Memory}
+use Rattle.tcl_host.specs.declared.ending.Ending.{Ending}
+use Rattle.tcl_host.specs.declared.ending.Ending.TheVariants.{Waiting, Memory}
 use Rattle.session.specs.declared.report.Report.{Report}
 use Rattle.session.specs.Left.{left, HandsOut}
 use Rattle.dialogue_sched.specs.Hall.{Requested, EndsAt, Ends}

@@ -22,7 +22,7 @@ use Rattle.session.specs.Left.{Kept, left, HandsOut}
 use Rattle.session.specs.Spent.{memory_report, Reports}
 use Rattle.session.specs.Growth.{Continues}
 use Rattle.session.proofs.Grows.{only_grows, ending_stays}
-use Rattle.tcl_eval.specs.declared.ending.Ending.TheVariants.{Waiting}
+use Rattle.tcl_host.specs.declared.ending.Ending.TheVariants.{Waiting}
 use Rattle.dialogue_sched.specs.declared.script.Script.{Script}
 use Rattle.dialogue_sched.specs.Took.{Took, AllTook}
 use Rattle.dialogue_sched.specs.Hall.{Begins, AllReport, session_at, Requested}

@@ -7,8 +7,8 @@ use Rattle.child_events.specs.declared.event.HallEvent.{HallEvent}
 use Rattle.child_events.specs.declared.event.HallEvent.TheVariants as hall
 use Rattle.child_events.specs.declared.event.What.TheVariants as what
 use Rattle.child_events.specs.World.{own}
-use Rattle.tcl_eval.specs.declared.ending.Ending.{Ending}
-use Rattle.tcl_eval.specs.declared.ending.Ending.TheVariants.{Waiting}
+use Rattle.tcl_host.specs.declared.ending.Ending.{Ending}
+use Rattle.tcl_host.specs.declared.ending.Ending.TheVariants.{Waiting}
 use Rattle.expect_core.specs.declared.request.Request.{Request}
 use Rattle.session.specs.declared.report.Report.{Report}
 use Rattle.session.specs.Meaning.{meaning}

@@ -6,7 +6,7 @@ use Rattle.child_events.specs.declared.event.What.{What}
 use Rattle.child_events.specs.declared.event.HallEvent.{HallEvent}
 use Rattle.child_events.specs.declared.event.HallEvent.TheVariants as hall
 use Rattle.child_events.specs.World.{own}
-use Rattle.tcl_eval.specs.declared.ending.Ending.TheVariants.{Waiting}
+use Rattle.tcl_host.specs.declared.ending.Ending.TheVariants.{Waiting}
 use Rattle.session.specs.Left.{Kept, left}
 use Rattle.dialogue_sched.specs.declared.script.Script.{Script}
 use Rattle.child_keeper.specs.declared.keeper.Keeper.{Ghosts}

@@ -5,7 +5,7 @@ use Rattle.child_events.specs.declared.event.HallEvent.{HallEvent}
 use Rattle.child_events.specs.declared.event.HallEvent.TheVariants as hall
 use Rattle.child_events.specs.World.{own}
 use Rattle.child_events.specs.Log.{AllFit}
-use Rattle.tcl_eval.specs.declared.ending.Ending.TheVariants.{Waiting}
+use Rattle.tcl_host.specs.declared.ending.Ending.TheVariants.{Waiting}
 use Rattle.expect_core.specs.declared.settings.Settings.{Settings}
 use Rattle.session.specs.Meaning.{meaning}
 use Rattle.session.specs.Growth.{Continues}

@@ -11,7 +11,7 @@ use dialogue_sched::Hall;
 use feed_rings::Bell;
 use std::alloc::{AllocError, Global};
 use std::sync::Wait;
-use tcl_eval::Ending;
+use tcl_host::Ending;
 
 /// How many milliseconds a desk rests at most.
 const REST: u64 = 100;

@@ -9,8 +9,8 @@ use Rattle.child_events.specs.declared.faults.LogFault.TheVariants as logs
 use Rattle.child_events.specs.Log.{LogText}
 use Rattle.child_events.specs.Reading.{Refused}
 use Rattle.child_events.specs.World.{own_of}
-use Rattle.tcl_eval.specs.declared.ending.Ending.{Ending}
-use Rattle.tcl_eval.specs.declared.ending.Ending.TheVariants as ending
+use Rattle.tcl_host.specs.declared.ending.Ending.{Ending}
+use Rattle.tcl_host.specs.declared.ending.Ending.TheVariants as ending
 use Rattle.expect_core.specs.declared.request.Request.{Request}
 use Rattle.session.specs.declared.report.Report.{Report}
 use Rattle.session.specs.Left.{Kept, Fed, HasAsked, HasBegun}

@@ -1,8 +1,8 @@
 -- What a hall's calls say.
 use Rattle.std.specs.Prelude.{◌≡◌, ℕ, ◌+◌, ◌-◌, nat_lt, length, List, [], ◌∷◌, slice_get, slice_set, false, IsTrue, Option, Some, None, Result, Ok, Err, MatchOption, if◌then◌else◌}
 use Rattle.child_events.specs.declared.event.Event.{Event}
-use Rattle.tcl_eval.specs.declared.ending.Ending.{Ending}
-use Rattle.tcl_eval.specs.declared.ending.Ending.TheVariants.{Memory}
+use Rattle.tcl_host.specs.declared.ending.Ending.{Ending}
+use Rattle.tcl_host.specs.declared.ending.Ending.TheVariants.{Memory}
 use Rattle.session.specs.declared.report.Report.{Report}
 use Rattle.expect_core.specs.declared.request.Request.{Request}
 use Rattle.expect_core.specs.Lanes.{untaken_of}

@@ -4,7 +4,7 @@ use Rattle.tcl_subst.specs.Variables.{Variables}
 use Rattle.tcl_commands.specs.declared.code.Code.{Code}
 use Rattle.tcl_commands.specs.declared.code.Code.TheVariants as code
 use Rattle.tcl_commands.specs.Said.{Said, ◌>>=◌}
-use Rattle.tcl_eval.specs.declared.host.HostStep.TheVariants.{Done}
+use Rattle.tcl_host.specs.declared.host.HostStep.TheVariants.{Done}
 use Rattle.expect_core.specs.declared.flags.Switch.TheVariants.{Timer}
 use Rattle.expect_core.specs.declared.flags.Flags.{Flags}
 use Rattle.expect_core.specs.declared.dialogue.Dialogue.{Dialogue}

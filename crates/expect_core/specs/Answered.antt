@@ -7,9 +7,9 @@ use Rattle.child_events.specs.declared.event.Cause.TheVariants as cause
 use Rattle.tcl_subst.specs.Variables.{Variables}
 use Rattle.tcl_commands.specs.declared.code.Code.TheVariants as code
 use Rattle.tcl_commands.specs.Said.{Said}
-use Rattle.tcl_eval.specs.declared.host.HostStep.{HostStep}
-use Rattle.tcl_eval.specs.declared.host.HostStep.TheVariants.{Done, Fail, Wait, Stop}
-use Rattle.tcl_eval.specs.declared.ending.Ending.TheVariants.{TimeLimit}
+use Rattle.tcl_host.specs.declared.host.HostStep.{HostStep}
+use Rattle.tcl_host.specs.declared.host.HostStep.TheVariants.{Done, Fail, Wait, Stop}
+use Rattle.tcl_host.specs.declared.ending.Ending.TheVariants.{TimeLimit}
 use Rattle.expect_core.specs.declared.phase.Purpose.{Purpose}
 use Rattle.expect_core.specs.declared.phase.Phase.{Phase}
 use Rattle.expect_core.specs.declared.phase.Phase.TheVariants as phase

@@ -17,7 +17,7 @@ use Rattle.tcl_subst.specs.Variables.{Variables}
 use Rattle.tcl_commands.specs.declared.code.Code.{Code}
 use Rattle.tcl_commands.specs.declared.code.Code.TheVariants as code
 use Rattle.tcl_commands.specs.Said.{Said, ◌>>=◌, as_number}
-use Rattle.tcl_eval.specs.declared.host.HostStep.TheVariants.{Done, Body}
+use Rattle.tcl_host.specs.declared.host.HostStep.TheVariants.{Done, Body}
 use Rattle.expect_core.specs.declared.request.Act.TheVariants as act
 use Rattle.expect_core.specs.declared.child.Standing.TheVariants as standing
 use Rattle.expect_core.specs.declared.plan.Span.{Span}

@@ -5,10 +5,10 @@ use Rattle.child_events.specs.declared.event.Event.TheVariants.{Tick}
 use Rattle.tcl_subst.specs.Variables.{Variables}
 use Rattle.tcl_commands.specs.declared.code.Code.{Code}
 use Rattle.tcl_commands.specs.declared.code.Code.TheVariants.{Again, AgainLater}
-use Rattle.tcl_eval.specs.declared.ending.Ending.TheVariants.{TimeLimit}
-use Rattle.tcl_eval.specs.declared.host.HostStep.{HostStep}
-use Rattle.tcl_eval.specs.declared.host.HostStep.TheVariants.{Done, Body, Words, Wait, Stop, Unknown, Memory}
-use Rattle.tcl_eval.specs.Tree.{Call, Begin, AfterBody}
+use Rattle.tcl_host.specs.declared.ending.Ending.TheVariants.{TimeLimit}
+use Rattle.tcl_host.specs.declared.host.HostStep.{HostStep}
+use Rattle.tcl_host.specs.declared.host.HostStep.TheVariants.{Done, Body, Words, Wait, Stop, Unknown, Memory}
+use Rattle.tcl_host.specs.Calls.{Call, Begin, AfterBody}
 use Rattle.expect_core.specs.declared.own.Own.{Own}
 use Rattle.expect_core.specs.declared.dialogue.Dialogue.{Dialogue}
 use Rattle.expect_core.specs.Answered.{Outcome, idle}

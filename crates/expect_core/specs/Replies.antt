@@ -1,6 +1,6 @@
 -- A step, unless memory was refused.
 use Rattle.std.specs.Prelude.{◌≡◌, false, IsTrue, Result, Ok, Err}
-use Rattle.tcl_eval.specs.declared.host.HostStep.{HostStep}
+use Rattle.tcl_host.specs.declared.host.HostStep.{HostStep}
 use Rattle.expect_core.specs.declared.dialogue.Dialogue.{Dialogue}
 
 -- a dialogue that lives stays, and the step stands; behind a refusal it doesn't live on

@@ -8,7 +8,7 @@ use crate::dialogue::Dialogue;
 use crate::flags::{Flags, Switch, Takes, bare, flags_of};
 use std::alloc::{AllocError, Global};
 use tcl_commands::{Code, Complaint, said};
-use tcl_eval::HostStep;
+use tcl_host::HostStep;
 use tcl_subst::Vars;
 use tcl_values::Value;
 

@@ -23,7 +23,7 @@ use child_events::{Answer, Cause, Event, What};
 use std::alloc::{AllocError, Global};
 use std::mem;
 use tcl_commands::Code;
-use tcl_eval::{Ending, HostStep};
+use tcl_host::{Ending, HostStep};
 use tcl_values::Value;
 use tcl_words::Text;
 

@@ -14,7 +14,7 @@ use crate::request::Act;
 use crate::texts::waited_for;
 use std::alloc::{AllocError, Global};
 use tcl_commands::{Complaint, said};
-use tcl_eval::HostStep;
+use tcl_host::HostStep;
 use tcl_subst::Vars;
 use tcl_values::Value;
 

@@ -21,7 +21,7 @@ use child_events::Answer;
 use exp_match::Spans;
 use std::alloc::{AllocError, Global};
 use tcl_commands::{Code, said};
-use tcl_eval::{Ending, HostStep};
+use tcl_host::{Ending, HostStep};
 use tcl_subst::Vars;
 use tcl_values::Value;
 use tcl_words::Text;

@@ -14,7 +14,7 @@ use crate::planning::listed;
 use std::alloc::{AllocError, Global};
 use std::mem;
 use tcl_commands::Code;
-use tcl_eval::{Host, HostStep, Values};
+use tcl_host::{Host, HostStep, Values};
 use tcl_subst::Vars;
 use tcl_values::Value;
 use tcl_words::Text;

@@ -13,8 +13,8 @@ use crate::place::Place;
 use crate::texts::{bad_removal, bad_size, bit, decimal};
 use std::alloc::{AllocError, Global};
 use tcl_commands::{Code, Complaint, said};
-use tcl_eval::HostStep;
 use tcl_expr::read_number;
+use tcl_host::HostStep;
 use tcl_subst::Vars;
 use tcl_values::Value;
 

@@ -4,7 +4,7 @@ use crate::place::Place;
 use crate::plan::Plan;
 use child_events::Cause;
 use exp_match::Spans;
-use tcl_eval::Pile;
+use tcl_host::Pile;
 use tcl_words::Texts;
 use tty_input::Action;
 

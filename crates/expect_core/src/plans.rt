@@ -8,7 +8,7 @@ use crate::plan::Plan;
 use exp_match::{Compiled, PatternFault, PatternList};
 use std::alloc::{AllocError, Global};
 use std::marker::Model;
-use tcl_eval::Pile;
+use tcl_host::Pile;
 use tcl_values::Value;
 
 /// The expects whose actions are evaluated, the innermost first. A contract sees a list of them.

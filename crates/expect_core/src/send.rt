@@ -15,7 +15,7 @@ use crate::texts::with_cause;
 use child_events::{Answer, Cause};
 use std::alloc::{AllocError, Global};
 use tcl_commands::{Complaint, said};
-use tcl_eval::{HostStep, Pile};
+use tcl_host::{HostStep, Pile};
 use tcl_subst::Vars;
 use tcl_values::Value;
 use tcl_words::Text;

@@ -13,7 +13,7 @@ use crate::place::Place;
 use crate::texts::{decimal, number_of_cause, with_cause};
 use child_events::{Answer, Cause};
 use std::alloc::{AllocError, Global};
-use tcl_eval::HostStep;
+use tcl_host::HostStep;
 use tcl_subst::Vars;
 use tcl_values::Value;
 use tcl_words::Text;

@@ -17,7 +17,7 @@ use crate::texts::{decimal, id_at, not_executed, spawn_line};
 use child_events::Answer;
 use std::alloc::{AllocError, Global};
 use tcl_commands::said;
-use tcl_eval::HostStep;
+use tcl_host::HostStep;
 use tcl_subst::Vars;
 use tcl_values::Value;
 use tcl_words::{Text, Texts};

@@ -11,7 +11,7 @@ use crate::flags::{Takes, bad_flag, flags_of, is, is_flag, with_text};
 use crate::texts::bit;
 use std::alloc::{AllocError, Global};
 use tcl_commands::{Complaint, bad_option, said, wrong_args};
-use tcl_eval::HostStep;
+use tcl_host::HostStep;
 use tcl_subst::Vars;
 use tcl_values::Value;
 use tcl_words::Text;

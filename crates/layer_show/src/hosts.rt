@@ -14,7 +14,8 @@ ghost use Rattle.std.specs.Prelude.{◌≡◌, false, IfOk, OnOk, OnErr};
 
 use std::alloc::{AllocError, Global};
 use std::mem;
-use tcl_eval::{Code, Ending, Host, HostStep, Values};
+use tcl_eval::Code;
+use tcl_host::{Ending, Host, HostStep, Values};
 use tcl_subst::{SubstFault, Vars};
 use tcl_values::Value;
 use tcl_words::{Packed, Text, write_list};

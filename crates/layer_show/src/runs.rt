@@ -7,7 +7,8 @@ use crate::complaint::Complaint;
 use crate::hosts::{SmallHost, digit};
 use crate::spell::push_labelled;
 use std::alloc::Global;
-use tcl_eval::{Ending, Machine, Meter, Pause};
+use tcl_eval::{Machine, Meter, Pause};
+use tcl_host::Ending;
 use tcl_subst::Vars;
 use tcl_words::Text;
 

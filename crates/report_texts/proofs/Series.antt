@@ -8,7 +8,7 @@ use Rattle.session.specs.declared.report.Report.{Report}
 use Rattle.dialogue_sched.proofs.Pairing.{Paired-length}
 use Rattle.report_texts.specs.declared.devices.Unwritten.{Unwritten}
 use Rattle.report_texts.specs.Devices.{Writes}
-use Rattle.tcl_eval.specs.declared.ending.Ending.{Ending}
+use Rattle.tcl_host.specs.declared.ending.Ending.{Ending}
 use Rattle.report_texts.specs.Report.{is_done, all_done}
 use Rattle.report_texts.specs.Form.{part_bytes, parts_bytes, endings_of}
 use Rattle.report_texts.specs.Written.{StandsFor, AllStandFor, WritesOne, WritesParts}

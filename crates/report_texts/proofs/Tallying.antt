@@ -5,7 +5,7 @@ use Rattle.std.specs.Fmt.{decimal}
 use Rattle.std.proofs.lemmas.List.{take-append-drop}
 use Rattle.std.specs.Io.KnownBytes.{Appends}
 use Rattle.std.proofs.KnownBytes.{Appends-trans}
-use Rattle.tcl_eval.specs.declared.ending.Ending.{Ending}
+use Rattle.tcl_host.specs.declared.ending.Ending.{Ending}
 use Rattle.report_texts.specs.declared.tally.Kind.{Kind}
 use Rattle.report_texts.specs.declared.devices.Unwritten.{Unwritten}
 use Rattle.report_texts.specs.Devices.{Writes}

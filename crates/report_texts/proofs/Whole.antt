@@ -1,7 +1,7 @@
 -- The whole text of reports: what stands before their parts, the parts, and what stands behind them.
 use Rattle.std.proofs.Common.{ℕ, List, ◌++◌, length, Bool, Option, Result, Ok, Err, subst}
 use Rattle.std.specs.Io.KnownBytes.{Appends}
-use Rattle.tcl_eval.specs.declared.ending.Ending.{Ending}
+use Rattle.tcl_host.specs.declared.ending.Ending.{Ending}
 use Rattle.session.specs.declared.report.Report.{Report}
 use Rattle.dialogue_sched.proofs.Pairing.{Paired-length}
 use Rattle.report_texts.specs.declared.devices.Unwritten.{Unwritten}

@@ -1,6 +1,6 @@
 -- The text of reports in the form that is asked for.
 use Rattle.std.specs.Prelude.{ℕ, ◌+◌, ◌-◌, List, [], ◌∷◌, ◌++◌, map, length, slice_get, unwrap_or, codes}
-use Rattle.tcl_eval.specs.declared.ending.Ending.{Ending}
+use Rattle.tcl_host.specs.declared.ending.Ending.{Ending}
 use Rattle.session.specs.declared.report.Report.{Report}
 use Rattle.report_texts.specs.declared.texts.Shown.{Shown}
 use Rattle.report_texts.specs.declared.form.Form.{Form}

@@ -2,8 +2,8 @@
 use Rattle.std.specs.Prelude.{ℕ, ◌+◌, List, [], ◌∷◌, ◌++◌, length, codes, Bool, true, false, ◌||◌, ◌==◌, nat_lt, if◌then◌else◌}
 use Rattle.tcl_words.specs.Bytes as ascii
 use Rattle.hex.specs.Hex.{encode_lower}
-use Rattle.tcl_eval.specs.declared.ending.Ending.{Ending}
-use Rattle.tcl_eval.specs.declared.ending.Ending.TheVariants.{Exit, Error, StepLimit, TimeLimit, Memory, Waiting}
+use Rattle.tcl_host.specs.declared.ending.Ending.{Ending}
+use Rattle.tcl_host.specs.declared.ending.Ending.TheVariants.{Exit, Error, StepLimit, TimeLimit, Memory, Waiting}
 use Rattle.session.specs.declared.report.Report.{Report}
 use Rattle.report_texts.specs.declared.tally.Kind.{Kind}
 use Rattle.report_texts.specs.declared.tally.Kind.TheVariants as kind

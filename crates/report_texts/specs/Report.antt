@@ -3,8 +3,8 @@ use Rattle.std.specs.Prelude.{ℕ, List, [], ◌∷◌, ◌++◌, length, sum, c
 use Rattle.std.specs.Fmt.{decimal}
 use Rattle.tcl_words.specs.Bytes as ascii
 use Rattle.child_events.specs.Log.{hex_text}
-use Rattle.tcl_eval.specs.declared.ending.Ending.{Ending}
-use Rattle.tcl_eval.specs.declared.ending.Ending.TheVariants.{Exit, Error, StepLimit, TimeLimit, Memory, Waiting}
+use Rattle.tcl_host.specs.declared.ending.Ending.{Ending}
+use Rattle.tcl_host.specs.declared.ending.Ending.TheVariants.{Exit, Error, StepLimit, TimeLimit, Memory, Waiting}
 use Rattle.session.specs.declared.report.Report.{Report}
 use Rattle.expect_core.specs.declared.request.Request.{Request}
 use Rattle.report_texts.specs.declared.acts.Spelling.TheVariants.{Hex}

@@ -1,8 +1,8 @@
 -- Reports as tests of the Test Anything Protocol.
 use Rattle.std.specs.Prelude.{ℕ, List, [], ◌∷◌, ◌++◌, codes, ◌==◌, if◌then◌else◌}
 use Rattle.tcl_words.specs.Bytes as ascii
-use Rattle.tcl_eval.specs.declared.ending.Ending.{Ending}
-use Rattle.tcl_eval.specs.declared.ending.Ending.TheVariants.{Exit, Error, StepLimit, TimeLimit, Memory, Waiting}
+use Rattle.tcl_host.specs.declared.ending.Ending.{Ending}
+use Rattle.tcl_host.specs.declared.ending.Ending.TheVariants.{Exit, Error, StepLimit, TimeLimit, Memory, Waiting}
 use Rattle.session.specs.declared.report.Report.{Report}
 use Rattle.report_texts.specs.Report.{labelled, ending_text, is_done}
 use Rattle.report_texts.specs.Line.{line_byte, line_text}

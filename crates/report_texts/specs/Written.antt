@@ -9,7 +9,7 @@ use Rattle.report_texts.specs.Report.{all_done}
 use Rattle.report_texts.specs.Form.{part_bytes, parts_bytes, opening, endings_of, told_bytes}
 use Rattle.report_texts.specs.declared.form.Form.{Form}
 use Rattle.report_texts.specs.declared.form.Spares.{Spares}
-use Rattle.tcl_eval.specs.declared.ending.Ending.{Ending}
+use Rattle.tcl_host.specs.declared.ending.Ending.{Ending}
 
 -- the parts of so many scripts that were refused memory, the first of which is script 1
 pub record AreParts (form : Form) (count : ℕ) (texts : List (List ℕ)) : Type 0 where

@@ -2,9 +2,10 @@
 use Rattle.std.proofs.Common.{◌≡◌, ◌⊎◌, inl, inr, ℕ, ◌-◌, Bool, List, ◌++◌, refl, sym, ap, subst}
 use Rattle.child_events.specs.declared.event.Event.{Event}
 use Rattle.tcl_subst.specs.Variables.{Variables}
-use Rattle.tcl_eval.specs.declared.ending.Ending.TheVariants as ending
-use Rattle.tcl_eval.specs.declared.host.HostStep.TheVariants.{Done, Fail, Body, Words, Wait, Stop, Unknown, Memory}
-use Rattle.tcl_eval.specs.Tree.{Call, Begin, Resume, AfterWords, AfterBody, Knows, Reply, Stepped, Known, Tree, Over, Ask}
+use Rattle.tcl_host.specs.declared.ending.Ending.TheVariants as ending
+use Rattle.tcl_host.specs.declared.host.HostStep.TheVariants.{Done, Fail, Body, Words, Wait, Stop, Unknown, Memory}
+use Rattle.tcl_host.specs.Calls.{Call, Begin, Resume, AfterWords, AfterBody, Knows, Reply, Stepped, Known}
+use Rattle.tcl_eval.specs.Tree.{Tree, Over, Ask}
 use Rattle.expect_core.specs.declared.own.Own.{Own}
 use Rattle.expect_core.specs.declared.settings.Settings.{Settings}
 use Rattle.expect_core.specs.declared.dialogue.Dialogue.{Dialogue}

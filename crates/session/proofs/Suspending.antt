@@ -5,16 +5,17 @@ use Rattle.std.specs.Bool.{OnFalse}
 use Rattle.child_events.specs.declared.event.Event.{Event}
 use Rattle.child_events.specs.declared.event.Event.TheVariants as event
 use Rattle.tcl_subst.specs.Variables.{Variables}
-use Rattle.tcl_eval.specs.declared.ending.Ending.TheVariants as ending
+use Rattle.tcl_host.specs.declared.ending.Ending.TheVariants as ending
 use Rattle.tcl_eval.specs.declared.engine.Engine.{Engine}
 use Rattle.tcl_eval.specs.declared.frame.End.{End}
 use Rattle.tcl_eval.specs.declared.frame.Mode.{Mode}
 use Rattle.tcl_eval.specs.declared.frame.Mode.TheVariants.{Begin as BeginMode, AfterWords as WordsMode, AfterBody as BodyMode, Ended}
-use Rattle.tcl_eval.specs.declared.host.HostStep.{HostStep}
-use Rattle.tcl_eval.specs.declared.host.HostStep.TheVariants.{Done, Fail, Body, Words, Wait, Stop, Unknown, Memory}
+use Rattle.tcl_host.specs.declared.host.HostStep.{HostStep}
+use Rattle.tcl_host.specs.declared.host.HostStep.TheVariants.{Done, Fail, Body, Words, Wait, Stop, Unknown, Memory}
 use Rattle.tcl_eval.specs.declared.machine.Pause.{Pause}
 use Rattle.tcl_eval.specs.declared.machine.Pause.TheVariants as pause
-use Rattle.tcl_eval.specs.Tree.{Call, Begin, Resume, AfterWords, AfterBody, Knows, Reply, Stepped, Known, Tree, Over, Ask, answered, follow, Leads}
+use Rattle.tcl_host.specs.Calls.{Call, Begin, Resume, AfterWords, AfterBody, Knows, Reply, Stepped, Known}
+use Rattle.tcl_eval.specs.Tree.{Tree, Over, Ask, answered, follow, Leads}
 use Rattle.tcl_eval.specs.Rest.{engine_rest}
 use Rattle.tcl_eval.specs.Suspended.{IsPauseOf}
 use Rattle.tcl_eval.specs.Asked.{EndsInWait, IsAsking}

@@ -1,7 +1,7 @@
 -- More events only make a waiting script go on: what was asked stays asked, and an ending stays.
 use Rattle.std.specs.Prelude.{◌≡◌, ◌≢◌, ℕ, List, ◌++◌}
 use Rattle.child_events.specs.declared.event.Event.{Event}
-use Rattle.tcl_eval.specs.declared.ending.Ending.TheVariants.{Waiting}
+use Rattle.tcl_host.specs.declared.ending.Ending.TheVariants.{Waiting}
 use Rattle.expect_core.specs.declared.request.Request.{Request}
 use Rattle.expect_core.specs.declared.settings.Settings.{Settings}
 use Rattle.session.specs.declared.report.Report.{Report}

@@ -1,7 +1,7 @@
 -- What a machine that has paused shows.
 use Rattle.std.specs.Prelude.{◌≡◌, ℕ, ◌-◌, List, [], IsTrue, Option, Some, None}
 use Rattle.child_events.specs.declared.event.Event.{Event}
-use Rattle.tcl_eval.specs.declared.ending.Ending.TheVariants as ending
+use Rattle.tcl_host.specs.declared.ending.Ending.TheVariants as ending
 use Rattle.tcl_eval.specs.declared.engine.Engine.{Engine}
 use Rattle.tcl_eval.specs.declared.frame.Mode.{Mode}
 use Rattle.tcl_eval.specs.declared.frame.End.{End}

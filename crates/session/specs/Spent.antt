@@ -1,7 +1,7 @@
 -- What is reported where memory was refused.
 use Rattle.std.specs.Prelude.{◌≡◌, ◌≢◌, ◌⊎◌, ℕ, List, [], false, IsTrue, Option}
 use Rattle.child_events.specs.declared.event.Event.{Event}
-use Rattle.tcl_eval.specs.declared.ending.Ending.TheVariants.{Memory}
+use Rattle.tcl_host.specs.declared.ending.Ending.TheVariants.{Memory}
 use Rattle.expect_core.specs.declared.request.Request.{Request}
 use Rattle.expect_core.specs.declared.settings.Settings.{Settings}
 use Rattle.session.specs.declared.report.Report.{Report}

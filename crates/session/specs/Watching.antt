@@ -2,12 +2,13 @@
 use Rattle.std.specs.Prelude.{◌≡◌, ℕ, List, [], ◌∷◌, ◌++◌, Option, Some, None}
 use Rattle.child_events.specs.declared.event.Event.{Event}
 use Rattle.tcl_subst.specs.Variables.{Variables}
-use Rattle.tcl_eval.specs.declared.host.HostStep.{HostStep}
-use Rattle.tcl_eval.specs.declared.host.HostStep.TheVariants.{Done, Fail, Body, Words, Wait, Stop, Unknown, Memory}
+use Rattle.tcl_host.specs.declared.host.HostStep.{HostStep}
+use Rattle.tcl_host.specs.declared.host.HostStep.TheVariants.{Done, Fail, Body, Words, Wait, Stop, Unknown, Memory}
 use Rattle.tcl_eval.specs.declared.engine.Engine.{Engine}
 use Rattle.tcl_eval.specs.declared.frame.Mode.{Mode}
 use Rattle.tcl_eval.specs.Rest.{engine_rest}
-use Rattle.tcl_eval.specs.Tree.{Call, Begin, Resume, AfterWords, AfterBody, Knows, Reply, Stepped, Known, Tree, Over, Ask}
+use Rattle.tcl_host.specs.Calls.{Call, Begin, Resume, AfterWords, AfterBody, Knows, Reply, Stepped, Known}
+use Rattle.tcl_eval.specs.Tree.{Tree, Over, Ask}
 use Rattle.expect_core.specs.Answered.{Outcome}
 use Rattle.expect_core.specs.Calls.{outcome, knows, fresh}
 use Rattle.expect_core.specs.Lanes.{extended}

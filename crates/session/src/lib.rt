@@ -17,5 +17,5 @@ pub use laws::{growth, no_meaning_is_memory, request_law};
 pub use place::{Place, Places};
 pub use report::{Counts, Report};
 pub use session::{NewFault, SOURCE_LIMIT, STEPS_LIMIT, Session};
-pub use tcl_eval::Ending;
+pub use tcl_host::Ending;
 pub use watcher::Watcher;

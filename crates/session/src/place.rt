@@ -5,7 +5,8 @@ ghost use Rattle.session.specs.Play.{name_of as name_meant, place_of as place_me
 
 use std::alloc::{AllocError, Global};
 use std::marker::Model;
-use tcl_eval::{Origin, Values};
+use tcl_eval::Origin;
+use tcl_host::Values;
 use tcl_words::Text;
 
 /// Where an error was handed on.

@@ -7,7 +7,7 @@ use crate::place::Places;
 use expect_core::{Pairs, Requests};
 use std::alloc::{AllocError, Global};
 use std::marker::Model;
-use tcl_eval::Ending;
+use tcl_host::Ending;
 use tcl_words::Text;
 
 /// Numbers in order, seen as a list.

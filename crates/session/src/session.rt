@@ -27,7 +27,8 @@ use std::alloc::{AllocError, Global};
 use std::collections::VecDeque;
 use std::marker::Model;
 use std::mem;
-use tcl_eval::{Ending, Machine, Meter, Pause};
+use tcl_eval::{Machine, Meter, Pause};
+use tcl_host::Ending;
 use tcl_words::Text;
 
 /// Why there is no session.

@@ -6,7 +6,7 @@ ghost use Rattle.session.specs.Watching.{Sees, met_by};
 use crate::watcher::Watcher;
 use expect_core::Dialogue;
 use tcl_commands::Code;
-use tcl_eval::{Host, HostStep, Values};
+use tcl_host::{Host, HostStep, Values};
 use tcl_subst::Vars;
 use tcl_values::Value;
 

@@ -29,14 +29,15 @@ use Rattle.tcl_scripts.specs.declared.script.Reading.{Reading}
 use Rattle.tcl_scripts.specs.declared.script.Reading.TheVariants.{Command, Malformed}
 use Rattle.tcl_scripts.specs.Commands.{commands}
 use Rattle.tcl_scripts.specs.Gathered.{all_words}
-use Rattle.tcl_eval.specs.declared.ending.Ending.TheVariants as ending
-use Rattle.tcl_eval.specs.declared.host.HostStep.{HostStep}
-use Rattle.tcl_eval.specs.declared.host.HostStep.TheVariants.{Done, Fail, Body, Words, Wait, Stop, Unknown, Memory}
+use Rattle.tcl_host.specs.declared.ending.Ending.TheVariants as ending
+use Rattle.tcl_host.specs.declared.host.HostStep.{HostStep}
+use Rattle.tcl_host.specs.declared.host.HostStep.TheVariants.{Done, Fail, Body, Words, Wait, Stop, Unknown, Memory}
 use Rattle.tcl_eval.specs.declared.frame.End.TheVariants.{Stopped}
 use Rattle.tcl_eval.specs.declared.procedure.Procedure.{Procedure}
 use Rattle.tcl_eval.specs.declared.trail.Origin.{Origin}
 use Rattle.tcl_eval.specs.declared.trail.Origin.TheVariants as origin
-use Rattle.tcl_eval.specs.Tree.{Begin, AfterWords, AfterBody, Knows, step_of, vars_of, known_of, State, Tree, Over, Ask}
+use Rattle.tcl_host.specs.Calls.{Begin, AfterWords, AfterBody, Knows, step_of, vars_of, known_of}
+use Rattle.tcl_eval.specs.Tree.{State, Tree, Over, Ask}
 use Rattle.tcl_eval.specs.Meaning.{Next, Eval, passed, taken, noting, on_ok, on_said, after, on_bool, tested, computed, turn_end, stepped, fill_word, fill_parts, spread, fill_words, value_from, expression, tree_of, condition, otherwise, arms, decided, advanced, one_turn, turned, turns, loop, each, digit, caught, left_scope, left_by_error, scope_end, no_command, called, called_or_begun, reserved, defined, after_script, after_script_by, one_body, next_body, after_body, host_body, worded, host_words, begun, begin, while_command, for_command, new_proc, proc_command, catch_command, invoked, named, invoke, command, sequence, eval}
 use Rattle.tcl_eval.specs.Unrolled.{LoopsUnroll, BodiesUnroll}
 

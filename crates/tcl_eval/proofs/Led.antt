@@ -1,6 +1,7 @@
 -- Lists of replies that lead from one tree to another.
 use Rattle.std.proofs.Common.{◌≡◌, ℕ, List, [], ◌∷◌, ◌++◌, Result, Ok, Err, IfOk, true, false, refl, sym, ap, ◌∙◌, subst}
-use Rattle.tcl_eval.specs.Tree.{Call, Reply, Tree, follow, Leads}
+use Rattle.tcl_host.specs.Calls.{Call, Reply}
+use Rattle.tcl_eval.specs.Tree.{Tree, follow, Leads}
 use Rattle.tcl_eval.specs.Asked.{EndsInWait, IsWait, WaitsAt, IsReply, IsOverOrAsking, PausesAt, IsAskingOnPause, OnPause}
 use Rattle.tcl_eval.specs.declared.frame.Asked.{Asked}
 use Rattle.tcl_eval.specs.declared.frame.Mode.{Mode}

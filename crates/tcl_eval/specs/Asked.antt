@@ -1,10 +1,11 @@
 -- What came of a call of the host.
 use Rattle.std.specs.Prelude.{◌≡◌, ℕ, suc, ◌<◌, List, [], ◌∷◌, true, false}
-use Rattle.tcl_eval.specs.declared.host.HostStep.TheVariants.{Wait}
+use Rattle.tcl_host.specs.declared.host.HostStep.TheVariants.{Wait}
 use Rattle.tcl_eval.specs.declared.frame.Asked.{Asked}
 use Rattle.tcl_eval.specs.declared.frame.Mode.{Mode}
 use Rattle.tcl_eval.specs.declared.frame.Mode.TheVariants.{Give, Run, Begin, AfterWords, AfterBody, Ended}
-use Rattle.tcl_eval.specs.Tree.{Call, Reply, Stepped, Known, Tree, Answers}
+use Rattle.tcl_host.specs.Calls.{Call, Reply, Stepped, Known}
+use Rattle.tcl_eval.specs.Tree.{Tree, Answers}
 
 -- nothing is in hand for a frame, and no script is to be begun
 abbrev pub IsSettled : Mode → Type 0

@@ -29,14 +29,15 @@ use Rattle.tcl_scripts.specs.declared.script.Reading.{Reading}
 use Rattle.tcl_scripts.specs.declared.script.Reading.TheVariants.{Command, Malformed}
 use Rattle.tcl_scripts.specs.Commands.{commands}
 use Rattle.tcl_scripts.specs.Gathered.{all_words}
-use Rattle.tcl_eval.specs.declared.ending.Ending.TheVariants as ending
-use Rattle.tcl_eval.specs.declared.host.HostStep.{HostStep}
-use Rattle.tcl_eval.specs.declared.host.HostStep.TheVariants.{Done, Fail, Body, Words, Wait, Stop, Unknown, Memory}
+use Rattle.tcl_host.specs.declared.ending.Ending.TheVariants as ending
+use Rattle.tcl_host.specs.declared.host.HostStep.{HostStep}
+use Rattle.tcl_host.specs.declared.host.HostStep.TheVariants.{Done, Fail, Body, Words, Wait, Stop, Unknown, Memory}
 use Rattle.tcl_eval.specs.declared.frame.End.TheVariants.{Stopped, StepLimit, Memory as NoMemory}
 use Rattle.tcl_eval.specs.declared.procedure.Procedure.{Procedure}
 use Rattle.tcl_eval.specs.declared.trail.Origin.{Origin}
 use Rattle.tcl_eval.specs.declared.trail.Origin.TheVariants as origin
-use Rattle.tcl_eval.specs.Tree.{Begin, AfterWords, AfterBody, Knows, Reply, step_of, vars_of, known_of, State, Tree, Over, Ask}
+use Rattle.tcl_host.specs.Calls.{Begin, AfterWords, AfterBody, Knows, Reply, step_of, vars_of, known_of}
+use Rattle.tcl_eval.specs.Tree.{State, Tree, Over, Ask}
 
 -- ---- what follows
 

@@ -23,7 +23,8 @@ use Rattle.tcl_eval.specs.declared.trail.Origin.TheVariants as origin
 use Rattle.tcl_eval.specs.declared.meter.Meter.{Meter}
 use Rattle.tcl_eval.specs.Evaluated.{Evaluated, with_operand}
 use Rattle.tcl_eval.specs.Steps.{left_of}
-use Rattle.tcl_eval.specs.Tree.{Call, Begin as BeginCall, AfterWords as WordsCall, AfterBody as AfterCall, Knows, Resume, known_of, State, Tree, Over, Ask}
+use Rattle.tcl_host.specs.Calls.{Call, Begin as BeginCall, AfterWords as WordsCall, AfterBody as AfterCall, Knows, Resume, known_of}
+use Rattle.tcl_eval.specs.Tree.{State, Tree, Over, Ask}
 use Rattle.tcl_eval.specs.Meaning.{Next, noting, on_ok, on_said, tested, turn_end, stepped, fill_word, fill_parts, fill_words, spread, value_from, tree_of, arms, decided, advanced, turned, turns, loop, each, caught, scope_end, defined, after_script_by, next_body, after_body, worded_by, host_words, begun_by, invoke, sequence, eval}
 
 -- what follows the words

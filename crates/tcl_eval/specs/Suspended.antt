@@ -6,7 +6,8 @@ use Rattle.tcl_eval.specs.declared.frame.End.{End}
 use Rattle.tcl_eval.specs.declared.frame.End.TheVariants.{Finished as FinishedSo, Stopped as StoppedSo, StepLimit as AtLimit, Memory as NoMemory}
 use Rattle.tcl_eval.specs.declared.frame.Mode.{Mode}
 use Rattle.tcl_eval.specs.declared.frame.Mode.TheVariants.{Ended}
-use Rattle.tcl_eval.specs.Tree.{Reply, Over}
+use Rattle.tcl_host.specs.Calls.{Reply}
+use Rattle.tcl_eval.specs.Tree.{Over}
 use Rattle.tcl_eval.specs.Meaning.{Next}
 use Rattle.tcl_eval.specs.Asked.{EndsInWait, IsAsking}
 

@@ -1,40 +1,13 @@
 -- What a script means: a tree that names, one after another, the calls of the host that it needs.
-use Rattle.std.specs.Prelude.{◌≡◌, ℕ, Bool, true, List, [], ◌∷◌}
+use Rattle.std.specs.Prelude.{◌≡◌, ℕ, List, [], ◌∷◌}
 use Rattle.tcl_subst.specs.Entries.{Entries}
-use Rattle.tcl_subst.specs.Variables.{Variables, no_variables}
-use Rattle.tcl_commands.specs.declared.code.Code.{Code}
-use Rattle.tcl_eval.specs.declared.host.HostStep.{HostStep}
-use Rattle.tcl_eval.specs.declared.host.HostStep.TheVariants.{Done, Fail, Body, Words, Wait, Stop, Unknown, Memory}
+use Rattle.tcl_subst.specs.Variables.{Variables}
+use Rattle.tcl_host.specs.declared.host.HostStep.{HostStep}
+use Rattle.tcl_host.specs.declared.host.HostStep.TheVariants.{Done, Fail, Body, Words, Wait, Stop, Unknown, Memory}
+use Rattle.tcl_host.specs.Calls.{Call, Resume, Reply, Stepped, Known}
 use Rattle.tcl_eval.specs.declared.frame.End.{End}
 use Rattle.tcl_eval.specs.declared.procedure.Procedure.{Procedure}
 use Rattle.tcl_eval.specs.declared.trail.Origin.{Origin}
-
--- a call of the host, with the variables that it is lent
-pub data Call : Type 0 where
-  Begin : (words : List (List ℕ)) (vars : Variables) → Call
-  Resume : (vars : Variables) → Call
-  AfterWords : (words : List (List ℕ)) (vars : Variables) → Call
-  AfterBody : (code : Code) (value : List ℕ) (vars : Variables) → Call
-  Knows : (name : List ℕ) → Call
-
--- what a call brings: the host's step with the variables that it left, or whether it knows a name
-pub data Reply : Type 0 where
-  Stepped : (step : HostStep) (vars : Variables) → Reply
-  Known : (is_known : Bool) → Reply
-
--- the step that a reply brings; that another kind of reply comes never happens
-abbrev pub step_of : Reply → HostStep
-step_of (Stepped step vars) = step
-step_of (Known b) = Wait
-
--- the variables that a reply leaves
-abbrev pub vars_of : Reply → Variables
-vars_of (Stepped step vars) = vars
-vars_of (Known b) = no_variables
-
-abbrev pub known_of : Reply → Bool
-known_of (Stepped step vars) = true
-known_of (Known b) = b
 
 -- the variables, the procedures, the steps left, and what handed on the error that is under way, the innermost first
 pub record State : Type 0 where

@@ -4,17 +4,17 @@ ghost use Rattle.std.specs.Prelude.{◌≡◌, ℕ, ◌+◌, ◌≤◌, ◌<◌,
 ghost use Rattle.tcl_eval.specs.Asked.{IsAskingOnPause, IsSettled, WaitsAt, GoesDown, PausesAt, IsReply, OnPause, Falls};
 ghost use Rattle.tcl_eval.specs.Rest.{engine_rest, begin_call, words_call, after_call};
 ghost use Rattle.tcl_eval.specs.Steps.{left_of};
-ghost use Rattle.tcl_eval.specs.Tree.{Reply, Stepped, follow, Leads};
+ghost use Rattle.tcl_host.specs.Calls.{Reply, Stepped};
+ghost use Rattle.tcl_eval.specs.Tree.{follow, Leads};
 ghost use Rattle.tcl_eval.specs.Potential.{potential, bodies, credit, again};
 
 use crate::engine::Engine;
 use crate::frame::{Asked, Mode};
-use crate::host::{Host, HostStep};
 use crate::meter::Meter;
 use crate::replies::on;
-use crate::values::Values;
 use std::alloc::AllocError;
 use tcl_commands::Code;
+use tcl_host::{Host, HostStep, Values};
 use tcl_values::Value;
 
 impl Engine {

@@ -3,11 +3,11 @@
 ghost use Rattle.std.specs.Prelude.{◌≡◌, IfOk};
 
 use crate::frame::Frame;
-use crate::pile::Pile;
 use crate::procedure::Procedure;
 use crate::read_texts::ReadTexts;
 use crate::trail::Trail;
 use std::alloc::{AllocError, Global};
+use tcl_host::Pile;
 use tcl_subst::{Names, Vars};
 use tcl_values::Value;
 

@@ -2,11 +2,10 @@
 
 ghost use Rattle.std.specs.Prelude.{◌≡◌, IfOk};
 
-use crate::ending::Ending;
 use crate::evaluation::{Evaluation, Test};
-use crate::values::Values;
 use std::alloc::AllocError;
 use tcl_commands::{Arms, Code, Groups};
+use tcl_host::{Ending, Values};
 use tcl_scripts::{Script, Words};
 use tcl_subst::Filler;
 use tcl_values::Value;

@@ -5,9 +5,8 @@ ghost use Rattle.tcl_eval.specs.Standings.{mode_of};
 
 use crate::evaluation::Evaluation;
 use crate::frame::{End, Frame, Mode};
-use crate::pile::Pile;
-use crate::values::Values;
 use tcl_commands::Code;
+use tcl_host::{Pile, Values};
 use tcl_subst::Filler;
 use tcl_values::Value;
 

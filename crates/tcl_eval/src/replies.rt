@@ -4,18 +4,18 @@ ghost use Rattle.std.specs.Prelude.{◌≡◌, ℕ, ◌+◌, ◌<◌, ◌*◌, [
 ghost use Rattle.tcl_eval.specs.Asked.{WaitsAt, GoesDown, IsAskingOnPause};
 ghost use Rattle.tcl_eval.specs.Rest.{engine_rest, AnyRestIs, RestIs};
 ghost use Rattle.tcl_eval.specs.Steps.{left_of};
-ghost use Rattle.tcl_eval.specs.Tree.{Stepped, follow};
+ghost use Rattle.tcl_host.specs.Calls.{Stepped};
+ghost use Rattle.tcl_eval.specs.Tree.{follow};
 ghost use Rattle.tcl_eval.specs.Potential.{potential, bodies, credit, again};
 ghost use Rattle.tcl_eval.specs.Meaning.{eval, after_body, begun, after_script, next_body};
 
 use crate::engine::Engine;
 use crate::frame::{Asked, End, Frame, Mode, Then};
-use crate::host::HostStep;
 use crate::meter::Meter;
 use crate::procs::no_command;
-use crate::values::Values;
 use std::alloc::AllocError;
 use tcl_commands::Code;
+use tcl_host::{HostStep, Values};
 use tcl_values::Value;
 
 /// It goes on.

@@ -15,10 +15,11 @@ use crate::out::{Filled, Out, Standing, Stepped};
 use crate::stops::{below, laid_on, stopped};
 use crate::task::{Entry, Task};
 use crate::trail::Origin;
-use crate::values::{Handed, Values};
+use crate::values::Handed;
 use std::alloc::AllocError;
 use std::mem;
 use tcl_commands::{Code, Verb, plain, too_deep, verb_of, word_fault};
+use tcl_host::Values;
 use tcl_scripts::{Reading, Script, Words};
 use tcl_values::Value;
 

@@ -12,8 +12,8 @@ ghost use Rattle.tcl_eval.specs.Potential.{bodies, credit, frame_weight};
 use crate::engine::Engine;
 use crate::frame::{Frame, Mode};
 use crate::out::{Out, Standing, Stop};
-use crate::pile::Pile;
 use std::alloc::{AllocError, Global};
+use tcl_host::Pile;
 
 /// A run that stands still, with nothing to be done behind it yet.
 #[cold]

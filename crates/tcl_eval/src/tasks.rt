@@ -4,14 +4,13 @@ ghost use Rattle.std.specs.Prelude.{◌≡◌, ℕ, ◌≤◌, Some, IfOk};
 ghost use Rattle.tcl_commands.specs.Texts.{wrong_args};
 ghost use Rattle.tcl_commands.specs.Verbs.{verb_of, exit_status};
 ghost use Rattle.tcl_eval.specs.Steps.{left_of};
-ghost use Rattle.tcl_eval.specs.declared.ending.Ending.TheVariants.{Exit};
+ghost use Rattle.tcl_host.specs.declared.ending.Ending.TheVariants.{Exit};
 ghost use Rattle.tcl_eval.specs.declared.frame.End.TheVariants.{Stopped};
 ghost use Rattle.tcl_eval.specs.Tree.{Over, State};
 ghost use Rattle.tcl_eval.specs.Meaning.{Next, eval, invoked, while_command, for_command, proc_command, catch_command, on_ok, on_said, tree_of, loop as loop_of, new_proc};
 ghost use Rattle.tcl_eval.specs.Native.{task_rest, task_weight};
 ghost use Rattle.tcl_eval.specs.Rest.{state_of};
 
-use crate::ending::Ending;
 use crate::engine::Engine;
 use crate::exprs::read_test;
 use crate::frame::{End, Turning};
@@ -24,6 +23,7 @@ use tcl_commands::{
     Code, Verb, arms_of, each_of, eval_text, exit_status, expr_text, plain, said, verb_of,
     wrong_args,
 };
+use tcl_host::Ending;
 use tcl_values::Value;
 
 impl Engine {

@@ -2,9 +2,9 @@
 
 ghost use Rattle.std.specs.Prelude.{◌≡◌, ◌++◌, ◌∷◌, [], take, OnOk};
 
-use crate::values::Values;
 use std::alloc::{AllocError, Global};
 use std::marker::Model;
+use tcl_host::Values;
 use tcl_scripts::Script;
 
 /// What handed an error on.

@@ -1,99 +1,11 @@
-//! Values in order.
+//! The words of a command, as they are passed to it.
 
-ghost use Rattle.std.specs.Prelude.{◌≡◌, ◌++◌, ◌∷◌, [], length, take, IfOk, OnErr, OnOk};
+ghost use Rattle.std.specs.Prelude.{◌≡◌, IfOk};
 ghost use Rattle.tcl_eval.specs.Handed.{handed_words};
 
 use std::alloc::{AllocError, Global};
-use std::marker::Model;
-use tcl_values::{Elements, Value};
-
-/// Values in order, such as the words of a command. A contract sees a list of byte lists.
-#[derive(Drop)]
-pub struct Values {
-    list: Vec<Value>,
-}
-
-impl Model for Values {
-    ghost use Rattle.std.specs.Prelude.{List, ℕ};
-
-    ghost Value = { List (List ℕ) };
-
-    ghost view = { λ v. v.list.items };
-}
-
-impl Values {
-    /// No values. It allocates nothing.
-    pub fn new(alloc: Global) -> Values
-        ensures { result ≡ [] }
-    {
-        Values {
-            list: Vec::new(alloc),
-        }
-    }
-
-    /// No values, with room for so many.
-    pub(crate) fn with_room(alloc: Global, count: usize) -> Result<Values, AllocError>
-        ensures { IfOk result (λ v. v ≡ []) }
-    {
-        Ok(Values {
-            list: Vec::with_capacity(alloc, count)?,
-        })
-    }
-
-    /// The values, in order.
-    pub fn as_slice(&self) -> &[Value]
-        ensures { result.now ≡ self.now }
-    {
-        self.list.as_slice()
-    }
-
-    /// How many there are.
-    pub fn len(&self) -> usize
-        ensures { result ≡ length self.now }
-    {
-        self.list.len()
-    }
-
-    /// Puts one behind the others. Where memory is refused, the list stays as it was.
-    #[inline(always)]
-    pub fn push(&mut self, value: Value) -> Result<(), AllocError>
-        ensures pushed { OnOk result (self.new ≡ self.old ++ value ∷ []) }
-        ensures kept { OnErr result (self.new ≡ self.old) }
-    {
-        self.list.push(value)?;
-        Ok(())
-    }
-
-    /// Puts the elements of a list behind the others, in order. Where memory is refused, the values stay as they were.
-    pub fn push_all(&mut self, alloc: Global, elements: &Elements) -> Result<(), AllocError>
-        ensures pushed { OnOk result (self.new ≡ self.old ++ elements.now) }
-        ensures kept { OnErr result (self.new ≡ self.old) }
-    {
-        let count = self.list.len();
-        let pushed = push_elements(&mut self.list, alloc, elements);
-        if pushed.is_err() {
-            self.list.truncate(count);
-        }
-        pushed
-    }
-}
-
-/// Puts the elements of a list behind values, in order. Where memory is refused, some of them stand there, and the values are as they were.
-fn push_elements(
-    list: &mut Vec<Value>,
-    alloc: Global,
-    elements: &Elements,
-) -> Result<(), AllocError>
-    ensures pushed { OnOk result (list.new.items ≡ list.old.items ++ elements.now) }
-    ensures front { take (length list.old.items) list.new.items ≡ list.old.items }
-{
-    let mut at = 0;
-    while let Some(value) = elements.value(alloc, at)? {
-        list.push(value)?;
-        at += 1;
-    }
-    Ok(())
-}
+use tcl_host::Values;
+use tcl_values::Value;
 
 /// The values of a command's words: values of its own, or lent by the words, of which each is a literal.
 #[derive(Drop)]
@@ -124,7 +36,7 @@ impl Handed<'_> {
     }
 }
 
-/// These values in a list. Each is shared.
+/// Returns these values as a list. Each value is shared.
 fn shared(alloc: Global, values: &[Value]) -> Result<Values, AllocError>
     ensures { IfOk result (λ v. v ≡ values.now) }
 {

@@ -1,5 +1,5 @@
 use Rattle.std.proofs.Common.{◌≡◌, List, length, rules, Ok, Err, ap}
-use Rattle.tcl_eval.specs.declared.ending.Ending.{Ending}
+use Rattle.tcl_host.specs.declared.ending.Ending.{Ending}
 use Rattle.report_texts.specs.Form.{opening, closing}
 use Rattle.report_texts.proofs.Writing.{writes_as}
 use Rattle.report_texts.proofs.Whole.{not_opened, not_told, not_closed, all_told}

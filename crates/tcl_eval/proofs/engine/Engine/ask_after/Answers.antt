@@ -2,7 +2,8 @@ use Rattle.std.proofs.Common.{◌∙◌, ap, false}
 use Rattle.tcl_eval.specs.declared.engine.Engine.{Engine}
 use Rattle.tcl_eval.specs.declared.frame.Mode.TheVariants.{AfterBody}
 use Rattle.tcl_eval.specs.Rest.{engine_rest}
-use Rattle.tcl_eval.specs.Tree.{Reply, Stepped, follow}
+use Rattle.tcl_host.specs.Calls.{Reply, Stepped}
+use Rattle.tcl_eval.specs.Tree.{follow}
 use Rattle.tcl_eval.proofs.engine.Engine.ask_after.Goals as goal
 
 -- the reply is what the call returned, with the variables as it left them

@@ -1,5 +1,5 @@
 use Rattle.std.proofs.Common.{ℕ, List, subst}
-use Rattle.tcl_eval.specs.Tree.{Reply, Knows, Known}
+use Rattle.tcl_host.specs.Calls.{Reply, Knows, Known}
 use Rattle.tcl_eval.proofs.engine.Engine.ask_known.Goals as goal
 
 -- the reply is what the call returned

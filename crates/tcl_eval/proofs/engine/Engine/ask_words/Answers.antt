@@ -3,7 +3,8 @@ use Rattle.tcl_eval.specs.declared.engine.Engine.{Engine}
 use Rattle.tcl_eval.specs.declared.frame.Mode.TheVariants.{AfterWords}
 use Rattle.tcl_eval.specs.Rest.{engine_rest}
 use Rattle.tcl_eval.specs.Steps.{left_of}
-use Rattle.tcl_eval.specs.Tree.{Reply, Stepped, follow}
+use Rattle.tcl_host.specs.Calls.{Reply, Stepped}
+use Rattle.tcl_eval.specs.Tree.{follow}
 use Rattle.tcl_eval.proofs.engine.Engine.ask_words.Goals as goal
 
 -- the reply is what the call returned, with the variables as it left them

@@ -1,7 +1,8 @@
 use Rattle.std.proofs.Common.{◌≡◌, List}
 use Rattle.tcl_eval.specs.Rest.{engine_rest}
 use Rattle.tcl_eval.specs.Steps.{left_of}
-use Rattle.tcl_eval.specs.Tree.{Reply, Leads}
+use Rattle.tcl_host.specs.Calls.{Reply}
+use Rattle.tcl_eval.specs.Tree.{Leads}
 use Rattle.tcl_eval.specs.Potential.{potential}
 use Rattle.tcl_eval.proofs.engine.Engine.go.Given as goal
 

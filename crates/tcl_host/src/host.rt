@@ -1,4 +1,4 @@
-//! Who carries out the commands that the language doesn't have.
+//! A host: it carries out the commands that the language lacks.
 
 ghost use Rattle.std.specs.Prelude.{◌≡◌};
 
@@ -8,12 +8,12 @@ use tcl_commands::Code;
 use tcl_subst::Vars;
 use tcl_values::Value;
 
-/// What a host answers.
+/// The answer of a host to a call.
 #[derive(Drop)]
 pub enum HostStep {
     /// The command is done, with a code and a value.
     Done(Code, Value),
-    /// The command is an error with this text.
+    /// The command is an error, with this text.
     Fail(Value),
     /// A script is to be evaluated before the command goes on.
     Body(Value),
@@ -29,33 +29,35 @@ pub enum HostStep {
     Memory,
 }
 
-/// A host. Each call but `knows` is lent the script's variables, and may change them.
+/// Carries out the commands that the language lacks.
 ///
-/// The machine takes a step at a place where it has no meaning for an error: `Words` and `Unknown` from another call than `begin`, and `Body`
-/// from `after_body` at other codes than `Again` and `AgainLater`.
+/// Every call but `knows` borrows the script's variables, and may change them.
+///
+/// A step without a meaning is an error of the command. These are `Words` and `Unknown` from a call other than `begin`, and `Body` from
+/// `after_body` at a code other than `Again` and `AgainLater`.
 pub trait Host {
-    ghost use Rattle.tcl_eval.specs.Tree.{Call, Reply};
+    ghost use Rattle.tcl_host.specs.Calls.{Call, Reply};
 
     /// In this state the host may give this call this reply, and go on to that state.
     ghost answers: { Self → Call → Reply → Self → Type 0 };
 
-    /// Whether the host has a command of this name, so that no procedure can have it.
+    /// Tells whether the host has a command of this name. If it has, no procedure can have that name.
     fn knows(&self, name: &[u8]) -> bool
         ensures { answers self.now (Call.Knows name.now) (Reply.Known result) self.now };
 
-    /// Begins a command, by its words.
+    /// Begins a command, given its words.
     fn begin(&mut self, vars: &mut Vars, words: &Values) -> HostStep
         ensures { answers self.old (Call.Begin words.now vars.old) (Reply.Stepped result vars.new) self.new };
 
-    /// Goes on with a call that was answered `Wait`.
+    /// Continues a call that was answered `Wait`.
     fn resume(&mut self, vars: &mut Vars) -> HostStep
         ensures { answers self.old (Call.Resume vars.old) (Reply.Stepped result vars.new) self.new };
 
-    /// Goes on with the words that were asked for.
+    /// Continues a command with the words that it asked for.
     fn after_words(&mut self, vars: &mut Vars, words: &Values) -> HostStep
         ensures { answers self.old (Call.AfterWords words.now vars.old) (Reply.Stepped result vars.new) self.new };
 
-    /// Goes on behind the script that was asked for, which ended with this code and value.
+    /// Continues a command after the script that it asked for. The script ended with this code and value.
     fn after_body(&mut self, vars: &mut Vars, code: Code, value: &Value) -> HostStep
         ensures { answers self.old (Call.AfterBody code value.now vars.old) (Reply.Stepped result vars.new) self.new };
 }

@@ -1,0 +1,2 @@
+-- Calls: what a host is asked, and what it replies.
+pub mod Calls
