@@ -1,7 +1,7 @@
 """Rows of tests/times/measure: a stage, a crate or `-`, and processor seconds, between tabs. A line that begins with # is a comment."""
 
 # the stages whose seconds are told by crate
-BY_CRATE = ("proof", "tests", "edits by rt ci", "edits in rounds")
+BY_CRATE = ("proof", "tests", "edits in rounds")
 
 
 def read(file):
