@@ -1,28 +1,27 @@
 //! What a match buffer holds.
 
-use crate::calls::number;
+use crate::calls::{name_in, number};
 use crate::complaint::Complaint;
-use crate::spell::push_hex_line;
+use crate::spell::{alloc_of, push_hex_line};
 use match_buffer::Buffer;
-use std::alloc::Global;
 use tcl_words::Text;
 
-/// `trim`, or another call with its word.
+/// Carries out `trim`, or another call with its word.
 fn called(buffer: &mut Buffer, call: &[Text]) -> Result<(), Complaint> {
     match call {
         [name] if name.as_slice() == b"trim".as_slice() => buffer.trim(),
-        [name, word] => change(buffer, name.as_slice(), word)?,
+        [name, word] => change(buffer, name_in(name.as_slice()), word)?,
         _ => return Err(Complaint::Call),
     }
     Ok(())
 }
 
-/// `take` and a number, `resize` and a number, or `add` and bytes.
-fn change(buffer: &mut Buffer, name: &[u8], word: &Text) -> Result<(), Complaint> {
+/// Carries out `take` and a number, `resize` and a number, or `add` and bytes.
+fn change(buffer: &mut Buffer, name: &str, word: &Text) -> Result<(), Complaint> {
     match name {
-        b"add" => buffer.add(word.as_slice())?,
-        b"resize" => buffer.resize(number(word)?)?,
-        b"take" => {
+        "add" => buffer.add(word.as_slice())?,
+        "resize" => buffer.resize(number(word)?)?,
+        "take" => {
             let count = number(word)?;
             if buffer.ring().len() < count {
                 return Err(Complaint::Call);
@@ -34,11 +33,11 @@ fn change(buffer: &mut Buffer, name: &[u8], word: &Text) -> Result<(), Complaint
     Ok(())
 }
 
-/// The first call has the buffer's size; behind each other one there is a line of what the buffer holds.
-pub fn shown_buffer(alloc: Global, calls: &[Vec<Text>]) -> Result<Text, Complaint> {
-    let mut text = Text::new(alloc);
+/// The first call has the buffer's size. For each other one, appends a line of what the buffer holds after it.
+pub fn push_buffer(text: &mut Text, calls: &[Vec<Text>]) -> Result<(), Complaint> {
+    let alloc = alloc_of(text);
     let [first, rest @ ..] = calls else {
-        return Ok(text);
+        return Ok(());
     };
     let [size] = first.as_slice() else {
         return Err(Complaint::Call);
@@ -46,7 +45,7 @@ pub fn shown_buffer(alloc: Global, calls: &[Vec<Text>]) -> Result<Text, Complain
     let mut buffer = Buffer::new(alloc, number(size)?)?;
     'calls: for call in rest {
         called(&mut buffer, call.as_slice())?;
-        push_hex_line(alloc, &mut text, buffer.bytes())?;
+        push_hex_line(text, buffer.bytes())?;
     }
-    Ok(text)
+    Ok(())
 }

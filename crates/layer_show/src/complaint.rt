@@ -5,7 +5,7 @@ use std::io::{self, ErrorKind};
 use tcl_words::ListFault;
 
 /// Why nothing is shown.
-#[derive(Clone, Copy, Debug, PartialEq, Eq)]
+#[derive(Clone, Copy)]
 pub enum Complaint {
     /// The words of the command line are not the name of a layer alone.
     Usage,

@@ -1,89 +1,91 @@
 //! What expressions come to.
 
+ghost use Rattle.tcl_expr.specs.Run.{Serves};
+
 use crate::complaint::Complaint;
-use crate::spell::push_labelled;
-use std::alloc::Global;
+use crate::spell::{alloc_of, push_labelled};
+use std::alloc::AllocError;
 use tcl_expr::{Expr, ExprFault, Operands, Step, parse};
 use tcl_values::Value;
 use tcl_words::Text;
 
-fn push_fault(alloc: Global, text: &mut Text, fault: &ExprFault) -> Result<(), Complaint> {
-    let name = match fault {
-        ExprFault::Syntax => b"Syntax".as_slice(),
-        ExprFault::NotNumber(word) => {
-            return Ok(push_labelled(alloc, text, b"NotNumber ", word.as_slice())?);
-        }
-        ExprFault::DivideByZero => b"DivideByZero",
-        ExprFault::Overflow => b"Overflow",
-        ExprFault::TooDeep => b"TooDeep",
-        ExprFault::Memory => return Err(Complaint::Memory),
-    };
-    text.extend(name)?;
-    Ok(())
-}
-
-/// Which operand a step asks for; None where it asks for none.
-fn asked(step: &Step) -> Result<Option<&'static [u8]>, Complaint> {
-    match step {
-        Step::NeedVar(_) => Ok(Some(b"variable")),
-        Step::NeedScript(_) => Ok(Some(b"script")),
-        Step::Value(_) => Ok(None),
-        Step::Fault(ExprFault::Memory) => Err(Complaint::Memory),
-        Step::Fault(_) => Ok(None),
+fn push_fault(text: &mut Text, fault: &ExprFault) -> Result<(), AllocError> {
+    match fault {
+        ExprFault::Syntax => text.extend(b"Syntax"),
+        ExprFault::NotNumber(word) => push_labelled(text, b"NotNumber ", word.as_slice()),
+        ExprFault::DivideByZero => text.extend(b"DivideByZero"),
+        ExprFault::Overflow => text.extend(b"Overflow"),
+        ExprFault::TooDeep => text.extend(b"TooDeep"),
+        ExprFault::Memory => Err(AllocError),
     }
 }
 
-/// What an expression came to, or which operand it still asks for.
-fn push_step(alloc: Global, text: &mut Text, step: Step) -> Result<(), Complaint> {
+/// Appends what an expression came to, or which operand it asks for.
+fn push_step(text: &mut Text, step: &Step) -> Result<(), AllocError> {
     match step {
-        Step::NeedVar(_) => text.extend(b"variable")?,
-        Step::NeedScript(_) => text.extend(b"script")?,
-        Step::Value(value) => push_labelled(alloc, text, b"value ", value.as_slice())?,
-        Step::Fault(fault) => push_fault(alloc, text, &fault)?,
+        Step::NeedVar(_) => text.extend(b"variable"),
+        Step::NeedScript(_) => text.extend(b"script"),
+        Step::Value(value) => push_labelled(text, b"value ", value.as_slice()),
+        Step::Fault(fault) => push_fault(text, fault),
     }
-    Ok(())
+}
+
+/// Appends a step, and says whether it asks for an operand.
+fn push_asked(text: &mut Text, step: &Step) -> Result<bool, AllocError> {
+    push_step(text, step)?;
+    Ok(matches!(step, Step::NeedVar(_) | Step::NeedScript(_)))
+}
+
+/// Goes on until an operand is asked for, or to the end.
+fn push_next(text: &mut Text, expr: &Expr, log: &mut Operands) -> Result<bool, AllocError>
+    requires { Serves expr.now log.old }
+    ensures { Serves expr.now log.new }
+{
+    let step = expr.advance(alloc_of(text), log);
+    push_asked(text, &step)
 }
 
 /// Goes on with the values of operands, in the order in which they are asked for, until no more are there.
 fn push_value(
-    alloc: Global,
     text: &mut Text,
     expr: &Expr,
+    log: &mut Operands,
     values: &[Text],
-) -> Result<(), Complaint> {
-    let mut log = Operands::new(alloc);
+) -> Result<(), AllocError>
+    requires { Serves expr.now log.old }
+{
     'operands: for value in values {
-        let Some(what) = asked(&expr.advance(alloc, &mut log))? else {
-            break;
-        };
-        text.extend(what)?;
+        if !push_next(text, expr, log)? {
+            return Ok(());
+        }
         text.push(b' ')?;
-        log.give(Value::from_slice(alloc, value.as_slice())?)?;
+        log.give(Value::from_slice(alloc_of(text), value.as_slice())?)?;
     }
-    push_step(alloc, text, expr.advance(alloc, &mut log))
+    push_next(text, expr, log)?;
+    Ok(())
 }
 
-fn push_expression(
-    alloc: Global,
-    text: &mut Text,
-    source: &[u8],
-    values: &[Text],
-) -> Result<(), Complaint> {
-    match parse(alloc, source) {
-        Ok(expr) => push_value(alloc, text, &expr, values),
-        Err(fault) => push_fault(alloc, text, &fault),
+/// Works an expression out.
+fn push_worked_out(text: &mut Text, expr: &Expr, values: &[Text]) -> Result<(), AllocError> {
+    let mut log = Operands::new(alloc_of(text));
+    push_value(text, expr, &mut log, values)
+}
+
+fn push_expression(text: &mut Text, source: &[u8], values: &[Text]) -> Result<(), AllocError> {
+    match parse(alloc_of(text), source) {
+        Ok(expr) => push_worked_out(text, &expr, values),
+        Err(fault) => push_fault(text, &fault),
     }
 }
 
-/// Each call has an expression, and the values of operands. A line says what was asked for and what it came to.
-pub fn shown_expressions(alloc: Global, calls: &[Vec<Text>]) -> Result<Text, Complaint> {
-    let mut text = Text::new(alloc);
+/// Each call has an expression, and the values of operands. Appends a line for each: what was asked for and what it came to.
+pub fn push_expressions(text: &mut Text, calls: &[Vec<Text>]) -> Result<(), Complaint> {
     'calls: for call in calls {
         let [source, values @ ..] = call.as_slice() else {
             return Err(Complaint::Call);
         };
-        push_expression(alloc, &mut text, source.as_slice(), values)?;
+        push_expression(text, source.as_slice(), values)?;
         text.push(b'\n')?;
     }
-    Ok(text)
+    Ok(())
 }

@@ -53,15 +53,15 @@ fn give_text(alloc: Global, filler: &mut Filler, number: usize) -> Result<(), Al
 }
 
 /// Goes on with the scripts' texts. A script is a step, and is asked for once.
-fn filled_by(alloc: Global, mut filler: Filler, vars: &mut Vars) -> Result<Filling, Complaint>
-    ensures { IfOk result (λ f. Fills f (spoken (rest filler vars.old) vars.old)) }
+fn filled_by(alloc: Global, filler: &mut Filler, vars: &mut Vars) -> Result<Filling, Complaint>
+    ensures { IfOk result (λ f. Fills f (spoken (rest filler.old vars.old) vars.old)) }
 {
     filling_is_fill();
     let most = filler.recipe().steps.len();
     'scripts: for _ in 0..=most {
         match filler.advance(alloc, vars) {
             FillStep::Value(value) => return Ok(Filling::Value(value)),
-            FillStep::NeedScript(number) => give_text(alloc, &mut filler, number)?,
+            FillStep::NeedScript(number) => give_text(alloc, filler, number)?,
             FillStep::Fault(fault) => {
                 return Ok(Filling::Refused(fault, Text::from_slice(alloc, filler.name())?));
             }
@@ -82,8 +82,7 @@ fn filled_word(alloc: Global, vars: &mut Vars, word: &Word) -> Result<Filling, C
     ensures { IfOk result (λ f. Fills f (spoken (fill (word_view word.now).pieces vars.old) vars.old)) }
 {
     filling_is_fill();
-    let filler = filler_of(alloc, word)?;
-    filled_by(alloc, filler, vars)
+    filled_by(alloc, &mut filler_of(alloc, word)?, vars)
 }
 
 /// Fills the only word of a command.
@@ -113,17 +112,17 @@ pub fn push_refusal(text: &mut Text, fault: SubstFault) -> Result<(), Complaint>
     }
 }
 
-/// Puts what a word was filled to behind a text: the value, or the fault, and the variable that has it.
-pub fn push_filled(alloc: Global, text: &mut Text, filled: &Filling) -> Result<(), Complaint> {
+/// Appends what a word was filled to: the value, or the fault, and the variable that has it.
+pub fn push_filled(text: &mut Text, filled: &Filling) -> Result<(), Complaint> {
     match filled {
-        Filling::Value(value) => push_labelled(alloc, text, b"value ", value.as_slice())?,
+        Filling::Value(value) => push_labelled(text, b"value ", value.as_slice())?,
         Filling::Malformed(fault) => match fault_name(*fault) {
             None => return Err(Complaint::Memory),
             Some(name) => text.extend(name)?,
         },
         Filling::Refused(fault, name) => {
             push_refusal(text, *fault)?;
-            push_labelled(alloc, text, b" ", name.as_slice())?;
+            push_labelled(text, b" ", name.as_slice())?;
         }
     }
     Ok(())

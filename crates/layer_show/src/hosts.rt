@@ -12,6 +12,7 @@
 
 ghost use Rattle.std.specs.Prelude.{◌≡◌, false, IfOk, OnOk, OnErr};
 
+use crate::calls::name_in;
 use std::alloc::{AllocError, Global};
 use std::mem;
 use tcl_eval::Code;
@@ -20,8 +21,11 @@ use tcl_subst::{SubstFault, Vars};
 use tcl_values::Value;
 use tcl_words::{Packed, Text, write_list};
 
+/// What comes of a call, but for want of memory.
+type Step = Result<HostStep, AllocError>;
+
 /// What a script was asked for.
-#[derive(Clone, Copy, Debug, PartialEq, Eq)]
+#[derive(Clone, Copy)]
 pub enum Purpose {
     /// For its code and value.
     Run,
@@ -29,6 +33,18 @@ pub enum Purpose {
     Loop(u8),
     /// To be asked for once more.
     Insist,
+}
+
+/// A command, as it stands at the head of this page.
+#[derive(Clone, Copy)]
+enum Act {
+    Puts,
+    Keep,
+    Again(Code),
+    Want(Purpose),
+    Ask,
+    Halt,
+    Spend,
 }
 
 /// A script that was asked for.
@@ -39,16 +55,16 @@ pub struct Wanted {
 }
 
 /// A call that was put off.
-#[derive(Drop)]
+#[derive(Clone, Copy)]
 pub enum Held {
     /// None was.
     Nothing,
-    /// The begin of a command, with its words.
-    Begin(Values),
+    /// The begin of a command.
+    Begin,
     /// What follows the words that were asked for.
-    Words(Values),
-    /// What follows the script that was asked for, with its code and value.
-    Body(Code, Value),
+    Words,
+    /// What follows the script that was asked for, with its code.
+    Body(Code),
 }
 
 /// A host of a few commands, which puts each call off so many times.
@@ -59,8 +75,10 @@ pub struct SmallHost {
     pub waits: u8,
     /// So often is the call at hand still put off.
     pub left: u8,
-    /// The call at hand, where it was put off.
+    /// The call at hand, if it was put off.
     pub held: Held,
+    /// The words of that call, or the value of its script.
+    pub words: Values,
     /// The scripts that were asked for and aren't over, the innermost last.
     pub wanted: Vec<Wanted>,
     /// What was put.
@@ -89,7 +107,7 @@ fn is_again(code: Code) -> bool {
 }
 
 /// The step, or want of memory.
-fn or_memory(step: Result<HostStep, AllocError>) -> HostStep
+fn or_memory(step: Step) -> HostStep
     ensures ok { IfOk step (λ s. result ≡ s) }
     ensures err { OnErr step (result ≡ HostStep.Memory) }
 {
@@ -100,7 +118,7 @@ fn or_memory(step: Result<HostStep, AllocError>) -> HostStep
 }
 
 /// An error of this text.
-fn failed(alloc: Global, text: &[u8]) -> Result<HostStep, AllocError>
+fn failed(alloc: Global, text: &[u8]) -> Step
     ensures { IfOk result (λ s. s ≡ HostStep.Fail text.now) }
 {
     Ok(HostStep::Fail(Value::from_slice(alloc, text)?))
@@ -111,34 +129,72 @@ fn done(alloc: Global, code: Code) -> HostStep {
     HostStep::Done(code, Value::new(alloc))
 }
 
-fn copied(alloc: Global, words: &Values) -> Result<Values, AllocError> {
+/// A value at a code.
+fn done_with(alloc: Global, code: Code, value: &Value) -> Step {
+    Ok(HostStep::Done(code, value.shared(alloc)?))
+}
+
+/// Asks for the words of a text.
+fn ask(alloc: Global, text: &Value) -> Step {
+    Ok(HostStep::Words(text.shared(alloc)?))
+}
+
+fn copied(alloc: Global, words: &[Value]) -> Result<Values, AllocError> {
     let mut copy = Values::new(alloc);
-    'words: for word in words.as_slice() {
+    'words: for word in words {
         copy.push(word.shared(alloc)?)?;
     }
     Ok(copy)
 }
 
+fn alone_copied(alloc: Global, value: &Value) -> Result<Values, AllocError> {
+    let mut copy = Values::new(alloc);
+    copy.push(value.shared(alloc)?)?;
+    Ok(copy)
+}
+
+/// A list of these elements.
+fn done_list(alloc: Global, elements: &Packed) -> Step {
+    let text = write_list(alloc, elements)?;
+    Ok(HostStep::Done(Code::Ok, Value::from_text(alloc, text)?))
+}
+
 /// Values as a list.
-fn listed(alloc: Global, words: &[Value]) -> Result<Value, AllocError> {
+fn listed(alloc: Global, words: &[Value]) -> Step {
     let mut packed = Packed::new(alloc);
     'words: for word in words {
         packed.push(word.as_slice())?;
     }
-    Value::from_text(alloc, write_list(alloc, &packed)?)
+    done_list(alloc, &packed)
 }
 
 /// A code and a value as a list.
-fn told(alloc: Global, code: Code, value: &Value) -> Result<HostStep, AllocError> {
-    let both = [
-        Value::from_slice(alloc, &[digit(code)])?,
-        value.shared(alloc)?,
-    ];
-    Ok(HostStep::Done(Code::Ok, listed(alloc, &both)?))
+fn told(alloc: Global, code: Code, value: &Value) -> Step {
+    let mut packed = Packed::new(alloc);
+    packed.push(&[digit(code)])?;
+    packed.push(value.as_slice())?;
+    done_list(alloc, &packed)
+}
+
+/// What a name says, if it is a command of the host.
+fn act_of(name: &[u8]) -> Option<Act> {
+    match name_in(name) {
+        "puts" => Some(Act::Puts),
+        "keep" => Some(Act::Keep),
+        "again" => Some(Act::Again(Code::Again)),
+        "later" => Some(Act::Again(Code::AgainLater)),
+        "run" => Some(Act::Want(Purpose::Run)),
+        "looping" => Some(Act::Want(Purpose::Loop(3))),
+        "insist" => Some(Act::Want(Purpose::Insist)),
+        "ask" => Some(Act::Ask),
+        "halt" => Some(Act::Halt),
+        "spend" => Some(Act::Spend),
+        _ => None,
+    }
 }
 
 /// `keep NAME TEXT`.
-fn keep(alloc: Global, vars: &mut Vars, name: &[u8], text: &Value) -> Result<HostStep, AllocError> {
+fn keep(alloc: Global, vars: &mut Vars, name: &[u8], text: &Value) -> Step {
     let value = text.shared(alloc)?;
     match vars.set(name, value) {
         Ok(()) => Ok(done(alloc, Code::Ok)),
@@ -157,6 +213,7 @@ impl SmallHost {
             waits,
             left: 0,
             held: Held::Nothing,
+            words: Values::new(alloc),
             wanted: Vec::new(alloc),
             output: Text::new(alloc),
             calls: 0,
@@ -165,14 +222,14 @@ impl SmallHost {
     }
 
     /// Puts a text and a newline.
-    fn put(&mut self, text: &Value) -> Result<HostStep, AllocError> {
+    fn put(&mut self, text: &Value) -> Step {
         self.output.extend(text.as_slice())?;
         self.output.push(b'\n')?;
         Ok(done(self.alloc, Code::Ok))
     }
 
     /// Asks for a script.
-    fn want(&mut self, purpose: Purpose, script: &Value) -> Result<HostStep, AllocError> {
+    fn want(&mut self, purpose: Purpose, script: &Value) -> Step {
         let kept = script.shared(self.alloc)?;
         self.wanted.push(Wanted {
             purpose,
@@ -181,13 +238,12 @@ impl SmallHost {
         Ok(HostStep::Body(script.shared(self.alloc)?))
     }
 
-    /// A command without arguments.
-    fn alone(&mut self, name: &[u8]) -> Result<HostStep, AllocError> {
-        match name {
-            b"again" => Ok(done(self.alloc, Code::Again)),
-            b"later" => Ok(done(self.alloc, Code::AgainLater)),
-            b"halt" => Ok(HostStep::Stop(Ending::Error)),
-            b"spend" => {
+    /// Carries out a command without arguments.
+    fn alone(&mut self, act: Act) -> Step {
+        match act {
+            Act::Again(code) => Ok(done(self.alloc, code)),
+            Act::Halt => Ok(HostStep::Stop(Ending::Error)),
+            Act::Spend => {
                 self.is_spent = true;
                 Ok(HostStep::Memory)
             }
@@ -195,108 +251,107 @@ impl SmallHost {
         }
     }
 
-    /// A command with one argument.
-    fn with_one(&mut self, name: &[u8], arg: &Value) -> Result<HostStep, AllocError> {
-        match name {
-            b"puts" => self.put(arg),
-            b"again" => Ok(HostStep::Done(Code::Again, arg.shared(self.alloc)?)),
-            b"later" => Ok(HostStep::Done(Code::AgainLater, arg.shared(self.alloc)?)),
-            b"ask" => Ok(HostStep::Words(arg.shared(self.alloc)?)),
-            b"run" => self.want(Purpose::Run, arg),
-            b"looping" => self.want(Purpose::Loop(3), arg),
-            b"insist" => self.want(Purpose::Insist, arg),
+    /// Carries out a command with one argument.
+    fn with_one(&mut self, act: Act, arg: &Value) -> Step {
+        match act {
+            Act::Puts => self.put(arg),
+            Act::Again(code) => done_with(self.alloc, code, arg),
+            Act::Want(purpose) => self.want(purpose, arg),
+            Act::Ask => ask(self.alloc, arg),
             _ => failed(self.alloc, b"another number of words"),
         }
     }
 
-    /// Carries out a command.
-    fn on_begin(&mut self, vars: &mut Vars, words: &Values) -> Result<HostStep, AllocError> {
-        self.calls = self.calls.saturating_add(1);
-        match words.as_slice() {
-            [] => Ok(HostStep::Unknown),
-            [name, ..] if !self.knows(name.as_slice()) => Ok(HostStep::Unknown),
-            [name] => self.alone(name.as_slice()),
-            [name, arg] => self.with_one(name.as_slice(), arg),
-            [name, first, second] if name.as_slice() == b"keep".as_slice() => {
-                keep(self.alloc, vars, first.as_slice(), second)
-            }
+    fn perform(&mut self, vars: &mut Vars, act: Act, args: &[Value]) -> Step {
+        match (act, args) {
+            (_, []) => self.alone(act),
+            (_, [arg]) => self.with_one(act, arg),
+            (Act::Keep, [name, text]) => keep(self.alloc, vars, name.as_slice(), text),
             _ => failed(self.alloc, b"too many words"),
         }
     }
 
+    /// Carries out a command.
+    fn on_begin(&mut self, vars: &mut Vars, words: &Values) -> Step {
+        self.calls = self.calls.saturating_add(1);
+        let [name, args @ ..] = words.as_slice() else {
+            return Ok(HostStep::Unknown);
+        };
+        match act_of(name.as_slice()) {
+            Some(act) => self.perform(vars, act, args),
+            None => Ok(HostStep::Unknown),
+        }
+    }
+
     /// Takes the words of `ask`.
-    fn on_words(&mut self, words: &Values) -> Result<HostStep, AllocError> {
+    fn on_words(&mut self, words: &Values) -> Step {
         self.calls = self.calls.saturating_add(1);
         match words.as_slice() {
             [name, script] if name.as_slice() == b"run".as_slice() => {
                 self.want(Purpose::Run, script)
             }
-            [name, text] if name.as_slice() == b"ask".as_slice() => {
-                Ok(HostStep::Words(text.shared(self.alloc)?))
-            }
+            [name, text] if name.as_slice() == b"ask".as_slice() => ask(self.alloc, text),
             [name] if name.as_slice() == b"none".as_slice() => Ok(HostStep::Unknown),
-            words => Ok(HostStep::Done(Code::Ok, listed(self.alloc, words)?)),
+            words => listed(self.alloc, words),
         }
     }
 
-    /// Goes on behind a script.
-    fn on_body(&mut self, code: Code, value: &Value) -> Result<HostStep, AllocError> {
+    /// Goes on after a script that was asked for.
+    fn after(&mut self, wanted: &Wanted, code: Code, value: &Value) -> Step {
+        match wanted.purpose {
+            Purpose::Run => told(self.alloc, code, value),
+            Purpose::Insist => self.want(Purpose::Run, &wanted.script),
+            Purpose::Loop(left) if is_again(code) && 0 < left => {
+                self.want(Purpose::Loop(left - 1), &wanted.script)
+            }
+            Purpose::Loop(_) => done_with(self.alloc, code, value),
+        }
+    }
+
+    /// Goes on after a script.
+    fn on_body(&mut self, code: Code, value: &Value) -> Step {
         self.calls = self.calls.saturating_add(1);
-        let Some(Wanted { purpose, script }) = self.wanted.pop() else {
+        let Some(wanted) = self.wanted.pop() else {
             return failed(self.alloc, b"no script was wanted");
         };
-        match purpose {
-            Purpose::Run => told(self.alloc, code, value),
-            Purpose::Insist => self.want(Purpose::Run, &script),
-            Purpose::Loop(left) => {
-                if is_again(code) && 0 < left {
-                    return self.want(Purpose::Loop(left - 1), &script);
-                }
-                Ok(HostStep::Done(code, value.shared(self.alloc)?))
-            }
+        self.after(&wanted, code, value)
+    }
+
+    /// Carries out a call that was put off, with its words or value.
+    fn on_held(&mut self, vars: &mut Vars, held: Held, words: &Values) -> Step {
+        match (held, words.as_slice()) {
+            (Held::Begin, _) => self.on_begin(vars, words),
+            (Held::Words, _) => self.on_words(words),
+            (Held::Body(code), [value]) => self.on_body(code, value),
+            _ => failed(self.alloc, b"nothing was put off"),
         }
     }
 
-    /// Puts a call off.
-    fn hold(&mut self, held: Result<Held, AllocError>) -> HostStep
-        ensures ok { OnOk held (result ≡ HostStep.Wait) }
-        ensures err { OnErr held (result ≡ HostStep.Memory) }
+    /// Puts a call off, with its words or value.
+    fn hold(&mut self, held: Held, words: Result<Values, AllocError>) -> HostStep
+        ensures ok { OnOk words (result ≡ HostStep.Wait) }
+        ensures err { OnErr words (result ≡ HostStep.Memory) }
     {
-        let Ok(held) = held else {
+        let Ok(words) = words else {
             return HostStep::Memory;
         };
+        self.words = words;
         self.held = held;
         self.left = self.waits;
         HostStep::Wait
     }
 }
 
-fn held_begin(alloc: Global, words: &Values) -> Result<Held, AllocError> {
-    Ok(Held::Begin(copied(alloc, words)?))
-}
-
-fn held_words(alloc: Global, words: &Values) -> Result<Held, AllocError> {
-    Ok(Held::Words(copied(alloc, words)?))
-}
-
-fn held_body(alloc: Global, code: Code, value: &Value) -> Result<Held, AllocError> {
-    Ok(Held::Body(code, value.shared(alloc)?))
-}
-
 impl Host for SmallHost {
     ghost answers = { λ _ _ _ _. Unit {0} };
 
     fn knows(&self, name: &[u8]) -> bool {
-        match name {
-            b"puts" | b"keep" | b"again" | b"later" | b"run" => true,
-            b"looping" | b"insist" | b"ask" | b"halt" | b"spend" => true,
-            _ => false,
-        }
+        act_of(name).is_some()
     }
 
     fn begin(&mut self, vars: &mut Vars, words: &Values) -> HostStep {
         if 0 < self.waits {
-            return self.hold(held_begin(self.alloc, words));
+            return self.hold(Held::Begin, copied(self.alloc, words.as_slice()));
         }
         or_memory(self.on_begin(vars, words))
     }
@@ -306,24 +361,21 @@ impl Host for SmallHost {
             self.left -= 1;
             return HostStep::Wait;
         }
-        match mem::replace(&mut self.held, Held::Nothing) {
-            Held::Nothing => or_memory(failed(self.alloc, b"nothing was put off")),
-            Held::Begin(words) => or_memory(self.on_begin(vars, &words)),
-            Held::Words(words) => or_memory(self.on_words(&words)),
-            Held::Body(code, value) => or_memory(self.on_body(code, &value)),
-        }
+        let held = mem::replace(&mut self.held, Held::Nothing);
+        let words = mem::replace(&mut self.words, Values::new(self.alloc));
+        or_memory(self.on_held(vars, held, &words))
     }
 
     fn after_words(&mut self, _vars: &mut Vars, words: &Values) -> HostStep {
         if 0 < self.waits {
-            return self.hold(held_words(self.alloc, words));
+            return self.hold(Held::Words, copied(self.alloc, words.as_slice()));
         }
         or_memory(self.on_words(words))
     }
 
     fn after_body(&mut self, _vars: &mut Vars, code: Code, value: &Value) -> HostStep {
         if 0 < self.waits {
-            return self.hold(held_body(self.alloc, code, value));
+            return self.hold(Held::Body(code), alone_copied(self.alloc, value));
         }
         or_memory(self.on_body(code, value))
     }

@@ -17,18 +17,19 @@ mod terminal;
 mod variables;
 mod words;
 
-use crate::buffers::shown_buffer;
+use crate::buffers::push_buffer;
 use crate::calls::calls;
 use crate::complaint::Complaint;
-use crate::expressions::shown_expressions;
-use crate::globs::shown_globs;
-use crate::patterns::shown_patterns;
-use crate::queues::shown_queue;
-use crate::runs::shown_runs;
-use crate::scans::shown_scan;
-use crate::terminal::shown_terminal;
-use crate::variables::shown_variables;
-use crate::words::{shown_commands, shown_list, shown_operand};
+use crate::expressions::push_expressions;
+use crate::globs::push_globs;
+use crate::patterns::push_patterns;
+use crate::queues::push_queue;
+use crate::runs::push_runs;
+use crate::scans::push_scan;
+use crate::spell::alloc_of;
+use crate::terminal::push_terminal;
+use crate::variables::push_variables;
+use crate::words::{push_commands, push_list, push_operand};
 use std::alloc::Global;
 use std::env;
 use std::env::Env;
@@ -40,7 +41,7 @@ use tcl_words::Text;
 const FAULT: u8 = 2;
 
 /// What standard input is read as.
-#[derive(Clone, Copy, Debug, PartialEq, Eq)]
+#[derive(Clone, Copy)]
 enum Layer {
     /// A script, as its commands.
     Commands,
@@ -86,43 +87,49 @@ fn layer_of(name: &str) -> Option<Layer> {
     }
 }
 
-fn layer_in(words: &[String]) -> Result<Layer, Complaint> {
-    match words {
+fn asked(rt: &(impl Env + AllocGlobal), alloc: Global) -> Result<Layer, Complaint> {
+    let words: Vec<String> = env::args(rt)?.collect(alloc)?;
+    match words.as_slice() {
         [_, word] => layer_of(word.as_str()).ok_or(Complaint::Usage),
         _ => Err(Complaint::Usage),
     }
 }
 
-fn asked(rt: &(impl Env + AllocGlobal), alloc: Global) -> Result<Layer, Complaint> {
-    let words: Vec<String> = env::args(rt)?.collect(alloc)?;
-    layer_in(words.as_slice())
+/// Appends what a layer makes of calls.
+fn push_calls(text: &mut Text, layer: Layer, calls: &[Vec<Text>]) -> Result<(), Complaint> {
+    match layer {
+        Layer::Expression => push_expressions(text, calls),
+        Layer::Terminal => push_terminal(text, calls),
+        Layer::Glob => push_globs(text, calls),
+        Layer::Pattern => push_patterns(text, calls),
+        Layer::Buffer => push_buffer(text, calls),
+        Layer::Queue => push_queue(text, calls),
+        Layer::Variables => push_variables(text, calls),
+        Layer::Scripts => push_runs(text, calls),
+        _ => Err(Complaint::Usage),
+    }
 }
 
-fn shown<R: Read>(alloc: Global, layer: Layer, input: &mut R) -> Result<Text, Complaint> {
-    let mut src = Vec::new(alloc);
-    input.read_to_end(&mut src)?;
+/// Appends what a layer makes of standard input.
+fn push_shown(text: &mut Text, layer: Layer, src: &[u8]) -> Result<(), Complaint> {
+    let alloc = alloc_of(text);
     match layer {
-        Layer::Commands => Ok(shown_commands(alloc, &src)?),
-        Layer::List => Ok(shown_list(alloc, &src)?),
-        Layer::Operand => Ok(shown_operand(alloc, &src)?),
-        Layer::Expression => shown_expressions(alloc, &calls(alloc, &src)?),
-        Layer::Terminal => shown_terminal(alloc, &calls(alloc, &src)?),
-        Layer::Glob => shown_globs(alloc, &calls(alloc, &src)?),
-        Layer::Pattern => shown_patterns(alloc, &calls(alloc, &src)?),
-        Layer::Buffer => shown_buffer(alloc, &calls(alloc, &src)?),
-        Layer::Queue => shown_queue(alloc, &calls(alloc, &src)?),
-        Layer::Scan => shown_scan(alloc, &src),
-        Layer::Variables => shown_variables(alloc, &calls(alloc, &src)?),
-        Layer::Scripts => shown_runs(alloc, &calls(alloc, &src)?),
+        Layer::Commands => Ok(push_commands(text, src)?),
+        Layer::List => Ok(push_list(text, src)?),
+        Layer::Operand => Ok(push_operand(text, src)?),
+        Layer::Scan => push_scan(text, src),
+        _ => push_calls(text, layer, &calls(alloc, src)?),
     }
 }
 
 fn run(rt: &HostRuntime) -> Result<(), Complaint> {
     let alloc = rt.alloc();
     let layer = asked(rt, alloc)?;
-    let text = shown(alloc, layer, &mut rt.stdin())?;
-    io::writer(rt).write_all(text.as_slice())?;
-    Ok(())
+    let mut src = Vec::new(alloc);
+    rt.stdin().read_to_end(&mut src)?;
+    let mut text = Text::new(alloc);
+    push_shown(&mut text, layer, &src)?;
+    Ok(io::writer(rt).write_all(text.as_slice())?)
 }
 
 fn main(rt: HostRuntime) -> ExitCode {

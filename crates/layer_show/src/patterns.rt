@@ -2,51 +2,57 @@
 
 use crate::calls::number;
 use crate::complaint::Complaint;
+use crate::spell::{alloc_of, push_string};
 use exp_match::{Chosen, PatternFault, PatternList};
 use std::alloc::{AllocError, Global};
 use tcl_values::Value;
 use tcl_words::Text;
 
-fn push_chosen(alloc: Global, text: &mut Text, chosen: Chosen) -> Result<(), Complaint> {
+fn push_span(text: &mut Text, span: Option<(usize, usize)>) -> Result<(), AllocError> {
+    let alloc = alloc_of(text);
+    match span {
+        Some((start, end)) => push_string(text, format!(in alloc; " {start},{end}")),
+        None => text.extend(b" -"),
+    }
+}
+
+fn push_chosen(text: &mut Text, chosen: Chosen) -> Result<(), AllocError> {
+    let alloc = alloc_of(text);
     let (index, spans) = match chosen {
-        Chosen::Full => return Ok(text.extend(b"full\n")?),
-        Chosen::None => return Ok(text.extend(b"none\n")?),
+        Chosen::Full => return text.extend(b"full\n"),
+        Chosen::None => return text.extend(b"none\n"),
         Chosen::Pattern(index, spans) => (index, spans),
     };
-    text.extend(format!(in alloc; "{index}")?.as_bytes())?;
+    push_string(text, format!(in alloc; "{index}"))?;
     'spans: for span in &spans {
-        match span {
-            Some((start, end)) => text.extend(format!(in alloc; " {start},{end}")?.as_bytes())?,
-            None => text.extend(b" -")?,
-        }
+        push_span(text, *span)?;
     }
-    text.push(b'\n')?;
-    Ok(())
+    text.push(b'\n')
 }
 
-fn push_refused(alloc: Global, text: &mut Text, fault: PatternFault) -> Result<(), Complaint> {
-    let line = match fault {
-        PatternFault::BadFlag(index) => format!(in alloc; "bad flag {index}\n")?,
-        PatternFault::BadRegex(index) => format!(in alloc; "bad regular expression {index}\n")?,
-        PatternFault::Refused => format!(in alloc; "refused\n")?,
-        PatternFault::Memory => return Err(Complaint::Memory),
-    };
-    text.extend(line.as_bytes())?;
-    Ok(())
+fn push_refused(text: &mut Text, fault: PatternFault) -> Result<(), AllocError> {
+    let alloc = alloc_of(text);
+    match fault {
+        PatternFault::BadFlag(index) => push_string(text, format!(in alloc; "bad flag {index}\n")),
+        PatternFault::BadRegex(index) => {
+            push_string(text, format!(in alloc; "bad regular expression {index}\n"))
+        }
+        PatternFault::Refused => text.extend(b"refused\n"),
+        PatternFault::Memory => Err(AllocError),
+    }
 }
 
-/// Every group of a list.
-pub fn all_groups(alloc: Global, list: &PatternList) -> Result<Vec<usize>, Complaint> {
+/// Returns every group of a list.
+pub fn all_groups(alloc: Global, list: &PatternList) -> Result<Vec<usize>, AllocError> {
     let mut groups = Vec::new(alloc);
     'groups: for group in 0..list.groups() {
-        groups.push(group).map_err(|_| Complaint::Memory)?;
+        groups.push(group)?;
     }
     Ok(groups)
 }
 
-/// The pattern of a list that is chosen in bytes, of which at most so many are kept.
+/// Appends a line for the pattern of a list that is chosen in bytes. A test has the most bytes that are kept, and the bytes.
 fn push_test(
-    alloc: Global,
     text: &mut Text,
     list: &PatternList,
     groups: &[usize],
@@ -55,26 +61,21 @@ fn push_test(
     let [max, bytes] = test else {
         return Err(Complaint::Call);
     };
-    let chosen = list.choose(alloc, groups, bytes.as_slice(), number(max)?)?;
-    push_chosen(alloc, text, chosen)
+    let chosen = list.choose(alloc_of(text), groups, bytes.as_slice(), number(max)?)?;
+    Ok(push_chosen(text, chosen)?)
 }
 
-/// A line for each test.
-fn push_tests(
-    alloc: Global,
-    text: &mut Text,
-    list: &PatternList,
-    tests: &[Vec<Text>],
-) -> Result<(), Complaint> {
-    let groups = all_groups(alloc, list)?;
+/// Appends a line for each test.
+fn push_tests(text: &mut Text, list: &PatternList, tests: &[Vec<Text>]) -> Result<(), Complaint> {
+    let groups = all_groups(alloc_of(text), list)?;
     'tests: for test in tests {
-        push_test(alloc, text, list, groups.as_slice(), test.as_slice())?;
+        push_test(text, list, groups.as_slice(), test.as_slice())?;
     }
     Ok(())
 }
 
-/// Texts as the values that the arguments of a command are.
-pub fn values_of(alloc: Global, texts: &[Text]) -> Result<Vec<Value>, AllocError> {
+/// Returns texts as the values that the arguments of a command are.
+fn values_of(alloc: Global, texts: &[Text]) -> Result<Vec<Value>, AllocError> {
     let mut values = Vec::new(alloc);
     'texts: for text in texts {
         values.push(Value::from_slice(alloc, text.as_slice())?)?;
@@ -82,16 +83,20 @@ pub fn values_of(alloc: Global, texts: &[Text]) -> Result<Vec<Value>, AllocError
     Ok(values)
 }
 
-/// The first call has the arguments of `expect`; each other one the most bytes that are kept, and bytes. A line
-/// has the pattern that is chosen, with its spans.
-pub fn shown_patterns(alloc: Global, calls: &[Vec<Text>]) -> Result<Text, Complaint> {
-    let mut text = Text::new(alloc);
-    if let [arguments, tests @ ..] = calls {
-        let arguments = values_of(alloc, arguments.as_slice())?;
-        match PatternList::build(alloc, arguments.as_slice()) {
-            Ok(list) => push_tests(alloc, &mut text, &list, tests)?,
-            Err(fault) => push_refused(alloc, &mut text, fault)?,
-        }
+/// Reads the arguments of `expect`.
+pub fn list_of(alloc: Global, arguments: &[Text]) -> Result<PatternList, PatternFault> {
+    let arguments = values_of(alloc, arguments)?;
+    PatternList::build(alloc, arguments.as_slice())
+}
+
+/// The first call has the arguments of `expect`; each other one the most bytes that are kept, and bytes. Appends a line
+/// for each: the pattern that is chosen, with its spans.
+pub fn push_patterns(text: &mut Text, calls: &[Vec<Text>]) -> Result<(), Complaint> {
+    let [arguments, tests @ ..] = calls else {
+        return Ok(());
+    };
+    match list_of(alloc_of(text), arguments.as_slice()) {
+        Ok(list) => push_tests(text, &list, tests),
+        Err(fault) => Ok(push_refused(text, fault)?),
     }
-    Ok(text)
 }

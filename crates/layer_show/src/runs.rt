@@ -5,20 +5,37 @@ ghost use Rattle.std.specs.Prelude.{◌≡◌, ◌≢◌, false, Err, IfOk};
 use crate::calls::number;
 use crate::complaint::Complaint;
 use crate::hosts::{SmallHost, digit};
-use crate::spell::push_labelled;
-use std::alloc::Global;
-use tcl_eval::{Machine, Meter, Pause};
+use crate::spell::{alloc_of, push_labelled, push_string};
+use std::alloc::{AllocError, Global};
+use tcl_eval::{Code, Machine, Meter, Pause};
 use tcl_host::Ending;
 use tcl_subst::Vars;
+use tcl_values::Value;
 use tcl_words::Text;
 
-fn shown_ending(alloc: Global, ending: Ending) -> Result<Text, Complaint> {
-    let text = match ending {
-        Ending::Exit(status) => format!(in alloc; "exit {status}")?,
-        Ending::Error => format!(in alloc; "halted")?,
-        _ => format!(in alloc; "stopped")?,
-    };
-    Ok(Text::from_slice(alloc, text.as_bytes())?)
+fn exit_text(alloc: Global, status: u8) -> Result<Text, AllocError> {
+    let mut text = Text::from_slice(alloc, b"exit ")?;
+    push_string(&mut text, format!(in alloc; "{status}"))?;
+    Ok(text)
+}
+
+fn finished_text(alloc: Global, code: Code, value: &Value) -> Result<Text, AllocError> {
+    let mut text = Text::from_slice(alloc, b"code ")?;
+    text.push(digit(code))?;
+    push_labelled(&mut text, b" value ", value.as_slice())?;
+    Ok(text)
+}
+
+fn pause_text(alloc: Global, pause: &Pause) -> Result<Text, AllocError> {
+    match pause {
+        Pause::Finished(code, value) => finished_text(alloc, *code, value),
+        Pause::Waits => Text::from_slice(alloc, b"waits"),
+        Pause::Stopped(Ending::Exit(status)) => exit_text(alloc, *status),
+        Pause::Stopped(Ending::Error) => Text::from_slice(alloc, b"halted"),
+        Pause::Stopped(_) => Text::from_slice(alloc, b"stopped"),
+        Pause::StepLimit => Text::from_slice(alloc, b"no step left"),
+        Pause::Memory => Text::from_slice(alloc, b"no memory left"),
+    }
 }
 
 /// How a run ended. Want of memory is an end only where the script asked for it.
@@ -26,17 +43,8 @@ fn shown_pause(alloc: Global, pause: &Pause, is_spent: bool) -> Result<Text, Com
     ensures { pause.now ≡ Pause.Memory → is_spent ≡ false → result ≡ Err Complaint.Memory }
 {
     match pause {
-        Pause::Finished(code, value) => {
-            let mut text = Text::from_slice(alloc, b"code ")?;
-            text.push(digit(*code))?;
-            push_labelled(alloc, &mut text, b" value ", value.as_slice())?;
-            Ok(text)
-        }
-        Pause::Waits => Ok(Text::from_slice(alloc, b"waits")?),
-        Pause::Stopped(ending) => shown_ending(alloc, *ending),
-        Pause::StepLimit => Ok(Text::from_slice(alloc, b"no step left")?),
-        Pause::Memory if is_spent => Ok(Text::from_slice(alloc, b"no memory left")?),
-        Pause::Memory => Err(Complaint::Memory),
+        Pause::Memory if !is_spent => Err(Complaint::Memory),
+        _ => Ok(pause_text(alloc, pause)?),
     }
 }
 
@@ -57,6 +65,11 @@ fn run_on(
     Err(Complaint::Call)
 }
 
+/// Shows how a run ended, and drops it.
+fn shown_end(alloc: Global, pause: Pause, host: &SmallHost) -> Result<Text, Complaint> {
+    shown_pause(alloc, &pause, host.is_spent)
+}
+
 /// Runs a machine that is over once more, and says whether nothing but the same end came of it.
 fn stays(
     alloc: Global,
@@ -66,8 +79,7 @@ fn stays(
     end: &Text,
 ) -> Result<bool, Complaint> {
     let (steps, calls, put) = (meter.count(), host.calls, host.output.len());
-    let pause = machine.run(host, meter);
-    let again = shown_pause(alloc, &pause, host.is_spent)?;
+    let again = shown_end(alloc, machine.run(host, meter), host)?;
     if again.as_slice() != end.as_slice() {
         return Ok(false);
     }
@@ -76,87 +88,53 @@ fn stays(
 
 /// What was put, and the counts.
 fn push_counts(
-    alloc: Global,
     text: &mut Text,
     host: &SmallHost,
     steps: u64,
     waits: u64,
-) -> Result<(), Complaint> {
-    push_labelled(alloc, text, b" output ", host.output.as_slice())?;
+) -> Result<(), AllocError> {
+    let alloc = alloc_of(text);
+    push_labelled(text, b" output ", host.output.as_slice())?;
     let calls = host.calls;
-    let counts = format!(in alloc; " steps {steps} waits {waits} calls {calls}")?;
-    text.extend(counts.as_bytes())?;
-    Ok(())
+    push_string(
+        text,
+        format!(in alloc; " steps {steps} waits {waits} calls {calls}"),
+    )
 }
 
-/// What a machine comes to, and how often it paused.
-fn end_of_run(
-    alloc: Global,
-    machine: &mut Machine<SmallHost>,
-    host: &mut SmallHost,
-    meter: &mut Meter,
-) -> Result<(Text, u64), Complaint> {
-    let (pause, waits) = run_on(machine, host, meter)?;
-    Ok((shown_pause(alloc, &pause, host.is_spent)?, waits))
-}
-
-/// Whether a machine that has come to its end stays so.
-fn push_whether_it_stays(
-    alloc: Global,
-    text: &mut Text,
-    machine: &mut Machine<SmallHost>,
-    host: &mut SmallHost,
-    meter: &mut Meter,
-    end: &Text,
-) -> Result<(), Complaint> {
-    let is_same = stays(alloc, machine, host, meter, end)?;
-    text.extend(if is_same { b" stays\n" } else { b" strays\n" })?;
-    Ok(())
-}
-
-/// A line of what a machine comes to.
+/// Appends a line of what a machine comes to.
 fn push_run(
-    alloc: Global,
     text: &mut Text,
     machine: &mut Machine<SmallHost>,
     host: &mut SmallHost,
     meter: &mut Meter,
 ) -> Result<(), Complaint> {
-    let (end, waits) = end_of_run(alloc, machine, host, meter)?;
+    let alloc = alloc_of(text);
+    let (pause, waits) = run_on(machine, host, meter)?;
+    let end = shown_end(alloc, pause, host)?;
     text.extend(end.as_slice())?;
-    push_counts(alloc, text, host, meter.count(), waits)?;
-    push_whether_it_stays(alloc, text, machine, host, meter, &end)
+    push_counts(text, host, meter.count(), waits)?;
+    let is_same = stays(alloc, machine, host, meter, &end)?;
+    Ok(text.extend(if is_same { b" stays\n" } else { b" strays\n" })?)
 }
 
 /// Runs a script from its start.
-fn push_script(
-    alloc: Global,
-    text: &mut Text,
-    bound: u64,
-    waits: u8,
-    source: &[u8],
-) -> Result<(), Complaint> {
-    let mut machine: Machine<SmallHost> = Machine::new(alloc, source, Vars::new(alloc))?;
+fn push_script(text: &mut Text, bound: u64, waits: u8, source: &[u8]) -> Result<(), Complaint> {
+    let alloc = alloc_of(text);
+    let mut machine = Machine::new(alloc, source, Vars::new(alloc))?;
     let mut host = SmallHost::new(alloc, waits);
-    let mut meter = Meter::new(bound);
-    push_run(alloc, text, &mut machine, &mut host, &mut meter)
+    push_run(text, &mut machine, &mut host, &mut Meter::new(bound))
 }
 
-/// Each call has a bound on steps, how often the host puts each of its calls off, and a script. A line says how the run ended, what was
-/// put, how many steps were begun, how often it paused, how many calls the host carried out, and whether it stays so when it is run again.
-pub fn shown_runs(alloc: Global, calls: &[Vec<Text>]) -> Result<Text, Complaint> {
-    let mut text = Text::new(alloc);
+/// Each call has a bound on steps, how often the host puts each of its calls off, and a script. Appends a line for each: how the run
+/// ended, what was put, how many steps were begun, how often it paused, how many calls the host carried out, and whether it stays so
+/// when it is run again.
+pub fn push_runs(text: &mut Text, calls: &[Vec<Text>]) -> Result<(), Complaint> {
     'calls: for call in calls {
         let [bound, waits, source] = call.as_slice() else {
             return Err(Complaint::Call);
         };
-        push_script(
-            alloc,
-            &mut text,
-            number(bound)?,
-            number(waits)?,
-            source.as_slice(),
-        )?;
+        push_script(text, number(bound)?, number(waits)?, source.as_slice())?;
     }
-    Ok(text)
+    Ok(())
 }

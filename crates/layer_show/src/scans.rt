@@ -3,13 +3,14 @@
 ghost use Rattle.std.specs.Prelude.{◌≡◌, ◌<◌, take, IfOk, IsTrue};
 ghost use Rattle.exp_match.specs.Choice.{HasNone, LeavesNone, with_spans};
 
-use crate::calls::number;
+use crate::calls::{number, words_of};
 use crate::complaint::Complaint;
-use crate::patterns::{all_groups, values_of};
-use exp_match::{Matchers, PatternList, Picked, Spans};
+use crate::patterns::{all_groups, list_of};
+use crate::spell::{alloc_of, push_string};
+use exp_match::{Matchers, PatternFault, PatternList, Picked, Spans};
 use match_buffer::Buffer;
 use std::alloc::{AllocError, Global};
-use tcl_words::{Text, read_list};
+use tcl_words::Text;
 
 /// How many bytes come at once.
 const PIECE: usize = 4096;
@@ -72,26 +73,20 @@ fn matches<'l>(
     Ok((found, false))
 }
 
+/// Returns how often something matched in data that came to the buffer piece by piece.
 fn scanned<'l>(
     alloc: Global,
     list: &'l PatternList,
-    mut buffer: Buffer,
+    matchers: &mut Matchers<'l>,
+    groups: &[usize],
+    buffer: &mut Buffer,
     data: &[u8],
 ) -> Result<u64, Complaint> {
-    let groups = all_groups(alloc, list)?;
-    let mut matchers: Matchers<'l> = Matchers::new(alloc);
     let mut found = 0u64;
     let mut sought = 0;
     'pieces: for piece in data.chunks(PIECE) {
         buffer.add(piece)?;
-        let (more, in_vain) = matches(
-            alloc,
-            list,
-            &mut matchers,
-            groups.as_slice(),
-            &mut buffer,
-            sought,
-        )?;
+        let (more, in_vain) = matches(alloc, list, matchers, groups, buffer, sought)?;
         found = found.wrapping_add(more);
         buffer.trim();
         sought = if in_vain { buffer.ring().len() } else { 0 };
@@ -99,21 +94,37 @@ fn scanned<'l>(
     Ok(found)
 }
 
-/// How often what the words of the first line say matches in data.
+/// Returns how often patterns match in data that came to a buffer of this size.
+fn count_in(alloc: Global, list: &PatternList, size: &Text, data: &[u8]) -> Result<u64, Complaint> {
+    let mut buffer = Buffer::new(alloc, number(size)?)?;
+    let groups = all_groups(alloc, list)?;
+    let mut matchers = Matchers::new(alloc);
+    scanned(
+        alloc,
+        list,
+        &mut matchers,
+        groups.as_slice(),
+        &mut buffer,
+        data,
+    )
+}
+
+/// Returns how often the patterns of the first line match in data.
 fn count_of(alloc: Global, words: &[Text], data: &[u8]) -> Result<u64, Complaint> {
     let [size, arguments @ ..] = words else {
         return Err(Complaint::Call);
     };
-    let arguments = values_of(alloc, arguments)?;
-    let Ok(list) = PatternList::build(alloc, arguments.as_slice()) else {
-        return Err(Complaint::Call);
-    };
-    scanned(alloc, &list, Buffer::new(alloc, number(size)?)?, data)
+    match list_of(alloc, arguments) {
+        Ok(list) => count_in(alloc, &list, size, data),
+        Err(PatternFault::Memory) => Err(Complaint::Memory),
+        Err(_) => Err(Complaint::Call),
+    }
 }
 
 /// The first line has a buffer's size and the arguments of `expect`. What follows comes to the buffer in
-/// pieces of 4,096 bytes; what a pattern matches is taken off. A line says how often one matched.
-pub fn shown_scan(alloc: Global, src: &[u8]) -> Result<Text, Complaint> {
+/// pieces of 4,096 bytes; what a pattern matches is taken off. Appends a line: how often one matched.
+pub fn push_scan(text: &mut Text, src: &[u8]) -> Result<(), Complaint> {
+    let alloc = alloc_of(text);
     let Some(newline) = src.iter().position(|b| *b == b'\n') else {
         return Err(Complaint::Call);
     };
@@ -121,7 +132,6 @@ pub fn shown_scan(alloc: Global, src: &[u8]) -> Result<Text, Complaint> {
     let [_, data @ ..] = rest else {
         return Err(Complaint::Call);
     };
-    let words = read_list(alloc, line)?.texts(alloc)?;
-    let found = count_of(alloc, words.as_slice(), data)?;
-    Ok(Text::from_slice(alloc, format!(in alloc; "{found}\n")?.as_bytes())?)
+    let found = count_of(alloc, words_of(alloc, line)?.as_slice(), data)?;
+    Ok(push_string(text, format!(in alloc; "{found}\n"))?)
 }

@@ -6,62 +6,67 @@ ghost use Rattle.layer_show.specs.Shown.{hex_text, hex_line};
 use std::alloc::{AllocError, Global};
 use tcl_words::{Command, Part, Text, WordFault};
 
+/// Returns the allocator that a text holds.
+pub fn alloc_of(text: &Text) -> Global {
+    *text.bytes.allocator()
+}
+
 /// Puts bytes in hexadecimal behind a text, or a dash for none.
-pub fn push_hex(alloc: Global, text: &mut Text, bytes: &[u8]) -> Result<(), AllocError>
+pub fn push_hex(text: &mut Text, bytes: &[u8]) -> Result<(), AllocError>
     ensures { OnOk result (text.new ≡ text.old ++ hex_text bytes.now) }
 {
     if bytes.is_empty() {
         return text.push(b'-');
     }
-    let digits = hex::encode(alloc, bytes)?;
+    let digits = hex::encode(alloc_of(text), bytes)?;
     text.extend(digits.as_bytes())
 }
 
 /// Puts a line of bytes in hexadecimal behind a text.
-pub fn push_hex_line(alloc: Global, text: &mut Text, bytes: &[u8]) -> Result<(), AllocError>
+pub fn push_hex_line(text: &mut Text, bytes: &[u8]) -> Result<(), AllocError>
     ensures { OnOk result (text.new ≡ text.old ++ hex_line bytes.now) }
 {
-    push_hex(alloc, text, bytes)?;
+    push_hex(text, bytes)?;
     text.push(b'\n')
 }
 
 /// Puts a label and bytes in hexadecimal behind a text.
-pub fn push_labelled(
-    alloc: Global,
-    text: &mut Text,
-    label: &[u8],
-    bytes: &[u8],
-) -> Result<(), AllocError>
+pub fn push_labelled(text: &mut Text, label: &[u8], bytes: &[u8]) -> Result<(), AllocError>
     ensures { OnOk result (text.new ≡ text.old ++ label.now ++ hex_text bytes.now) }
 {
     text.extend(label)?;
-    push_hex(alloc, text, bytes)
+    push_hex(text, bytes)
+}
+
+/// Appends what was formatted.
+pub fn push_string(text: &mut Text, string: Result<String, AllocError>) -> Result<(), AllocError> {
+    text.extend(string?.as_bytes())
 }
 
 /// Puts parts behind a text, each behind a space. An array's element has its index in parentheses behind it.
-pub fn push_parts(alloc: Global, text: &mut Text, parts: &Vec<Part>) -> Result<(), AllocError> {
+pub fn push_parts(text: &mut Text, parts: &Vec<Part>) -> Result<(), AllocError> {
     'parts: for part in parts {
         match part {
-            Part::Lit(bytes) => push_labelled(alloc, text, b" lit:", bytes.as_slice())?,
-            Part::Var(name, None) => push_labelled(alloc, text, b" var:", name.as_slice())?,
+            Part::Lit(bytes) => push_labelled(text, b" lit:", bytes.as_slice())?,
+            Part::Var(name, None) => push_labelled(text, b" var:", name.as_slice())?,
             Part::Var(name, Some(index)) => {
-                push_labelled(alloc, text, b" element:", name.as_slice())?;
+                push_labelled(text, b" element:", name.as_slice())?;
                 text.extend(b" (")?;
-                push_parts(alloc, text, index)?;
+                push_parts(text, index)?;
                 text.extend(b" )")?;
             }
-            Part::Script(bytes) => push_labelled(alloc, text, b" script:", bytes.as_slice())?,
+            Part::Script(bytes) => push_labelled(text, b" script:", bytes.as_slice())?,
         }
     }
     Ok(())
 }
 
 /// Puts a command's line behind a text: `word` or `expand` before the parts of each word.
-pub fn push_command(alloc: Global, text: &mut Text, command: &Command) -> Result<(), AllocError> {
+pub fn push_command(text: &mut Text, command: &Command) -> Result<(), AllocError> {
     text.extend(b"command")?;
     'words: for word in &command.words {
         text.extend(if word.expand { b" expand" } else { b" word" })?;
-        push_parts(alloc, text, &word.parts)?;
+        push_parts(text, &word.parts)?;
     }
     text.push(b'\n')
 }

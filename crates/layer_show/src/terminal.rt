@@ -1,49 +1,42 @@
 //! What a terminal echoes and hands over.
 
+use crate::calls::name_in;
 use crate::complaint::Complaint;
-use crate::spell::{push_hex, push_labelled};
-use std::alloc::Global;
+use crate::spell::{alloc_of, push_hex, push_labelled};
+use std::alloc::AllocError;
 use tcl_words::Text;
 use tty_input::{Action, Actions, Line};
 use tty_output::{Modes, convert};
 
-fn push_actions(alloc: Global, text: &mut Text, actions: &Actions) -> Result<(), Complaint> {
+fn push_actions(text: &mut Text, actions: &Actions) -> Result<(), AllocError> {
     'actions: for action in actions.as_slice() {
         match action {
-            Action::Write(bytes) => push_labelled(alloc, text, b" write:", bytes.as_slice())?,
+            Action::Write(bytes) => push_labelled(text, b" write:", bytes.as_slice())?,
             Action::End => text.extend(b" end")?,
         }
     }
     Ok(())
 }
 
-/// What the terminal shows of bytes that are written to it, NUL bytes too.
-fn push_mapped(
-    alloc: Global,
-    text: &mut Text,
-    modes: Modes,
-    bytes: &[u8],
-) -> Result<(), Complaint> {
-    let shown = convert(alloc, false, modes, bytes)?;
-    push_hex(alloc, text, shown.as_slice())?;
-    Ok(())
+/// Appends what the terminal shows of bytes that are written to it, NUL bytes too.
+fn push_mapped(text: &mut Text, modes: Modes, bytes: &[u8]) -> Result<(), AllocError> {
+    let shown = convert(alloc_of(text), false, modes, bytes)?;
+    push_hex(text, shown.as_slice())
 }
 
-/// A line for a text that is sent: its echo as the terminal shows it, and what is handed over.
+/// Appends a line for a text that is sent: its echo as the terminal shows it, and what is handed over.
 fn push_sent(
-    alloc: Global,
     text: &mut Text,
     line: &mut Line,
     modes: Modes,
     bytes: &[u8],
-) -> Result<(), Complaint> {
+) -> Result<(), AllocError> {
     let (echo, actions) = line.send(bytes)?;
-    push_mapped(alloc, text, modes, echo.as_slice())?;
-    push_actions(alloc, text, &actions)
+    push_mapped(text, modes, echo.as_slice())?;
+    push_actions(text, &actions)
 }
 
 fn push_call(
-    alloc: Global,
     text: &mut Text,
     line: &mut Line,
     modes: Modes,
@@ -52,32 +45,35 @@ fn push_call(
     let [name, bytes] = call else {
         return Err(Complaint::Call);
     };
-    match name.as_slice() {
-        b"send" => push_sent(alloc, text, line, modes, bytes.as_slice()),
-        b"print" => push_mapped(alloc, text, modes, bytes.as_slice()),
+    match name_in(name.as_slice()) {
+        "send" => Ok(push_sent(text, line, modes, bytes.as_slice())?),
+        "print" => Ok(push_mapped(text, modes, bytes.as_slice())?),
         _ => Err(Complaint::Call),
     }
 }
 
-/// A line for each call.
-fn shown_calls(alloc: Global, modes: Modes, calls: &[Vec<Text>]) -> Result<Text, Complaint> {
-    let mut line = Line::new(alloc, modes);
-    let mut text = Text::new(alloc);
+fn push_calls(
+    text: &mut Text,
+    line: &mut Line,
+    modes: Modes,
+    calls: &[Vec<Text>],
+) -> Result<(), Complaint> {
     'calls: for call in calls {
-        push_call(alloc, &mut text, &mut line, modes, call.as_slice())?;
+        push_call(text, line, modes, call.as_slice())?;
         text.push(b'\n')?;
     }
-    Ok(text)
+    Ok(())
 }
 
-/// The first call has the words of the modes. Behind it stand `send` and a text that is typed, which has a
-/// line of its echo and of what is handed over, and `print` and a text that a program writes.
-pub fn shown_terminal(alloc: Global, calls: &[Vec<Text>]) -> Result<Text, Complaint> {
+/// The first call has the words of the modes. Each other one is `send` and a text that is typed, or `print` and a text that a program
+/// writes. Appends a line for each: the echo and what is handed over, or what the terminal shows.
+pub fn push_terminal(text: &mut Text, calls: &[Vec<Text>]) -> Result<(), Complaint> {
+    let alloc = alloc_of(text);
     let [words, rest @ ..] = calls else {
-        return Ok(Text::new(alloc));
+        return Ok(());
     };
     match Modes::read(words.as_slice()) {
-        Ok(modes) => shown_calls(alloc, modes, rest),
+        Ok(modes) => push_calls(text, &mut Line::new(alloc, modes), modes, rest),
         Err(_) => Err(Complaint::Call),
     }
 }

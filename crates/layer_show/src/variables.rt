@@ -2,10 +2,10 @@
 
 ghost use Rattle.std.specs.Prelude.{◌≡◌, Err};
 
-use crate::calls::number;
+use crate::calls::{name_in, number};
 use crate::complaint::Complaint;
 use crate::fills::{Filling, filled, push_filled, push_refusal};
-use crate::spell::push_labelled;
+use crate::spell::{alloc_of, push_labelled};
 use std::alloc::Global;
 use tcl_subst::{SubstFault, Vars};
 use tcl_values::Value;
@@ -21,50 +21,56 @@ fn push_done(text: &mut Text, done: Result<(), SubstFault>) -> Result<(), Compla
     }
 }
 
-/// The value, or the fault.
-fn push_value(
-    alloc: Global,
-    text: &mut Text,
-    read: Result<Value, SubstFault>,
-) -> Result<(), Complaint> {
+/// Appends a value, or `none` if there is none.
+fn push_found(text: &mut Text, value: Option<&[u8]>) -> Result<(), Complaint> {
+    match value {
+        Some(value) => Ok(push_labelled(text, b"value ", value)?),
+        None => Ok(text.extend(b"none")?),
+    }
+}
+
+fn push_yes(text: &mut Text, is_so: bool) -> Result<(), Complaint> {
+    Ok(text.extend(if is_so { b"yes" } else { b"no" })?)
+}
+
+/// Appends the value, or the fault.
+fn push_value(text: &mut Text, read: Result<Value, SubstFault>) -> Result<(), Complaint> {
     match read {
-        Ok(value) => Ok(push_labelled(alloc, text, b"value ", value.as_slice())?),
+        Ok(value) => push_found(text, Some(value.as_slice())),
         Err(fault) => push_refusal(text, fault),
     }
 }
 
-/// `yes` where the value's bytes were read as a list that it doesn't have at hand, else `no`; or the fault.
+/// Appends `yes` if the value's bytes were read as a list that it doesn't have at hand, else `no`; or the fault.
 fn push_read(text: &mut Text, read: Result<Value, SubstFault>) -> Result<(), Complaint> {
     match read {
-        Ok(value) => Ok(text.extend(if value.was_read() { b"yes" } else { b"no" })?),
+        Ok(value) => push_yes(text, value.was_read()),
         Err(fault) => push_refusal(text, fault),
     }
 }
 
-/// The element of a list at an index, `none` where there is none, or the fault.
-fn push_element(
-    alloc: Global,
-    text: &mut Text,
-    value: &Value,
-    index: usize,
-) -> Result<(), Complaint> {
-    match value.elements(alloc) {
-        Ok(elements) => match elements.get(index) {
-            Some(element) => push_labelled(alloc, text, b"value ", element)?,
-            None => text.extend(b"none")?,
-        },
-        Err(fault) => push_refusal(text, SubstFault::from(fault))?,
+/// Appends the element of a list at a place, `none` if there is none, or the fault.
+fn push_element(text: &mut Text, value: &Value, place: &Text) -> Result<(), Complaint> {
+    let index = number(place)?;
+    match value.elements(alloc_of(text)) {
+        Ok(elements) => push_found(text, elements.get(index)),
+        Err(fault) => push_refusal(text, SubstFault::from(fault)),
     }
-    Ok(())
+}
+
+/// Appends what a word is filled to.
+fn fill(text: &mut Text, vars: &mut Vars, word: &[u8]) -> Result<(), Complaint> {
+    let filled = filled(alloc_of(text), vars, word)?;
+    push_filled(text, &filled)
 }
 
 /// Each variable of the outermost scope that has a value, with it.
-fn push_globals(alloc: Global, text: &mut Text, vars: &Vars) -> Result<(), Complaint> {
+fn push_globals(text: &mut Text, vars: &Vars) -> Result<(), Complaint> {
     text.extend(b"globals")?;
     let values = vars.globals()?;
     'values: for (name, value) in &values {
-        push_labelled(alloc, text, b" ", name.as_slice())?;
-        push_labelled(alloc, text, b"=", value.as_slice())?;
+        push_labelled(text, b" ", name.as_slice())?;
+        push_labelled(text, b"=", value.as_slice())?;
     }
     Ok(())
 }
@@ -76,74 +82,54 @@ fn pop(text: &mut Text, vars: &mut Vars) -> Result<(), Complaint> {
         return Ok(());
     }
     vars.pop_scope();
-    text.extend(b"ok")?;
-    Ok(())
+    Ok(text.extend(b"ok")?)
 }
 
-fn on_scopes(alloc: Global, text: &mut Text, vars: &mut Vars, act: &[u8]) -> Result<(), Complaint> {
+fn on_scopes(text: &mut Text, vars: &mut Vars, act: &str) -> Result<(), Complaint> {
     match act {
-        b"push" => push_done(text, vars.push_scope()),
-        b"pop" => pop(text, vars),
-        b"globals" => push_globals(alloc, text, vars),
+        "push" => push_done(text, vars.push_scope()),
+        "pop" => pop(text, vars),
+        "globals" => push_globals(text, vars),
         _ => Err(Complaint::Call),
     }
 }
 
-fn on_name(
-    alloc: Global,
-    text: &mut Text,
-    vars: &mut Vars,
-    act: &[u8],
-    name: &[u8],
-) -> Result<(), Complaint> {
+fn on_name(text: &mut Text, vars: &mut Vars, act: &str, name: &[u8]) -> Result<(), Complaint> {
     match act {
-        b"get" => push_value(alloc, text, vars.get(name)),
-        b"global" => push_value(alloc, text, vars.get_global(name)),
-        b"exists" => Ok(text.extend(if vars.exists(name) { b"yes" } else { b"no" })?),
-        b"unset" => push_done(text, vars.unset(name)),
-        b"link" => push_done(text, vars.link_global(name)),
-        b"list" => push_done(text, vars.listed(name)),
-        b"read" => push_read(text, vars.get(name)),
-        b"fill" => push_filled(alloc, text, &filled(alloc, vars, name)?),
+        "get" => push_value(text, vars.get(name)),
+        "global" => push_value(text, vars.get_global(name)),
+        "exists" => push_yes(text, vars.exists(name)),
+        "unset" => push_done(text, vars.unset(name)),
+        "link" => push_done(text, vars.link_global(name)),
+        "list" => push_done(text, vars.listed(name)),
+        "read" => push_read(text, vars.get(name)),
+        "fill" => fill(text, vars, name),
         _ => Err(Complaint::Call),
     }
 }
 
 /// Gives a variable what a word is filled to.
-fn assign(
-    alloc: Global,
-    text: &mut Text,
-    vars: &mut Vars,
-    name: &[u8],
-    word: &[u8],
-) -> Result<(), Complaint> {
-    match filled(alloc, vars, word)? {
+fn assign(text: &mut Text, vars: &mut Vars, name: &[u8], word: &[u8]) -> Result<(), Complaint> {
+    match filled(alloc_of(text), vars, word)? {
         Filling::Value(value) => push_done(text, vars.set(name, value)),
-        refused => push_filled(alloc, text, &refused),
+        refused => push_filled(text, &refused),
     }
 }
 
 /// Sets a variable.
-fn set(
-    alloc: Global,
-    text: &mut Text,
-    vars: &mut Vars,
-    name: &[u8],
-    bytes: &[u8],
-) -> Result<(), Complaint> {
-    let value = Value::from_slice(alloc, bytes)?;
+fn set(text: &mut Text, vars: &mut Vars, name: &[u8], bytes: &[u8]) -> Result<(), Complaint> {
+    let value = Value::from_slice(alloc_of(text), bytes)?;
     push_done(text, vars.set(name, value))
 }
 
 /// Puts words behind the elements of a variable.
 fn append_elements(
-    alloc: Global,
     text: &mut Text,
     vars: &mut Vars,
     name: &[u8],
     words: &[Text],
 ) -> Result<(), Complaint> {
-    let mut more = Packed::new(alloc);
+    let mut more = Packed::new(alloc_of(text));
     'words: for word in words {
         more.push(word.as_slice())?;
     }
@@ -152,68 +138,54 @@ fn append_elements(
 
 /// The element at a place of a variable.
 fn push_element_of(
-    alloc: Global,
     text: &mut Text,
     vars: &Vars,
     name: &[u8],
     place: &Text,
 ) -> Result<(), Complaint> {
     match vars.get(name) {
-        Ok(value) => push_element(alloc, text, &value, number(place)?),
+        Ok(value) => push_element(text, &value, place),
         Err(fault) => push_refusal(text, fault),
     }
 }
 
 fn on_word(
-    alloc: Global,
     text: &mut Text,
     vars: &mut Vars,
-    act: &[u8],
+    act: &str,
     name: &[u8],
     word: &Text,
 ) -> Result<(), Complaint> {
     let bytes = word.as_slice();
     match act {
-        b"set" => set(alloc, text, vars, name, bytes),
-        b"append" => push_done(text, vars.append(name, bytes)),
-        b"assign" => assign(alloc, text, vars, name, bytes),
-        b"member" => push_value(alloc, text, vars.get_member(name, bytes)),
-        b"element" => push_element_of(alloc, text, vars, name, word),
+        "set" => set(text, vars, name, bytes),
+        "append" => push_done(text, vars.append(name, bytes)),
+        "assign" => assign(text, vars, name, bytes),
+        "member" => push_value(text, vars.get_member(name, bytes)),
+        "element" => push_element_of(text, vars, name, word),
         _ => Err(Complaint::Call),
     }
 }
 
-fn perform(
-    alloc: Global,
-    text: &mut Text,
-    vars: &mut Vars,
-    act: &[u8],
-    words: &[Text],
-) -> Result<(), Complaint> {
+fn perform(text: &mut Text, vars: &mut Vars, act: &str, words: &[Text]) -> Result<(), Complaint> {
     match words {
-        [name, more @ ..] if act == b"lappend".as_slice() => {
-            append_elements(alloc, text, vars, name.as_slice(), more)
+        [name, more @ ..] if act == "lappend" => {
+            append_elements(text, vars, name.as_slice(), more)
         }
-        [] => on_scopes(alloc, text, vars, act),
-        [name] => on_name(alloc, text, vars, act, name.as_slice()),
-        [name, word] => on_word(alloc, text, vars, act, name.as_slice(), word),
+        [] => on_scopes(text, vars, act),
+        [name] => on_name(text, vars, act, name.as_slice()),
+        [name, word] => on_word(text, vars, act, name.as_slice(), word),
         _ => Err(Complaint::Call),
     }
 }
 
 /// A line of what a call gives.
-fn push_answer(
-    alloc: Global,
-    text: &mut Text,
-    vars: &mut Vars,
-    call: &Vec<Text>,
-) -> Result<(), Complaint> {
+fn push_answer(text: &mut Text, vars: &mut Vars, call: &Vec<Text>) -> Result<(), Complaint> {
     let [act, words @ ..] = call.as_slice() else {
         return Err(Complaint::Call);
     };
-    perform(alloc, text, vars, act.as_slice(), words)?;
-    text.push(b'\n')?;
-    Ok(())
+    perform(text, vars, name_in(act.as_slice()), words)?;
+    Ok(text.push(b'\n')?)
 }
 
 /// Performs all calls so many times, and shows none.
@@ -226,7 +198,7 @@ fn rounds(
     let mut unshown = Text::new(alloc);
     'rounds: for _ in 0..count {
         'calls: for call in calls {
-            push_answer(alloc, &mut unshown, vars, call)?;
+            push_answer(&mut unshown, vars, call)?;
         }
     }
     Ok(())
@@ -240,19 +212,22 @@ fn times(call: &Vec<Text>) -> Result<Option<u64>, Complaint> {
     }
 }
 
-/// `push`, `pop` or `globals`; `get`, `global`, `exists`, `unset`, `link`, `list` or `read` and a name; `fill` and a text; `set` or
-/// `append`, a name and bytes; `assign`, a name and a text; `member`, an array and an index; `element`, a name and a place;
-/// `lappend`, a name and elements. A line says what each call gave. With `times` and a number all that follows is first
-/// performed so many times without a line.
-pub fn shown_variables(alloc: Global, calls: &[Vec<Text>]) -> Result<Text, Complaint> {
-    let mut text = Text::new(alloc);
-    let mut vars = Vars::new(alloc);
+/// Appends a line for each call. With `times` and a number all calls that follow are first performed so often without a line.
+fn push_answers(text: &mut Text, vars: &mut Vars, calls: &[Vec<Text>]) -> Result<(), Complaint> {
     'calls: for index in 0..calls.len() {
         let call = &calls[index];
         match times(call)? {
-            None => push_answer(alloc, &mut text, &mut vars, call)?,
-            Some(count) => rounds(alloc, &mut vars, &calls[index + 1..], count)?,
+            None => push_answer(text, vars, call)?,
+            Some(count) => rounds(alloc_of(text), vars, &calls[index + 1..], count)?,
         }
     }
-    Ok(text)
+    Ok(())
+}
+
+/// `push`, `pop` or `globals`; `get`, `global`, `exists`, `unset`, `link`, `list` or `read` and a name; `fill` and a text; `set` or
+/// `append`, a name and bytes; `assign`, a name and a text; `member`, an array and an index; `element`, a name and a place;
+/// `lappend`, a name and elements. Appends a line for each call: what it gave.
+pub fn push_variables(text: &mut Text, calls: &[Vec<Text>]) -> Result<(), Complaint> {
+    let mut vars = Vars::new(alloc_of(text));
+    push_answers(text, &mut vars, calls)
 }

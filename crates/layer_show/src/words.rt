@@ -1,13 +1,14 @@
 //! What is read of a text, as text.
 
-ghost use Rattle.std.specs.Prelude.{◌≡◌, ◌++◌, ℕ, List, IfOk, OnOk};
+ghost use Rattle.std.specs.Prelude.{◌≡◌, ◌++◌, ℕ, List, OnOk};
 ghost use Rattle.tcl_words.specs.Lists.{ReadsAs};
 ghost use Rattle.layer_show.specs.Shown.{hex_lines, list_shown, bad_list};
 
-use crate::spell::{fault_name, push_command, push_hex_line, push_labelled, push_parts};
-use std::alloc::{AllocError, Global};
+use crate::spell::{alloc_of, fault_name, push_command, push_hex_line, push_labelled, push_parts};
+use std::alloc::AllocError;
 use tcl_words::{
-    ListFault, Packed, Text, WordFault, next_command, one_list, operand, read_list, write_list,
+    ListFault, Packed, Text, Word, WordFault, next_command, one_list, operand, read_list,
+    write_list,
 };
 
 /// Puts a fault's line behind a text, where it isn't want of memory.
@@ -20,71 +21,66 @@ fn push_fault(text: &mut Text, fault: WordFault) -> Result<(), AllocError> {
     text.push(b'\n')
 }
 
-/// The operand at the front of an expression's text and what is left behind it, `none` where there is no such operand, or the fault.
-pub fn shown_operand(alloc: Global, src: &[u8]) -> Result<Text, AllocError> {
-    let mut text = Text::new(alloc);
-    match operand(alloc, src) {
-        Ok(Some((word, len))) => {
-            text.extend(b"operand")?;
-            push_parts(alloc, &mut text, &word.parts)?;
-            push_labelled(alloc, &mut text, b" left ", src.split_at(len).1)?;
-            text.push(b'\n')?;
-        }
-        Ok(None) => text.extend(b"none\n")?,
-        Err(fault) => push_fault(&mut text, fault)?,
-    }
-    Ok(text)
+/// Appends an operand and what is left after it.
+fn push_found(text: &mut Text, word: &Word, left: &[u8]) -> Result<(), AllocError> {
+    text.extend(b"operand")?;
+    push_parts(text, &word.parts)?;
+    push_labelled(text, b" left ", left)?;
+    text.push(b'\n')
 }
 
-/// The commands of a text, a line for each, and behind them the fault, where there is one.
-pub fn shown_commands(alloc: Global, src: &[u8]) -> Result<Text, AllocError> {
-    let mut text = Text::new(alloc);
+/// Appends the operand at the front of an expression's text and what is left after it, `none` if there is no such operand, or the fault.
+pub fn push_operand(text: &mut Text, src: &[u8]) -> Result<(), AllocError> {
+    match operand(alloc_of(text), src) {
+        Ok(Some((word, len))) => push_found(text, &word, src.split_at(len).1),
+        Ok(None) => text.extend(b"none\n"),
+        Err(fault) => push_fault(text, fault),
+    }
+}
+
+/// Appends a line for each command of a text, and then the fault, if there is one.
+pub fn push_commands(text: &mut Text, src: &[u8]) -> Result<(), AllocError> {
     let mut at = 0;
     'commands: for _ in 0..=src.len() {
-        match next_command(alloc, src, at) {
+        match next_command(alloc_of(text), src, at) {
             Ok(Some((command, end))) => {
-                push_command(alloc, &mut text, &command)?;
+                push_command(text, &command)?;
                 at = end;
             }
-            Ok(None) => return Ok(text),
-            Err(fault) => {
-                push_fault(&mut text, fault)?;
-                return Ok(text);
-            }
+            Ok(None) => return Ok(()),
+            Err(fault) => return push_fault(text, fault),
         }
-    }
-    Ok(text)
-}
-
-fn push_elements(alloc: Global, text: &mut Text, list: &[Text]) -> Result<(), AllocError>
-    ensures { OnOk result (text.new ≡ text.old ++ hex_lines list.now) }
-{
-    'elements: for element in list {
-        push_hex_line(alloc, text, element.as_slice())?;
     }
     Ok(())
 }
 
-/// The elements of a list, a line for each, and a line of the list written again.
-fn shown_elements(alloc: Global, list: &Packed) -> Result<Text, AllocError>
-    ensures { IfOk result (λ t. t ≡ list_shown list.now) }
+fn push_elements(text: &mut Text, list: &[Text]) -> Result<(), AllocError>
+    ensures { OnOk result (text.new ≡ text.old ++ hex_lines list.now) }
 {
-    let mut text = Text::new(alloc);
-    push_elements(alloc, &mut text, list.texts(alloc)?.as_slice())?;
-    let written = write_list(alloc, list)?;
-    push_hex_line(alloc, &mut text, written.as_slice())?;
-    Ok(text)
+    'elements: for element in list {
+        push_hex_line(text, element.as_slice())?;
+    }
+    Ok(())
 }
 
-/// The elements of a text and the list written again, or `bad list` where the text is no list.
-pub fn shown_list(alloc: Global, src: &[u8]) -> Result<Text, AllocError>
-    ensures list { (l : List (List ℕ)) → ReadsAs src.now l → IfOk result (λ t. t ≡ list_shown l) }
-    ensures bad { ((l : List (List ℕ)) → ¬ ReadsAs src.now l) → IfOk result (λ t. t ≡ bad_list) }
+/// Appends the elements of a list, a line for each, and a line of the list written again.
+fn push_written(text: &mut Text, list: &Packed) -> Result<(), AllocError>
+    ensures { OnOk result (text.new ≡ text.old ++ list_shown list.now) }
+{
+    let alloc = alloc_of(text);
+    push_elements(text, list.texts(alloc)?.as_slice())?;
+    push_hex_line(text, write_list(alloc, list)?.as_slice())
+}
+
+/// Appends the elements of a text and the list written again, or `bad list` if the text is no list.
+pub fn push_list(text: &mut Text, src: &[u8]) -> Result<(), AllocError>
+    ensures list { (l : List (List ℕ)) → ReadsAs src.now l → OnOk result (text.new ≡ text.old ++ list_shown l) }
+    ensures bad { ((l : List (List ℕ)) → ¬ ReadsAs src.now l) → OnOk result (text.new ≡ text.old ++ bad_list) }
 {
     one_list();
-    match read_list(alloc, src) {
-        Ok(list) => shown_elements(alloc, &list),
-        Err(ListFault::BadList) => Text::from_slice(alloc, b"bad list\n"),
+    match read_list(alloc_of(text), src) {
+        Ok(list) => push_written(text, &list),
+        Err(ListFault::BadList) => text.extend(b"bad list\n"),
         Err(ListFault::Memory) => Err(AllocError),
     }
 }
