@@ -11,6 +11,20 @@ from kit import kit_library  # noqa: E402
 RT = kit_library()
 
 
+def once(stamp):
+    """The stamp of a crate, computed once for each object: it asks for those of all crates below, by each way to them."""
+
+    def call(crate):
+        if "once" not in vars(crate):
+            crate.once = stamp(crate)
+        return crate.once
+
+    return call
+
+
+RT.Crate.stamp = once(RT.Crate.stamp)
+
+
 def crates_of(top):
     """The crates that the repository at a folder lists, lowest first."""
     return sorted(RT.crates_below(str(top)), key=lambda it: len(it.below()))

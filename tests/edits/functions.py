@@ -3,6 +3,7 @@
 The source is in the layout of `rt fmt`: an item ends at the first closing brace of its own depth.
 """
 
+import functools
 import pathlib
 import re
 from typing import NamedTuple, Optional
@@ -93,8 +94,11 @@ def calls_itself(name, is_method, body):
     return re.search(front + name + r"\(", body.partition("{")[2]) is not None
 
 
-def functions_of(file, text, homes):
-    """The functions of one file, in order, without its tests; homes has the module of each type."""
+# what was read of a text is kept: an edit changes one file of many
+@functools.lru_cache(maxsize=None)
+def functions_of(file, text, known):
+    """The functions of one file, in order, without its tests; known has the module of each type."""
+    homes = {name: list(path) for name, path in known}
     lines = text.split("\n")
     starts = [0]
     for line in lines:
@@ -127,16 +131,23 @@ def functions_of(file, text, homes):
     return found
 
 
+@functools.lru_cache(maxsize=None)
+def named_in(text, pattern):
+    """What a pattern finds in a text."""
+    return tuple(pattern.findall(text))
+
+
 def all_functions(texts):
     """The functions of a crate, given the texts of src/ by the files' paths."""
     tests = ()
     for file, text in texts.items():
-        for name in TEST_MODULE.findall(text):
+        for name in named_in(text, TEST_MODULE):
             at = "/".join(["src", *module_of(file), name])
             tests += (f"{at}.rt", f"{at}/")
     read = {file: text for file, text in texts.items() if not file.startswith(tests)}
-    homes = {name: module_of(file) for file, text in read.items() for name in TYPE.findall(text)}
-    found = [it for file, text in read.items() for it in functions_of(file, text, homes)]
+    known = {name: tuple(module_of(file)) for file, text in read.items() for name in named_in(text, TYPE)}
+    known = frozenset(known.items())
+    found = [it for file, text in read.items() for it in functions_of(file, text, known)]
     mates = {}
     for it in found:
         mates.setdefault(it.unit(), []).append(it.name.rpartition("::")[2])
