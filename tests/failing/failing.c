@@ -144,7 +144,9 @@ int posix_spawn(pid_t *started, const char *path, const posix_spawn_file_actions
 {
     int (*own)(pid_t *, const char *, const posix_spawn_file_actions_t *, const posix_spawnattr_t *, char *const[], char *const[]);
     *(void **)&own = own_of("posix_spawn");
-    int is_program = *program && strcmp(words[0], program) == 0;
+    /* setsid(1) becomes the program that it names */
+    const char *name = strcmp(path, "/usr/bin/setsid") == 0 && words[1] && words[2] ? words[2] : words[0];
+    int is_program = *program && strcmp(name, program) == 0;
     if (is_program && strcmp(wanted, "start") == 0 && allowed(1) == 0)
         return errno;
     int status = own(started, path, actions, attributes, words, environment);
@@ -158,7 +160,14 @@ int posix_spawn(pid_t *started, const char *path, const posix_spawn_file_actions
 
 int waitid(idtype_t kind, id_t process, siginfo_t *about, int options)
 {
-    if (kind == P_PID && strcmp(wanted, "end") == 0 && (int)process == atomic_load(&child) && allowed(1) == 0)
-        return -1;
+    if (kind == P_PID && strcmp(wanted, "end") == 0 && (int)process == atomic_load(&child)) {
+        /* two threads ask, so each call fails after the first that does */
+        static atomic_int fails;
+        if (atomic_load(&fails) || allowed(1) == 0) {
+            atomic_store(&fails, 1);
+            errno = how;
+            return -1;
+        }
+    }
     return syscall(SYS_waitid, kind, process, about, options, NULL);
 }

@@ -1,42 +1,76 @@
 //! The children of one script, over pipes.
 
-use crate::orphans::{Orphans, is_alive};
+use crate::cancellation::Cancellation;
+use crate::held::Held;
 use crate::output::Output;
 use crate::programs::{Programs, Started};
+use crate::ready::is_ready;
+use crate::reaper::Reaper;
 use child_events::{Answer, Cause};
+use libc::net::POLLOUT;
 use std::alloc::{AllocError, Global};
 use std::io::{ErrorKind, PipeWriter, Write};
-use std::process::{Child, SystemProcess};
-use std::sync::atomic::{AtomicBool, Ordering};
+use std::os::fd::AsRawFd;
+use std::process::{Child, ExitStatus, SystemProcess};
 use std::sync::{Arc, Wait};
-use std::{io, mem};
+use std::time::{Clock, Duration};
+use std::{io, mem, thread};
 use tcl_words::{Text, Texts};
 
 /// How many children a script has at most.
 const CHILDREN: usize = 16;
 
+/// How many bytes a pipe takes at once when it is ready (PIPE_BUF).
+const ROOM: usize = 4_096;
+
+/// The shortest and the longest pause between two looks at a child that is waited for, in microseconds.
+const PAUSE: u64 = 50;
+
+const LONGEST_PAUSE: u64 = 20_000;
+
 /// A child that was started.
 #[derive(Drop)]
 struct Place {
     input: Option<PipeWriter>,
-    child: Child<SystemProcess>,
-    closed: Arc<AtomicBool>,
+    held: Arc<Held>,
 }
 
 impl Place {
-    /// Ends the input, and what reads the output.
-    fn let_go(&mut self) {
-        self.input = None;
-        self.closed.store(true, Ordering::SeqCst);
+    /// Hands bytes to the child, but no longer than its script goes on.
+    fn write(&mut self, bytes: &[u8]) -> Result<(), Cause> {
+        let Some(input) = &mut self.input else {
+            return Err(Cause::Broken);
+        };
+        let mut left = bytes;
+        for _ in 0..u64::MAX {
+            if left.is_empty() {
+                return Ok(());
+            }
+            if self.held.is_over() {
+                return Err(Cause::Broken);
+            }
+            if !is_ready(input.as_raw_fd(), POLLOUT, &self.held.cancellation) {
+                continue;
+            }
+            let count = left.len().min(ROOM);
+            match input.write(&left[..count]) {
+                Ok(0) => return Err(Cause::Other),
+                Ok(written) => left = &left[written.min(count)..],
+                Err(e) if e.kind() == ErrorKind::Interrupted => {}
+                Err(e) => return Err(cause_of(&e)),
+            }
+        }
+        Err(Cause::Other)
     }
 }
 
-/// The children of one script. When they go, the input of each ends, and those that live on go to the orphans.
-pub(crate) struct Children<R: Programs + Wait + Drop> {
+/// The children of one script. When they go, the script is over.
+pub(crate) struct Children<R: Programs + Wait + Clock + Drop> {
     rt: R,
     alloc: Global,
     places: Vec<Option<Place>>,
-    orphans: Orphans,
+    reaper: Reaper,
+    cancellation: Arc<Cancellation>,
 }
 
 /// The cause that an error of the system stands for.
@@ -50,11 +84,12 @@ fn cause_of(error: &io::Error) -> Cause {
     }
 }
 
-/// A flag that is not up, for two holders.
-fn flag(alloc: Global) -> Result<(Arc<AtomicBool>, Arc<AtomicBool>), AllocError> {
-    let ours = Arc::new(alloc, AtomicBool::new(false))?;
-    let theirs = Arc::try_clone(&ours)?;
-    Ok((ours, theirs))
+/// The answer that an exit status stands for.
+fn answer_of(status: ExitStatus) -> Answer {
+    match status.code() {
+        Some(code) => Answer::Exit(u8::try_from(code).unwrap_or(u8::MAX)),
+        None => Answer::Killed,
+    }
 }
 
 /// The program and its words, where the program is UTF-8.
@@ -64,9 +99,14 @@ fn split(argv: &Texts) -> Option<(&str, &[Text])> {
     Some((program, words))
 }
 
-impl<R: Programs + Wait + Drop> Children<R> {
+impl<R: Programs + Wait + Clock + Drop> Children<R> {
     /// No children.
-    pub(crate) fn new(rt: R, alloc: Global, orphans: Orphans) -> Result<Children<R>, AllocError> {
+    pub(crate) fn new(
+        rt: R,
+        alloc: Global,
+        reaper: Reaper,
+        cancellation: Arc<Cancellation>,
+    ) -> Result<Children<R>, AllocError> {
         let mut places = Vec::with_capacity(alloc, CHILDREN)?;
         for _ in 0..CHILDREN {
             places.push(None)?;
@@ -75,13 +115,32 @@ impl<R: Programs + Wait + Drop> Children<R> {
             rt,
             alloc,
             places,
-            orphans,
+            reaper,
+            cancellation,
         })
     }
 
     fn place(&mut self, child: u8) -> Option<&mut Place> {
         let place = self.places.get_mut(usize::from(child).checked_sub(1)?)?;
         place.as_mut()
+    }
+
+    /// A program that was started, held for its keeper, its reader and the reaper. Where memory is refused it is killed.
+    fn held(&self, process: Child<SystemProcess>) -> Result<(Arc<Held>, Arc<Held>), AllocError> {
+        let cancellation = Arc::try_clone(&self.cancellation)?;
+        let held = match Arc::new(self.alloc, Held::new(process, cancellation)) {
+            Ok(held) => held,
+            Err(failed) => {
+                failed.value.kill(&self.rt);
+                return Err(AllocError);
+            }
+        };
+        let theirs = Arc::try_clone(&held)?;
+        if self.reaper.adopt(&self.rt, Arc::try_clone(&held)?).is_err() {
+            held.kill(&self.rt);
+            return Err(AllocError);
+        }
+        Ok((held, theirs))
     }
 
     /// Starts a child: the program and its words.
@@ -95,9 +154,6 @@ impl<R: Programs + Wait + Drop> Children<R> {
         if index >= self.places.len() {
             return Err(Cause::Other);
         }
-        let Ok((closed, theirs)) = flag(self.alloc) else {
-            return Err(Cause::Memory);
-        };
         let started = match self.rt.start(self.alloc, program, words) {
             Ok(started) => started,
             Err(e) => return Err(cause_of(&e)),
@@ -106,10 +162,12 @@ impl<R: Programs + Wait + Drop> Children<R> {
         let Some(out) = child.stdout.take() else {
             return Err(Cause::Other);
         };
+        let Ok((held, theirs)) = self.held(child) else {
+            return Err(Cause::Memory);
+        };
         let place = Place {
             input: Some(input),
-            child,
-            closed,
+            held,
         };
         drop(mem::replace(&mut self.places[index], Some(place)));
         Ok(Output::new(out, theirs))
@@ -117,15 +175,9 @@ impl<R: Programs + Wait + Drop> Children<R> {
 
     /// Hands bytes to a child.
     pub(crate) fn write(&mut self, child: u8, bytes: &[u8]) -> Result<(), Cause> {
-        let Some(place) = self.place(child) else {
-            return Err(Cause::Other);
-        };
-        let Some(input) = &mut place.input else {
-            return Err(Cause::Broken);
-        };
-        match input.write_all(bytes) {
-            Ok(()) => Ok(()),
-            Err(e) => Err(cause_of(&e)),
+        match self.place(child) {
+            Some(place) => place.write(bytes),
+            None => Err(Cause::Other),
         }
     }
 
@@ -138,48 +190,57 @@ impl<R: Programs + Wait + Drop> Children<R> {
         Ok(())
     }
 
-    /// Lets a child go.
+    /// Ends a child's input, and drops what it writes from then on.
     pub(crate) fn close(&mut self, child: u8) -> Result<(), Cause> {
+        self.end(child)?;
         let Some(place) = self.place(child) else {
             return Err(Cause::Other);
         };
-        place.let_go();
+        place.held.close();
         Ok(())
     }
 
-    /// Waits for a child's end.
+    /// Waits for a child's end, but no longer than its script goes on.
     pub(crate) fn wait(&mut self, child: u8) -> Answer {
-        let Some(place) = self.place(child) else {
-            return Answer::Fail(Cause::Other);
-        };
-        match place.child.wait() {
-            Ok(status) => match status.code() {
-                Some(code) => Answer::Exit(u8::try_from(code).unwrap_or(u8::MAX)),
-                None => Answer::Killed,
-            },
-            Err(e) => Answer::Fail(cause_of(&e)),
+        let place = usize::from(child)
+            .checked_sub(1)
+            .and_then(|at| self.places.get(at));
+        match place {
+            Some(Some(place)) => wait_for(&self.rt, &place.held),
+            _ => Answer::Fail(Cause::Other),
         }
     }
 }
 
-impl<R: Programs + Wait + Drop> Drop for Children<R> {
-    fn drop(mut self) {
-        for place in mem::replace(&mut self.places, Vec::new(self.alloc)) {
-            let Some(mut place) = place else {
-                continue;
-            };
-            place.let_go();
-            let Place { mut child, .. } = place;
-            if is_alive(&mut child) {
-                self.orphans.adopt(&self.rt, child);
-            }
+/// Waits for a child's end, but no longer than its script goes on.
+fn wait_for<R: Wait + Clock>(rt: &R, held: &Held) -> Answer {
+    let mut pause = PAUSE;
+    for _ in rt.forever() {
+        let status = held.process.lock(rt).try_wait();
+        match status {
+            Ok(Some(status)) => return answer_of(status),
+            Ok(None) => {}
+            Err(e) if e.kind() == ErrorKind::Interrupted => {}
+            Err(e) => return Answer::Fail(cause_of(&e)),
         }
-        self.orphans.sweep(&self.rt);
+        if held.is_over() {
+            return Answer::Fail(Cause::Other);
+        }
+        thread::sleep(rt, Duration::from_micros(pause));
+        pause = pause.saturating_mul(2).min(LONGEST_PAUSE);
+    }
+    unreachable!()
+}
+
+impl<R: Programs + Wait + Clock + Drop> Drop for Children<R> {
+    fn drop(self) {
+        self.cancellation.cancel();
         let Children {
             rt: _,
             alloc: _,
             places: _,
-            orphans: _,
+            reaper: _,
+            cancellation: _,
         } = self;
     }
 }

@@ -1,20 +1,31 @@
-//! Real children over pipes, the system's clock, and a gate that is open.
+//! Real children over pipes and their ends, the system's clock, and a gate that is open.
 #![tactic(auto)]
 
+mod cancellation;
 mod children;
 mod counts;
 mod free;
-mod orphans;
+mod guard;
+mod held;
+mod lookup;
 mod output;
 mod pipes;
+mod processes;
 mod programs;
+mod ready;
+mod reaper;
+mod stage;
 mod wall;
 mod watch;
 
+pub use cancellation::Cancellation;
 pub use free::Free;
-pub use orphans::Orphans;
+pub use guard::Guard;
 pub use output::Output;
 pub use pipes::Pipes;
+pub use processes::Process;
 pub use programs::{Programs, Started};
+pub use reaper::{Reaper, Terms};
+pub use stage::Stage;
 pub use wall::Wall;
 pub use watch::Watch;

@@ -1,29 +1,51 @@
 //! What a child writes.
 
+use crate::held::Held;
+use crate::ready::is_ready;
+use libc::net::POLLIN;
 use std::io;
 use std::io::{ErrorKind, Read};
+use std::os::fd::AsRawFd;
 use std::process::ChildStdout;
 use std::sync::Arc;
-use std::sync::atomic::{AtomicBool, Ordering};
 
-/// The output of a child. Once the child was closed a read fails, so that one that never ends writing is let go.
+/// How many pieces of a closed child's output are read and dropped, so that it can end by itself. After them its output is closed.
+const DROPPED: u8 = 16;
+
+/// The output of a child. A read fails once the child's script is over, also one that waits, so a reader never outlives its script. Of a child
+/// that its script closed, the output is read and dropped.
 #[derive(Drop)]
 pub struct Output {
     out: ChildStdout,
-    closed: Arc<AtomicBool>,
+    held: Arc<Held>,
+    dropped: u8,
 }
 
 impl Output {
-    pub(crate) fn new(out: ChildStdout, closed: Arc<AtomicBool>) -> Output {
-        Output { out, closed }
+    pub(crate) fn new(out: ChildStdout, held: Arc<Held>) -> Output {
+        Output {
+            out,
+            held,
+            dropped: 0,
+        }
     }
 }
 
 impl Read for Output {
     fn read(&mut self, buf: &mut [u8]) -> io::Result<usize> {
-        if self.closed.load(Ordering::SeqCst) {
-            return Err(io::Error::from(ErrorKind::Other));
+        for _ in 0..u64::MAX {
+            if self.held.is_over() || self.dropped >= DROPPED {
+                break;
+            }
+            if !is_ready(self.out.as_raw_fd(), POLLIN, &self.held.cancellation) {
+                continue;
+            }
+            let count = self.out.read(buf)?;
+            if count == 0 || !self.held.is_closed() {
+                return Ok(count);
+            }
+            self.dropped += 1;
         }
-        self.out.read(buf)
+        Err(io::Error::from(ErrorKind::Other))
     }
 }

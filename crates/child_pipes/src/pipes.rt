@@ -2,15 +2,17 @@
 
 ghost use Rattle.std.specs.Prelude.{◌≡◌, ◌+◌, ◌^◌, ◌<◌, ◌≤◌, OnErr};
 
+use crate::cancellation::Cancellation;
 use crate::children::Children;
 use crate::counts::Counts;
-use crate::orphans::Orphans;
 use crate::output::Output;
 use crate::programs::Programs;
+use crate::reaper::Reaper;
 use child_events::{Answer, Cause};
 use child_keeper::Keeper;
 use std::alloc::{AllocError, Global};
-use std::sync::Wait;
+use std::sync::{Arc, Wait};
+use std::time::Clock;
 use tcl_words::{Text, Texts};
 
 /// A keeper of the system's processes, over pipes. When it goes, the input of each child ends.
@@ -18,24 +20,31 @@ use tcl_words::{Text, Texts};
 /// A program is looked for in the folders of `PATH` where its name has no slash. It gets a pipe for its input and one for its output, and this
 /// process's standard error, environment and folder. No contract can say what becomes of it: `told` and `gives` say nothing.
 #[derive(Drop)]
-pub struct Pipes<R: Programs + Wait + Drop> {
+pub struct Pipes<R: Programs + Wait + Clock + Drop> {
     name: u64,
     counts: Counts,
     children: Children<R>,
 }
 
-impl<R: Programs + Wait + Drop> Pipes<R> {
-    /// A keeper of this name, with no children. Children that live on when it goes go to the orphans.
-    pub fn new(rt: R, alloc: Global, name: u64, orphans: Orphans) -> Result<Pipes<R>, AllocError> {
+impl<R: Programs + Wait + Clock + Drop> Pipes<R> {
+    /// A keeper of this name, with no children. The reaper takes each that it starts. Once its script is cancelled, or the keeper is dropped, no
+    /// call waits for a child any longer, and the children are to end.
+    pub fn new(
+        rt: R,
+        alloc: Global,
+        name: u64,
+        reaper: Reaper,
+        cancellation: Arc<Cancellation>,
+    ) -> Result<Pipes<R>, AllocError> {
         Ok(Pipes {
             name,
             counts: Counts::new(),
-            children: Children::new(rt, alloc, orphans)?,
+            children: Children::new(rt, alloc, reaper, cancellation)?,
         })
     }
 }
 
-impl<R: Programs + Wait + Drop> Keeper for Pipes<R> {
+impl<R: Programs + Wait + Clock + Drop> Keeper for Pipes<R> {
     type Out = Output;
 
     ghost named = { λ p. p.name };

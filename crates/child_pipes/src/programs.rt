@@ -1,9 +1,12 @@
-//! What starts programs.
+//! What starts programs, sees them and ends them.
 
-use std::alloc::Global;
-use std::io;
+use crate::guard::{GUARD, Guard};
+use crate::lookup::{SETSID, is_led_by_setsid};
+use crate::processes::Process;
+use std::alloc::{AllocError, Global};
 use std::io::{ErrorKind, PipeWriter};
 use std::process::{Child, Command, Stdio, SystemProcess};
+use std::{fs, io};
 use tcl_words::Text;
 
 /// A program that was started, and what writes its input.
@@ -15,26 +18,105 @@ pub struct Started {
     pub child: Child<SystemProcess>,
 }
 
-/// Starts programs with pipes for their input and output, and this process's standard error.
+/// The system's programs and processes.
 pub trait Programs {
-    /// Starts a program, which is looked for in the folders of `PATH` where its name has no slash. A word that isn't UTF-8 is refused.
+    /// Starts a program with pipes for its input and output, this process's standard error, and a session of its own. It is looked for in the
+    /// folders of `PATH` if its name has no slash. A word that isn't UTF-8 is an error.
     fn start(&self, alloc: Global, program: &str, words: &[Text]) -> io::Result<Started>;
+
+    /// Starts what ends children if this process is killed.
+    fn start_guard(&self, alloc: Global) -> io::Result<Guard>;
+
+    /// The processes that there are. Without /proc, none.
+    fn processes(&self, alloc: Global) -> Result<Vec<Process>, AllocError>;
+
+    /// Sends a signal to processes, by the `kill` that sh(1) has built in. Without sh(1), none is sent.
+    fn signal(&self, alloc: Global, signal: &str, ids: &[u32]);
 }
 
-// The input's pipe is made here: a write to it is one call of the system, where one to a `ChildStdin` is four.
+/// The command of a program: the program itself, or setsid(1) that becomes it.
+fn command_of(rt: &HostRuntime, alloc: Global, program: &str) -> io::Result<Command> {
+    if !is_led_by_setsid(rt, alloc, program)? {
+        return Ok(Command::new(alloc, program)?);
+    }
+    let mut command = Command::new(alloc, SETSID)?;
+    command.arg("--")?;
+    command.arg(program)?;
+    Ok(command)
+}
+
+/// Starts a command with a pipe for its input, made here: a write to it is one call of the system, where one to a `ChildStdin` is four.
+fn start_with_input(rt: &HostRuntime, mut command: Command) -> io::Result<Started> {
+    let (theirs, input) = io::pipe(rt)?;
+    command.stdin(theirs);
+    let child = command.spawn(rt)?;
+    Ok(Started { input, child })
+}
+
+/// Runs a command of sh(1) that sends a signal to processes.
+fn kill(rt: &HostRuntime, alloc: Global, signal: &str, ids: &[u32]) -> io::Result<()> {
+    let mut command = Command::new(alloc, "/bin/sh")?;
+    command.arg("-c")?;
+    command.arg("kill -s \"$0\" \"$@\"")?;
+    command.arg(signal)?;
+    for id in ids {
+        let word = format!(in alloc; "{id}")?;
+        command.arg(word.as_str())?;
+    }
+    command.stdin(Stdio::null());
+    command.stdout(Stdio::null());
+    command.stderr(Stdio::null());
+    let _ = command.status(rt)?;
+    Ok(())
+}
+
 impl Programs for HostRuntime {
     fn start(&self, alloc: Global, program: &str, words: &[Text]) -> io::Result<Started> {
-        let mut command = Command::new(alloc, program)?;
+        let mut command = command_of(self, alloc, program)?;
         for word in words {
             let Ok(text) = std::str::from_utf8(word.as_slice()) else {
                 return Err(io::Error::from(ErrorKind::InvalidInput));
             };
             command.arg(text)?;
         }
-        let (theirs, input) = io::pipe(self)?;
-        command.stdin(theirs);
         command.stdout(Stdio::piped());
-        let child = command.spawn(self)?;
-        Ok(Started { input, child })
+        start_with_input(self, command)
+    }
+
+    fn start_guard(&self, alloc: Global) -> io::Result<Guard> {
+        let mut command = command_of(self, alloc, "/bin/sh")?;
+        command.arg("-c")?;
+        command.arg(GUARD)?;
+        command.stdout(Stdio::null());
+        command.stderr(Stdio::null());
+        let Started { input, child } = start_with_input(self, command)?;
+        Ok(Guard::new(input, child))
+    }
+
+    fn processes(&self, alloc: Global) -> Result<Vec<Process>, AllocError> {
+        let mut all = Vec::new(alloc);
+        let Ok(entries) = fs::read_dir(self, "/proc") else {
+            return Ok(all);
+        };
+        for entry in entries {
+            let Ok(entry) = entry else {
+                continue;
+            };
+            let Ok(id) = entry.file_name().parse::<u32>() else {
+                continue;
+            };
+            let path = format!(in alloc; "/proc/{id}/stat")?;
+            let Ok(text) = fs::read(self, path.as_str()) else {
+                continue;
+            };
+            if let Some(process) = Process::of_stat(text.as_slice()) {
+                all.push(process)?;
+            }
+        }
+        Ok(all)
+    }
+
+    fn signal(&self, alloc: Global, signal: &str, ids: &[u32]) {
+        let _ = kill(self, alloc, signal, ids);
     }
 }

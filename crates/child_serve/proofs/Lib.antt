@@ -9,5 +9,7 @@ pub mod Giving
 pub mod Opening
 pub mod Settling
 pub mod Wholes
+pub mod Accepting
 pub mod Teaming
 pub mod Working
+pub mod Again

@@ -1,5 +1,6 @@
 -- Records that are merged by their moments.
 use Rattle.std.proofs.Common.{◌≡◌, ℕ, zero, suc, ◌+◌, ◌-◌, ◌*◌, ◌/◌, ◌%◌, ◌≤◌, ◌<◌, List, [], ◌∷◌, ◌++◌, map, length, Bool, true, false, ◌⊎◌, inl, inr, Option, Some, None, refl, sym, ap, subst, ◌∙◌, arith}
+use Rattle.std.specs.List.{AllByRecursion}
 use Rattle.std.specs.Prelude.{nat_le, ◌==◌, if◌then◌else◌, slice_get, IsTrue}
 use Rattle.std.proofs.lemmas.Bool.Decides.{nat_tests}
 use Rattle.std.proofs.lemmas.List.Elements.{filter-append}
@@ -277,18 +278,28 @@ module _ (n w : ℕ) (here : w < n) (number : ℕ) (one : 1 ≤ number) where
 
 -- what holds of each entry
 
-put_fits : (x : HallEvent) (k : Entries → Entries) (ys : Entries) → IsTrue (fits x) → AllFit ys → ((zs : Entries) → AllFit zs → AllFit (k zs)) → AllFit (put_in x k ys)
-put_fits x k [] f a more = (f, more [] tt)
-put_fits x k (y ∷ ys) f a more =
-    by_test AllFit (moment_in x) (moment_in y) (x ∷ k (y ∷ ys)) (y ∷ put_in x k ys) (λ h. (f, more (y ∷ ys) a)) (λ h. (a.0, put_fits x k ys f a.1 more))
+module _ (P : HallEvent → Type 0) where
+  put_each : (x : HallEvent) (k : Entries → Entries) (ys : Entries) → P x → AllByRecursion P ys → ((zs : Entries) → AllByRecursion P zs → AllByRecursion P (k zs)) → AllByRecursion P (put_in x k ys)
+  put_each x k [] p a more = (p, more [] tt)
+  put_each x k (y ∷ ys) p a more =
+      by_test (AllByRecursion P) (moment_in x) (moment_in y) (x ∷ k (y ∷ ys)) (y ∷ put_in x k ys) (λ h. (p, more (y ∷ ys) a)) (λ h. (a.0, put_each x k ys p a.1 more))
 
-merged_fit : (xs ys : Entries) → AllFit xs → AllFit ys → AllFit (merged xs ys)
-merged_fit [] ys a b = b
-merged_fit (x ∷ xs) ys a b = put_fits x (merged xs) ys a.0 b (λ zs c. merged_fit xs zs a.1 c)
+  merged_each : (xs ys : Entries) → AllByRecursion P xs → AllByRecursion P ys → AllByRecursion P (merged xs ys)
+  merged_each [] ys a b = b
+  merged_each (x ∷ xs) ys a b = put_each x (merged xs) ys a.0 b (λ zs c. merged_each xs zs a.1 c)
 
-all_fit : (workers w : ℕ) (rs : List Entries) → AllFitFrom workers w rs → AllFit (merged_from workers w rs)
-all_fit workers w [] f = tt
-all_fit workers w (r ∷ rs) f = merged_fit _ _ f.0.among (all_fit workers (w + 1) rs f.1)
+  -- it holds of each entry under the number that its script has among all
+  abbrev pub EachFrom : ℕ → ℕ → List Entries → Type 0
+  EachFrom workers w [] = Unit {0}
+  EachFrom workers w (r ∷ rs) = AllByRecursion P (map (numbered workers w) r) × EachFrom workers (w + 1) rs
+
+  each_merged : (workers w : ℕ) (rs : List Entries) → EachFrom workers w rs → AllByRecursion P (merged_from workers w rs)
+  each_merged workers w [] e = tt
+  each_merged workers w (r ∷ rs) e = merged_each _ _ e.0 (each_merged workers (w + 1) rs e.1)
+
+each_fits : (workers w : ℕ) (rs : List Entries) → AllFitFrom workers w rs → EachFrom (λ e. IsTrue (fits e)) workers w rs
+each_fits workers w [] f = tt
+each_fits workers w (r ∷ rs) f = (f.0.among, each_fits workers (w + 1) rs f.1)
 
 -- what a script sees of a record rises as the record does
 
@@ -335,5 +346,8 @@ module _ (records : List Entries) (es : Entries) (f : AllFits records) (j : IsJo
       let sees = joined_sees w number r got one in
       (ticks_change_nothing source settings _ _ up sees, ticks_only_add source settings _ _ up sees)
 
+  pub joined_each : (P : HallEvent → Type 0) → EachFrom P (length records) 0 records → AllByRecursion P es
+  joined_each P each = subst (AllByRecursion P) joined_is (each_merged P (length records) 0 records each)
+
   pub joined_fit : AllFit es
-  joined_fit = subst AllFit joined_is (all_fit (length records) 0 records f)
+  joined_fit = joined_each (λ e. IsTrue (fits e)) (each_fits (length records) 0 records f)

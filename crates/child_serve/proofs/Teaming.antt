@@ -125,4 +125,4 @@ module _ {K C : Type 0} where
         let d = dealt w r.0 r.1 in
         let k : IsWork told gives named made n w r.0 p = subst (λ (v : ℕ). IsWork told gives named made n v r.0 p) (let e : 0 + w ≡ w = omega arith in e) r.2 in
         subst (λ (m : ℕ). IsPart told gives m w keepers scripts p) (sym (work_count n 0 ps teams all))
-        (record { mine = map (keeping_of named made) r.0.keepers.items; kept = d.0; few = r.0.scripts.items; dealt = d.1; served = k.served })
+        (record { mine = map (keeping_of named made) r.0.keepers.items; kept = d.0; few = r.0.scripts.items; dealt = d.1; served = k.served; taken = k.taken })

@@ -102,7 +102,7 @@ module _ (told : ℕ → ℕ → Request → Answer → Type 0) (gives : ℕ →
       grown : Continues (meaning script.source script.settings es) (meaning script.source script.settings more)
       grown = ticks_only_add script.source script.settings es more up p
 
-there : {X : Type 0} → (xs : List X) (i : ℕ) → i < length xs → (x : X) × (slice_get xs i ≡ Some x)
+pub there : {X : Type 0} → (xs : List X) (i : ℕ) → i < length xs → (x : X) × (slice_get xs i ≡ Some x)
 there [] i lt = absurd (omega (arith, lt))
 there (x ∷ xs) zero lt = (x, refl)
 there (x ∷ xs) (suc i) lt = there xs i (omega (arith, lt))

@@ -1,7 +1,6 @@
 -- What a worker has served, from what its desk keeps.
 use Rattle.std.proofs.Common.{◌≡◌, ◌≢◌, ◌⊎◌, inl, inr, ℕ, zero, suc, ◌+◌, ◌-◌, ◌*◌, ◌≤◌, ◌<◌, List, [], ◌∷◌, length, map, Bool, true, false, ◌&&◌, Option, None, Some, refl, sym, ap, subst, ◌∙◌, arith}
-use Rattle.std.specs.Prelude.{slice_get, Contains, nat_lt, nat_le, IsTrue, if◌then◌else◌}
-use Rattle.std.proofs.lemmas.Bool.Decides.{nat_tests}
+use Rattle.std.specs.Prelude.{slice_get, Contains, nat_le, IsTrue, if◌then◌else◌}
 use Rattle.child_events.specs.declared.event.Answer.{Answer}
 use Rattle.child_events.specs.declared.event.What.{What}
 use Rattle.child_events.specs.declared.event.What.TheVariants as what
@@ -18,7 +17,7 @@ use Rattle.session.specs.Meaning.{meaning}
 use Rattle.session.specs.Spent.{memory_report}
 use Rattle.dialogue_sched.specs.declared.script.Script.{Script}
 use Rattle.dialogue_sched.specs.declared.refusal.HallRefusal.{HallRefusal}
-use Rattle.dialogue_sched.specs.declared.refusal.HallRefusal.TheVariants.{NoSuchScript, NoSuchChild, MomentTooLarge, PieceTooLong}
+use Rattle.dialogue_sched.specs.declared.refusal.HallRefusal.TheVariants.{MomentTooLarge}
 use Rattle.dialogue_sched.specs.Refusal.{refusal_of, piece_len as taken_len}
 use Rattle.dialogue_sched.specs.Hall.{Begins, AllBegin}
 use Rattle.child_desk.specs.declared.book.Book.{Book}
@@ -43,46 +42,9 @@ use Rattle.child_serve.specs.Whole.{keeping_of}
 use Rattle.child_serve.specs.Teams.{AreFirst, IsTeam, IsWork}
 use Rattle.child_serve.proofs.Giving.{among_told}
 use Rattle.child_serve.proofs.Wholes.{mapped, unmapped, map_length}
+use Rattle.child_serve.proofs.Accepting.{le_true, Limits, limits, taken_accepted, accepted_none}
 
 -- an entry that a hall takes is within the limits
-
-lt_said : (a b : ℕ) → nat_lt a b ≡ true → a < b
-lt_said a b h = grind (arith, nat_tests)
-
-le_said : (a b : ℕ) → nat_le a b ≡ true → a ≤ b
-le_said a b h = grind (arith, nat_tests)
-
-le_true : (a b : ℕ) → a ≤ b → nat_le a b ≡ true
-le_true a b h = grind (arith, nat_tests)
-
-record Limits (scripts s c m : ℕ) (w : What) : Type 0 where
-  script_low : 1 ≤ s
-  script_high : s ≤ scripts
-  child_low : 1 ≤ c
-  child_high : c ≤ 16
-  moment_high : m ≤ 9000000000000000
-  few : taken_len w ≤ 4096
-
-limits : (scripts s c m : ℕ) (w : What) → refusal_of scripts (hall.Child s c m w) ≡ None → Limits scripts s c m w
-limits scripts s c m w h =
-    by_tests (nat_lt 0 s) (nat_le s scripts) (nat_lt 0 c) (nat_le c 16) (nat_le m 9000000000000000) (nat_le (taken_len w) 4096) refl refl refl refl refl refl h
-  where
-    by_tests : (p q r t u v : Bool) → nat_lt 0 s ≡ p → nat_le s scripts ≡ q → nat_lt 0 c ≡ r → nat_le c 16 ≡ t → nat_le m 9000000000000000 ≡ u → nat_le (taken_len w) 4096 ≡ v →
-        ◌≡◌ {A = Option HallRefusal} (if p && q then (if r && t then (if u then (if v then None else Some PieceTooLong) else Some MomentTooLarge) else Some NoSuchChild) else Some NoSuchScript) None → Limits scripts s c m w
-    by_tests true true true true true true hp hq hr ht hu hv h = record {
-      script_low = let lt = lt_said 0 s hp in omega (arith, lt);
-      script_high = le_said s scripts hq;
-      child_low = let lt = lt_said 0 c hr in omega (arith, lt);
-      child_high = le_said c 16 ht;
-      moment_high = le_said m 9000000000000000 hu;
-      few = le_said (taken_len w) 4096 hv;
-    }
-    by_tests true true true true true false hp hq hr ht hu hv h = absurd (cc)
-    by_tests true true true true false v hp hq hr ht hu hv h = absurd (cc)
-    by_tests true true true false u v hp hq hr ht hu hv h = absurd (cc)
-    by_tests true true false t u v hp hq hr ht hu hv h = absurd (cc)
-    by_tests true false r t u v hp hq hr ht hu hv h = absurd (cc)
-    by_tests false q r t u v hp hq hr ht hu hv h = absurd (cc)
 
 same_len : (w : What) → taken_len w ≡ piece_len w
 same_len (what.Out piece) = refl
@@ -229,4 +191,5 @@ module _ {K C O : Type 0} {g : Ghosts K O} {r : ReadGhosts O} (n w : ℕ) (team 
       here = all_fit (length team.scripts.items) settled.stamp s.logged is.few taken;
       among = all_among n w (length team.scripts.items) settled.stamp s.logged is.numbers taken;
     };
+    taken = accepted_none (length team.scripts.items) 0 s.logged (taken_accepted (length team.scripts.items) settled.stamp s.logged taken);
   }

@@ -6,3 +6,4 @@ pub mod Opened
 pub mod Served
 pub mod Whole
 pub mod Teams
+pub mod Again

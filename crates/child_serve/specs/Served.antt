@@ -1,5 +1,5 @@
 -- What it is to have served scripts.
-use Rattle.std.specs.Prelude.{◌≡◌, ◌≢◌, ◌⊎◌, ◌≤◌, ℕ, ◌+◌, List, map, length, slice_get, Option, Some, Contains}
+use Rattle.std.specs.Prelude.{◌≡◌, ◌≢◌, ◌⊎◌, ◌≤◌, ℕ, ◌+◌, List, map, length, slice_get, Option, Some, None, Contains}
 use Rattle.std.specs.List.{flat_map}
 use Rattle.child_events.specs.declared.event.Answer.{Answer}
 use Rattle.child_events.specs.declared.event.Event.{Event}
@@ -12,6 +12,7 @@ use Rattle.session.specs.declared.report.Report.{Report}
 use Rattle.session.specs.Meaning.{meaning}
 use Rattle.session.specs.Spent.{memory_report}
 use Rattle.dialogue_sched.specs.declared.script.Script.{Script}
+use Rattle.dialogue_sched.specs.Refusal.{first_refusal}
 use Rattle.child_serve.specs.declared.served.Served.{Served}
 use Rattle.child_serve.specs.declared.served.Unsettled.{Unsettled}
 use Rattle.child_serve.specs.declared.served.Apart.{Apart}
@@ -36,13 +37,14 @@ module _ (told : ℕ → ℕ → Request → Answer → Type 0) (gives : ℕ →
     pub each : (i : ℕ) (keeper : Keeping) (script : Script) (report : Report) → slice_get keepers i ≡ Some keeper → slice_get scripts i ≡ Some script → slice_get s.reports i ≡ Some report →
         IsServed (number i) keeper script report s.unsettled.items (own (i + 1) s.logged)
 
-  -- one worker has served those that are its own
+  -- one worker has served those that are its own, and its record has entries of those alone
   pub record IsPart (n w : ℕ) (keepers : List Keeping) (scripts : List Script) (s : Served) : Type 0 where
     pub mine : List Keeping
     pub kept : IsDealt n w keepers mine
     pub few : List Script
     pub dealt : IsDealt n w scripts few
     pub served : AreServed (λ i. script_of n w (i + 1)) mine few s
+    pub taken : first_refusal (length few) 0 s.logged ≡ None
 
   abbrev pub AreParts : List Keeping → List Script → List Served → Type 0
   AreParts keepers scripts parts = (w : ℕ) (s : Served) → slice_get parts w ≡ Some s → IsPart (length parts) w keepers scripts s
@@ -58,10 +60,11 @@ pub record IsApart (parts : List Served) (a : Apart) : Type 0 where
 
 module _ (told : ℕ → ℕ → Request → Answer → Type 0) (gives : ℕ → ℕ → Option (List ℕ) → Type 0) where
   -- All scripts were served by so many workers: each as its keeper told and gave, and the record is that of all workers, with every entry within
-  -- the limits of a log.
+  -- the limits of a log and of one of the scripts or a tick, so that a run of the scripts refuses none of them.
   pub record IsWhole (workers : ℕ) (keepers : List Keeping) (scripts : List Script) (s : Served) : Type 0 where
     pub served : AreServed told gives (λ i. i + 1) keepers scripts s
     pub records : List (List HallEvent)
     pub each : length records ≡ workers
     pub joined : IsJoined records s.logged
     pub fits : AllFit s.logged
+    pub taken : first_refusal (length scripts) 0 s.logged ≡ None

@@ -4,6 +4,7 @@ use Rattle.child_events.specs.declared.event.Answer.{Answer}
 use Rattle.expect_core.specs.declared.request.Request.{Request}
 use Rattle.dialogue_sched.specs.declared.script.Script.{Script}
 use Rattle.dialogue_sched.specs.Hall.{opening_fault}
+use Rattle.dialogue_sched.specs.Refusal.{first_refusal}
 use Rattle.child_serve.specs.declared.served.Served.{Served}
 use Rattle.child_serve.specs.declared.worker.Team.{Team}
 use Rattle.child_serve.specs.declared.serving.Works.{Works}
@@ -37,6 +38,7 @@ module _ {K C : Type 0} where
   pub record IsWork (told : ℕ → ℕ → Request → Answer → Type 0) (gives : ℕ → ℕ → Option (List ℕ) → Type 0) (named made : K → ℕ) (n w : ℕ) (team : Team K C) (s : Served) : Type 0 where
     pub served : AreServed told gives (λ i. script_of n w (i + 1)) (map (keeping_of named made) team.keepers.items) team.scripts.items s
     pub fits : Fits n w s.logged
+    pub taken : first_refusal (length team.scripts.items) 0 s.logged ≡ None
 
   -- a worker was started for each team
   abbrev pub AllStarted : {T : Type 0} → ℕ → ℕ → List (PromisedHandle T (Works K C)) → List (Team K C) → Type 0

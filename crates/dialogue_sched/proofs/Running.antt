@@ -58,7 +58,7 @@ pub whole_run : (scripts : List Script) (es : List HallEvent) (ks ks' : List Kep
 whole_run scripts es ks ks' rs opened none took reports = (opened.0, as_many scripts es ks opened ∙ none, all_mean 1 es scripts ks ks' rs opened.1 took reports)
 
 -- the report at a place is the meaning of the script there
-mean_at : (n i k : ℕ) (es : List HallEvent) (ss : List Script) (rs : List Report) (s : Script) (r : Report) → k ≡ n + i → AllMean n es ss rs → slice_get ss i ≡ Some s → slice_get rs i ≡ Some r → (r ≡ meaning s.source s.settings (own k es)) ⊎ (r ≡ memory_report)
+pub mean_at : (n i k : ℕ) (es : List HallEvent) (ss : List Script) (rs : List Report) (s : Script) (r : Report) → k ≡ n + i → AllMean n es ss rs → slice_get ss i ≡ Some s → slice_get rs i ≡ Some r → (r ≡ meaning s.source s.settings (own k es)) ⊎ (r ≡ memory_report)
 mean_at n i k es [] [] s r e h got made = no_some_at i s got
   where
     no_some_at : (j : ℕ) (x : Script) → slice_get [] j ≡ Some x → (r ≡ meaning s.source s.settings (own k es)) ⊎ (r ≡ memory_report)

@@ -1,5 +1,6 @@
 //! What ticks can change, what moments can, and what the order of a hall's calls can.
 
+ghost use Rattle.dialogue_sched.specs.Limits.{RunsEnd, SessionsEnd, TicksPass};
 ghost use Rattle.dialogue_sched.specs.Ticks.{TicksAreOne, TicksChangeNothing, TicksOnlyAdd};
 ghost use Rattle.dialogue_sched.specs.Raised.{MeansRaised};
 ghost use Rattle.dialogue_sched.specs.Reached.{FromStart, StepsOn, HandsOn, Tells};
@@ -28,4 +29,12 @@ pub fn hall_law()
     ensures steps_on { StepsOn }
     ensures hands_on { HandsOn }
     ensures tells { Tells }
+{}
+
+/// A limit ends scripts: where the greatest moment of a script's own events is past its limit, neither a report of a run nor one of a hall
+/// says that it waits. A tick past the limit is enough, whatever else came. It does nothing when it runs.
+pub fn limits()
+    ensures runs { RunsEnd }
+    ensures sessions { SessionsEnd }
+    ensures ticked { TicksPass }
 {}

@@ -12,7 +12,7 @@ mod shares;
 
 pub use fault::{MOST_SCRIPTS, opening_fault};
 pub use hall::{Hall, HallFault};
-pub use laws::{hall_law, raised_moments, ticks};
+pub use laws::{hall_law, limits, raised_moments, ticks};
 pub use refusal::HallRefusal;
 pub use reports::Reports;
 pub use run::{LogRunFault, RunFault, isolation, run_all, run_log};

@@ -13,6 +13,10 @@ use Rattle.dialogue_sched.specs.declared.script.Script.{Script}
 abbrev pub steps_given : Option ℕ → ℕ
 steps_given asked = unwrap_or asked 1000000
 
+-- as many seconds as are asked for, or two, for a program to end after its script
+abbrev pub grace_seconds : Option ℕ → ℕ
+grace_seconds asked = unwrap_or asked 2
+
 -- whether reports in a format have the variables in them, where that is asked for: a summary and TAP never do
 abbrev pub vars_told : Format → Bool → Bool
 vars_told Text asked = asked

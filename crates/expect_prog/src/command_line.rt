@@ -2,9 +2,10 @@
 
 ghost use Rattle.std.specs.Prelude.{◌≡◌, ◌≤◌, ◌*◌, option_map, IfOk, IfSome, Some, None};
 ghost use Rattle.expect_prog.specs.Complaint.{file_of_lines};
-ghost use Rattle.expect_prog.specs.Given.{steps_given, names_of, files_told, format_given};
+ghost use Rattle.expect_prog.specs.Given.{steps_given, grace_seconds, names_of, files_told, format_given};
 
 use crate::help;
+use child_pipes::Terms;
 use clap::{Arg, ArgAction, ArgMatches, Command, Error, value_parser};
 use report_texts::{Form, Format, Shown};
 use session::STEPS_LIMIT;
@@ -16,6 +17,11 @@ const DEFAULT_STEPS: u64 = 1_000_000;
 
 /// The most seconds of a time limit.
 const SECONDS_LIMIT: i64 = 9_000_000_000;
+
+/// How many seconds a program has to end after its script, where the command line says nothing, and the most that it may say.
+const DEFAULT_GRACE: u64 = 2;
+
+const GRACE_LIMIT: i64 = 86_400;
 
 /// What is asked for.
 #[derive(Drop)]
@@ -60,6 +66,10 @@ pub struct Run<'a> {
     pub record: Option<&'a str>,
     /// Whether what the scripts show is told as it comes.
     pub follow: bool,
+    /// When children are ended.
+    pub terms: Terms,
+    /// Whether children are ended also if this program is killed.
+    pub guard: bool,
     /// The file that what they did is told in.
     pub explain: Option<&'a str>,
 }
@@ -227,6 +237,28 @@ fn record<'a>(alloc: Global) -> Arg<'a> {
         .help("Write a log of what happened, which replay reads")
 }
 
+fn grace<'a>(alloc: Global) -> Arg<'a> {
+    Arg::new(alloc, "grace")
+        .long("grace")
+        .value_name("S")
+        .help("Hang up programs that go on S seconds [default: 2]")
+        .value_parser(value_parser!(u64).range(0..=GRACE_LIMIT))
+}
+
+fn hangup<'a>(alloc: Global) -> Arg<'a> {
+    Arg::new(alloc, "hangup")
+        .long("hangup")
+        .help("Count these seconds from a close on, too")
+        .action(ArgAction::SetTrue)
+}
+
+fn guard<'a>(alloc: Global) -> Arg<'a> {
+    Arg::new(alloc, "guard")
+        .long("guard")
+        .help("Hang up programs if exprun is killed, too")
+        .action(ArgAction::SetTrue)
+}
+
 fn follow<'a>(alloc: Global) -> Arg<'a> {
     Arg::new(alloc, "follow")
         .long("follow")
@@ -249,6 +281,9 @@ fn run_command<'a>(alloc: Global) -> Result<Command<'a>, AllocError> {
         .arg(limit(alloc))?
         .arg(steps(alloc))?
         .arg(record(alloc))?
+        .arg(grace(alloc))?
+        .arg(hangup(alloc))?
+        .arg(guard(alloc))?
         .arg(follow(alloc))?
         .arg(account(alloc))?
         .arg(vars(alloc))?
@@ -453,6 +488,13 @@ fn scripts_of<'a>(alloc: Global, matches: &ArgMatches<'a>) -> Result<Scripts<'a>
     })
 }
 
+/// How many milliseconds a program has to end after its script, where so many seconds or none are asked for.
+fn grace_of(asked: Option<u64>) -> u64
+    ensures { grace_seconds asked ≤ 86400 → result ≡ 1000 * grace_seconds asked }
+{
+    milliseconds(asked.unwrap_or(DEFAULT_GRACE))
+}
+
 /// A number from 1 to 64 as a byte.
 fn byte_of(number: u64) -> u8
     ensures { number ≤ 64 → result ≡ number }
@@ -466,6 +508,11 @@ fn run_of<'a>(alloc: Global, matches: &ArgMatches<'a>) -> Result<Order<'a>, Allo
         workers: matches.get_one::<u64>("workers").map_or(1, byte_of),
         record: matches.get_str("record"),
         follow: matches.get_flag("follow"),
+        terms: Terms {
+            grace: grace_of(matches.get_one::<u64>("grace")),
+            hangs_up: matches.get_flag("hangup"),
+        },
+        guard: matches.get_flag("guard"),
         explain: matches.get_str("explain"),
     }))
 }

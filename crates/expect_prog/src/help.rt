@@ -136,10 +136,14 @@ The scripts run side by side, and none changes another. With --workers they are
 shared out among threads in turn: of two workers the first has scripts 1, 3, ..
 A script that computes for long delays those of its own worker alone.
 
-When a script has ended, the input of its programs ends, and what they still
-write is dropped. exprun ends when their outputs have ended: a program that is
-silent and stays holds it, so `close` it, start it under `timeout 60`, or let it
-end with its input.
+No program outlives the run. When a script has ended, the input of its programs
+ends, and exprun drops what they still write. A program that goes on is hung up
+after S seconds (--grace S; 2 if you say nothing): it and all that it started
+get SIGHUP, and SIGKILL a second later. A process that left its session, as a
+daemon does, is left alone once its parent has ended. `close` ends a program's
+input; with --hangup the program is also hung up S seconds after it. --guard
+hangs programs up also if exprun itself is killed. Each program has a session of
+its own, so it can't reach your terminal.
 
 With --follow what the scripts show is also told on standard error, as it comes:
 of one script on a terminal as it is, else so that it does nothing there; of

@@ -9,32 +9,49 @@ use crate::files::scripts;
 use crate::folder::Folder;
 use crate::outcome::Outcome;
 use child_events::Counted;
-use child_pipes::{Free, Orphans, Pipes, Programs, Watch};
+use child_pipes::{Cancellation, Free, Pipes, Programs, Reaper, Watch};
 use dialogue_sched::Script;
-use report_texts::Form;
 use script_runs::{DriveFault, NoShelf, Record, Shelf, Telling, clocks, drive};
 use std::alloc::{AllocError, Global};
 use std::fs;
 use std::io::{self, IsTerminal, Write};
 use std::rt::Files;
-use std::sync::Wait;
+use std::sync::{Arc, Wait};
 use std::thread::Threads;
 use std::time::Clock;
 use tcl_words::Text;
 
-/// So many keepers of processes, each under its own name.
-fn keepers<R: Programs + Wait + Copy + Drop>(
-    rt: R,
+/// A cancellation for each of so many scripts.
+fn cancellations<R: Files>(
+    rt: &R,
     alloc: Global,
     count: usize,
-    orphans: &Orphans,
+) -> Result<Vec<Arc<Cancellation>>, AllocError>
+    ensures { IfOk result (λ cs. length cs.items ≡ count) }
+{
+    let mut cancellations = Vec::new(alloc);
+    for at in 0..count {
+        let Ok(()) = cancellations.push(Arc::new(alloc, Cancellation::new(rt))?) else {
+            return Err(AllocError);
+        };
+    }
+    Ok(cancellations)
+}
+
+/// A keeper of processes for the script of each cancellation.
+fn keepers<R: Programs + Wait + Clock + Copy + Drop>(
+    rt: R,
+    alloc: Global,
+    reaper: &Reaper,
+    cancellations: &[Arc<Cancellation>],
 ) -> Result<Vec<Pipes<R>>, AllocError>
-    ensures { IfOk result (λ ks. length ks.items ≡ count) }
+    ensures { IfOk result (λ ks. length ks.items ≡ length cancellations.now) }
 {
     let mut keepers = Vec::new(alloc);
-    for at in 0..count {
-        let orphans = orphans.shared()?;
-        let Ok(()) = keepers.push(Pipes::new(rt, alloc, at as u64, orphans)?) else {
+    for at in 0..cancellations.len() {
+        let cancellation = Arc::try_clone(&cancellations[at])?;
+        let Ok(()) = keepers.push(Pipes::new(rt, alloc, at as u64, reaper.shared()?, cancellation)?)
+        else {
             return Err(AllocError);
         };
     }
@@ -59,7 +76,7 @@ fn workers(asked: u8) -> u8
 /// Runs scripts over processes. Transcripts go to `shelf`, the record goes to `log`, and the reports go to `out`; what is to be told of them
 /// while they run is told on `errors`.
 fn run_scripts<
-    R: Threads + Wait + Clock + Programs + Copy + Send + Drop + 'static,
+    R: Files + Threads + Wait + Clock + Programs + Copy + Send + Drop + 'static,
     E: Write + IsTerminal + Copy + Send + Drop + 'static,
     S: Shelf,
     L: Write,
@@ -68,29 +85,32 @@ fn run_scripts<
     rt: R,
     alloc: Global,
     scripts: Vec<Script>,
-    workers_asked: u8,
-    follow: bool,
+    order: &Run<'_>,
     errors: E,
-    form: &Form,
     shelf: &mut S,
     record: &mut L,
     out: O,
 ) -> Result<bool, DriveFault> {
-    let orphans = Orphans::new(alloc)?;
-    let keepers = keepers(rt, alloc, scripts.len(), &orphans)?;
-    let (count, workers) = (scripts.len(), workers(workers_asked));
-    let mut telling = Telling::new(rt, alloc, errors, follow, count, workers)?;
-    let clocks = clocks(rt, alloc, workers, count, &telling)?;
-    let watch = Watch::start(rt, alloc, orphans)?;
+    let guard = match order.guard {
+        true => rt.start_guard(alloc).ok(),
+        false => None,
+    };
+    let (count, workers) = (scripts.len(), workers(order.workers));
+    let reaper = Reaper::new(alloc, order.terms, guard)?;
+    let cancellations = cancellations(&rt, alloc, count)?;
+    let keepers = keepers(rt, alloc, &reaper, cancellations.as_slice())?;
+    let mut telling = Telling::new(rt, alloc, errors, order.follow, count, workers)?;
+    let clocks = clocks(rt, alloc, workers, &telling, cancellations.as_slice())?;
+    drop(cancellations);
+    let watch = Watch::start(rt, alloc, reaper)?;
     let mut log = Counted::new(record);
     let mut out = Counted::new(out);
+    let form = &order.scripts.form;
     let outcome = drive(
         rt, alloc, scripts, keepers, clocks, Free, form, shelf, &mut log, &mut out,
     );
     telling.end();
-    if let Some(watch) = watch {
-        watch.stop(&rt);
-    }
+    watch.stop(rt);
     outcome
 }
 
@@ -123,18 +143,7 @@ fn run_order<
     record: &mut L,
 ) -> Result<bool, Complaint<'a>> {
     let out = io::writer(&rt);
-    match run_scripts(
-        rt,
-        alloc,
-        scripts,
-        order.workers,
-        order.follow,
-        errors,
-        &order.scripts.form,
-        shelf,
-        record,
-        out,
-    ) {
+    match run_scripts(rt, alloc, scripts, order, errors, shelf, record, out) {
         Ok(well) => Ok(well),
         Err(fault) => Err(Complaint::of_drive(fault, order)),
     }

@@ -3,3 +3,5 @@ pub mod Standing
 pub mod Drives
 pub mod Lines
 pub mod OverLogs
+pub mod Rewritten
+pub mod Again

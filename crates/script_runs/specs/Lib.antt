@@ -6,3 +6,4 @@ pub mod Planning
 pub mod Follow
 pub mod Progress
 pub mod Check
+pub mod Again

@@ -5,11 +5,11 @@ ghost use Rattle.script_runs.specs.Follow.{mark_of, marked_byte, marked, told_so
 
 use crate::progress::Progress;
 use child_keeper::{Audience, Clock};
-use child_pipes::Wall;
+use child_pipes::{Cancellation, Wall};
 use report_texts::{Place, push_labelled, push_text};
 use std::alloc::{AllocError, Global};
 use std::io::Write;
-use std::sync::Wait;
+use std::sync::{Arc, Wait};
 use std::time::Clock as SystemClock;
 use tcl_words::Text;
 
@@ -231,16 +231,26 @@ pub enum Told<R: Drop, E: Write + Drop> {
     Nothing,
 }
 
-/// A worker's clock, which tells what is to be told while its scripts run.
+/// A worker's clock, which tells what is to be told while its scripts run, and cancels those that are over.
 #[derive(Drop)]
 pub struct Follower<R: SystemClock + Drop, E: Write + Drop> {
     wall: Wall<R>,
     told: Told<R, E>,
+    /// Of each script that goes on.
+    cancellations: Vec<Option<Arc<Cancellation>>>,
 }
 
 impl<R: SystemClock + Drop, E: Write + Drop> Follower<R, E> {
-    pub fn new(wall: Wall<R>, told: Told<R, E>) -> Follower<R, E> {
-        Follower { wall, told }
+    pub fn new(
+        wall: Wall<R>,
+        told: Told<R, E>,
+        cancellations: Vec<Option<Arc<Cancellation>>>,
+    ) -> Follower<R, E> {
+        Follower {
+            wall,
+            told,
+            cancellations,
+        }
     }
 }
 
@@ -264,6 +274,9 @@ impl<R: SystemClock + Wait + Copy + Drop, E: Write + Copy + Drop> Audience for F
     }
 
     fn part(&mut self, place: usize, well: bool) {
+        if let Some(cancellation) = self.cancellations.get_mut(place).and_then(Option::take) {
+            cancellation.cancel();
+        }
         if let Told::Far(progress) = &mut self.told {
             progress.part(place, well);
         }

@@ -4,10 +4,10 @@ ghost use Rattle.std.specs.Prelude.{◌≡◌, length, IfOk};
 
 use crate::following::{Follower, Live, Manner, Tale, Told};
 use crate::progress::{Line, Progress};
-use child_pipes::Wall;
+use child_pipes::{Cancellation, Wall};
 use std::alloc::{AllocError, Global};
 use std::io::{IsTerminal, Write};
-use std::sync::Wait;
+use std::sync::{Arc, Wait};
 use std::time::Clock;
 
 /// How the script of a number among so many is told where it is followed.
@@ -86,22 +86,21 @@ impl<R: Wait + Copy + Drop, E: Write + IsTerminal + Copy + Drop> Telling<R, E> {
         Ok(Telling::Nothing)
     }
 
-    /// What one worker of them tells of its scripts, of so many.
+    /// What a worker tells of its scripts, which have these numbers, of so many scripts of all workers.
     fn told(
         &self,
         alloc: Global,
         scripts: usize,
-        workers: u8,
         worker: u8,
+        numbers: &[u8],
     ) -> Result<Told<R, E>, AllocError> {
-        let numbers = numbers_of(alloc, scripts, workers, worker)?;
         match self {
             Telling::Shown(to) => {
-                let tales = tales_of(alloc, numbers.as_slice(), scripts == 1, to.is_terminal())?;
+                let tales = tales_of(alloc, numbers, scripts == 1, to.is_terminal())?;
                 Ok(Told::Shown(Live::new(alloc, *to, tales)))
             }
             Telling::Far(line) => {
-                let progress = Progress::new(alloc, line.shared()?, worker, numbers.as_slice())?;
+                let progress = Progress::new(alloc, line.shared()?, worker, numbers)?;
                 Ok(Told::Far(progress))
             }
             Telling::Nothing => Ok(Told::Nothing),
@@ -116,21 +115,44 @@ impl<R: Wait + Copy + Drop, E: Write + IsTerminal + Copy + Drop> Telling<R, E> {
     }
 }
 
-/// A clock of so many workers each, which tell the same moments, from 0 on, and what is to be told of the worker's scripts.
+/// The cancellations of the scripts of these numbers, among those of all scripts.
+fn cancellations_of(
+    alloc: Global,
+    all: &[Arc<Cancellation>],
+    numbers: &[u8],
+) -> Result<Vec<Option<Arc<Cancellation>>>, AllocError> {
+    let mut cancellations = Vec::new(alloc);
+    for number in numbers {
+        let cancellation = match all.get(usize::from(number.saturating_sub(1))) {
+            Some(cancellation) => Some(Arc::try_clone(cancellation)?),
+            None => None,
+        };
+        let Ok(()) = cancellations.push(cancellation) else {
+            return Err(AllocError);
+        };
+    }
+    Ok(cancellations)
+}
+
+/// A clock for each of so many workers. They tell the same moments, from 0 on, tell what is to be told of the worker's scripts, and cancel those
+/// that are over. There is a cancellation for each script.
 pub fn clocks<R: Clock + Wait + Copy + Drop, E: Write + IsTerminal + Copy + Drop>(
     rt: R,
     alloc: Global,
     count: u8,
-    scripts: usize,
     telling: &Telling<R, E>,
+    cancellations: &[Arc<Cancellation>],
 ) -> Result<Vec<Follower<R, E>>, AllocError>
     ensures { IfOk result (λ cs. length cs.items ≡ count) }
 {
-    let wall = Wall::new(rt);
+    let (wall, scripts) = (Wall::new(rt), cancellations.len());
     let mut clocks = Vec::new(alloc);
     for worker in 0..count {
-        let told = telling.told(alloc, scripts, count, worker)?;
-        let Ok(()) = clocks.push(Follower::new(wall.again(), told)) else {
+        let numbers = numbers_of(alloc, scripts, count, worker)?;
+        let told = telling.told(alloc, scripts, worker, numbers.as_slice())?;
+        let own = cancellations_of(alloc, cancellations, numbers.as_slice())?;
+        let follower = Follower::new(wall.again(), told, own);
+        let Ok(()) = clocks.push(follower) else {
             return Err(AllocError);
         };
     }

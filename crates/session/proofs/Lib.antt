@@ -7,3 +7,5 @@ pub mod Quieting
 pub mod Readying
 pub mod Sparing
 pub mod Watching
+pub mod Overdue
+pub mod Limiting

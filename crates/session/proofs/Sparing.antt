@@ -57,18 +57,35 @@ use Rattle.session.specs.Left.{Kept, left, Fed, HandsOut}
 use Rattle.session.specs.Spent.{NoneMeansMemory, SaysNoMemory}
 
 -- any ending but the one for want of memory
-abbrev Spared : Ending → Type 0
-Spared ending.Memory = ⊥
-Spared _ = Unit {0}
+abbrev Remembers : Ending → Type 0
+Remembers ending.Memory = ⊥
+Remembers _ = Unit {0}
 
--- a step that doesn't speak of it
-abbrev SparedStep : HostStep → Type 0
+-- an ending that a script comes to by itself: not for want of memory, and not while it waits
+abbrev pub Spared : Ending → Type 0
+Spared ending.Memory = ⊥
+Spared ending.Waiting = ⊥
+Spared (ending.Exit n) = Unit {0}
+Spared ending.Error = Unit {0}
+Spared ending.StepLimit = Unit {0}
+Spared ending.TimeLimit = Unit {0}
+
+remembers : (e : Ending) → Spared e → Remembers e
+remembers ending.Memory s = s
+remembers ending.Waiting s = tt
+remembers (ending.Exit n) s = tt
+remembers ending.Error s = tt
+remembers ending.StepLimit s = tt
+remembers ending.TimeLimit s = tt
+
+-- a step that speaks of no other ending
+abbrev pub SparedStep : HostStep → Type 0
 SparedStep Memory = ⊥
 SparedStep (Stop e) = Spared e
 SparedStep _ = Unit {0}
 
--- a tree that comes to no such ending, where no reply speaks of it
-abbrev SparedTree : Tree → Type 0
+-- a tree that comes to no other ending, where no reply speaks of one
+abbrev pub SparedTree : Tree → Type 0
 SparedTree (Over e st) = Spared (ending_of e)
 SparedTree (Ask call left go) = (r : Reply) → SparedStep (step_of r) → SparedTree (go r)
 
@@ -401,7 +418,7 @@ end-spared Continue v st = tt
 end-spared Again v st = tt
 end-spared AgainLater v st = tt
 
-tree_spared : (source : List ℕ) (settings : Settings) → SparedTree (tree_of source settings)
+pub tree_spared : (source : List ℕ) (settings : Settings) → SparedTree (tree_of source settings)
 unfolding tree_of
 tree_spared source settings =
     eval-spared 200 source at_the_end (record { vars = first_variables settings.env; procs = []; left = steps_of settings.steps; trail = [] }) end-spared
@@ -418,10 +435,10 @@ answer_spared call (Stop e) a = subst Spared (sym a) tt
 answer_spared call Unknown a = tt
 answer_spared call Memory a = a
 
-outcome_spared : (call : Call) (d : Dialogue) → SparedStep (step_to (outcome call d))
+pub outcome_spared : (call : Call) (d : Dialogue) → SparedStep (step_to (outcome call d))
 outcome_spared call d = answer_spared call (step_to (outcome call d)) (each_answer call d)
 
-behind_spared : (steps : ℕ) (more : Reply → Dialogue → Report) (x : Outcome) → SparedStep (step_to x) → ((r : Reply) (d : Dialogue) → SparedStep (step_of r) → Spared (more r d).ending) → Spared (behind steps more x).ending
+behind_spared : (steps : ℕ) (more : Reply → Dialogue → Report) (x : Outcome) → SparedStep (step_to x) → ((r : Reply) (d : Dialogue) → SparedStep (step_of r) → Remembers (more r d).ending) → Remembers (behind steps more x).ending
 behind_spared steps more (Wait, vars, st) s says = tt
 behind_spared steps more (Done c v, vars, st) s says = says (Stepped (Done c v) vars) st s
 behind_spared steps more (Fail t, vars, st) s says = says (Stepped (Fail t) vars) st s
@@ -431,8 +448,8 @@ behind_spared steps more (Stop e, vars, st) s says = says (Stepped (Stop e) vars
 behind_spared steps more (Unknown, vars, st) s says = says (Stepped Unknown vars) st s
 behind_spared steps more (Memory, vars, st) s says = absurd s
 
-play_spared : (bound : ℕ) (t : Tree) (d : Dialogue) → SparedTree t → Spared (play bound t d).ending
-play_spared bound (Over e s) d h = h
+play_spared : (bound : ℕ) (t : Tree) (d : Dialogue) → SparedTree t → Remembers (play bound t d).ending
+play_spared bound (Over e s) d h = remembers (ending_of e) h
 play_spared bound (Ask (Knows name) had go) d h = play_spared bound (go (Known (knows name))) d (h (Known (knows name)) tt)
 play_spared bound (Ask (Begin words vars) had go) d h =
     behind_spared (bound - had) (λ r. play bound (go r)) _ (outcome_spared (Begin words vars) d) (λ r d s. play_spared bound (go r) d (h r s))
@@ -443,8 +460,8 @@ play_spared bound (Ask (AfterWords words vars) had go) d h =
 play_spared bound (Ask (AfterBody c v vars) had go) d h =
     behind_spared (bound - had) (λ r. play bound (go r)) _ (outcome_spared (AfterBody c v vars) d) (λ r d s. play_spared bound (go r) d (h r s))
 
-differs : (e : Ending) → Spared e → e ≢ ending.Memory
-differs e s is = subst Spared is s
+differs : (e : Ending) → Remembers e → e ≢ ending.Memory
+differs e s is = subst Remembers is s
 
 pub none_means_memory : NoneMeansMemory
 none_means_memory source settings events =

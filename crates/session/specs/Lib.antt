@@ -10,3 +10,4 @@ pub mod Awaited
 pub mod Shown
 pub mod Sound
 pub mod Watching
+pub mod Limits

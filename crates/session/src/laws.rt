@@ -1,6 +1,7 @@
 //! What holds of the reports of all scripts.
 
 ghost use Rattle.session.specs.Growth.{EndingStays, OnlyGrows};
+ghost use Rattle.session.specs.Limits.{LimitEnds, StaysLimited};
 ghost use Rattle.session.specs.Requests.{AllNameAChild, StaysAsking};
 ghost use Rattle.session.specs.Spent.{NoneMeansMemory, StaysSpared};
 
@@ -23,4 +24,11 @@ pub fn request_law()
 pub fn no_meaning_is_memory()
     ensures meant { NoneMeansMemory }
     ensures said { StaysSpared }
+{}
+
+/// A limit ends a script: where the greatest moment of its events is past the limit of its settings, it doesn't wait, whatever its source is.
+/// So it is with a session that was fed events past its limit, and with what it reports. It does nothing when it runs.
+pub fn limit_law()
+    ensures ends { LimitEnds }
+    ensures stays { StaysLimited }
 {}

@@ -13,7 +13,7 @@ mod watched;
 mod watcher;
 
 pub use expect_core::{Act, Pairs, Request, Requests, Settings};
-pub use laws::{growth, no_meaning_is_memory, request_law};
+pub use laws::{growth, limit_law, no_meaning_is_memory, request_law};
 pub use place::{Place, Places};
 pub use report::{Counts, Report};
 pub use session::{NewFault, SOURCE_LIMIT, STEPS_LIMIT, Session};

@@ -5,6 +5,7 @@ use Rattle.child_serve.specs.Turns.{in_turn}
 use Rattle.child_serve.specs.declared.served.Served.{Served}
 use Rattle.child_serve.specs.Served.{records_of}
 use Rattle.child_serve.proofs.Wholes.{map_length, all_served}
+use Rattle.child_serve.proofs.Accepting.{whole_taken}
 use Rattle.child_serve.proofs.served.assembled.Goals as goal
 
 pub returns-clause-whole : goal.returns-clause-whole
@@ -17,4 +18,6 @@ returns-clause-whole g c keepers scripts e are = record {
   each = map_length (λ (p : Served). p.logged) c.args.parts.items;
   joined = subst (λ (rs : List (List HallEvent)). IsJoined rs c.in_ok-logged.logged) c.in_ok-apart.ensures.records c.in_ok-logged.ensures.joined;
   fits = c.in_ok-logged.ensures.fits;
+  taken = whole_taken g.K.Keeper.told g.K.Keeper.gives keepers scripts c.args.parts.items c.in_ok-logged.logged c.requires.fits
+      (subst (λ (rs : List (List HallEvent)). IsJoined rs c.in_ok-logged.logged) c.in_ok-apart.ensures.records c.in_ok-logged.ensures.joined) are;
 }

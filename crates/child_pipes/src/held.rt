@@ -1,0 +1,54 @@
+//! A child that was started.
+
+use crate::cancellation::Cancellation;
+use std::io::ErrorKind;
+use std::process::{Child, SystemProcess};
+use std::sync::atomic::{AtomicBool, Ordering};
+use std::sync::{Arc, Mutex, Wait};
+
+/// A child that was started, shared by its keeper, the reader of its output and the reaper.
+#[derive(Drop)]
+pub(crate) struct Held {
+    pub(crate) id: u32,
+    pub(crate) process: Mutex<Child<SystemProcess>>,
+    /// Whether its script closed it: what it writes from then on is dropped.
+    is_closed: AtomicBool,
+    /// Whether its script is over.
+    pub(crate) cancellation: Arc<Cancellation>,
+}
+
+impl Held {
+    pub(crate) fn new(process: Child<SystemProcess>, cancellation: Arc<Cancellation>) -> Held {
+        Held {
+            id: process.id(),
+            process: Mutex::new(process),
+            is_closed: AtomicBool::new(false),
+            cancellation,
+        }
+    }
+
+    pub(crate) fn is_closed(&self) -> bool {
+        self.is_closed.load(Ordering::SeqCst)
+    }
+
+    pub(crate) fn close(&self) {
+        self.is_closed.store(true, Ordering::SeqCst);
+    }
+
+    pub(crate) fn is_over(&self) -> bool {
+        self.cancellation.is_cancelled()
+    }
+
+    /// Whether it goes on. One that the system can't tell of doesn't.
+    pub(crate) fn is_alive(&self, rt: &impl Wait) -> bool {
+        match self.process.lock(rt).try_wait() {
+            Ok(status) => status.is_none(),
+            Err(e) => e.kind() == ErrorKind::Interrupted,
+        }
+    }
+
+    /// Sends SIGKILL to it alone.
+    pub(crate) fn kill(&self, rt: &impl Wait) {
+        let _ = self.process.lock(rt).kill();
+    }
+}

@@ -1,0 +1,205 @@
+//! All children of a run, until nothing is left of them.
+
+use crate::guard::Guard;
+use crate::held::Held;
+use crate::processes::{Process, group_of, learn};
+use crate::programs::Programs;
+use crate::stage::Stage;
+use std::alloc::{AllocError, Global};
+use std::sync::{Arc, Mutex, Wait};
+
+/// When children are ended.
+#[derive(Clone, Copy, Debug)]
+pub struct Terms {
+    /// How many milliseconds a child may take to end by itself, once its script is over.
+    pub grace: u64,
+    /// Whether this holds also once its script has closed it.
+    pub hangs_up: bool,
+}
+
+/// A child, and what was seen of the processes that it started.
+#[derive(Drop)]
+struct Ward {
+    held: Arc<Held>,
+    stage: Stage,
+    known: Vec<Process>,
+}
+
+#[derive(Drop)]
+struct Shared {
+    terms: Terms,
+    wards: Mutex<Vec<Ward>>,
+    guard: Mutex<Option<Guard>>,
+}
+
+/// The children of a run, each until it and all that it started have ended. Many may hold it.
+#[derive(Drop)]
+pub struct Reaper {
+    alloc: Global,
+    shared: Arc<Shared>,
+}
+
+/// What a look at all children has found: the processes of the system, once they were asked for, and the numbers of those that are to be sent
+/// SIGHUP and SIGKILL.
+#[derive(Drop)]
+struct Found {
+    alloc: Global,
+    all: Option<Vec<Process>>,
+    hangs: Vec<u32>,
+    kills: Vec<u32>,
+}
+
+impl Found {
+    fn new(alloc: Global) -> Found {
+        Found {
+            alloc,
+            all: None,
+            hangs: Vec::new(alloc),
+            kills: Vec::new(alloc),
+        }
+    }
+
+    /// What is left of a child's processes.
+    fn group_of<R: Programs>(&mut self, rt: &R, ward: &Ward) -> Result<Vec<Process>, AllocError> {
+        let all = match self.all.take() {
+            Some(all) => all,
+            None => rt.processes(self.alloc)?,
+        };
+        let group = group_of(
+            self.alloc,
+            all.as_slice(),
+            ward.held.id,
+            ward.known.as_slice(),
+        );
+        self.all = Some(all);
+        group
+    }
+
+    /// Has processes sent the signal of a stage.
+    fn condemn(&mut self, stage: Stage, group: &[Process]) -> Result<(), AllocError> {
+        let ids = match stage {
+            Stage::HungUp { .. } => &mut self.hangs,
+            Stage::Killed { .. } => &mut self.kills,
+            Stage::Kept | Stage::LetGo { .. } => return Ok(()),
+        };
+        for process in group {
+            ids.push(process.id)?;
+        }
+        Ok(())
+    }
+
+    /// Sends the signals.
+    fn send<R: Programs>(&self, rt: &R) {
+        for (name, ids) in [("HUP", &self.hangs), ("KILL", &self.kills)] {
+            if !ids.is_empty() {
+                rt.signal(self.alloc, name, ids.as_slice());
+            }
+        }
+    }
+}
+
+impl Ward {
+    /// Brings a child on its way, if it may be let go. What a child left that has ended itself has no grace. Returns whether anything is left.
+    fn advance<R: Programs + Wait>(
+        &mut self,
+        rt: &R,
+        terms: Terms,
+        moment: u64,
+        found: &mut Found,
+    ) -> Result<bool, AllocError> {
+        if !self.held.is_over() && !(terms.hangs_up && self.held.is_closed()) {
+            return Ok(true);
+        }
+        let lives = self.held.is_alive(rt);
+        let stage = self
+            .stage
+            .after(if lives { terms.grace } else { 0 }, moment);
+        if lives && stage == self.stage {
+            return Ok(true);
+        }
+        let group = found.group_of(rt, self)?;
+        if !lives && group.is_empty() {
+            return Ok(false);
+        }
+        if stage != self.stage {
+            found.condemn(stage, group.as_slice())?;
+            if matches!(stage, Stage::Killed { .. }) {
+                self.held.kill(rt);
+            }
+        }
+        self.stage = stage;
+        learn(&mut self.known, group.as_slice())?;
+        Ok(true)
+    }
+}
+
+impl Reaper {
+    /// No children yet. A guard is told of those that come, if there is one.
+    pub fn new(alloc: Global, terms: Terms, guard: Option<Guard>) -> Result<Reaper, AllocError> {
+        let shared = Shared {
+            terms,
+            wards: Mutex::new(Vec::new(alloc)),
+            guard: Mutex::new(guard),
+        };
+        Ok(Reaper {
+            alloc,
+            shared: Arc::new(alloc, shared)?,
+        })
+    }
+
+    /// The same children, for another holder.
+    pub fn shared(&self) -> Result<Reaper, AllocError> {
+        Ok(Reaper {
+            alloc: self.alloc,
+            shared: Arc::try_clone(&self.shared)?,
+        })
+    }
+
+    pub(crate) fn terms(&self) -> Terms {
+        self.shared.terms
+    }
+
+    /// Takes a child that was started.
+    pub(crate) fn adopt(&self, rt: &impl Wait, held: Arc<Held>) -> Result<(), AllocError> {
+        self.tell_guard(rt, '+', held.id);
+        let ward = Ward {
+            held,
+            stage: Stage::Kept,
+            known: Vec::new(self.alloc),
+        };
+        let mut wards = self.shared.wards.lock(rt);
+        let Ok(()) = wards.push(ward) else {
+            return Err(AllocError);
+        };
+        Ok(())
+    }
+
+    fn tell_guard(&self, rt: &impl Wait, mark: char, id: u32) {
+        let mut guard = self.shared.guard.lock(rt);
+        if let Some(guard) = &mut *guard {
+            guard.tell(self.alloc, mark, id);
+        }
+    }
+
+    /// Whether nothing is left of any child.
+    pub(crate) fn is_empty(&self, rt: &impl Wait) -> bool {
+        self.shared.wards.lock(rt).is_empty()
+    }
+
+    /// Looks after each child at a moment, in milliseconds: ends those whose time is over, and forgets those of which nothing is left. Where
+    /// memory is refused, a child stays as it is until the next time.
+    pub(crate) fn sweep<R: Programs + Wait>(&self, rt: &R, moment: u64) {
+        let terms = self.terms();
+        let mut found = Found::new(self.alloc);
+        let mut wards = self.shared.wards.lock(rt);
+        wards.retain_mut(|ward| {
+            let is_left = ward.advance(rt, terms, moment, &mut found).unwrap_or(true);
+            if !is_left {
+                self.tell_guard(rt, '-', ward.held.id);
+            }
+            is_left
+        });
+        drop(wards);
+        found.send(rt);
+    }
+}

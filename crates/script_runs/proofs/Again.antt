@@ -1,0 +1,146 @@
+-- A run over children, and a replay of the record that it wrote.
+use Rattle.std.proofs.Common.{◌≡◌, ◌≢◌, ◌⊎◌, inl, inr, ◌<◌, ◌^◌, ℕ, ◌+◌, List, [], ◌∷◌, length, Option, Some, None, Ok, Err, refl, sym, ap, subst, ◌∙◌}
+use Rattle.child_events.specs.declared.event.Answer.{Answer}
+use Rattle.child_events.specs.declared.event.HallEvent.{HallEvent}
+use Rattle.child_events.specs.declared.faults.LogFault.{LogFault}
+use Rattle.child_events.specs.Reading.{Refused}
+use Rattle.expect_core.specs.declared.request.Request.{Request}
+use Rattle.session.specs.declared.report.Report.{Report}
+use Rattle.session.specs.Spent.{memory_report}
+use Rattle.dialogue_sched.specs.declared.script.Script.{Script}
+use Rattle.dialogue_sched.specs.declared.hall.HallFault.{HallFault}
+use Rattle.dialogue_sched.specs.declared.refusal.HallRefusal.{HallRefusal}
+use Rattle.dialogue_sched.specs.declared.run.RunFault.{RunFault}
+use Rattle.dialogue_sched.specs.declared.run.RunFault.TheVariants as run
+use Rattle.dialogue_sched.specs.Run.{AllMean, Runs}
+use Rattle.child_desk.specs.Line.{Keeping}
+use Rattle.child_serve.specs.declared.served.Served.{Served}
+use Rattle.child_serve.proofs.Again.{serving_is_run}
+use Rattle.report_texts.specs.declared.form.Form.{Form}
+use Rattle.report_texts.specs.Written.{StandsFor, AllStandFor}
+use Rattle.script_runs.specs.declared.fault.ReplayFault.{ReplayFault}
+use Rattle.script_runs.specs.declared.fault.ReplayFault.TheVariants.{Read, Log, Run, Write, Memory}
+use Rattle.script_runs.specs.Drive.{WasServed}
+use Rattle.script_runs.specs.Replay.{RunOver, Replays, IsNoWant}
+use Rattle.script_runs.proofs.Rewritten.{text_longer, below, one_written_list}
+use Rattle.script_runs.specs.Again.{AgreesWith, AllAgree, AreSpared, IsOfDevices, SameReports, ReplaysSame, ReplaysPart, ReplaysCut, ReplaysUnrefused}
+
+-- reports that agree
+
+one_agrees : (m r r' : Report) → (r ≡ m) ⊎ (r ≡ memory_report) → (r' ≡ m) ⊎ (r' ≡ memory_report) → AgreesWith r r'
+one_agrees m r r' (inl e) (inl f) = inl (e ∙ sym f)
+one_agrees m r r' (inl e) (inr spent) = inr (inr spent)
+one_agrees m r r' (inr spent) h = inr (inl spent)
+
+all_agree : (n : ℕ) (es : List HallEvent) (ss : List Script) (rs rs' : List Report) → AllMean n es ss rs → AllMean n es ss rs' → AllAgree rs rs'
+all_agree n es [] [] [] a b = tt
+all_agree n es [] [] (x ∷ rs') a b = absurd b
+all_agree n es [] (r ∷ rs) rs' a b = absurd a
+all_agree n es (s ∷ ss) [] rs' a b = absurd a
+all_agree n es (s ∷ ss) (r ∷ rs) [] a b = absurd b
+all_agree n es (s ∷ ss) (r ∷ rs) (x ∷ rs') a b = (one_agrees _ r x a.0 b.0, all_agree (n + 1) es ss rs rs' a.1 b.1)
+
+-- what stands for reports that agree does
+
+first_stands : (r r' t : Report) → AgreesWith r r' → StandsFor r t → AgreesWith t r'
+first_stands r r' t (inl e) (inl f) = inl (f ∙ e)
+first_stands r r' t (inr (inl e)) (inl f) = inr (inl (f ∙ e))
+first_stands r r' t (inr (inr e)) (inl f) = inr (inr e)
+first_stands r r' t a (inr spent) = inr (inl spent)
+
+second_stands : (r r' t : Report) → AgreesWith r r' → StandsFor r' t → AgreesWith r t
+second_stands r r' t (inl e) (inl f) = inl (e ∙ sym f)
+second_stands r r' t (inr (inl e)) (inl f) = inr (inl e)
+second_stands r r' t (inr (inr e)) (inl f) = inr (inr (f ∙ e))
+second_stands r r' t a (inr spent) = inr (inr spent)
+
+firsts_stand : (rs rs' ts : List Report) → AllAgree rs rs' → AllStandFor rs ts → AllAgree ts rs'
+firsts_stand [] [] [] a s = tt
+firsts_stand [] [] (t ∷ ts) a s = absurd s
+firsts_stand [] (x ∷ rs') ts a s = absurd a
+firsts_stand (r ∷ rs) [] ts a s = absurd a
+firsts_stand (r ∷ rs) (x ∷ rs') [] a s = absurd s
+firsts_stand (r ∷ rs) (x ∷ rs') (t ∷ ts) a s = (first_stands r x t a.0 s.0, firsts_stand rs rs' ts a.1 s.1)
+
+seconds_stand : (rs rs' ts : List Report) → AllAgree rs rs' → AllStandFor rs' ts → AllAgree rs ts
+seconds_stand [] [] [] a s = tt
+seconds_stand [] [] (t ∷ ts) a s = absurd s
+seconds_stand [] (x ∷ rs') ts a s = absurd a
+seconds_stand (r ∷ rs) [] ts a s = absurd a
+seconds_stand (r ∷ rs) (x ∷ rs') [] a s = absurd s
+seconds_stand (r ∷ rs) (x ∷ rs') (t ∷ ts) a s = (second_stands r x t a.0 s.0, seconds_stand rs rs' ts a.1 s.1)
+
+one_same : (r r' : Report) → AgreesWith r r' → r ≢ memory_report → r' ≢ memory_report → r' ≡ r
+one_same r r' (inl e) spared spared' = sym e
+one_same r r' (inr (inl spent)) spared spared' = absurd (spared spent)
+one_same r r' (inr (inr spent)) spared spared' = absurd (spared' spent)
+
+two_conses : (a b : Report) (xs ys : List Report) → a ≡ b → xs ≡ ys → a ∷ xs ≡ b ∷ ys
+two_conses a b xs ys e f = ap (λ (z : Report). z ∷ xs) e ∙ ap (λ (zs : List Report). b ∷ zs) f
+
+all_same : (rs rs' : List Report) → AllAgree rs rs' → AreSpared rs → AreSpared rs' → rs' ≡ rs
+all_same [] [] a spared spared' = refl
+all_same [] (x ∷ rs') a spared spared' = absurd a
+all_same (r ∷ rs) [] a spared spared' = absurd a
+all_same (r ∷ rs) (x ∷ rs') a spared spared' = two_conses x r rs' rs (one_same r x a.0 spared.0 spared'.0) (all_same rs rs' a.1 spared.1 spared'.1)
+
+same_reports : (rs ts rs' ts' : List Report) → AllAgree rs rs' → AllStandFor rs ts → AllStandFor rs' ts' → SameReports rs ts rs' ts'
+same_reports rs ts rs' ts' agree stand stand' =
+    let printed = seconds_stand ts rs' ts' (firsts_stand rs rs' ts agree stand) stand' in
+    record { reports = agree; printed = printed; same = all_same ts ts' printed }
+
+module _ (told : ℕ → ℕ → Request → Answer → Type 0) (gives : ℕ → ℕ → Option (List ℕ) → Type 0) (workers : ℕ) (keepers : List Keeping) (scripts : List Script) (size : length keepers ≡ length scripts) (served : Served) where
+  serves_run : (text : List ℕ) → WasServed told gives workers keepers scripts served text → Runs scripts served.logged (Ok served.reports)
+  serves_run text was = serving_is_run told gives workers keepers scripts served size was.serves
+
+  runs_again : (text : List ℕ) (rs : List Report) → WasServed told gives workers keepers scripts served text → RunOver scripts text (Ok rs) → AllAgree served.reports rs
+  runs_again text rs was over =
+      let is = one_written_list text served.logged over.events was.log over.log in
+      all_agree 1 served.logged scripts served.reports rs (serves_run text was).2 (subst (λ (es : List HallEvent). AllMean 1 es scripts rs) is over.runs.2)
+
+  no_new : (f : HallFault) → ◌≡◌ {A = Option HallFault} None (Some f) → ⊥
+  no_new f h = cc
+
+  no_refusal : (r : ℕ × HallRefusal) → ◌≡◌ {A = Option (ℕ × HallRefusal)} None (Some r) → ⊥
+  no_refusal r h = cc
+
+  runs_unrefused : (es : List HallEvent) (f : RunFault) → Runs scripts es (Ok served.reports) → Runs scripts es (Err f) → f ≡ run.Memory
+  runs_unrefused es (run.New fault) ran failed = absurd (no_new fault (sym ran.0 ∙ failed))
+  runs_unrefused es (run.Refused at r) ran failed = absurd (no_refusal (at, r) (sym ran.1 ∙ failed.1))
+  runs_unrefused es run.Memory ran failed = refl
+
+  run_unrefused : (text : List ℕ) (f : RunFault) → WasServed told gives workers keepers scripts served text → RunOver scripts text (Err f) → f ≡ run.Memory
+  run_unrefused text f was over =
+      let is = one_written_list text served.logged over.events was.log over.log in
+      runs_unrefused served.logged f (serves_run text was) (subst (λ (es : List HallEvent). Runs scripts es (Err f)) is over.runs)
+
+  log_unrefused : (text : List ℕ) (f : LogFault) → WasServed told gives workers keepers scripts served text → length text < 10 ^ 16 → Refused text f → ⊥
+  log_unrefused text f was few refused = refused.1 served.logged (inr (was.log, below (length served.logged) (length text) (10 ^ 16) (text_longer text served.logged was.log) few))
+
+  unrefused : (form : Form) (text : List ℕ) (shelf shelf' : Option (List (List ℕ))) (old new : Option (List ℕ)) (fault : ReplayFault) →
+      WasServed told gives workers keepers scripts served text → IsNoWant fault → Replays scripts form text shelf shelf' old new (Err fault) → IsOfDevices text fault
+  unrefused form text shelf shelf' old new Read was sound says = tt
+  unrefused form text shelf shelf' old new (Log f) was sound says = λ few. log_unrefused text f was few says
+  unrefused form text shelf shelf' old new (Run f) was sound says = sound.0 (run_unrefused text f was says)
+  unrefused form text shelf shelf' old new Write was sound says = tt
+  unrefused form text shelf shelf' old new Memory was sound says = tt
+
+module _ (told : ℕ → ℕ → Request → Answer → Type 0) (gives : ℕ → ℕ → Option (List ℕ) → Type 0) where
+  pub replays_same : ReplaysSame told gives
+  replays_same workers keepers scripts form form' well well' kept kept' shelf shelf' bytes log log' out out' old new size ran is again =
+      same_reports ran.served.reports ran.printed again.reports again.printed
+      (runs_again told gives workers keepers scripts size ran.served bytes again.reports (subst (WasServed told gives workers keepers scripts ran.served) (sym is) ran.was) again.run) ran.stand again.stand
+
+  pub replays_part : ReplaysPart told gives
+  replays_part workers keepers scripts form form' well kept kept' shelf shelf' bytes log log' out out' old new size ran is again =
+      same_reports ran.served.reports ran.printed again.reports again.printed
+      (runs_again told gives workers keepers scripts size ran.served bytes again.reports (subst (WasServed told gives workers keepers scripts ran.served) (sym is) ran.was) again.run) ran.stand again.stand
+
+  pub replays_cut : ReplaysCut told gives
+  replays_cut workers keepers scripts form form' well' kept kept' shelf shelf' bytes log log' out out' old new size ran is again =
+      same_reports ran.served.reports ran.printed again.reports again.printed
+      (runs_again told gives workers keepers scripts size ran.served bytes again.reports (subst (WasServed told gives workers keepers scripts ran.served) (sym is) ran.was) again.run) ran.stand again.stand
+
+  pub replays_unrefused : ReplaysUnrefused told gives
+  replays_unrefused workers keepers scripts form form' well kept kept' shelf shelf' bytes log log' out out' old new fault size ran is sound says =
+      unrefused told gives workers keepers scripts size ran.served form' bytes shelf shelf' old new fault (subst (WasServed told gives workers keepers scripts ran.served) (sym is) ran.was) sound says
