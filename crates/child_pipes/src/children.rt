@@ -1,7 +1,7 @@
 //! The children of one script, over pipes.
 
 use crate::cancellation::Cancellation;
-use crate::held::Held;
+use crate::held::{Held, Name};
 use crate::output::Output;
 use crate::programs::{Programs, Started};
 use crate::ready::is_ready;
@@ -68,6 +68,8 @@ impl Place {
 pub(crate) struct Children<R: Programs + Wait + Clock + Drop> {
     rt: R,
     alloc: Global,
+    /// The number of the script.
+    script: u64,
     places: Vec<Option<Place>>,
     reaper: Reaper,
     cancellation: Arc<Cancellation>,
@@ -100,10 +102,11 @@ fn split(argv: &Texts) -> Option<(&str, &[Text])> {
 }
 
 impl<R: Programs + Wait + Clock + Drop> Children<R> {
-    /// No children.
+    /// No children of the script of a number.
     pub(crate) fn new(
         rt: R,
         alloc: Global,
+        script: u64,
         reaper: Reaper,
         cancellation: Arc<Cancellation>,
     ) -> Result<Children<R>, AllocError> {
@@ -114,6 +117,7 @@ impl<R: Programs + Wait + Clock + Drop> Children<R> {
         Ok(Children {
             rt,
             alloc,
+            script,
             places,
             reaper,
             cancellation,
@@ -125,10 +129,18 @@ impl<R: Programs + Wait + Clock + Drop> Children<R> {
         place.as_mut()
     }
 
-    /// A program that was started, held for its keeper, its reader and the reaper. Where memory is refused it is killed.
-    fn held(&self, process: Child<SystemProcess>) -> Result<(Arc<Held>, Arc<Held>), AllocError> {
+    /// Shares a started program between its keeper, its reader and the reaper. Kills it if memory is refused.
+    fn share(
+        &self,
+        child: u8,
+        process: Child<SystemProcess>,
+    ) -> Result<(Arc<Held>, Arc<Held>), AllocError> {
+        let name = Name {
+            script: self.script,
+            child,
+        };
         let cancellation = Arc::try_clone(&self.cancellation)?;
-        let held = match Arc::new(self.alloc, Held::new(process, cancellation)) {
+        let held = match Arc::new(self.alloc, Held::new(name, process, cancellation)) {
             Ok(held) => held,
             Err(failed) => {
                 failed.value.kill(&self.rt);
@@ -158,11 +170,14 @@ impl<R: Programs + Wait + Clock + Drop> Children<R> {
             Ok(started) => started,
             Err(e) => return Err(cause_of(&e)),
         };
-        let Started { input, mut child } = started;
-        let Some(out) = child.stdout.take() else {
+        let Started {
+            input,
+            child: mut process,
+        } = started;
+        let Some(out) = process.stdout.take() else {
             return Err(Cause::Other);
         };
-        let Ok((held, theirs)) = self.held(child) else {
+        let Ok((held, theirs)) = self.share(child, process) else {
             return Err(Cause::Memory);
         };
         let place = Place {
@@ -238,6 +253,7 @@ impl<R: Programs + Wait + Clock + Drop> Drop for Children<R> {
         let Children {
             rt: _,
             alloc: _,
+            script: _,
             places: _,
             reaper: _,
             cancellation: _,

@@ -6,10 +6,20 @@ use std::process::{Child, SystemProcess};
 use std::sync::atomic::{AtomicBool, Ordering};
 use std::sync::{Arc, Mutex, Wait};
 
+/// Which child of a run it is.
+#[derive(Clone, Copy, Debug)]
+pub(crate) struct Name {
+    /// Its script's number, from 1.
+    pub(crate) script: u64,
+    /// Its own number, among the children of its script.
+    pub(crate) child: u8,
+}
+
 /// A child that was started, shared by its keeper, the reader of its output and the reaper.
 #[derive(Drop)]
 pub(crate) struct Held {
     pub(crate) id: u32,
+    pub(crate) name: Name,
     pub(crate) process: Mutex<Child<SystemProcess>>,
     /// Whether its script closed it: what it writes from then on is dropped.
     is_closed: AtomicBool,
@@ -18,9 +28,14 @@ pub(crate) struct Held {
 }
 
 impl Held {
-    pub(crate) fn new(process: Child<SystemProcess>, cancellation: Arc<Cancellation>) -> Held {
+    pub(crate) fn new(
+        name: Name,
+        process: Child<SystemProcess>,
+        cancellation: Arc<Cancellation>,
+    ) -> Held {
         Held {
             id: process.id(),
+            name,
             process: Mutex::new(process),
             is_closed: AtomicBool::new(false),
             cancellation,

@@ -15,6 +15,7 @@ mod programs;
 mod ready;
 mod reaper;
 mod stage;
+mod stop;
 mod wall;
 mod watch;
 
@@ -27,5 +28,6 @@ pub use processes::Process;
 pub use programs::{Programs, Started};
 pub use reaper::{Reaper, Terms};
 pub use stage::Stage;
+pub use stop::Stop;
 pub use wall::Wall;
 pub use watch::Watch;

@@ -32,7 +32,7 @@ fn is_executable(rt: &HostRuntime, path: &str, bits: u32) -> bool {
     }
 }
 
-/// The interpreter that the first line of a script names, behind `#!`.
+/// Returns the interpreter that a script's first line names after `#!`.
 fn interpreter_of(line: &[u8]) -> Option<&str> {
     let mut words = line
         .split(|b| matches!(*b, b' ' | b'\t' | b'\n'))

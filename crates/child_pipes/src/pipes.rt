@@ -27,7 +27,7 @@ pub struct Pipes<R: Programs + Wait + Clock + Drop> {
 }
 
 impl<R: Programs + Wait + Clock + Drop> Pipes<R> {
-    /// A keeper of this name, with no children. The reaper takes each that it starts. Once its script is cancelled, or the keeper is dropped, no
+    /// A keeper of this name, which is its script's number less 1, with no children. The reaper takes each that it starts. Once its script is cancelled, or the keeper is dropped, no
     /// call waits for a child any longer, and the children are to end.
     pub fn new(
         rt: R,
@@ -39,7 +39,7 @@ impl<R: Programs + Wait + Clock + Drop> Pipes<R> {
         Ok(Pipes {
             name,
             counts: Counts::new(),
-            children: Children::new(rt, alloc, reaper, cancellation)?,
+            children: Children::new(rt, alloc, name.saturating_add(1), reaper, cancellation)?,
         })
     }
 }

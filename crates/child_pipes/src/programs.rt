@@ -30,6 +30,9 @@ pub trait Programs {
     /// The processes that there are. Without /proc, none.
     fn processes(&self, alloc: Global) -> Result<Vec<Process>, AllocError>;
 
+    /// What /proc/self/status says of this process (proc(5)), if it can be read.
+    fn own_status(&self) -> Option<String>;
+
     /// Sends a signal to processes, by the `kill` that sh(1) has built in. Without sh(1), none is sent.
     fn signal(&self, alloc: Global, signal: &str, ids: &[u32]);
 }
@@ -114,6 +117,10 @@ impl Programs for HostRuntime {
             }
         }
         Ok(all)
+    }
+
+    fn own_status(&self) -> Option<String> {
+        fs::read_to_string(self, "/proc/self/status").ok()
     }
 
     fn signal(&self, alloc: Global, signal: &str, ids: &[u32]) {

@@ -1,7 +1,7 @@
 //! All children of a run, until nothing is left of them.
 
 use crate::guard::Guard;
-use crate::held::Held;
+use crate::held::{Held, Name};
 use crate::processes::{Process, group_of, learn};
 use crate::programs::Programs;
 use crate::stage::Stage;
@@ -181,6 +181,16 @@ impl Reaper {
         }
     }
 
+    /// The children of which something is left.
+    pub(crate) fn left(&self, rt: &impl Wait) -> Result<Vec<Name>, AllocError> {
+        let mut left = Vec::new(self.alloc);
+        let wards = self.shared.wards.lock(rt);
+        for ward in &*wards {
+            left.push(ward.held.name)?;
+        }
+        Ok(left)
+    }
+
     /// Whether nothing is left of any child.
     pub(crate) fn is_empty(&self, rt: &impl Wait) -> bool {
         self.shared.wards.lock(rt).is_empty()
@@ -188,8 +198,7 @@ impl Reaper {
 
     /// Looks after each child at a moment, in milliseconds: ends those whose time is over, and forgets those of which nothing is left. Where
     /// memory is refused, a child stays as it is until the next time.
-    pub(crate) fn sweep<R: Programs + Wait>(&self, rt: &R, moment: u64) {
-        let terms = self.terms();
+    pub(crate) fn sweep<R: Programs + Wait>(&self, rt: &R, terms: Terms, moment: u64) {
         let mut found = Found::new(self.alloc);
         let mut wards = self.shared.wards.lock(rt);
         wards.retain_mut(|ward| {

@@ -22,11 +22,17 @@ impl<R: SystemClock + Drop> Wall<R> {
 impl<R: SystemClock + Copy + Drop> Wall<R> {
     /// Another clock that tells the same moments.
     pub fn again(&self) -> Wall<R> {
-        Wall {
-            rt: self.rt,
-            start: self.start,
-            last: self.last,
-        }
+        Wall::since(self.rt, self.start)
+    }
+
+    /// When it was at 0.
+    pub(crate) fn start(&self) -> Option<Instant> {
+        self.start
+    }
+
+    /// A clock that was at 0 at a time.
+    pub(crate) fn since(rt: R, start: Option<Instant>) -> Wall<R> {
+        Wall { rt, start, last: 0 }
     }
 }
 

@@ -1,11 +1,10 @@
 -- What was served is a run over its record.
-use Rattle.std.proofs.Common.{◌≡◌, ◌≢◌, ◌⊎◌, inl, inr, ℕ, suc, ◌+◌, List, [], ◌∷◌, length, Option, Some, refl, subst, arith}
+use Rattle.std.proofs.Common.{◌≡◌, ◌⊎◌, inl, inr, ℕ, suc, ◌+◌, List, [], ◌∷◌, length, Bool, true, false, Option, Some, refl, sym, subst, ◌∙◌, arith}
 use Rattle.std.specs.Prelude.{slice_get}
 use Rattle.std.proofs.lemmas.Option.{slice_get_within}
 use Rattle.child_events.specs.declared.event.Answer.{Answer}
 use Rattle.child_events.specs.declared.event.HallEvent.{HallEvent}
 use Rattle.child_events.specs.World.{own}
-use Rattle.tcl_host.specs.declared.ending.Ending.TheVariants.{Waiting}
 use Rattle.expect_core.specs.declared.request.Request.{Request}
 use Rattle.session.specs.declared.report.Report.{Report}
 use Rattle.session.specs.Meaning.{meaning}
@@ -13,6 +12,7 @@ use Rattle.session.specs.Spent.{memory_report}
 use Rattle.dialogue_sched.specs.declared.script.Script.{Script}
 use Rattle.dialogue_sched.specs.Run.{AllMean}
 use Rattle.dialogue_sched.proofs.Running.{isolated}
+use Rattle.child_serve.specs.Served.{Tells}
 use Rattle.child_serve.specs.Again.{ServingIsRun, ServingsIsolated}
 use Rattle.child_serve.proofs.Wholes.{there}
 
@@ -30,21 +30,22 @@ all_mean n es (s ∷ ss) (r ∷ rs) size each = (
   all_mean (n + 1) es ss rs (omega (arith, size)) (λ i t q got made. subst (λ (k : ℕ). MeansOwn k es t q) (let e : n + suc i ≡ n + 1 + i = omega arith in e) (each (suc i) t q got made)),
 )
 
-ended_means : (s : Script) (r : Report) (n : ℕ) (es : List HallEvent) → ((r ≡ meaning s.source s.settings (own n es)) × (r.ending ≢ Waiting)) ⊎ (r ≡ memory_report) → MeansOwn n es s r
-ended_means s r n es (inl ended) = inl ended.0
-ended_means s r n es (inr spent) = inr spent
+ended_means : (s : Script) (r : Report) (stopped : Bool) (n : ℕ) (es : List HallEvent) → stopped ≡ false → Tells s r stopped (own n es) → MeansOwn n es s r
+ended_means s r stopped n es running (inl ended) = inl ended.0
+ended_means s r stopped n es running (inr (inl spent)) = inr spent
+ended_means s r stopped n es running (inr (inr given)) = absurd (let h : ◌≡◌ {A = Bool} true false = sym given.0 ∙ running in cc)
 
 pub serving_is_run : (told : ℕ → ℕ → Request → Answer → Type 0) (gives : ℕ → ℕ → Option (List ℕ) → Type 0) → ServingIsRun told gives
-serving_is_run told gives workers keepers scripts s size serving = (serving.0, serving.1.taken, all_mean 1 s.logged scripts s.reports serving.1.served.count each)
+serving_is_run told gives workers keepers scripts s size serving running = (serving.0, serving.1.taken, all_mean 1 s.logged scripts s.reports serving.1.served.count each)
   where
     each : (i : ℕ) (script : Script) (r : Report) → slice_get scripts i ≡ Some script → slice_get s.reports i ≡ Some r → MeansOwn (1 + i) s.logged script r
     each i script r got made =
         let lt = slice_get_within scripts i script got in
         let keeper = there keepers i (omega (arith, lt, size)) in
         subst (λ (k : ℕ). MeansOwn k s.logged script r) (let e : i + 1 ≡ 1 + i = omega arith in e)
-        (ended_means script r (i + 1) s.logged (serving.1.served.each i keeper.0 script r keeper.1 got made).ended)
+        (ended_means script r s.stopped (i + 1) s.logged running (serving.1.served.each i keeper.0 script r keeper.1 got made).ended)
 
 pub servings_isolated : (told told' : ℕ → ℕ → Request → Answer → Type 0) (gives gives' : ℕ → ℕ → Option (List ℕ) → Type 0) → ServingsIsolated told told' gives gives'
-servings_isolated told told' gives gives' workers workers' i j keepers keepers' scripts scripts' s s' script r r' size size' serving serving' got got' same made made' =
+servings_isolated told told' gives gives' workers workers' i j keepers keepers' scripts scripts' s s' script r r' size size' serving running serving' running' got got' same made made' =
     isolated i j scripts scripts' s.logged s'.logged s.reports s'.reports script r r'
-    (serving_is_run told gives workers keepers scripts s size serving) (serving_is_run told' gives' workers' keepers' scripts' s' size' serving') got got' same made made'
+    (serving_is_run told gives workers keepers scripts s size serving running) (serving_is_run told' gives' workers' keepers' scripts' s' size' serving' running') got got' same made made'

@@ -1,6 +1,7 @@
 pub mod Deals
 pub mod Formed
 pub mod Ticking
+pub mod Listing
 pub mod Merging
 pub mod Sorting
 pub mod Turning

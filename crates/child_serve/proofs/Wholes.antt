@@ -1,6 +1,6 @@
 -- From what each worker has served to what all have.
 use Rattle.std.proofs.Common.{◌≡◌, ◌≢◌, ◌⊎◌, inl, inr, ℕ, zero, suc, ◌+◌, ◌-◌, ◌*◌, ◌/◌, ◌%◌, ◌<◌, List, [], ◌∷◌, ◌++◌, map, length, Option, Some, None, refl, sym, ap, subst, ◌∙◌, arith}
-use Rattle.std.specs.Prelude.{slice_get, Contains, ◌==◌, ◌&&◌, if◌then◌else◌}
+use Rattle.std.specs.Prelude.{slice_get, Bool, true, false, ◌||◌, IsTrue, Contains, ◌==◌, ◌&&◌, if◌then◌else◌}
 use Rattle.std.specs.List.{flat_map}
 use Rattle.std.proofs.Math.Nat.{mod-lt}
 use Rattle.std.proofs.lemmas.Nat.{div-add-mod'}
@@ -30,7 +30,7 @@ use Rattle.child_desk.specs.Heard.{said_in, said_by}
 use Rattle.child_desk.specs.Told.{Reply, answer_in, answers_in, reply_in, replies_in, AreTold, AreOf}
 use Rattle.child_desk.proofs.Telling.{of_more}
 use Rattle.child_desk.specs.Line.{Keeping}
-use Rattle.child_serve.specs.Served.{IsServed, AreServed, IsPart, AreParts, records_of}
+use Rattle.child_serve.specs.Served.{Tells, IsServed, AreServed, IsPart, AreParts, records_of, any_stopped}
 use Rattle.child_serve.proofs.Merging.{ascends_own}
 use Rattle.child_serve.proofs.Turning.{Enough, turn_length, turn_at}
 
@@ -50,6 +50,13 @@ same_said : (child : ℕ) (es more : List Event) → WithTicks es more → said_
 same_said child xs ys none = refl
 same_said child xs ys (kept e es more p) = ap (λ (l : List What). said_in child e ++ l) (same_said child es more p)
 same_said child xs ys (tick m es more p) = same_said child es more p
+
+-- ticks put into events that had ticks put in
+more_ticks : (es es' more : List Event) → WithTicks es es' → WithTicks es' more → WithTicks es more
+more_ticks xs ys zs p (tick m es more q) = tick m xs more (more_ticks xs es more p q)
+more_ticks xs ys zs none none = none
+more_ticks xs ys zs (kept e es es' p) (kept e' es'' more q) = kept e es more (more_ticks es es' more p q)
+more_ticks xs ys zs (tick m es es' p) (kept e es'' more q) = tick m es more (more_ticks es es' more p q)
 
 module _ (told : ℕ → ℕ → Request → Answer → Type 0) (gives : ℕ → ℕ → Option (List ℕ) → Type 0) where
   -- more requests than those that were answered
@@ -72,17 +79,18 @@ module _ (told : ℕ → ℕ → Request → Answer → Type 0) (gives : ℕ →
 
   -- a script's part of its worker's record, and of the joined one
 
-  ended_on : (script : Script) (report : Report) (es more : List Event) → Rises more → WithTicks es more →
-      ((report ≡ meaning script.source script.settings es) × (report.ending ≢ Waiting)) ⊎ (report ≡ memory_report) →
-      ((report ≡ meaning script.source script.settings more) × (report.ending ≢ Waiting)) ⊎ (report ≡ memory_report)
-  ended_on script report es more up p (inr memory) = inr memory
-  ended_on script report es more up p (inl (is, ends)) =
+  ended_on : (script : Script) (report : Report) (old new : Bool) (es more : List Event) → Rises more → WithTicks es more → (IsTrue old → IsTrue new) →
+      Tells script report old es → Tells script report new more
+  ended_on script report old new es more up p still (inr (inl memory)) = inr (inl memory)
+  ended_on script report old new es more up p still (inr (inr (stopped, waiting, (seen, q, is)))) = inr (inr (still stopped, waiting, (seen, more_ticks seen es more q p, is)))
+  ended_on script report old new es more up p still (inl (is, ends)) =
       inl (is ∙ sym (ticks_change_nothing script.source script.settings es more up p (λ w. ends (ap (λ (r : Report). r.ending) is ∙ w))), ends)
 
-  pub served_on : (number : ℕ) (keeper : Keeping) (script : Script) (report : Report) (old new : List Unsettled) (es more : List Event) → Rises more → WithTicks es more →
-      ((u : Unsettled) → Contains old u → Contains new u) → IsServed told gives number keeper script report old es → IsServed told gives number keeper script report new more
-  served_on number keeper script report old new es more up p among s = record {
-    ended = ended_on script report es more up p s.ended;
+  pub served_on : (number : ℕ) (keeper : Keeping) (script : Script) (report : Report) (old new : List Unsettled) (stopped stopped' : Bool) (es more : List Event) → Rises more → WithTicks es more →
+      ((u : Unsettled) → Contains old u → Contains new u) → (IsTrue stopped → IsTrue stopped') →
+      IsServed told gives number keeper script report old stopped es → IsServed told gives number keeper script report new stopped' more
+  served_on number keeper script report old new stopped stopped' es more up p among still s = record {
+    ended = ended_on script report stopped stopped' es more up p still s.ended;
     answers = subst (λ (xs : List Answer). AreTold told keeper.name keeper.made xs asked) (sym (same_answers es more p))
         (subst (AreTold told keeper.name keeper.made (answers_in es)) (sym grown.asked) (told_more keeper.name keeper.made (answers_in es) before grown.more s.answers));
     children = subst (λ (xs : List Reply). AreOf xs asked) (sym (same_replies es more p)) (subst (AreOf (replies_in es)) (sym grown.asked) (of_more (replies_in es) before grown.more s.children));
@@ -138,11 +146,31 @@ among_all (q ∷ parts) zero p u got h =
     Contains-append_left q.unsettled.items _ u (subst (λ (s : Served). Contains s.unsettled.items u) is h)
 among_all (q ∷ parts) (suc w) p u got h = Contains-append_right q.unsettled.items _ u (among_all parts w p u got h)
 
+or_left : (b c : Bool) → IsTrue b → IsTrue (b || c)
+or_left true c h = refl
+or_left false c h = absurd (cc)
+
+or_right : (b c : Bool) → IsTrue c → IsTrue (b || c)
+or_right true c h = refl
+or_right false c h = h
+
+-- where one of them was given up, that is so of all
+one_stopped : (parts : List Served) (w : ℕ) (p : Served) → slice_get parts w ≡ Some p → IsTrue p.stopped → IsTrue (any_stopped parts)
+one_stopped [] w p got h = absurd (no_part p got)
+  where
+    no_part : (p : Served) → ◌≡◌ {A = Option Served} None (Some p) → ⊥
+    no_part p h = cc
+one_stopped (q ∷ parts) zero p got h =
+    let is : p ≡ q = cc in
+    or_left q.stopped (any_stopped parts) (subst (λ (s : Served). IsTrue s.stopped) is h)
+one_stopped (q ∷ parts) (suc w) p got h = or_right q.stopped (any_stopped parts) (one_stopped parts w p got h)
+
 module _ (told : ℕ → ℕ → Request → Answer → Type 0) (gives : ℕ → ℕ → Option (List ℕ) → Type 0)
     (keepers : List Keeping) (scripts : List Script) (parts : List Served) (s : Served) (some : 0 < length parts) (are : AreParts told gives keepers scripts parts)
     (up : Ascends s.logged) (sees : EachSees (records_of parts) s.logged)
     (reports : s.reports ≡ in_turn (length scripts) (map (λ (p : Served). p.reports) parts))
-    (unsettled : s.unsettled.items ≡ flat_map (λ (p : Served). p.unsettled.items) parts) where
+    (unsettled : s.unsettled.items ≡ flat_map (λ (p : Served). p.unsettled.items) parts)
+    (stopped : s.stopped ≡ any_stopped parts) where
   abbrev n : ℕ
   n = length parts
 
@@ -161,14 +189,15 @@ module _ (told : ℕ → ℕ → Request → Answer → Type 0) (gives : ℕ →
   as_many = sym (map_length (λ (p : Served). p.reports) parts)
 
   of_one : (i : ℕ) (keeper : Keeping) (script : Script) (report : Report) → slice_get keepers i ≡ Some keeper → slice_get scripts i ≡ Some script → slice_get s.reports i ≡ Some report →
-      IsServed told gives (i + 1) keeper script report s.unsettled.items (own (i + 1) s.logged)
+      IsServed told gives (i + 1) keeper script report s.unsettled.items s.stopped (own (i + 1) s.logged)
   of_one i keeper script report got_keeper got_script got_report =
-      subst (λ (k : ℕ). IsServed told gives k keeper script report s.unsettled.items (own k s.logged)) number
-      (served_on told gives (script_of n (i % n) ((i / n) + 1)) keeper script report p.0.unsettled.items s.unsettled.items (own ((i / n) + 1) p.0.logged) (own (script_of n (i % n) ((i / n) + 1)) s.logged)
+      subst (λ (k : ℕ). IsServed told gives k keeper script report s.unsettled.items s.stopped (own k s.logged)) number
+      (served_on told gives (script_of n (i % n) ((i / n) + 1)) keeper script report p.0.unsettled.items s.unsettled.items p.0.stopped s.stopped (own ((i / n) + 1) p.0.logged) (own (script_of n (i % n) ((i / n) + 1)) s.logged)
       (ascends_own (script_of n (i % n) ((i / n) + 1)) s.logged up)
       (subst (λ (m : ℕ). WithTicks (own ((i / n) + 1) p.0.logged) (own (script_of m (i % n) ((i / n) + 1)) s.logged)) (map_length (λ (x : Served). x.logged) parts)
       (sees (i % n) ((i / n) + 1) p.0.logged (mapped (λ (x : Served). x.logged) parts (i % n) p.0 p.1) (omega arith)))
       (λ u h. subst (λ (l : List Unsettled). Contains l u) (sym unsettled) (among_all parts (i % n) p.0 u p.1 h))
+      (λ h. stopped ∙ one_stopped parts (i % n) p.0 p.1 h)
       (mine.served.each (i / n) keeper script report
       (mine.kept (i / n) ∙ ap (slice_get keepers) place ∙ got_keeper)
       (mine.dealt (i / n) ∙ ap (slice_get scripts) place ∙ got_script)

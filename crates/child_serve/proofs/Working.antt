@@ -9,7 +9,8 @@ use Rattle.child_events.specs.declared.event.HallEvent.{HallEvent}
 use Rattle.child_events.specs.declared.event.HallEvent.TheVariants as hall
 use Rattle.child_events.specs.World.{own}
 use Rattle.child_events.specs.Log.{AllFit, fits, piece_len}
-use Rattle.tcl_host.specs.declared.ending.Ending.TheVariants.{Waiting}
+use Rattle.tcl_host.specs.declared.ending.Ending.{Ending}
+use Rattle.tcl_host.specs.declared.ending.Ending.TheVariants.{Exit, Error, StepLimit, TimeLimit, Memory, Waiting}
 use Rattle.expect_core.specs.declared.request.Request.{Request}
 use Rattle.session.specs.declared.report.Report.{Report}
 use Rattle.session.specs.Left.{Kept}
@@ -20,6 +21,7 @@ use Rattle.dialogue_sched.specs.declared.refusal.HallRefusal.{HallRefusal}
 use Rattle.dialogue_sched.specs.declared.refusal.HallRefusal.TheVariants.{MomentTooLarge}
 use Rattle.dialogue_sched.specs.Refusal.{refusal_of, piece_len as taken_len}
 use Rattle.dialogue_sched.specs.Hall.{Begins, AllBegin}
+use Rattle.dialogue_sched.specs.Ticks.{WithTicks, none as no_more, kept as kept_one}
 use Rattle.child_desk.specs.declared.book.Book.{Book}
 use Rattle.child_desk.specs.declared.line.Line.{Line}
 use Rattle.child_desk.specs.Book.{Ascends, AllTaken, IsRecord}
@@ -37,7 +39,7 @@ use Rattle.child_serve.specs.declared.served.Served.{Served}
 use Rattle.child_serve.specs.declared.worker.Team.{Team}
 use Rattle.child_serve.specs.Joined.{script_of, numbered}
 use Rattle.child_serve.specs.Given.{IsGiven}
-use Rattle.child_serve.specs.Served.{IsServed}
+use Rattle.child_serve.specs.Served.{Tells, IsServed}
 use Rattle.child_serve.specs.Whole.{keeping_of}
 use Rattle.child_serve.specs.Teams.{AreFirst, IsTeam, IsWork}
 use Rattle.child_serve.proofs.Giving.{among_told}
@@ -109,27 +111,49 @@ line_of named made k = record { name = named k; last = made k; awaited = None; s
 pub first_length : {K : Type 0} (named made : K → ℕ) (keepers : List K) (lines : List Line) → AreFirst named made keepers lines → length lines ≡ length keepers
 first_length named made keepers lines are = ap length are ∙ map_length (line_of named made) keepers
 
+-- an ending is `Waiting` or another
+waits : (e : Ending) → (e ≡ Waiting) ⊎ (e ≢ Waiting)
+waits (Exit n) = inr (λ h. cc)
+waits Error = inr (λ h. cc)
+waits StepLimit = inr (λ h. cc)
+waits TimeLimit = inr (λ h. cc)
+waits Memory = inr (λ h. cc)
+waits Waiting = inl refl
+
+-- no tick is put in
+all_kept : (es : List Event) → WithTicks es es
+all_kept [] = no_more
+all_kept (e ∷ es) = kept_one e es es (all_kept es)
+
 -- The lines and the hall at the start, what turning left of them, what was taken behind that, the reports, and what the record has of each child.
 module _ {K C O : Type 0} {g : Ghosts K O} {r : ReadGhosts O} (n w : ℕ) (team : Team K C) (first lines : List Line) (opened between ends : List (Ends K O g r)) (begun turned settled : Book) (s : Served)
     (is : IsTeam n w team)
     (are : AreFirst g.named g.made team.keepers.items first) (begin : AllBegin team.scripts.items begun.hall) (empty : begun.log.items ≡ []) (good : IsRecord begun)
     (unheard : (i : ℕ) (keeper : K) → slice_get team.keepers.items i ≡ Some keeper → (e : Ends K O g r) × (slice_get opened i ≡ Some e) × (taken_items e.answers ≡ []) × (asked_of_hand e ≡ []))
-    (kept : KeepsAll first opened begun lines between turned) (over : AllOver lines)
+    (kept : KeepsAll first opened begun lines between turned) (over : s.stopped ≡ false → AllOver lines)
     (left : KeepsAll lines between turned lines ends settled)
     (shown : AllShown settled s.reports) (logged : s.logged ≡ settled.log.items)
     (given : (i index : ℕ) (keeper : K) (e : Ends K O g r) (xs : List Answer) (qs : List Request) → slice_get team.keepers.items i ≡ Some keeper → slice_get ends i ≡ Some e → AreAmong (heard_of_hand e.answers) (g.named keeper) (g.made keeper) xs qs →
     index < 16 → (Contains s.unsettled.items (record { script = script_of n w (i + 1); child = index + 1 }) → ⊥) →
     IsGiven g.told g.gives (g.named keeper) (g.made keeper) (index + 1) xs qs (recorded (i + 1) (index + 1) settled.log.items)) where
-  ended_by : (script : Script) (line : Line) (es : List Event) (report : Report) → IsTrue line.over → Means script line es report →
-      ((report ≡ meaning script.source script.settings es) × (report.ending ≢ Waiting)) ⊎ (report ≡ memory_report)
-  ended_by script line es report o (inl (same, ends)) = inl (same, ends o)
-  ended_by script line es report o (inr memory) = inr memory
+  is_stopped : (b : Bool) → s.stopped ≡ b → (s.stopped ≡ false) ⊎ IsTrue s.stopped
+  is_stopped true e = inr e
+  is_stopped false e = inl e
+
+  ended_by : (i : ℕ) (script : Script) (line : Line) (es : List Event) (report : Report) → slice_get lines i ≡ Some line → Means script line es report → Tells script report s.stopped es
+  ended_by i script line es report got (inr memory) = inr (inl memory)
+  ended_by i script line es report got (inl (same, ends)) = by_end (waits report.ending) (is_stopped s.stopped refl)
+    where
+      by_end : (report.ending ≡ Waiting) ⊎ (report.ending ≢ Waiting) → (s.stopped ≡ false) ⊎ IsTrue s.stopped → Tells script report s.stopped es
+      by_end (inr ended) stop = inl (same, ended)
+      by_end (inl waiting) (inr stopped) = inr (inr (stopped, waiting, (es, all_kept es, same)))
+      by_end (inl waiting) (inl running) = absurd (ends (over running i line got) waiting)
 
   of_one : (i : ℕ) (keeper : Keeping) (script : Script) (report : Report) → slice_get (map (keeping_of g.named g.made) team.keepers.items) i ≡ Some keeper → slice_get team.scripts.items i ≡ Some script → slice_get s.reports i ≡ Some report →
-      IsServed g.told g.gives (script_of n w (i + 1)) keeper script report s.unsettled.items (own (i + 1) s.logged)
+      IsServed g.told g.gives (script_of n w (i + 1)) keeper script report s.unsettled.items s.stopped (own (i + 1) s.logged)
   of_one i keeper script report got_keeper got_script got_report =
-      subst (λ (es : List HallEvent). IsServed g.told g.gives (script_of n w (i + 1)) keeper script report s.unsettled.items (own (i + 1) es)) (sym logged) (record {
-        ended = ended_by script line.0 (own (i + 1) settled.log.items) report (over i line.0 line.2) (shown.each i report got_report (rings_of last.0) keeper script line.0 last.2);
+      subst (λ (es : List HallEvent). IsServed g.told g.gives (script_of n w (i + 1)) keeper script report s.unsettled.items s.stopped (own (i + 1) es)) (sym logged) (record {
+        ended = ended_by i script line.0 (own (i + 1) settled.log.items) report line.2 (shown.each i report got_report (rings_of last.0) keeper script line.0 last.2);
         answers = among_told (taken_items last.0.answers) keeper.name keeper.made (answers_in (own (i + 1) settled.log.items)) asked last.2.2.answers;
         children = last.2.2.children;
         given = given_one;

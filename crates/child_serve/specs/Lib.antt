@@ -3,6 +3,7 @@ pub mod Joined
 pub mod Turns
 pub mod Given
 pub mod Opened
+pub mod Over
 pub mod Served
 pub mod Whole
 pub mod Teams

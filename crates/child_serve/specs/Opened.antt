@@ -142,3 +142,11 @@ module _ {K O : Type 0} {g : Ghosts K O} {r : ReadGhosts O} where
 -- what was listed stays
 abbrev pub KeepsListed : List Unsettled → List Unsettled → Type 0
 KeepsListed old new = (u : Unsettled) → Contains old u → Contains new u
+
+-- each of the 16 children of a script is listed
+abbrev pub AreListed : ℕ → List Unsettled → Type 0
+AreListed script unsettled = (index : ℕ) → index < 16 → Contains unsettled (record { script = script; child = index + 1 })
+
+-- of each of so many scripts of a worker
+abbrev pub AllListed : ℕ → ℕ → ℕ → List Unsettled → Type 0
+AllListed n w count unsettled = (at : ℕ) → at < count → AreListed (script_of n w (at + 1)) unsettled

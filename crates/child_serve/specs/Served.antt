@@ -1,5 +1,5 @@
 -- What it is to have served scripts.
-use Rattle.std.specs.Prelude.{◌≡◌, ◌≢◌, ◌⊎◌, ◌≤◌, ℕ, ◌+◌, List, map, length, slice_get, Option, Some, None, Contains}
+use Rattle.std.specs.Prelude.{◌≡◌, ◌≢◌, ◌⊎◌, ◌≤◌, ℕ, ◌+◌, List, [], ◌∷◌, map, length, slice_get, Bool, false, ◌||◌, IsTrue, Option, Some, None, Contains}
 use Rattle.std.specs.List.{flat_map}
 use Rattle.child_events.specs.declared.event.Answer.{Answer}
 use Rattle.child_events.specs.declared.event.Event.{Event}
@@ -13,6 +13,7 @@ use Rattle.session.specs.Meaning.{meaning}
 use Rattle.session.specs.Spent.{memory_report}
 use Rattle.dialogue_sched.specs.declared.script.Script.{Script}
 use Rattle.dialogue_sched.specs.Refusal.{first_refusal}
+use Rattle.dialogue_sched.specs.Ticks.{WithTicks}
 use Rattle.child_serve.specs.declared.served.Served.{Served}
 use Rattle.child_serve.specs.declared.served.Unsettled.{Unsettled}
 use Rattle.child_serve.specs.declared.served.Apart.{Apart}
@@ -23,10 +24,21 @@ use Rattle.child_serve.specs.Joined.{script_of, IsJoined}
 use Rattle.child_desk.specs.Heard.{said_by}
 use Rattle.child_desk.specs.Told.{answers_in, replies_in, AreTold, AreOf}
 
+-- A script that was given up while it waited: its report is its meaning over these events, of which ticks may be missing.
+abbrev pub IsCutOff : Script → Report → List Event → Type 0
+IsCutOff script report es = (seen : List Event) × WithTicks seen es × (report ≡ meaning script.source script.settings seen)
+
+-- what a script's report is: its meaning, which has an ending, or that of a script that was refused memory, or of one that was given up
+abbrev pub Tells : Script → Report → Bool → List Event → Type 0
+Tells script report stopped es =
+    ((report ≡ meaning script.source script.settings es) × (report.ending ≢ Waiting))
+    ⊎ ((report ≡ memory_report) ⊎ (IsTrue stopped × (report.ending ≡ Waiting) × IsCutOff script report es))
+
 module _ (told : ℕ → ℕ → Request → Answer → Type 0) (gives : ℕ → ℕ → Option (List ℕ) → Type 0) where
-  -- of one script: its number, its keeper, its report, the children that aren't settled, and its own part of the record
-  pub record IsServed (number : ℕ) (keeper : Keeping) (script : Script) (report : Report) (unsettled : List Unsettled) (es : List Event) : Type 0 where
-    pub ended : ((report ≡ meaning script.source script.settings es) × (report.ending ≢ Waiting)) ⊎ (report ≡ memory_report)
+  -- of one script: its number, its keeper, its report, the children that aren't settled, whether scripts were given up, and its own part of the
+  -- record
+  pub record IsServed (number : ℕ) (keeper : Keeping) (script : Script) (report : Report) (unsettled : List Unsettled) (stopped : Bool) (es : List Event) : Type 0 where
+    pub ended : Tells script report stopped es
     pub answers : AreTold told keeper.name keeper.made (answers_in es) (meaning script.source script.settings es).requests
     pub children : AreOf (replies_in es) (meaning script.source script.settings es).requests
     pub given : (child : ℕ) → 1 ≤ child → child ≤ 16 → (Contains unsettled (record { script = number; child = child }) → ⊥) → IsGiven told gives keeper.name keeper.made child (answers_in es) (meaning script.source script.settings es).requests (said_by child es)
@@ -35,7 +47,7 @@ module _ (told : ℕ → ℕ → Request → Answer → Type 0) (gives : ℕ →
   pub record AreServed (number : ℕ → ℕ) (keepers : List Keeping) (scripts : List Script) (s : Served) : Type 0 where
     pub count : length s.reports ≡ length scripts
     pub each : (i : ℕ) (keeper : Keeping) (script : Script) (report : Report) → slice_get keepers i ≡ Some keeper → slice_get scripts i ≡ Some script → slice_get s.reports i ≡ Some report →
-        IsServed (number i) keeper script report s.unsettled.items (own (i + 1) s.logged)
+        IsServed (number i) keeper script report s.unsettled.items s.stopped (own (i + 1) s.logged)
 
   -- one worker has served those that are its own, and its record has entries of those alone
   pub record IsPart (n w : ℕ) (keepers : List Keeping) (scripts : List Script) (s : Served) : Type 0 where
@@ -52,11 +64,17 @@ module _ (told : ℕ → ℕ → Request → Answer → Type 0) (gives : ℕ →
 abbrev pub records_of : List Served → List (List HallEvent)
 records_of parts = map (λ s. s.logged) parts
 
+-- whether one of them was given up
+abbrev pub any_stopped : List Served → Bool
+any_stopped [] = false
+any_stopped (s ∷ ss) = s.stopped || any_stopped ss
+
 -- what each worker has, by kind
 pub record IsApart (parts : List Served) (a : Apart) : Type 0 where
   pub records : a.records.items ≡ records_of parts
   pub reports : a.reports.items ≡ map (λ s. s.reports) parts
   pub unsettled : a.unsettled.items ≡ flat_map (λ s. s.unsettled.items) parts
+  pub stopped : a.stopped ≡ any_stopped parts
 
 module _ (told : ℕ → ℕ → Request → Answer → Type 0) (gives : ℕ → ℕ → Option (List ℕ) → Type 0) where
   -- All scripts were served by so many workers: each as its keeper told and gave, and the record is that of all workers, with every entry within

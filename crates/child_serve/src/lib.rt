@@ -1,6 +1,7 @@
 //! Scripts over real children, by several workers.
 #![tactic(auto)]
 
+mod audience;
 mod dealing;
 mod hands;
 mod joining;
@@ -8,9 +9,12 @@ mod laws;
 mod rounds;
 mod served;
 mod serving;
+mod stopping;
 mod worker;
 
+pub use audience::Audience;
 pub use joining::joined;
 pub use laws::{serving_is_run, serving_isolation};
 pub use served::{Served, Unsettled, assembled};
 pub use serving::{ServeFault, serve};
+pub use stopping::Stopping;

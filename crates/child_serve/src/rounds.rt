@@ -1,11 +1,14 @@
 //! Turning a desk until nothing more can come.
 
-ghost use Rattle.std.specs.Prelude.{◌≡◌, ◌≤◌, ◌+◌, length, OnOk, IfSome};
+ghost use Rattle.std.specs.Prelude.{◌≡◌, ◌≤◌, ◌+◌, length, false, IfOk, IfSome};
 ghost use Rattle.child_desk.specs.Line.{KeepsAll, HearsNoHand, AllOver};
 ghost use Rattle.child_desk.specs.Heard.{HearsAll};
+ghost use Rattle.child_serve.specs.Over.{is_end as is_end_of};
 
+use crate::audience::Audience;
+use crate::stopping::Stopping;
 use child_desk::Desk;
-use child_keeper::{Audience, Clock, Keeper};
+use child_keeper::{Clock, Keeper};
 use crossbeam_utils::Backoff;
 use dialogue_sched::Hall;
 use feed_rings::Bell;
@@ -33,18 +36,35 @@ fn tell_shown<A: Audience>(audience: &mut A, place: usize, shown: &[u8], told: &
     }
 }
 
-/// Tells an audience that the script at a place is over, if it is and that wasn't told.
-fn tell_end<A: Audience>(audience: &mut A, place: usize, ending: Option<Ending>, told: &mut Told) {
-    if told.is_over {
-        return;
+/// Whether it is how a script ended.
+fn is_end(ending: Option<Ending>) -> bool
+    ensures { result ≡ is_end_of ending }
+{
+    match ending {
+        None => false,
+        Some(Ending::Exit(_)) => true,
+        Some(Ending::Error) => true,
+        Some(Ending::StepLimit) => true,
+        Some(Ending::TimeLimit) => true,
+        Some(Ending::Memory) => true,
+        Some(Ending::Waiting) => false,
     }
-    let well = match ending {
-        None | Some(Ending::Waiting) => return,
-        Some(Ending::Exit(status)) => status == 0,
-        Some(_) => false,
-    };
-    audience.part(place, well);
-    told.is_over = true;
+}
+
+/// Tells an audience that the script at a place of a hall, which has this number, has ended, if it has and that wasn't told.
+fn tell_end<A: Audience>(
+    audience: &mut A,
+    place: usize,
+    number: usize,
+    hall: &Hall,
+    told: &mut Told,
+)
+    requires { number ≡ place + 1 }
+{
+    if !told.is_over && is_end(hall.ending(number)) {
+        audience.part(place, hall);
+        told.is_over = true;
+    }
 }
 
 /// Tells an audience what the scripts of a hall have shown since it was told last, and which are over, by what it was told of each.
@@ -52,7 +72,7 @@ fn tell_all<A: Audience>(hall: &Hall, audience: &mut A, told: &mut [Told]) {
     for place in 0..told.len() {
         let told = &mut told[place];
         tell_shown(audience, place, hall.transcript(place + 1), told);
-        tell_end(audience, place, hall.ending(place + 1), told);
+        tell_end(audience, place, place + 1, hall, told);
     }
 }
 
@@ -68,20 +88,37 @@ fn nothing_told(alloc: Global, hall: &Hall) -> Result<Vec<Told>, AllocError> {
     Ok(told)
 }
 
-/// Turns a desk until nothing more can come for any script, and tells what they show as it comes.
+/// Turns a desk for the last time, as it is given up.
+fn last_turn<K: Keeper, C: Clock + Audience + Stopping>(
+    desk: &mut Desk<K>,
+    clock: &mut C,
+    told: &mut [Told],
+) -> Result<(), AllocError>
+    requires { (length desk.old.lines.items ≤ length desk.old.book.hall) × (length desk.old.book.hall ≤ 64) }
+    ensures kept { KeepsAll desk.old.lines.items desk.old.ends.items desk.old.book desk.new.lines.items desk.new.ends.items desk.new.book }
+    ensures heard { HearsAll desk.old.ends.items desk.old.book.log.items desk.new.ends.items desk.new.book.log.items }
+{
+    desk.turn(clock.now())?;
+    tell_all(&desk.book.hall, clock, told);
+    clock.leave(&desk.book.hall);
+    Ok(())
+}
+
+/// Turns a desk until nothing more can come for any script, or the scripts are given up, and tells what they show as it comes. Returns whether
+/// they were given up.
 ///
 /// A turn gets the reading that was taken before the last one: what came in time is heard before the tick that would make it late, however
 /// long a script computed meanwhile. There is a turn only where something came or a script may time out.
-pub fn turn_all<K: Keeper, C: Clock + Audience, W: Wait + std::time::Clock>(
+pub fn turn_all<K: Keeper, C: Clock + Audience + Stopping, W: Wait + std::time::Clock>(
     rt: &W,
     alloc: Global,
     bell: &Bell,
     desk: &mut Desk<K>,
     clock: &mut C,
-) -> Result<(), AllocError>
+) -> Result<bool, AllocError>
     requires { (length desk.old.lines.items ≤ length desk.old.book.hall) × (length desk.old.book.hall ≤ 64) }
     ensures kept { KeepsAll desk.old.lines.items desk.old.ends.items desk.old.book desk.new.lines.items desk.new.ends.items desk.new.book }
-    ensures over { OnOk result (AllOver desk.new.lines.items) }
+    ensures over { IfOk result (λ stopped. stopped ≡ false → AllOver desk.new.lines.items) }
     ensures heard { HearsAll desk.old.ends.items desk.old.book.log.items desk.new.ends.items desk.new.book.log.items }
 {
     let mut told = nothing_told(alloc, &desk.book.hall)?;
@@ -90,8 +127,12 @@ pub fn turn_all<K: Keeper, C: Clock + Audience, W: Wait + std::time::Clock>(
     tell_all(&desk.book.hall, clock, &mut told);
     for _ in rt.forever() {
         if desk.is_done() {
-            clock.leave();
-            return Ok(());
+            clock.leave(&desk.book.hall);
+            return Ok(false);
+        }
+        if clock.is_stopped() {
+            last_turn(desk, clock, &mut told)?;
+            return Ok(true);
         }
         let reading = clock.now();
         if desk.has_come() || desk.is_due(held) {

@@ -33,6 +33,8 @@ pub struct Served {
     pub unsettled: Vec<Unsettled>,
     /// How many requests were let through although the gate refused them.
     pub forced: u64,
+    /// Whether scripts were given up before they had ended.
+    pub stopped: bool,
 }
 
 /// Takes what is next of the reports whose turn it is. These go behind the others.
@@ -82,6 +84,7 @@ struct Apart {
     reports: Vec<Reports>,
     unsettled: Vec<Unsettled>,
     forced: u64,
+    stopped: bool,
 }
 
 fn taken_apart(alloc: Global, parts: Vec<Served>) -> Result<Apart, AllocError>
@@ -91,17 +94,20 @@ fn taken_apart(alloc: Global, parts: Vec<Served>) -> Result<Apart, AllocError>
     let mut reports = Vec::new(alloc);
     let mut unsettled = Vec::new(alloc);
     let mut forced: u64 = 0;
+    let mut stopped = false;
     for part in parts {
         records.push(part.logged)?;
         reports.push(part.reports)?;
         unsettled.extend_from_slice(part.unsettled.as_slice())?;
         forced = forced.saturating_add(part.forced);
+        stopped = stopped || part.stopped;
     }
     Ok(Apart {
         records,
         reports,
         unsettled,
         forced,
+        stopped,
     })
 }
 
@@ -125,5 +131,6 @@ pub fn assembled<K: Keeper>(
         logged,
         unsettled: apart.unsettled,
         forced: apart.forced,
+        stopped: apart.stopped,
     })
 }

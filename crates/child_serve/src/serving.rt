@@ -5,10 +5,12 @@ ghost use mathlib.Core.List.{Mem};
 ghost use Rattle.child_serve.specs.Teams.{IsWork, IsTeam, AllStarted, AllWork, AllTeams};
 ghost use Rattle.child_serve.specs.Whole.{keeping_of, IsServing, Joins};
 
+use crate::audience::Audience;
 use crate::dealing::dealt;
 use crate::served::{Served, assembled};
+use crate::stopping::Stopping;
 use crate::worker::{Place, Team, WorkFault, work};
-use child_keeper::{Audience, Clock, Gate, Keeper};
+use child_keeper::{Clock, Gate, Keeper};
 use dialogue_sched::{HallFault, Script, opening_fault};
 use std::alloc::{AllocError, AllocFailed, Global};
 use std::snapshot::Snapshot;
@@ -81,7 +83,7 @@ type Working<K, C> = PromisedHandle<Result<Served, WorkFault>, Works<K, C>>;
 /// Starts a worker.
 fn start_worker<
     K: Keeper + Send + Drop + 'static,
-    C: Clock + Audience + Send + Drop + 'static,
+    C: Clock + Audience + Stopping + Send + Drop + 'static,
     G: Gate + Sync + Send + Drop + 'static,
     W: Threads + Wait + std::time::Clock + Copy + Send + Drop + 'static,
 >(rt: W, alloc: Global, place: Place, team: Team<K, C>, gate: Arc<G>) -> Option<Working<K, C>>
@@ -107,7 +109,7 @@ fn start_worker<
 /// Starts a worker for each team. Where one can't be started, those before it run.
 fn start_all<
     K: Keeper + Send + Drop + 'static,
-    C: Clock + Audience + Send + Drop + 'static,
+    C: Clock + Audience + Stopping + Send + Drop + 'static,
     G: Gate + Sync + Send + Drop + 'static,
     W: Threads + Wait + std::time::Clock + Copy + Send + Drop + 'static,
 >(
@@ -188,7 +190,7 @@ fn join_all<K: Keeper + Drop, C: Drop, W: Threads>(
 /// Serves scripts, each with its keeper, by as many workers as there are clocks, each with its own.
 pub fn serve<
     K: Keeper + Send + Drop + 'static,
-    C: Clock + Audience + Send + Drop + 'static,
+    C: Clock + Audience + Stopping + Send + Drop + 'static,
     G: Gate + Sync + Send + Drop + 'static,
     W: Threads + Wait + std::time::Clock + Copy + Send + Drop + 'static,
 >(

@@ -1,19 +1,21 @@
 //! A worker: scripts at one desk, to their end.
 
-ghost use Rattle.std.specs.Prelude.{◌≡◌, ◌<◌, ◌≤◌, ◌+◌, [], length, IsTrue, Contains, IfOk, IfSome, OnOk, None};
+ghost use Rattle.std.specs.Prelude.{◌≡◌, ◌<◌, ◌≤◌, ◌+◌, [], length, IsTrue, Contains, IfOk, IfSome, OnOk, None, true};
 ghost use Rattle.dialogue_sched.specs.Hall.{AllBegin, opening_fault};
-ghost use Rattle.child_desk.specs.Line.{Leaves, HearsNoHand, IsEndOf};
+ghost use Rattle.child_desk.specs.Line.{Leaves, HearsNoHand, IsEndOf, AllShown};
 ghost use Rattle.child_desk.specs.Heard.{HearsAll, Settles};
 ghost use Rattle.child_serve.specs.Joined.{script_of};
-ghost use Rattle.child_serve.specs.Opened.{AreNumbers, AreOpened, AreLinked, IsLeftIn, AreLeftIn, IsFinishOf, IsTakenIn, AreTakenIn, IsClosedIn, AreClosedIn, SameElsewhere, AreSettled, KeepsListed};
+ghost use Rattle.child_serve.specs.Opened.{AreNumbers, AreOpened, AreLinked, IsLeftIn, AreLeftIn, IsFinishOf, IsTakenIn, AreTakenIn, IsClosedIn, AreClosedIn, SameElsewhere, AreSettled, KeepsListed, AreListed, AllListed};
 ghost use Rattle.child_serve.specs.Teams.{IsTeam, IsWork, AreFirst};
 
+use crate::audience::Audience;
 use crate::hands::{Hand, start};
 use crate::rounds::turn_all;
 use crate::served::{Served, Unsettled};
+use crate::stopping::Stopping;
 use child_desk::{Book, Desk, Ends, Line, Outcome};
 use child_hands::{Fresh, HandEnd, Work};
-use child_keeper::{Audience, Clock, Gate, Item, Keeper};
+use child_keeper::{Clock, Gate, Item, Keeper};
 use dialogue_sched::{Hall, HallFault, Script};
 use feed_rings::{Bell, Finished};
 use std::alloc::{AllocError, AllocFailed, Global};
@@ -148,6 +150,71 @@ fn let_go<K: Keeper, W: Threads>(rt: &W, desk: Desk<K>, hands: Vec<Hand<K>>) {
     for hand in hands {
         drop(hand.join(rt));
     }
+}
+
+/// Lists each child of hands, which are waited for.
+fn list_all<K: Keeper, W: Threads>(
+    rt: &W,
+    alloc: Global,
+    place: Place,
+    hands: Vec<Hand<K>>,
+) -> Result<Settled, AllocError>
+    requires few { length hands.items ≤ 64 }
+    requires numbers { AreNumbers place.workers place.worker (length hands.items) }
+    ensures { IfOk result (λ s. AllListed place.workers place.worker (length hands.items) s.unsettled.items) }
+{
+    let mut settled = Settled {
+        unsettled: Vec::new(alloc),
+        forced: 0,
+    };
+    let mut at = 0;
+    for hand in hands {
+        let end = hand.join(rt);
+        settled.forced = settled.forced.saturating_add(end.forced);
+        list_children(number_of(place, at), &mut settled)?;
+        at += 1;
+    }
+    Ok(settled)
+}
+
+/// Lists the 16 children of a script.
+fn list_children(script: u8, settled: &mut Settled) -> Result<(), AllocError>
+    ensures kept { KeepsListed settled.old.unsettled.items settled.new.unsettled.items }
+    ensures listed { OnOk result (AreListed script settled.new.unsettled.items) }
+{
+    for index in 0..16 {
+        list_child(script, index, settled)?;
+    }
+    Ok(())
+}
+
+/// Gives scripts up: each hand is stopped and waited for. What comes of children then is taken by none, so that nothing holds a hand.
+fn give_up<K: Keeper, W: Threads>(
+    rt: &W,
+    alloc: Global,
+    place: Place,
+    desk: Desk<K>,
+    hands: Vec<Hand<K>>,
+) -> Result<Served, AllocError>
+    requires few { length hands.items ≤ 64 }
+    requires numbers { AreNumbers place.workers place.worker (length hands.items) }
+    ensures shown { IfOk result (λ s. AllShown desk.book s.reports) }
+    ensures record { IfOk result (λ s. s.logged ≡ desk.book.log.items) }
+    ensures listed { IfOk result (λ s. AllListed place.workers place.worker (length hands.items) s.unsettled.items) }
+    ensures stopped { IfOk result (λ s. s.stopped ≡ true) }
+{
+    let mut desk = desk;
+    desk.stop_all();
+    desk.ends = Vec::new(alloc);
+    let settled = list_all(rt, alloc, place, hands)?;
+    let Outcome { reports, record } = desk.into_outcome();
+    Ok(Served {
+        reports,
+        logged: record,
+        unsettled: settled.unsettled,
+        forced: settled.forced,
+        stopped: true,
+    })
 }
 
 /// What is known of the children when all hands have ended.
@@ -288,7 +355,7 @@ fn settle_all<K: Keeper, W: Threads>(
 /// Serves the scripts of a worker, to their end.
 pub fn work<
     K: Keeper + Send + Drop + 'static,
-    C: Clock + Audience + Drop,
+    C: Clock + Audience + Stopping + Drop,
     G: Gate + Sync + Send + Drop + 'static,
     W: Threads + Wait + std::time::Clock + Copy + Send + Drop + 'static,
 >(rt: W, alloc: Global, place: Place, team: Team<K, C>, gate: Arc<G>) -> Result<Served, WorkFault>
@@ -315,10 +382,13 @@ pub fn work<
         let_go(&rt, desk, hands);
         return Err(fault);
     }
-    let Ok(()) = turn_all(&rt, alloc, &bell, &mut desk, &mut clock) else {
+    let Ok(stopped) = turn_all(&rt, alloc, &bell, &mut desk, &mut clock) else {
         let_go(&rt, desk, hands);
         return Err(WorkFault::Memory);
     };
+    if stopped {
+        return Ok(give_up(&rt, alloc, place, desk, hands)?);
+    }
     let settled = settle_all(&rt, alloc, place, &mut desk, hands)?;
     let Outcome { reports, record } = desk.into_outcome();
     Ok(Served {
@@ -326,5 +396,6 @@ pub fn work<
         logged: record,
         unsettled: settled.unsettled,
         forced: settled.forced,
+        stopped: false,
     })
 }

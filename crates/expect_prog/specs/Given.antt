@@ -1,13 +1,14 @@
 -- The scripts that an order's settings and files make.
-use Rattle.std.specs.Prelude.{◌≡◌, ℕ, ◌*◌, List, [], map, length, Option, unwrap_or, option_map, codes, Bool, false, if◌then◌else◌}
+use Rattle.std.specs.Prelude.{◌≡◌, ℕ, ◌*◌, List, [], map, Option, unwrap_or, option_map, codes, Bool, false, if◌then◌else◌}
 use Rattle.std.specs.Str.{bytes_eq}
 use Rattle.std.specs.Borrow.{Bor}
 use Rattle.clap.specs.Matches.{found_of, matched_of, raw_values}
 use Rattle.clap.specs.declared.parser.matches.ArgMatches.{ArgMatches}
 use Rattle.report_texts.specs.declared.form.Format.{Format}
-use Rattle.report_texts.specs.declared.form.Format.TheVariants.{Text, Escaped, Summary, Json, Tap}
+use Rattle.report_texts.specs.declared.form.Format.TheVariants.{Text, Escaped, Summary, Json, JsonLines, Tap}
 use Rattle.expect_core.specs.declared.settings.Settings.{Settings}
 use Rattle.dialogue_sched.specs.declared.script.Script.{Script}
+use Rattle.dialogue_sched.specs.Pairs.{Paired}
 
 -- as many steps as are asked for, or a million
 abbrev pub steps_given : Option ℕ → ℕ
@@ -23,6 +24,7 @@ vars_told Text asked = asked
 vars_told Escaped asked = asked
 vars_told Summary asked = false
 vars_told Json asked = asked
+vars_told JsonLines asked = asked
 vars_told Tap asked = false
 
 -- what each script of an order is given: its steps, its last moment in milliseconds, an empty environment, and whether it tells its variables
@@ -36,10 +38,14 @@ script_given steps limit tells source = record { source = source; settings = set
 abbrev pub scripts_given : ℕ → Option ℕ → Bool → List (List ℕ) → List Script
 scripts_given steps limit tells sources = map (script_given steps limit tells) sources
 
--- the scripts of files: each has one, in their order
-pub record AreOfFiles (steps : ℕ) (limit : Option ℕ) (tells : Bool) (files : List (Bor (List ℕ))) (scripts : List Script) : Type 0 where
+-- these sources were read at these paths, one at each, in their order
+abbrev pub AreHeld : (List ℕ → List ℕ → Type 0) → List (Bor (List ℕ)) → List (List ℕ) → Type 0
+AreHeld holds files sources = Paired (λ file source. holds file.now source) files sources
+
+-- the scripts of files: each has one, whose source was read at its path, in their order
+pub record AreOfFiles (holds : List ℕ → List ℕ → Type 0) (steps : ℕ) (limit : Option ℕ) (tells : Bool) (files : List (Bor (List ℕ))) (scripts : List Script) : Type 0 where
   pub sources : List (List ℕ)
-  pub each : length sources ≡ length files
+  pub held : AreHeld holds files sources
   pub given : scripts ≡ scripts_given steps limit tells sources
 
 abbrev pub names_of : List (Bor (List ℕ)) → List (List ℕ)
@@ -50,7 +56,7 @@ abbrev pub files_told : ArgMatches → List (List ℕ)
 files_told matches = unwrap_or (option_map raw_values (matched_of (found_of matches) (codes "sources"))) []
 
 abbrev pub format_named : List ℕ → Format
-format_named name = if bytes_eq name (codes "json") then Json else if bytes_eq name (codes "tap") then Tap else Text
+format_named name = if bytes_eq name (codes "json") then Json else if bytes_eq name (codes "jsonl") then JsonLines else if bytes_eq name (codes "tap") then Tap else Text
 
 -- a summary, or what is for terminals, where it is asked for, and else the format of a name, or whole reports
 abbrev pub format_given : Bool → Bool → Option (List ℕ) → Format

@@ -155,13 +155,13 @@ fn requests<'a>(alloc: Global) -> Arg<'a> {
 }
 
 /// The names of formats, each by itself.
-const FORMATS: [&str; 3] = ["text", "json", "tap"];
+const FORMATS: [&str; 4] = ["text", "json", "jsonl", "tap"];
 
 fn format<'a>(alloc: Global) -> Arg<'a> {
     Arg::new(alloc, "format")
         .long("format")
         .value_name("F")
-        .help("Print reports as text, json or tap [default: text]")
+        .help("Print reports as text, json, jsonl or tap [default: text]")
         .value_parser(FORMATS.as_slice())
         .hide_possible_values(true)
 }
@@ -456,6 +456,7 @@ fn format_of(summary: bool, escape: bool, name: Option<&str>) -> Format
     }
     match name {
         Some("json") => Format::Json,
+        Some("jsonl") => Format::JsonLines,
         Some("tap") => Format::Tap,
         Some(_) => Format::Text,
         None => Format::Text,

@@ -1,11 +1,11 @@
 //! The files of an order.
 
-ghost use Rattle.std.specs.Prelude.{◌≡◌, ◌≤◌, length, IfOk, OnOk};
-ghost use Rattle.expect_prog.specs.Given.{script_given, scripts_given, vars_told, AreOfFiles};
+ghost use Rattle.std.specs.Prelude.{◌≡◌, ◌≤◌, ℕ, List, IfOk, OnOk};
+ghost use Rattle.expect_prog.specs.Given.{script_given, scripts_given, vars_told, AreHeld, AreOfFiles};
 
 use crate::command_line::{Check, Explain, Plan, Replay, Scripts, Show};
 use crate::complaint::Complaint;
-use crate::folder::Folder;
+use crate::folder::{Folder, Pages};
 use crate::outcome::Outcome;
 use child_events::Counted;
 use course_texts::{explain, show_log};
@@ -52,17 +52,43 @@ fn source<'a, R: Files>(rt: &R, alloc: Global, path: &'a str) -> Result<Text, Co
     read_whole(alloc, file.take(SOURCE_LIMIT as u64 + 1), path)
 }
 
-/// The bytes of files of sources, read in order; the first that can't be read is complained of.
-fn read_sources<'a, R: Files>(
-    rt: &R,
+/// Where sources are read from.
+///
+/// What `holds` means is its own. Code that is generic over it knows it from a call alone, so the source of a path is one that was read at this path.
+pub trait Sources {
+    /// These bytes were read at a path.
+    ghost holds: { List ℕ → List ℕ → Type 0 };
+
+    /// The bytes of the source at a path; of a longer one than is allowed, a byte more than that.
+    fn source<'a>(&self, alloc: Global, path: &'a str) -> Result<Text, Complaint<'a>>
+        ensures { IfOk result (λ text. holds path.now text) };
+}
+
+/// The sources that are files of the system.
+#[derive(Drop)]
+pub struct Disk<'r, R> {
+    pub rt: &'r R,
+}
+
+impl<'r, R: Files> Sources for Disk<'r, R> {
+    ghost holds = { λ _ _. Unit {0} };
+
+    fn source<'a>(&self, alloc: Global, path: &'a str) -> Result<Text, Complaint<'a>> {
+        source(self.rt, alloc, path)
+    }
+}
+
+/// The sources at paths, read in order; the first that can't be read is complained of.
+fn read_sources<'a, S: Sources>(
+    from: &S,
     alloc: Global,
     paths: &[&'a str],
 ) -> Result<Texts, Complaint<'a>>
-    ensures { IfOk result (λ texts. length texts ≡ length paths.now) }
+    ensures { IfOk result (λ texts. AreHeld S.holds paths.now texts) }
 {
     let mut texts = Texts::new(alloc);
     for path in paths {
-        texts.push(source(rt, alloc, path)?)?;
+        texts.push(from.source(alloc, path)?)?;
     }
     Ok(texts)
 }
@@ -116,19 +142,20 @@ fn tells_vars(form: &Form) -> bool
         Format::Escaped => form.shown.vars,
         Format::Summary => false,
         Format::Json => form.shown.vars,
+        Format::JsonLines => form.shown.vars,
         Format::Tap => false,
     }
 }
 
 /// The scripts of an order: their sources are read in order, and the first that can't be read is complained of.
-pub fn scripts<'a, R: Files>(
-    rt: &R,
+pub fn scripts<'a, S: Sources>(
+    from: &S,
     alloc: Global,
     order: &Scripts<'a>,
 ) -> Result<Vec<Script>, Complaint<'a>>
-    ensures { IfOk result (λ ss. AreOfFiles order.now.steps order.now.limit_ms (vars_told order.now.form.format order.now.form.shown.vars) order.now.sources.items ss.items) }
+    ensures { IfOk result (λ ss. AreOfFiles S.holds order.now.steps order.now.limit_ms (vars_told order.now.form.format order.now.form.shown.vars) order.now.sources.items ss.items) }
 {
-    let sources = read_sources(rt, alloc, order.sources.as_slice())?;
+    let sources = read_sources(from, alloc, order.sources.as_slice())?;
     let scripts = scripts_of(
         alloc,
         order.steps,
@@ -167,18 +194,18 @@ fn replay_order<'a, R: Files + Print, L: Read + Drop, S: Shelf>(
 /// Replays the files of an order, keeps their transcripts where that is asked for, and prints the reports.
 ///
 /// The sources are read in order, and then the log; the first that can't be read is complained of.
-pub fn replay_files<'a, R: Files + Print + Eprint>(
+pub fn replay_files<'a, R: Files + Print + Eprint + Pages + Copy + Drop>(
     rt: &R,
     alloc: Global,
     order: &Replay<'a>,
 ) -> Result<Outcome, Complaint<'a>> {
-    let scripts = scripts(rt, alloc, &order.scripts)?;
+    let scripts = scripts(&Disk { rt }, alloc, &order.scripts)?;
     let log = opened(rt, order.log)?;
     let Some(path) = order.scripts.transcripts else {
         let well = replay_order(rt, alloc, order, scripts, log, &mut NoShelf)?;
         return Ok(Outcome::of(well, true));
     };
-    let mut folder = Folder::new(rt, alloc, path, order.scripts.sources.as_slice())?;
+    let mut folder = Folder::new(*rt, alloc, path, order.scripts.sources.as_slice())?;
     let well = replay_order(rt, alloc, order, scripts, log, &mut folder)?;
     Ok(Outcome::of(well, folder.is_whole()))
 }
@@ -205,7 +232,7 @@ pub fn explain_files<'a, R: Files + Print>(
     alloc: Global,
     order: &Explain<'a>,
 ) -> Result<Outcome, Complaint<'a>> {
-    let scripts = scripts(rt, alloc, &order.scripts)?;
+    let scripts = scripts(&Disk { rt }, alloc, &order.scripts)?;
     let mut log = Counted::new(opened(rt, order.log)?);
     let mut out = Counted::new(io::writer(rt));
     match explain(alloc, order.only, &mut log, scripts, &mut out) {

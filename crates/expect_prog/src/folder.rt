@@ -12,20 +12,36 @@ use std::fs;
 use std::io::ErrorKind;
 use std::path::Path;
 use std::rt::Files;
-use tcl_words::Text;
+use tcl_words::{Text, Texts};
+
+/// Writes transcripts, from any thread.
+pub trait Pages {
+    /// Writes a transcript to the file at a path, in the place of what was there. If that can't be done, it is told on standard error, and false
+    /// is returned.
+    fn write_page(&self, path: &[u8], transcript: &[u8]) -> bool;
+}
+
+impl Pages for HostRuntime {
+    fn write_page(&self, path: &[u8], transcript: &[u8]) -> bool {
+        let path = std::str::from_utf8(path).unwrap_or("");
+        match write_file(self, path, transcript) {
+            Ok(()) => true,
+            Err(complaint) => {
+                tell(self, &complaint);
+                false
+            }
+        }
+    }
+}
 
 /// A folder that has a file for each transcript. One that can't be written is told on standard error.
 #[derive(Drop)]
-pub struct Folder<'r, 'a, R> {
-    rt: &'r R,
-    alloc: Global,
-    path: &'a str,
-    /// The files of the scripts.
-    files: &'r [&'a str],
-    /// How many transcripts were handed to it.
-    count: usize,
-    /// How many of them weren't written.
-    lost: usize,
+pub struct Folder<R: Drop> {
+    rt: R,
+    /// The path of each file.
+    paths: Texts,
+    /// Whether all transcripts that were handed to it were written.
+    is_whole: bool,
 }
 
 /// Puts the number of one of so many scripts behind a text.
@@ -75,68 +91,61 @@ fn write_file<'p, R: Files>(rt: &R, path: &'p str, transcript: &[u8]) -> Result<
     }
 }
 
-impl<'r, 'a, R: Files + Eprint> Folder<'r, 'a, R> {
+/// The paths of the transcripts of scripts of these files, in a folder.
+fn paths_of(alloc: Global, folder: &str, files: &[&str]) -> Result<Texts, AllocError> {
+    let mut paths = Texts::new(alloc);
+    for at in 0..files.len() {
+        paths.push(path_of(alloc, folder, files.len(), at + 1, files[at])?)?;
+    }
+    Ok(paths)
+}
+
+impl<R: Pages + Drop> Folder<R> {
     /// A folder at a path, for the transcripts of scripts of these files. Where it isn't there, it is made.
-    pub fn new(
-        rt: &'r R,
+    pub fn new<'a>(
+        rt: R,
         alloc: Global,
         path: &'a str,
-        files: &'r [&'a str],
-    ) -> Result<Folder<'r, 'a, R>, Complaint<'a>> {
-        if let Err(e) = fs::create_dir(rt, path) {
+        files: &[&str],
+    ) -> Result<Folder<R>, Complaint<'a>>
+    where
+        R: Files,
+    {
+        if let Err(e) = fs::create_dir(&rt, path) {
             if e.kind() == ErrorKind::OutOfMemory {
                 return Err(Complaint::Memory);
             }
-            if !fs::metadata(rt, path).map_or(false, |it| it.is_dir()) {
+            if !fs::metadata(&rt, path).map_or(false, |it| it.is_dir()) {
                 return Err(Complaint::NotWritten(path));
             }
         }
         Ok(Folder {
             rt,
-            alloc,
-            path,
-            files,
-            count: 0,
-            lost: 0,
+            paths: paths_of(alloc, path, files)?,
+            is_whole: true,
         })
+    }
+
+    /// Writes the transcript of the script of a number.
+    fn write(&self, number: usize, transcript: &[u8]) -> bool {
+        match self.paths.as_slice().get(number.saturating_sub(1)) {
+            Some(path) => self.rt.write_page(path.as_slice(), transcript),
+            None => true,
+        }
     }
 
     /// Whether all transcripts were written.
     pub fn is_whole(&self) -> bool {
-        self.lost == 0
-    }
-
-    /// Writes the transcript of the script of this number.
-    fn write(&self, number: usize, transcript: &[u8]) -> bool {
-        let file = self.files.get(number.saturating_sub(1)).copied();
-        let Ok(path) = path_of(
-            self.alloc,
-            self.path,
-            self.files.len(),
-            number,
-            file.unwrap_or(""),
-        ) else {
-            tell(self.rt, &Complaint::Memory);
-            return false;
-        };
-        let path = std::str::from_utf8(path.as_slice()).unwrap_or("");
-        match write_file(self.rt, path, transcript) {
-            Ok(()) => true,
-            Err(complaint) => {
-                tell(self.rt, &complaint);
-                false
-            }
-        }
+        self.is_whole
     }
 }
 
-impl<'r, 'a, R: Files + Eprint> Shelf for Folder<'r, 'a, R> {
+impl<R: Pages + Drop> Shelf for Folder<R> {
     ghost handed = { λ _. None };
 
-    fn keep(&mut self, transcript: &[u8]) {
-        self.count = self.count.saturating_add(1);
-        if !self.write(self.count, transcript) {
-            self.lost = self.lost.saturating_add(1);
+    fn keep(&mut self, number: usize, transcript: &[u8]) {
+        if !self.write(number, transcript) {
+            self.is_whole = false;
         }
     }
 }

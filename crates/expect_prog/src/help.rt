@@ -36,6 +36,8 @@ Up to 64 scripts run side by side; none changes another.
 
 The status is 0 where each script ended with exit:0, or nothing is wrong with
 any, 1 where it isn't so, and 2 at a fault, which is a line on standard error.
+A run that a signal stopped has 128 plus the signal's number. If nobody reads
+standard output any more, nothing is said and the status is 141.
 
 `exprun run --help` says how programs are run, `exprun replay --help` what a log
 and a report are, `exprun show --help` how a log is shown, `exprun explain
@@ -87,8 +89,9 @@ have.
 With --summary a report is its first line alone, with the script's file behind
 it, and the last line has counts: of scripts, of those that ended well, which is
 with exit:0, and of each ending. --format json is for programs: an array with an
-object in a line for each report. --format tap is for prove(1): a test for each
-script, which is passed where it ended well.
+object in a line for each report. --format jsonl has the objects alone, each in
+a line; a run writes each as its script ends. --format tap is for prove(1): a
+test for each script, which is passed where it ended well.
 
 --escape is for terminals: what a child wrote does nothing there. In transcripts
 and in the texts of errors a control character is written as \\x and two
@@ -145,6 +148,12 @@ input; with --hangup the program is also hung up S seconds after it. --guard
 hangs programs up also if exprun itself is killed. Each program has a session of
 its own, so it can't reach your terminal.
 
+Ctrl-C, SIGTERM and SIGHUP stop a run that was started with these signals
+blocked, as ./exprun starts it. Scripts that have not ended are reported as
+`waiting`, the record and all other files are written, the programs are hung up
+at once, and the status is 128 plus the signal's number. A script that computes
+and doesn't wait is given three seconds; then the run is killed.
+
 With --follow what the scripts show is also told on standard error, as it comes:
 of one script on a terminal as it is, else so that it does nothing there; of
 several scripts by lines, behind each script's number. The reports stay as they
@@ -157,7 +166,8 @@ all the same.
 
 --summary, --format json, --format tap and --escape print the reports in short,
 for programs, for prove(1), and for terminals, and --transcripts writes files:
-`exprun replay --help` says how.
+`exprun replay --help` says how. --format jsonl prints each report as its script
+ends, so a run that is killed has told all that had ended.
 
 Example: cat.exp is
 

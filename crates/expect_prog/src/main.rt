@@ -9,23 +9,24 @@ mod folder;
 mod help;
 mod outcome;
 mod running;
+mod standard;
 
 use crate::command_line::{Order, read_words};
 use crate::complaint::{Complaint, tell};
 use crate::files::{check_files, explain_files, plan_file, replay_files, show_file};
-use crate::outcome::Outcome;
 use crate::running::run_files;
+use crate::standard::{is_unread, open_closed};
 use std::alloc::Global;
 use std::env;
 use std::env::Env;
 use std::io::ErrorKind;
 use std::process::ExitCode;
 
-/// The status of a run whose scripts did not all end with status 0.
-const ENDED_OTHERWISE: u8 = 1;
-
 /// The status of a fault.
 const FAULT: u8 = 2;
+
+/// The status where nobody reads standard output: that of a program that SIGPIPE ended.
+const UNREAD: u8 = 141;
 
 fn complain(rt: &impl Eprint, complaint: &Complaint<'_>) -> ExitCode {
     tell(rt, complaint);
@@ -56,6 +57,7 @@ fn show(rt: &(impl Print + Eprint), error: &clap::Error) -> ExitCode {
 }
 
 fn main(rt: HostRuntime) -> ExitCode {
+    open_closed(&rt);
     let words = match words(&rt, rt.alloc()) {
         Ok(words) => words,
         Err(complaint) => return complain(&rt, &complaint),
@@ -66,16 +68,15 @@ fn main(rt: HostRuntime) -> ExitCode {
     };
     let outcome = match &order {
         Order::Replay(replay) => replay_files(&rt, rt.alloc(), replay),
-        Order::Run(run) => run_files(rt, rt.alloc(), run, rt.stderr()),
+        Order::Run(run) => run_files(rt, rt.alloc(), run, rt.stderr(), rt.stdout()),
         Order::Show(show) => show_file(&rt, rt.alloc(), show),
         Order::Plan(plan) => plan_file(&rt, rt.alloc(), plan),
         Order::Check(check) => check_files(&rt, rt.alloc(), check),
         Order::Explain(explain) => explain_files(&rt, rt.alloc(), explain),
     };
     match outcome {
-        Ok(Outcome::Well) => ExitCode::SUCCESS,
-        Ok(Outcome::Otherwise) => ExitCode::from(ENDED_OTHERWISE),
-        Ok(Outcome::Lost) => ExitCode::from(FAULT),
+        Ok(outcome) => ExitCode::from(outcome.status()),
+        Err(Complaint::Unwritten) if is_unread() => ExitCode::from(UNREAD),
         Err(complaint) => complain(&rt, &complaint),
     }
 }

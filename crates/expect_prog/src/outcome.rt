@@ -1,7 +1,7 @@
 //! How an order ended.
 
-ghost use Rattle.std.specs.Prelude.{◌≡◌};
-ghost use Rattle.expect_prog.specs.Outcome.{outcome_of, outcome_and};
+ghost use Rattle.std.specs.Prelude.{◌≡◌, ◌≤◌};
+ghost use Rattle.expect_prog.specs.Outcome.{outcome_of, outcome_and, outcome_unless_stopped, status_of};
 
 /// How an order ended of which the reports, a log, or findings are printed.
 #[derive(Clone, Copy, Debug)]
@@ -12,6 +12,8 @@ pub enum Outcome {
     Otherwise,
     /// A transcript or an account wasn't written, which is told.
     Lost,
+    /// A signal of this number stopped the run.
+    Stopped(u8),
 }
 
 impl Outcome {
@@ -36,5 +38,27 @@ impl Outcome {
             return self;
         }
         Outcome::Lost
+    }
+
+    /// The same, unless a signal of this number stopped the run.
+    pub fn unless_stopped(self, signal: Option<u8>) -> Outcome
+        ensures { result ≡ outcome_unless_stopped self signal }
+    {
+        match signal {
+            Some(number) => Outcome::Stopped(number),
+            None => self,
+        }
+    }
+
+    /// The exit status: 0 if all is well, 1 if not, 2 if something was lost, and 128 plus the signal if one stopped the run.
+    pub fn status(self) -> u8
+        ensures { status_of self ≤ 255 → result ≡ status_of self }
+    {
+        match self {
+            Outcome::Well => 0,
+            Outcome::Otherwise => 1,
+            Outcome::Lost => 2,
+            Outcome::Stopped(number) => number.saturating_add(128),
+        }
     }
 }

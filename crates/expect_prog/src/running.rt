@@ -5,16 +5,17 @@ ghost use Rattle.std.specs.Prelude.{◌≡◌, ◌≤◌, length, vec_len, IfOk}
 use crate::account::{Account, opened_account};
 use crate::command_line::Run;
 use crate::complaint::{Complaint, tell};
-use crate::files::scripts;
-use crate::folder::Folder;
+use crate::files::{Disk, scripts};
+use crate::folder::{Folder, Pages};
 use crate::outcome::Outcome;
 use child_events::Counted;
-use child_pipes::{Cancellation, Free, Pipes, Programs, Reaper, Watch};
+use child_pipes::{Cancellation, Free, Pipes, Programs, Reaper, Stop, Wall, Watch};
 use dialogue_sched::Script;
-use script_runs::{DriveFault, NoShelf, Record, Shelf, Telling, clocks, drive};
+use report_texts::Format;
+use script_runs::{DriveFault, Early, NoShelf, Record, Telling, Told, clocks, drive, drive_early};
 use std::alloc::{AllocError, Global};
 use std::fs;
-use std::io::{self, IsTerminal, Write};
+use std::io::{IsTerminal, Write};
 use std::rt::Files;
 use std::sync::{Arc, Wait};
 use std::thread::Threads;
@@ -73,24 +74,41 @@ fn workers(asked: u8) -> u8
     asked
 }
 
-/// Runs scripts over processes. Transcripts go to `shelf`, the record goes to `log`, and the reports go to `out`; what is to be told of them
-/// while they run is told on `errors`.
+/// What a run told as its scripts ended, and what came of the rest: whether each script ended with status 0, and all was written.
+fn outcome_of<R: Pages + Drop>(
+    driven: Result<bool, DriveFault>,
+    told: Told<Folder<R>>,
+) -> Result<Outcome, DriveFault> {
+    let all_well = driven?;
+    let Told { outcome, shelf } = told;
+    let Ok(well) = outcome else {
+        return Err(DriveFault::Write);
+    };
+    let is_whole = match &shelf {
+        Some(folder) => folder.is_whole(),
+        None => true,
+    };
+    Ok(Outcome::of(all_well && well, is_whole))
+}
+
+/// Runs scripts over processes. Transcripts go to `folder` as scripts end, the record goes to `record`, and the reports go to `out`; what is to
+/// be told of them while they run is told on `errors`.
 fn run_scripts<
-    R: Files + Threads + Wait + Clock + Programs + Copy + Send + Drop + 'static,
+    R: Files + Eprint + Pages + Threads + Wait + Clock + Programs + Copy + Send + Drop + 'static,
     E: Write + IsTerminal + Copy + Send + Drop + 'static,
-    S: Shelf,
+    O: Write + Copy + Send + Drop + 'static,
     L: Write,
-    O: Write + Drop,
 >(
     rt: R,
     alloc: Global,
     scripts: Vec<Script>,
     order: &Run<'_>,
     errors: E,
-    shelf: &mut S,
-    record: &mut L,
     out: O,
-) -> Result<bool, DriveFault> {
+    folder: Option<Folder<R>>,
+    record: &mut L,
+    stop: &Arc<Stop>,
+) -> Result<Outcome, DriveFault> {
     let guard = match order.guard {
         true => rt.start_guard(alloc).ok(),
         false => None,
@@ -100,18 +118,46 @@ fn run_scripts<
     let cancellations = cancellations(&rt, alloc, count)?;
     let keepers = keepers(rt, alloc, &reaper, cancellations.as_slice())?;
     let mut telling = Telling::new(rt, alloc, errors, order.follow, count, workers)?;
-    let clocks = clocks(rt, alloc, workers, &telling, cancellations.as_slice())?;
-    drop(cancellations);
-    let watch = Watch::start(rt, alloc, reaper)?;
-    let mut log = Counted::new(record);
-    let mut out = Counted::new(out);
+    let wall = Wall::new(rt);
     let form = &order.scripts.form;
-    let outcome = drive(
-        rt, alloc, scripts, keepers, clocks, Free, form, shelf, &mut log, &mut out,
-    );
+    let is_early = matches!(form.format, Format::JsonLines);
+    let early = Early::start(
+        rt,
+        alloc,
+        count,
+        if is_early { Some(form) } else { None },
+        out,
+        folder,
+    )?;
+    let clocks = clocks(
+        alloc,
+        &wall,
+        workers,
+        &telling,
+        rt,
+        &early,
+        cancellations.as_slice(),
+        stop,
+    )?;
+    drop(cancellations);
+    let watch = Watch::start(rt, alloc, &wall, reaper, Arc::try_clone(stop)?, errors)?;
+    let mut log = Counted::new(record);
+    let driven = if is_early {
+        match drive_early(rt, alloc, scripts, keepers, clocks, Free, &mut log) {
+            Ok(()) => Ok(true),
+            Err(fault) => Err(fault),
+        }
+    } else {
+        let mut out = Counted::new(out);
+        let shelf = &mut NoShelf;
+        drive(
+            rt, alloc, scripts, keepers, clocks, Free, form, shelf, &mut log, &mut out,
+        )
+    };
+    let told = early.end(&rt);
     telling.end();
-    watch.stop(rt);
-    outcome
+    watch.stop(rt, alloc, errors);
+    outcome_of(driven, told)
 }
 
 /// The file that the record of an order is written to, which is made.
@@ -125,51 +171,32 @@ fn record_file<'a, R: Files>(rt: &R, order: &Run<'a>) -> Result<Option<R::File>,
     }
 }
 
-/// Runs an order's scripts over real children, hands their transcripts to a shelf and their record to `record`, and prints the reports. The
-/// answer says whether each script ended with status 0.
+/// Runs an order's scripts over real children, keeps their transcripts where that is asked for, hands their record to `record`, and prints the
+/// reports.
 fn run_order<
     'a,
-    R: Files + Print + Threads + Wait + Clock + Programs + Copy + Send + Drop + 'static,
+    R: Files + Eprint + Pages + Threads + Wait + Clock + Programs + Copy + Send + Drop + 'static,
     E: Write + IsTerminal + Copy + Send + Drop + 'static,
-    S: Shelf,
+    O: Write + Copy + Send + Drop + 'static,
     L: Write,
 >(
     rt: R,
     alloc: Global,
     order: &Run<'a>,
     errors: E,
+    out: O,
     scripts: Vec<Script>,
-    shelf: &mut S,
     record: &mut L,
-) -> Result<bool, Complaint<'a>> {
-    let out = io::writer(&rt);
-    match run_scripts(rt, alloc, scripts, order, errors, shelf, record, out) {
-        Ok(well) => Ok(well),
+    stop: &Arc<Stop>,
+) -> Result<Outcome, Complaint<'a>> {
+    let folder = match order.scripts.transcripts {
+        Some(path) => Some(Folder::new(rt, alloc, path, order.scripts.sources.as_slice())?),
+        None => None,
+    };
+    match run_scripts(rt, alloc, scripts, order, errors, out, folder, record, stop) {
+        Ok(outcome) => Ok(outcome),
         Err(fault) => Err(Complaint::of_drive(fault, order)),
     }
-}
-
-/// Runs an order's scripts over real children, and keeps their transcripts where that is asked for.
-fn run_and_keep<
-    'a,
-    R: Files + Print + Eprint + Threads + Wait + Clock + Programs + Copy + Send + Drop + 'static,
-    E: Write + IsTerminal + Copy + Send + Drop + 'static,
-    L: Write,
->(
-    rt: R,
-    alloc: Global,
-    order: &Run<'a>,
-    errors: E,
-    scripts: Vec<Script>,
-    record: &mut L,
-) -> Result<Outcome, Complaint<'a>> {
-    let Some(path) = order.scripts.transcripts else {
-        let well = run_order(rt, alloc, order, errors, scripts, &mut NoShelf, record)?;
-        return Ok(Outcome::of(well, true));
-    };
-    let mut folder = Folder::new(&rt, alloc, path, order.scripts.sources.as_slice())?;
-    let well = run_order(rt, alloc, order, errors, scripts, &mut folder, record)?;
-    Ok(Outcome::of(well, folder.is_whole()))
 }
 
 /// Tells an account over a record, of which memory for keeping it may have been refused. The answer says whether it is told.
@@ -192,20 +219,42 @@ fn tell_account<'a, R: Eprint, F: Write + Drop>(
     }
 }
 
-/// Runs the files of an order over real children, keeps their transcripts where that is asked for, prints the reports, and then tells what
-/// the scripts did, where that is asked for. What they show is told on `errors`, where that is asked for.
-pub fn run_files<
+/// Runs scripts over real children, prints the reports, and then tells what the scripts did, where that is asked for.
+fn run_and_tell<
     'a,
-    R: Files + Print + Eprint + Threads + Wait + Clock + Programs + Copy + Send + Drop + 'static,
+    R: Files + Eprint + Pages + Threads + Wait + Clock + Programs + Copy + Send + Drop + 'static,
     E: Write + IsTerminal + Copy + Send + Drop + 'static,
->(rt: R, alloc: Global, order: &Run<'a>, errors: E) -> Result<Outcome, Complaint<'a>> {
-    let scripts = scripts(&rt, alloc, &order.scripts)?;
+    O: Write + Copy + Send + Drop + 'static,
+>(
+    rt: R,
+    alloc: Global,
+    order: &Run<'a>,
+    errors: E,
+    out: O,
+    scripts: Vec<Script>,
+    stop: &Arc<Stop>,
+) -> Result<Outcome, Complaint<'a>> {
     let Some(path) = order.explain else {
         let mut record = Record::new(record_file(&rt, order)?, None);
-        return run_and_keep(rt, alloc, order, errors, scripts, &mut record);
+        return run_order(rt, alloc, order, errors, out, scripts, &mut record, stop);
     };
     let account = opened_account(&rt, alloc, path, scripts.as_slice())?;
     let mut record = Record::new(record_file(&rt, order)?, Some(Text::new(alloc)));
-    let outcome = run_and_keep(rt, alloc, order, errors, scripts, &mut record)?;
+    let outcome = run_order(rt, alloc, order, errors, out, scripts, &mut record, stop)?;
     Ok(outcome.and(tell_account(&rt, alloc, account, record.kept())))
+}
+
+/// Runs the files of an order over real children, keeps their transcripts where that is asked for, prints the reports, and then tells what
+/// the scripts did, where that is asked for. What they show is told on `errors`, where that is asked for. A signal that this process has blocked
+/// stops the run.
+pub fn run_files<
+    'a,
+    R: Files + Eprint + Pages + Threads + Wait + Clock + Programs + Copy + Send + Drop + 'static,
+    E: Write + IsTerminal + Copy + Send + Drop + 'static,
+    O: Write + Copy + Send + Drop + 'static,
+>(rt: R, alloc: Global, order: &Run<'a>, errors: E, out: O) -> Result<Outcome, Complaint<'a>> {
+    let scripts = scripts(&Disk { rt: &rt }, alloc, &order.scripts)?;
+    let stop = Arc::new(alloc, Stop::new(&rt))?;
+    let outcome = run_and_tell(rt, alloc, order, errors, out, scripts, &stop)?;
+    Ok(outcome.unless_stopped(stop.signal()))
 }

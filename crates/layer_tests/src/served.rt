@@ -5,8 +5,8 @@ ghost use Rattle.child_events.specs.Log.{AllFit};
 
 use crate::keeper::Liner;
 use child_events::{read_log, write_log};
-use child_keeper::{Audience, Clock, Gate};
-use child_serve::{Served, serve};
+use child_keeper::{Clock, Gate};
+use child_serve::{Audience, Served, Stopping, serve};
 use dialogue_sched::Script;
 use session::{Ending, Pairs, Report, Settings};
 use std::alloc::{AllocError, Global};
@@ -79,6 +79,8 @@ pub struct Still;
 
 impl Audience for Still {}
 
+impl Stopping for Still {}
+
 impl Clock for Still {
     fn now(&mut self) -> u64 {
         0
@@ -103,6 +105,8 @@ struct Gaining {
 }
 
 impl Audience for Gaining {}
+
+impl Stopping for Gaining {}
 
 impl Clock for Gaining {
     fn now(&mut self) -> u64 {

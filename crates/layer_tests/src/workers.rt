@@ -2,8 +2,8 @@
 
 use crate::keeper::liners;
 use crate::served::{CAT, all_of_cat, scripts};
-use child_keeper::{Audience, Clock, Gate};
-use child_serve::serve;
+use child_keeper::{Clock, Gate};
+use child_serve::{Audience, Stopping, serve};
 use std::alloc::{AllocError, Global};
 use std::sync::Arc;
 use std::sync::atomic::{AtomicBool, AtomicU64, Ordering};
@@ -76,6 +76,8 @@ struct Meeting {
 }
 
 impl Audience for Meeting {}
+
+impl Stopping for Meeting {}
 
 impl Clock for Meeting {
     fn now(&mut self) -> u64 {

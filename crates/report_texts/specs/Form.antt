@@ -5,10 +5,10 @@ use Rattle.session.specs.declared.report.Report.{Report}
 use Rattle.report_texts.specs.declared.texts.Shown.{Shown}
 use Rattle.report_texts.specs.declared.form.Form.{Form}
 use Rattle.report_texts.specs.declared.form.Format.{Format}
-use Rattle.report_texts.specs.declared.form.Format.TheVariants.{Text, Escaped, Summary, Json, Tap}
+use Rattle.report_texts.specs.declared.form.Format.TheVariants.{Text, Escaped, Summary, Json, JsonLines, Tap}
 use Rattle.report_texts.specs.Report.{report_bytes, escaped_report}
 use Rattle.report_texts.specs.Line.{summary_line, counts_line}
-use Rattle.report_texts.specs.Json.{array_item}
+use Rattle.report_texts.specs.Json.{array_item, object_line}
 use Rattle.report_texts.specs.Tap.{plan, tap_test}
 
 -- the file of script n, of files in order, the first of which is that of script 1; where there is none, no name
@@ -21,6 +21,7 @@ part_of Text shown file n r = report_bytes shown n r
 part_of Escaped shown file n r = escaped_report shown n r
 part_of Summary shown file n r = summary_line file n r
 part_of Json shown file n r = array_item shown file n r
+part_of JsonLines shown file n r = object_line shown file n r
 part_of Tap shown file n r = tap_test file n r
 
 abbrev pub part_bytes : Form → ℕ → Report → List ℕ
@@ -37,6 +38,7 @@ middle Text transcript = transcript
 middle Escaped transcript = []
 middle Summary transcript = []
 middle Json transcript = []
+middle JsonLines transcript = []
 middle Tap transcript = []
 
 -- what stands before the parts of so many reports
@@ -45,6 +47,7 @@ opening Text count = []
 opening Escaped count = []
 opening Summary count = []
 opening Json count = codes "["
+opening JsonLines count = []
 opening Tap count = plan count
 
 -- what stands behind the parts of reports with these endings
@@ -53,6 +56,7 @@ closing Text es = []
 closing Escaped es = []
 closing Summary es = counts_line es
 closing Json es = codes "\n]\n"
+closing JsonLines es = []
 closing Tap es = []
 
 abbrev pub endings_of : List Report → List Ending

@@ -87,3 +87,7 @@ item_front n = if n == 1 then ascii.newline ∷ [] else ascii.comma ∷ ascii.ne
 
 abbrev pub array_item : Shown → List ℕ → ℕ → Report → List ℕ
 array_item shown file n r = item_front n ++ report_object shown file n r
+
+-- or the line ends behind it (JSON Lines)
+abbrev pub object_line : Shown → List ℕ → ℕ → Report → List ℕ
+object_line shown file n r = report_object shown file n r ++ ascii.newline ∷ []

@@ -5,7 +5,7 @@ ghost use Rattle.session.specs.Spent.{memory_report};
 ghost use Rattle.report_texts.specs.Form.{file_of, part_bytes, opening};
 ghost use Rattle.report_texts.specs.Written.{AreParts, AreSpares};
 
-use crate::json::item_text;
+use crate::json::{item_text, line_text};
 use crate::line::summary_text;
 use crate::tap::{plan_text, test_text};
 use crate::texts::{Shown, escaped_text, report_text};
@@ -24,6 +24,8 @@ pub enum Format {
     Summary,
     /// An array of JSON, with an object in a line for each script.
     Json,
+    /// A line for each script, which is an object of JSON.
+    JsonLines,
     /// A test of the Test Anything Protocol for each script.
     Tap,
 }
@@ -39,6 +41,16 @@ pub struct Form {
 }
 
 impl Form {
+    pub fn copied(&self, alloc: Global) -> Result<Form, AllocError>
+        ensures { IfOk result (λ f. f ≡ self.now) }
+    {
+        Ok(Form {
+            format: self.format,
+            shown: self.shown,
+            files: self.files.copied(alloc)?,
+        })
+    }
+
     /// The file of a script, by its number from 1; where it is told none, no name.
     fn file(&self, number: usize) -> &[u8]
         ensures { result.now ≡ file_of self.now.files number }
@@ -58,6 +70,7 @@ impl Form {
             Format::Escaped => escaped_text(alloc, self.shown, number, report),
             Format::Summary => summary_text(alloc, self.file(number), number, report),
             Format::Json => item_text(alloc, self.shown, self.file(number), number, report),
+            Format::JsonLines => line_text(alloc, self.shown, self.file(number), number, report),
             Format::Tap => test_text(alloc, self.file(number), number, report),
         }
     }
@@ -83,6 +96,7 @@ fn opening_text(alloc: Global, format: Format, count: usize) -> Result<Text, All
         Format::Escaped => Ok(Text::new(alloc)),
         Format::Summary => Ok(Text::new(alloc)),
         Format::Json => Text::from_slice(alloc, b"["),
+        Format::JsonLines => Ok(Text::new(alloc)),
         Format::Tap => plan_text(alloc, count),
     }
 }

@@ -4,7 +4,7 @@ ghost use Rattle.std.specs.Prelude.{◌≡◌, ◌++◌, IfOk, OnOk};
 ghost use Rattle.std.specs.Str.{is_utf8};
 ghost use Rattle.hex.specs.Hex.{encode_lower};
 ghost use Rattle.report_texts.specs.Report.{ask_words};
-ghost use Rattle.report_texts.specs.Json.{item_front, string_byte, string_bytes, string_text, text_or_null, member_both, object_head, object_counts, later_asks, asks_items, asks_member, var_object, later_vars, vars_items, vars_member, object_texts, object_shown, report_object, array_item};
+ghost use Rattle.report_texts.specs.Json.{item_front, string_byte, string_bytes, string_text, text_or_null, member_both, object_head, object_counts, later_asks, asks_items, asks_member, var_object, later_vars, vars_items, vars_member, object_texts, object_shown, report_object, array_item, object_line};
 
 use crate::asks::push_ask_words;
 use crate::line::push_escaped;
@@ -287,5 +287,21 @@ pub fn item_text(
     let mut text = Text::new(alloc);
     push_before(&mut text, number)?;
     push_object(alloc, &mut text, shown, file, number, report)?;
+    Ok(text)
+}
+
+/// The object of script `number`'s report, with its file and what is shown of it, as a line.
+pub fn line_text(
+    alloc: Global,
+    shown: Shown,
+    file: &[u8],
+    number: usize,
+    report: &Report,
+) -> Result<Text, AllocError>
+    ensures { IfOk result (λ t. t ≡ object_line shown file.now number report.now) }
+{
+    let mut text = Text::new(alloc);
+    push_object(alloc, &mut text, shown, file, number, report)?;
+    text.push(b'\n')?;
     Ok(text)
 }

@@ -22,4 +22,4 @@ pub use escape::{Place, push_quoted, push_text};
 pub use form::{Form, Format, Spares, made_spares};
 pub use line::push_line;
 pub use reporting::write_reports;
-pub use texts::{Shown, push_head, push_labelled, total};
+pub use texts::{Shown, is_done, push_head, push_labelled, total};

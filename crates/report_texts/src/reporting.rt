@@ -32,6 +32,7 @@ fn middle(format: Format, transcript: &[u8]) -> &[u8]
         Format::Escaped => &transcript[..0],
         Format::Summary => &transcript[..0],
         Format::Json => &transcript[..0],
+        Format::JsonLines => &transcript[..0],
         Format::Tap => &transcript[..0],
     }
 }
@@ -46,10 +47,11 @@ impl Around {
                 head: head_text(alloc, number, report)?,
                 tail: tail_text(alloc, form.shown, report.fault.as_slice(), report)?,
             }),
-            Format::Escaped | Format::Summary | Format::Json | Format::Tap => Ok(Around {
-                head: form.part(alloc, number, report)?,
-                tail: Text::new(alloc),
-            }),
+            Format::Escaped | Format::Summary | Format::Json | Format::JsonLines | Format::Tap =>
+                Ok(Around {
+                    head: form.part(alloc, number, report)?,
+                    tail: Text::new(alloc),
+                }),
         }
     }
 
@@ -146,6 +148,7 @@ fn write_closing<W: Write>(
         Format::Escaped => write_all(out, b""),
         Format::Summary => write_counts(endings, out),
         Format::Json => write_all(out, b"\n]\n"),
+        Format::JsonLines => write_all(out, b""),
         Format::Tap => write_all(out, b""),
     }
 }

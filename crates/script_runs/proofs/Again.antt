@@ -1,5 +1,5 @@
 -- A run over children, and a replay of the record that it wrote.
-use Rattle.std.proofs.Common.{◌≡◌, ◌≢◌, ◌⊎◌, inl, inr, ◌<◌, ◌^◌, ℕ, ◌+◌, List, [], ◌∷◌, length, Option, Some, None, Ok, Err, refl, sym, ap, subst, ◌∙◌}
+use Rattle.std.proofs.Common.{◌≡◌, ◌≢◌, ◌⊎◌, inl, inr, ◌<◌, ◌^◌, ℕ, ◌+◌, List, [], ◌∷◌, length, false, Option, Some, None, Ok, Err, refl, sym, ap, subst, ◌∙◌}
 use Rattle.child_events.specs.declared.event.Answer.{Answer}
 use Rattle.child_events.specs.declared.event.HallEvent.{HallEvent}
 use Rattle.child_events.specs.declared.faults.LogFault.{LogFault}
@@ -12,6 +12,8 @@ use Rattle.dialogue_sched.specs.declared.hall.HallFault.{HallFault}
 use Rattle.dialogue_sched.specs.declared.refusal.HallRefusal.{HallRefusal}
 use Rattle.dialogue_sched.specs.declared.run.RunFault.{RunFault}
 use Rattle.dialogue_sched.specs.declared.run.RunFault.TheVariants as run
+use Rattle.dialogue_sched.specs.Hall.{opening_fault}
+use Rattle.dialogue_sched.specs.Refusal.{first_refusal}
 use Rattle.dialogue_sched.specs.Run.{AllMean, Runs}
 use Rattle.child_desk.specs.Line.{Keeping}
 use Rattle.child_serve.specs.declared.served.Served.{Served}
@@ -90,13 +92,10 @@ same_reports rs ts rs' ts' agree stand stand' =
     record { reports = agree; printed = printed; same = all_same ts ts' printed }
 
 module _ (told : ℕ → ℕ → Request → Answer → Type 0) (gives : ℕ → ℕ → Option (List ℕ) → Type 0) (workers : ℕ) (keepers : List Keeping) (scripts : List Script) (size : length keepers ≡ length scripts) (served : Served) where
-  serves_run : (text : List ℕ) → WasServed told gives workers keepers scripts served text → Runs scripts served.logged (Ok served.reports)
-  serves_run text was = serving_is_run told gives workers keepers scripts served size was.serves
-
-  runs_again : (text : List ℕ) (rs : List Report) → WasServed told gives workers keepers scripts served text → RunOver scripts text (Ok rs) → AllAgree served.reports rs
-  runs_again text rs was over =
+  runs_again : (text : List ℕ) (rs : List Report) → served.stopped ≡ false → WasServed told gives workers keepers scripts served text → RunOver scripts text (Ok rs) → AllAgree served.reports rs
+  runs_again text rs running was over =
       let is = one_written_list text served.logged over.events was.log over.log in
-      all_agree 1 served.logged scripts served.reports rs (serves_run text was).2 (subst (λ (es : List HallEvent). AllMean 1 es scripts rs) is over.runs.2)
+      all_agree 1 served.logged scripts served.reports rs (serving_is_run told gives workers keepers scripts served size was.serves running).2 (subst (λ (es : List HallEvent). AllMean 1 es scripts rs) is over.runs.2)
 
   no_new : (f : HallFault) → ◌≡◌ {A = Option HallFault} None (Some f) → ⊥
   no_new f h = cc
@@ -104,15 +103,15 @@ module _ (told : ℕ → ℕ → Request → Answer → Type 0) (gives : ℕ →
   no_refusal : (r : ℕ × HallRefusal) → ◌≡◌ {A = Option (ℕ × HallRefusal)} None (Some r) → ⊥
   no_refusal r h = cc
 
-  runs_unrefused : (es : List HallEvent) (f : RunFault) → Runs scripts es (Ok served.reports) → Runs scripts es (Err f) → f ≡ run.Memory
-  runs_unrefused es (run.New fault) ran failed = absurd (no_new fault (sym ran.0 ∙ failed))
-  runs_unrefused es (run.Refused at r) ran failed = absurd (no_refusal (at, r) (sym ran.1 ∙ failed.1))
-  runs_unrefused es run.Memory ran failed = refl
+  runs_unrefused : (es : List HallEvent) (f : RunFault) → opening_fault scripts ≡ None → first_refusal (length scripts) 0 es ≡ None → Runs scripts es (Err f) → f ≡ run.Memory
+  runs_unrefused es (run.New fault) opens taken failed = absurd (no_new fault (sym opens ∙ failed))
+  runs_unrefused es (run.Refused at r) opens taken failed = absurd (no_refusal (at, r) (sym taken ∙ failed.1))
+  runs_unrefused es run.Memory opens taken failed = refl
 
   run_unrefused : (text : List ℕ) (f : RunFault) → WasServed told gives workers keepers scripts served text → RunOver scripts text (Err f) → f ≡ run.Memory
   run_unrefused text f was over =
       let is = one_written_list text served.logged over.events was.log over.log in
-      runs_unrefused served.logged f (serves_run text was) (subst (λ (es : List HallEvent). Runs scripts es (Err f)) is over.runs)
+      runs_unrefused served.logged f was.serves.0 was.serves.1.taken (subst (λ (es : List HallEvent). Runs scripts es (Err f)) is over.runs)
 
   log_unrefused : (text : List ℕ) (f : LogFault) → WasServed told gives workers keepers scripts served text → length text < 10 ^ 16 → Refused text f → ⊥
   log_unrefused text f was few refused = refused.1 served.logged (inr (was.log, below (length served.logged) (length text) (10 ^ 16) (text_longer text served.logged was.log) few))
@@ -127,19 +126,19 @@ module _ (told : ℕ → ℕ → Request → Answer → Type 0) (gives : ℕ →
 
 module _ (told : ℕ → ℕ → Request → Answer → Type 0) (gives : ℕ → ℕ → Option (List ℕ) → Type 0) where
   pub replays_same : ReplaysSame told gives
-  replays_same workers keepers scripts form form' well well' kept kept' shelf shelf' bytes log log' out out' old new size ran is again =
+  replays_same workers keepers scripts form form' well well' kept kept' shelf shelf' bytes log log' out out' old new size ran running is again =
       same_reports ran.served.reports ran.printed again.reports again.printed
-      (runs_again told gives workers keepers scripts size ran.served bytes again.reports (subst (WasServed told gives workers keepers scripts ran.served) (sym is) ran.was) again.run) ran.stand again.stand
+      (runs_again told gives workers keepers scripts size ran.served bytes again.reports running (subst (WasServed told gives workers keepers scripts ran.served) (sym is) ran.was) again.run) ran.stand again.stand
 
   pub replays_part : ReplaysPart told gives
-  replays_part workers keepers scripts form form' well kept kept' shelf shelf' bytes log log' out out' old new size ran is again =
+  replays_part workers keepers scripts form form' well kept kept' shelf shelf' bytes log log' out out' old new size ran running is again =
       same_reports ran.served.reports ran.printed again.reports again.printed
-      (runs_again told gives workers keepers scripts size ran.served bytes again.reports (subst (WasServed told gives workers keepers scripts ran.served) (sym is) ran.was) again.run) ran.stand again.stand
+      (runs_again told gives workers keepers scripts size ran.served bytes again.reports running (subst (WasServed told gives workers keepers scripts ran.served) (sym is) ran.was) again.run) ran.stand again.stand
 
   pub replays_cut : ReplaysCut told gives
-  replays_cut workers keepers scripts form form' well' kept kept' shelf shelf' bytes log log' out out' old new size ran is again =
+  replays_cut workers keepers scripts form form' well' kept kept' shelf shelf' bytes log log' out out' old new size ran running is again =
       same_reports ran.served.reports ran.printed again.reports again.printed
-      (runs_again told gives workers keepers scripts size ran.served bytes again.reports (subst (WasServed told gives workers keepers scripts ran.served) (sym is) ran.was) again.run) ran.stand again.stand
+      (runs_again told gives workers keepers scripts size ran.served bytes again.reports running (subst (WasServed told gives workers keepers scripts ran.served) (sym is) ran.was) again.run) ran.stand again.stand
 
   pub replays_unrefused : ReplaysUnrefused told gives
   replays_unrefused workers keepers scripts form form' well kept kept' shelf shelf' bytes log log' out out' old new fault size ran is sound says =

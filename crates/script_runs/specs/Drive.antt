@@ -64,6 +64,28 @@ module _ (told : ℕ → ℕ → Request → Answer → Type 0) (gives : ℕ →
   Drives form kept kept' log log' out out' (Err Write) = PartDriven form kept kept' log log' out out'
   Drives form kept kept' log log' out out' (Err Memory) = Unit {0}
 
+  -- What is written is the log text of the record.
+  pub record Recorded (log log' : Option (List ℕ)) : Type 0 where
+    pub served : Served
+    pub text : List ℕ
+    pub was : WasServed served text
+    pub logged : Appends log log' text
+
+  -- A front of it is written.
+  pub record PartRecorded (log log' : Option (List ℕ)) : Type 0 where
+    pub served : Served
+    pub text : List ℕ
+    pub was : WasServed served text
+    pub logged : WasPut log log' text
+
+  -- the same for a run whose reports are told as its scripts end
+  abbrev pub Records : Option (List ℕ) → Option (List ℕ) → Result (Unit {0}) DriveFault → Type 0
+  Records log log' (Ok done) = Recorded log log'
+  Records log log' (Err (Serve f)) = (f ≢ serve.Memory) × IsServing told gives workers keepers scripts (Err f)
+  Records log log' (Err WriteLog) = PartRecorded log log'
+  Records log log' (Err Write) = ⊥
+  Records log log' (Err Memory) = Unit {0}
+
   -- what serving the scripts answers here
   abbrev pub Serves : Result Served DriveFault → Type 0
   Serves (Ok s) = IsServing told gives workers keepers scripts (Ok s)

@@ -3,13 +3,13 @@
 ghost use Rattle.std.specs.Prelude.{◌≡◌, ◌≢◌, ◌<◌, ◌≤◌, length, map, IfErr, Err};
 ghost use Rattle.child_serve.specs.Whole.{keeping_of};
 ghost use Rattle.report_texts.specs.Devices.{GaveUp};
-ghost use Rattle.script_runs.specs.Drive.{Drives, Serves, Puts, IsBefore};
+ghost use Rattle.script_runs.specs.Drive.{Drives, Records, Serves, Puts, IsBefore};
 ghost use Rattle.report_texts.specs.Written.{AreSpares};
 
 use crate::shelf::{Shelf, keep_all};
 use child_events::{Counted, write_log};
-use child_keeper::{Audience, Clock, Gate, Keeper};
-use child_serve::{ServeFault, Served, serve};
+use child_keeper::{Clock, Gate, Keeper};
+use child_serve::{Audience, ServeFault, Served, Stopping, serve};
 use dialogue_sched::Script;
 use report_texts::{Form, Spares, made_spares, write_all, write_reports};
 use session::Report;
@@ -46,7 +46,7 @@ impl From<AllocError> for DriveFault {
 /// Serves scripts, each with its keeper.
 fn served_by<
     K: Keeper + Send + Drop + 'static,
-    C: Clock + Audience + Send + Drop + 'static,
+    C: Clock + Audience + Stopping + Send + Drop + 'static,
     G: Gate + Sync + Send + Drop + 'static,
     W: Threads + Wait + std::time::Clock + Copy + Send + Drop + 'static,
 >(
@@ -66,6 +66,43 @@ fn served_by<
         Err(ServeFault::New(fault)) => Err(DriveFault::Serve(ServeFault::New(fault))),
         Err(ServeFault::NoThread) => Err(DriveFault::Serve(ServeFault::NoThread)),
         Err(ServeFault::Memory) => Err(DriveFault::Memory),
+    }
+}
+
+/// Serves scripts, each with its keeper, by as many workers as there are clocks, and writes the record's log text to `log`. The clocks are told of
+/// reports as scripts end.
+///
+/// After `WriteLog` a front of the record was written, after any other fault nothing. An interrupted write is tried again.
+pub fn drive_early<
+    K: Keeper + Send + Drop + 'static,
+    C: Clock + Audience + Stopping + Send + Drop + 'static,
+    G: Gate + Sync + Send + Drop + 'static,
+    W: Threads + Wait + std::time::Clock + Copy + Send + Drop + 'static,
+    L: Write,
+>(
+    rt: W,
+    alloc: Global,
+    scripts: Vec<Script>,
+    keepers: Vec<K>,
+    clocks: Vec<C>,
+    gate: G,
+    log: &mut Counted<L>,
+) -> Result<(), DriveFault>
+    requires workers { (0 < length clocks.items) × (length clocks.items ≤ 64) }
+    requires keepers { length keepers.items ≡ length scripts.items }
+    requires log_failures { log.old.failures ≡ 0 }
+    requires log_calls { log.old.calls ≡ 0 }
+    ensures answers { Records K.told K.gives (length clocks.items) (map (keeping_of K.named K.made) keepers.items) scripts.items
+        (L.contents log.old.device) (L.contents log.new.device) result }
+    ensures unwritten { IfErr result (λ fault. IsBefore fault → log.new ≡ log.old) }
+    ensures log { result ≡ Err DriveFault.WriteLog → GaveUp log.new.failures log.new.calls }
+    ensures log_whole { result ≢ Err DriveFault.WriteLog → log.new.failures ≡ 0 }
+{
+    let served = served_by(rt, alloc, scripts, keepers, clocks, gate)?;
+    let text = write_log(alloc, served.logged.as_slice())?;
+    match write_all(log, text.as_slice()) {
+        Ok(()) => Ok(()),
+        Err(_) => Err(DriveFault::WriteLog),
     }
 }
 
@@ -109,7 +146,7 @@ fn write_both<L: Write, O: Write>(
 /// tried again.
 pub fn drive<
     K: Keeper + Send + Drop + 'static,
-    C: Clock + Audience + Send + Drop + 'static,
+    C: Clock + Audience + Stopping + Send + Drop + 'static,
     G: Gate + Sync + Send + Drop + 'static,
     W: Threads + Wait + std::time::Clock + Copy + Send + Drop + 'static,
     S: Shelf,

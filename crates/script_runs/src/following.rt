@@ -3,10 +3,14 @@
 ghost use Rattle.std.specs.Prelude.{◌≡◌, ◌≤◌, ◌++◌, ◌∷◌, [], length, true, OnOk, IfOk};
 ghost use Rattle.script_runs.specs.Follow.{mark_of, marked_byte, marked, told_so};
 
+use crate::early::Ends;
 use crate::progress::Progress;
-use child_keeper::{Audience, Clock};
-use child_pipes::{Cancellation, Wall};
+use child_keeper::Clock;
+use child_pipes::{Cancellation, Stop, Wall};
+use child_serve::{Audience, Stopping};
+use dialogue_sched::Hall;
 use report_texts::{Place, push_labelled, push_text};
+use session::Ending;
 use std::alloc::{AllocError, Global};
 use std::io::Write;
 use std::sync::{Arc, Wait};
@@ -231,36 +235,58 @@ pub enum Told<R: Drop, E: Write + Drop> {
     Nothing,
 }
 
-/// A worker's clock, which tells what is to be told while its scripts run, and cancels those that are over.
+/// A worker's clock, which tells what is to be told while its scripts run, and cancels those that are over or given up.
 #[derive(Drop)]
 pub struct Follower<R: SystemClock + Drop, E: Write + Drop> {
     wall: Wall<R>,
     told: Told<R, E>,
+    ends: Ends<R>,
     /// Of each script that goes on.
     cancellations: Vec<Option<Arc<Cancellation>>>,
+    stop: Arc<Stop>,
 }
 
 impl<R: SystemClock + Drop, E: Write + Drop> Follower<R, E> {
     pub fn new(
         wall: Wall<R>,
         told: Told<R, E>,
+        ends: Ends<R>,
         cancellations: Vec<Option<Arc<Cancellation>>>,
+        stop: Arc<Stop>,
     ) -> Follower<R, E> {
+        stop.enter();
         Follower {
             wall,
             told,
+            ends,
             cancellations,
+            stop,
+        }
+    }
+}
+
+impl<R: SystemClock + Wait + Copy + Drop, E: Write + Copy + Drop> Follower<R, E> {
+    /// The report of the script at a place of a hall is its last.
+    fn tell_end(&self, place: usize, hall: &Hall) {
+        if self.ends.are_told() {
+            self.ends.put(place, hall.report(place.saturating_add(1)));
         }
     }
 }
 
 impl<R: SystemClock + Wait + Copy + Drop, E: Write + Copy + Drop> Clock for Follower<R, E> {
     fn now(&mut self) -> u64 {
-        let moment = self.wall.now();
+        let moment = self.stop.lowered(self.wall.now());
         if let Told::Far(progress) = &mut self.told {
             progress.look(moment);
         }
         moment
+    }
+}
+
+impl<R: SystemClock + Wait + Copy + Drop, E: Write + Copy + Drop> Stopping for Follower<R, E> {
+    fn is_stopped(&mut self) -> bool {
+        self.stop.is_due(self.wall.now())
     }
 }
 
@@ -273,16 +299,27 @@ impl<R: SystemClock + Wait + Copy + Drop, E: Write + Copy + Drop> Audience for F
         }
     }
 
-    fn part(&mut self, place: usize, well: bool) {
+    fn part(&mut self, place: usize, hall: &Hall) {
+        self.tell_end(place, hall);
         if let Some(cancellation) = self.cancellations.get_mut(place).and_then(Option::take) {
             cancellation.cancel();
         }
         if let Told::Far(progress) = &mut self.told {
-            progress.part(place, well);
+            progress.part(
+                place,
+                hall.ending(place.saturating_add(1)) == Some(Ending::Exit(0)),
+            );
         }
     }
 
-    fn leave(&mut self) {
+    fn leave(&mut self, hall: &Hall) {
+        for place in 0..self.cancellations.len() {
+            if let Some(cancellation) = self.cancellations[place].take() {
+                self.tell_end(place, hall);
+                cancellation.cancel();
+            }
+        }
+        self.stop.leave();
         match &mut self.told {
             Told::Shown(live) => live.leave(),
             Told::Far(progress) => progress.leave(),

@@ -7,6 +7,7 @@
 
 mod checking;
 mod driving;
+mod early;
 mod fault;
 mod following;
 mod laws;
@@ -18,7 +19,8 @@ mod shelf;
 mod telling;
 
 pub use checking::{CheckFault, check_source};
-pub use driving::{DriveFault, drive};
+pub use driving::{DriveFault, drive, drive_early};
+pub use early::{Early, Told};
 pub use fault::ReplayFault;
 pub use following::Follower;
 pub use laws::run_is_replay;

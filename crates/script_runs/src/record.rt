@@ -1,7 +1,9 @@
 //! Where the record of a run goes.
 
 ghost use Rattle.std.specs.Prelude.{◌≡◌, OnSome, None};
-ghost use Rattle.script_runs.specs.Record.{Keeps};
+ghost use Rattle.std.specs.Io.{WritesAtMost};
+ghost use Rattle.std.specs.Io.KnownBytes as known;
+ghost use Rattle.script_runs.specs.Record.{Keeps, KeepsTaken, contents_of};
 
 use std::io::{self, Write};
 use tcl_words::Text;
@@ -44,7 +46,13 @@ impl<F: Drop> Record<F> {
 }
 
 impl<F: Write + Drop> Write for Record<F> {
-    fn write(&mut self, buf: &[u8]) -> io::Result<usize> {
+    ghost contents = { λ r. contents_of F.contents r.file };
+
+    fn write(&mut self, buf: &[u8]) -> io::Result<usize>
+        ensures bound { WritesAtMost result buf.now }
+        ensures bytes { known.WriteAppends (contents_of F.contents self.old.file) (contents_of F.contents self.new.file) result buf.now }
+        ensures kept { KeepsTaken self.old.kept buf.now result self.new.kept }
+    {
         let taken = match &mut self.file {
             Some(file) => file.write(buf)?,
             None => buf.len(),
@@ -53,7 +61,10 @@ impl<F: Write + Drop> Write for Record<F> {
         Ok(taken)
     }
 
-    fn flush(&mut self) -> io::Result<()> {
+    fn flush(&mut self) -> io::Result<()>
+        ensures bytes { known.Keeps (contents_of F.contents self.old.file) (contents_of F.contents self.new.file) }
+        ensures kept { self.new.kept ≡ self.old.kept }
+    {
         match &mut self.file {
             Some(file) => file.flush(),
             None => Ok(()),

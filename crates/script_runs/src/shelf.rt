@@ -5,13 +5,13 @@ ghost use Rattle.script_runs.specs.Shelf.{Keeps, transcripts_of};
 
 use session::Report;
 
-/// Keeps transcripts, which are handed to it in order of scripts.
+/// Keeps transcripts.
 pub trait Shelf {
-    /// The transcripts that were handed to it, where it tells them.
+    /// The transcripts that were handed to it, in this order, where it tells them.
     ghost handed: { Self → Option (List (List ℕ)) };
 
-    /// Keeps the transcript of the next script.
-    fn keep(&mut self, transcript: &[u8])
+    /// Keeps the transcript of the script of a number, from 1.
+    fn keep(&mut self, number: usize, transcript: &[u8])
         ensures { Keeps (handed self.old) (handed self.new) (transcript.now ∷ []) };
 }
 
@@ -22,14 +22,14 @@ pub struct NoShelf;
 impl Shelf for NoShelf {
     ghost handed = { λ _. None };
 
-    fn keep(&mut self, _transcript: &[u8]) {}
+    fn keep(&mut self, _number: usize, _transcript: &[u8]) {}
 }
 
-/// Hands the transcripts of reports to a shelf, in order.
+/// Hands the transcripts of reports to a shelf, in order. The first is of script 1.
 pub fn keep_all<S: Shelf>(reports: &[Report], shelf: &mut S)
     ensures { Keeps (S.handed shelf.old) (S.handed shelf.new) (transcripts_of reports.now) }
 {
-    for report in reports {
-        shelf.keep(report.transcript.as_slice());
+    for at in 0..reports.len() {
+        shelf.keep(at + 1, reports[at].transcript.as_slice());
     }
 }

@@ -2,9 +2,11 @@
 
 ghost use Rattle.std.specs.Prelude.{◌≡◌, length, IfOk};
 
+use crate::early::Early;
 use crate::following::{Follower, Live, Manner, Tale, Told};
 use crate::progress::{Line, Progress};
-use child_pipes::{Cancellation, Wall};
+use crate::shelf::Shelf;
+use child_pipes::{Cancellation, Stop, Wall};
 use std::alloc::{AllocError, Global};
 use std::io::{IsTerminal, Write};
 use std::sync::{Arc, Wait};
@@ -86,7 +88,7 @@ impl<R: Wait + Copy + Drop, E: Write + IsTerminal + Copy + Drop> Telling<R, E> {
         Ok(Telling::Nothing)
     }
 
-    /// What a worker tells of its scripts, which have these numbers, of so many scripts of all workers.
+    /// Returns what a worker tells of its scripts, which have these numbers. `scripts` counts those of all workers.
     fn told(
         &self,
         alloc: Global,
@@ -135,23 +137,32 @@ fn cancellations_of(
 }
 
 /// A clock for each of so many workers. They tell the same moments, from 0 on, tell what is to be told of the worker's scripts, and cancel those
-/// that are over. There is a cancellation for each script.
-pub fn clocks<R: Clock + Wait + Copy + Drop, E: Write + IsTerminal + Copy + Drop>(
-    rt: R,
+/// that are over. There is a cancellation for each script. Reports are told as scripts end, if there is something to tell them to.
+pub fn clocks<
+    R: Clock + Wait + Copy + Drop,
+    E: Write + IsTerminal + Copy + Drop,
+    O: Write + Copy + Send + Drop + 'static,
+    S: Shelf + Send + Drop + 'static,
+>(
     alloc: Global,
+    wall: &Wall<R>,
     count: u8,
     telling: &Telling<R, E>,
+    rt: R,
+    early: &Early<O, S>,
     cancellations: &[Arc<Cancellation>],
+    stop: &Arc<Stop>,
 ) -> Result<Vec<Follower<R, E>>, AllocError>
     ensures { IfOk result (λ cs. length cs.items ≡ count) }
 {
-    let (wall, scripts) = (Wall::new(rt), cancellations.len());
+    let scripts = cancellations.len();
     let mut clocks = Vec::new(alloc);
     for worker in 0..count {
         let numbers = numbers_of(alloc, scripts, count, worker)?;
         let told = telling.told(alloc, scripts, worker, numbers.as_slice())?;
         let own = cancellations_of(alloc, cancellations, numbers.as_slice())?;
-        let follower = Follower::new(wall.again(), told, own);
+        let ends = early.ends(rt, alloc, numbers.as_slice())?;
+        let follower = Follower::new(wall.again(), told, ends, own, Arc::try_clone(stop)?);
         let Ok(()) = clocks.push(follower) else {
             return Err(AllocError);
         };

@@ -60,3 +60,31 @@ loop-preserved g c =
       kept = kept_same was.lines.items now.lines.items desk.lines.items was.ends.items now.ends.items desk.ends.items was.book now.book desk.book c.loop.invariant.kept c.has_come.ensures.lines c.has_come.ensures.hands c.has_come.ensures.book;
       heard = hears_then was.ends.items now.ends.items desk.ends.items was.book.log.items now.book.log.items desk.book.log.items c.loop.invariant.heard c.has_come.ensures.heard;
     }
+
+pub returns-in_err-last_turn-clause-kept : goal.returns-in_err-last_turn-clause-kept
+returns-in_err-last_turn-clause-kept g c =
+    let was = c.args.desk.now in
+    let now = c.loop.desk in
+    let left = c.last_turn.new.desk in
+    all_then was.lines.items now.lines.items left.lines.items was.ends.items now.ends.items left.ends.items was.book now.book left.book c.loop.invariant.kept c.last_turn.ensures.kept
+
+pub returns-in_err-last_turn-clause-heard : goal.returns-in_err-last_turn-clause-heard
+returns-in_err-last_turn-clause-heard g c =
+    let was = c.args.desk.now in
+    let now = c.loop.desk in
+    let left = c.last_turn.new.desk in
+    hears_then was.ends.items now.ends.items left.ends.items was.book.log.items now.book.log.items left.book.log.items c.loop.invariant.heard c.last_turn.ensures.heard
+
+pub returns-then-is_stopped-clause-kept : goal.returns-then-is_stopped-clause-kept
+returns-then-is_stopped-clause-kept g c =
+    let was = c.args.desk.now in
+    let now = c.loop.desk in
+    let left = c.last_turn.new.desk in
+    all_then was.lines.items now.lines.items left.lines.items was.ends.items now.ends.items left.ends.items was.book now.book left.book c.loop.invariant.kept c.last_turn.ensures.kept
+
+pub returns-then-is_stopped-clause-heard : goal.returns-then-is_stopped-clause-heard
+returns-then-is_stopped-clause-heard g c =
+    let was = c.args.desk.now in
+    let now = c.loop.desk in
+    let left = c.last_turn.new.desk in
+    hears_then was.ends.items now.ends.items left.ends.items was.book.log.items now.book.log.items left.book.log.items c.loop.invariant.heard c.last_turn.ensures.heard

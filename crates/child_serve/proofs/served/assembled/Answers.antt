@@ -13,7 +13,7 @@ returns-clause-whole g c keepers scripts e are = record {
   served = all_served g.K.Keeper.told g.K.Keeper.gives keepers scripts c.args.parts.items _ c.requires.workers.0 are c.in_ok-logged.ensures.joined.ascends
       (subst (λ (rs : List (List HallEvent)). EachSees rs c.in_ok-logged.logged) c.in_ok-apart.ensures.records c.in_ok-logged.ensures.sees)
       (c.in_ok-reports.ensures ∙ ap (in_turn c.args.count) c.in_ok-apart.ensures.reports ∙ ap (λ (n : ℕ). in_turn n (map (λ (p : Served). p.reports) c.args.parts.items)) (sym e))
-      c.in_ok-apart.ensures.unsettled;
+      c.in_ok-apart.ensures.unsettled c.in_ok-apart.ensures.stopped;
   records = records_of c.args.parts.items;
   each = map_length (λ (p : Served). p.logged) c.args.parts.items;
   joined = subst (λ (rs : List (List HallEvent)). IsJoined rs c.in_ok-logged.logged) c.in_ok-apart.ensures.records c.in_ok-logged.ensures.joined;

@@ -1,9 +1,10 @@
-use Rattle.std.proofs.Common.{length, map, sym, ap, subst, ◌∙◌, arith}
+use Rattle.std.proofs.Common.{◌≡◌, Bool, true, false, length, map, sym, ap, subst, ◌∙◌, arith}
+use Rattle.std.proofs.lemmas.Option.{slice_get_within}
 use Rattle.dialogue_sched.specs.Hall.{AllBegin}
 use Rattle.child_desk.specs.declared.book.Book.{Book}
 use Rattle.child_desk.specs.Book.{IsRecord}
 use Rattle.child_desk.proofs.Hears.{all_then}
-use Rattle.child_desk.proofs.Kept.{all_still}
+use Rattle.child_desk.proofs.Kept.{all_still, leaves_all, no_hand_same}
 use Rattle.child_serve.specs.Opened.{AreOpened}
 use Rattle.child_serve.proofs.Settling.{linked_all, linked_still, given_all, unheard_all}
 use Rattle.child_serve.proofs.Working.{begun_length, first_length, line_of, is_work}
@@ -55,10 +56,38 @@ returns g c =
     (subst IsRecord (sym c.new-desk.ensures.book) c.new-book.ensures.record)
     (unheard_all workers worker keepers desk.ends.items hands are_opened)
     c.turn_all.ensures.kept
-    c.in-Ok.ensures.over
+    (λ running. c.in-Ok.ensures.over c.if-stopped.false)
     (all_still turned.lines.items turned.ends.items settled.ends.items turned.book settled.book c.settle_all.ensures.book c.settle_all.ensures.hands)
     c.into_outcome-reports.ensures.shown
     c.into_outcome-reports.ensures.record
     (given_all workers worker keepers desk.ends.items settled.ends.items begun.log.items settled.book.log.items hands c.in_ok-settled.settled.unsettled.items empty
     are_opened
     (all_then desk.ends.items turned.ends.items settled.ends.items begun.log.items turned.book.log.items settled.book.log.items c.turn_all.ensures.heard c.settle_all.ensures.heard) c.in_ok-settled.ensures.settled)
+
+pub returns-then-stopped : goal.returns-then-stopped
+returns-then-stopped g c =
+    let workers = c.args.place.workers in
+    let worker = c.args.place.worker in
+    let keepers = c.args.team.keepers.items in
+    let desk = c.new-desk.result in
+    let begun = desk.book in
+    let turned = c.turn_all.new.desk in
+    let hands = c.open_all-outcome.new.opened.hands.items in
+    let empty = ap (λ (b : Book). b.log.items) c.new-desk.ensures.book ∙ c.new-book.ensures.log in
+    let are_opened = subst (λ es. AreOpened workers worker keepers es hands) (sym c.new-desk.ensures.ends) c.in_default.ensures.opened in
+    is_work workers worker c.args.team desk.lines.items turned.lines.items desk.ends.items turned.ends.items turned.ends.items begun turned.book turned.book c.in_ok-give_up.field-0
+    c.requires
+    (c.new-desk.ensures.lines ∙ c.in_ok-lines.ensures ∙ ap (map (line_of g.K.Keeper.named g.K.Keeper.made)) c.as_slice.ensures.value)
+    (subst (AllBegin c.args.team.scripts.items) (sym (ap (λ (b : Book). b.hall) c.new-desk.ensures.book ∙ c.new-book.ensures.hall)) c.in_ok-hall_of.ensures)
+    empty
+    (subst IsRecord (sym c.new-desk.ensures.book) c.new-book.ensures.record)
+    (unheard_all workers worker keepers desk.ends.items hands are_opened)
+    c.turn_all.ensures.kept
+    (λ running. absurd (let h : ◌≡◌ {A = Bool} true false = sym c.in_ok-give_up.ensures.stopped ∙ running in cc))
+    (all_still turned.lines.items turned.ends.items turned.ends.items turned.book turned.book (leaves_all turned.book) (no_hand_same turned.ends.items))
+    c.in_ok-give_up.ensures.shown
+    c.in_ok-give_up.ensures.record
+    (λ i index keeper e xs qs got here among small apart.
+    let within = slice_get_within keepers i keeper got in
+    let count = c.in_default.ensures.opened.1 in
+    absurd (apart (c.in_ok-give_up.ensures.listed i (omega (arith, within, count)) index small)))

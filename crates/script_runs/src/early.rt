@@ -1,0 +1,262 @@
+//! Reports and transcripts that are written as scripts end, by a thread of their own: no dialogue waits for who reads them.
+
+use crate::driving::DriveFault;
+use crate::shelf::Shelf;
+use child_events::Counted;
+use child_serve::ServeFault;
+use feed_rings::{Bell, Ringer};
+use report_texts::{Form, Spares, Unwritten, is_done, made_spares, write_all};
+use session::Report;
+use std::alloc::{AllocError, Global};
+use std::io::Write;
+use std::sync::atomic::{AtomicBool, Ordering};
+use std::sync::{Arc, Mutex, Wait};
+use std::thread;
+use std::thread::{JoinHandle, Threads};
+use std::time::Clock;
+use tcl_words::Text;
+
+/// How many milliseconds the thread rests at most.
+const REST: u64 = 1_000;
+
+/// How many bytes of stack the thread has.
+const STACK: usize = 262_144;
+
+/// A script that has ended.
+#[derive(Drop)]
+struct Ended {
+    number: usize,
+    report: Report,
+}
+
+/// The scripts that have ended and aren't told yet.
+#[derive(Drop)]
+struct Queue {
+    ended: Mutex<Vec<Ended>>,
+    /// Whether no more come.
+    is_over: AtomicBool,
+    /// Whether something is done with them.
+    are_told: bool,
+    ringer: Ringer,
+}
+
+impl Queue {
+    /// With room for so many scripts.
+    fn new(
+        alloc: Global,
+        count: usize,
+        are_told: bool,
+        ringer: Ringer,
+    ) -> Result<Arc<Queue>, AllocError> {
+        let queue = Queue {
+            ended: Mutex::new(Vec::with_capacity(alloc, count)?),
+            is_over: AtomicBool::new(false),
+            are_told,
+            ringer,
+        };
+        Ok(Arc::new(alloc, queue)?)
+    }
+
+    fn next(&self, rt: &impl Wait) -> Option<Ended> {
+        let mut ended = self.ended.lock(rt);
+        if ended.is_empty() {
+            return None;
+        }
+        Some(ended.remove(0))
+    }
+}
+
+/// The lines of reports.
+#[derive(Drop)]
+struct Lines<O: Drop> {
+    form: Form,
+    /// For each script its line if it were refused memory.
+    spares: Vec<Text>,
+    out: O,
+    /// Whether all that was written ended with status 0, unless a write failed.
+    outcome: Result<bool, Unwritten>,
+}
+
+impl<O: Write + Copy + Drop> Lines<O> {
+    /// No lines yet of so many scripts.
+    fn new(alloc: Global, form: &Form, count: usize, out: O) -> Result<Lines<O>, AllocError> {
+        let form = form.copied(alloc)?;
+        let Spares { parts, .. } = made_spares(alloc, &form, count)?;
+        Ok(Lines {
+            form,
+            spares: parts,
+            out,
+            outcome: Ok(true),
+        })
+    }
+
+    /// Writes the line of a script, or the spare one if memory for it is refused. Whether the script that it tells of ended with status 0.
+    fn written(&self, alloc: Global, ended: &Ended) -> Result<bool, Unwritten> {
+        let mut out = Counted::new(self.out);
+        if let Ok(line) = self.form.part(alloc, ended.number, &ended.report) {
+            write_all(&mut out, line.as_slice())?;
+            return Ok(is_done(ended.report.ending));
+        }
+        if let Some(spare) = self.spares.get(ended.number.saturating_sub(1)) {
+            write_all(&mut out, spare.as_slice())?;
+        }
+        Ok(false)
+    }
+
+    /// Writes the line of a script, unless a write failed before.
+    fn write(&mut self, alloc: Global, ended: &Ended) {
+        if let Ok(well) = self.outcome {
+            self.outcome = match self.written(alloc, ended) {
+                Ok(is_well) => Ok(well && is_well),
+                Err(fault) => Err(fault),
+            };
+        }
+    }
+}
+
+/// Writes reports and keeps transcripts, whichever is asked for.
+#[derive(Drop)]
+struct Writer<O: Drop, S: Drop> {
+    alloc: Global,
+    lines: Option<Lines<O>>,
+    shelf: Option<S>,
+}
+
+impl<O: Write + Copy + Drop, S: Shelf + Drop> Writer<O, S> {
+    /// Tells that a script has ended.
+    fn tell(&mut self, ended: &Ended) {
+        if let Some(shelf) = &mut self.shelf {
+            shelf.keep(ended.number, ended.report.transcript.as_slice());
+        }
+        if let Some(lines) = &mut self.lines {
+            lines.write(self.alloc, ended);
+        }
+    }
+
+    /// Tells of the scripts of a queue as they come, until no more do.
+    fn tell_all<R: Wait + Clock>(mut self, rt: &R, queue: &Queue, bell: &Bell) -> Writer<O, S> {
+        for _ in rt.forever() {
+            let is_over = queue.is_over.load(Ordering::SeqCst);
+            match queue.next(rt) {
+                Some(ended) => self.tell(&ended),
+                None => {
+                    if is_over {
+                        return self;
+                    }
+                    bell.rest_at_most(rt, REST);
+                }
+            }
+        }
+        unreachable!()
+    }
+}
+
+/// Takes the reports of a worker's scripts as they end.
+#[derive(Drop)]
+pub struct Ends<R: Drop> {
+    rt: R,
+    /// The numbers of the scripts, by their places.
+    numbers: Vec<u8>,
+    queue: Arc<Queue>,
+}
+
+impl<R: Wait + Drop> Ends<R> {
+    /// Whether reports are wanted.
+    pub fn are_told(&self) -> bool {
+        self.queue.are_told
+    }
+
+    /// The script at a place has ended, with this report.
+    pub fn put(&self, place: usize, report: Option<Report>) {
+        let (Some(number), Some(report)) = (self.numbers.get(place), report) else {
+            return;
+        };
+        let number = usize::from(*number);
+        let mut ended = self.queue.ended.lock(&self.rt);
+        // there is room for all scripts
+        let _ = ended.push(Ended { number, report });
+        drop(ended);
+        self.queue.ringer.ring();
+    }
+}
+
+/// What a run has told as its scripts ended.
+#[derive(Drop)]
+pub struct Told<S: Drop> {
+    /// Whether each script ended with status 0, unless a write failed.
+    pub outcome: Result<bool, Unwritten>,
+    /// What kept the transcripts.
+    pub shelf: Option<S>,
+}
+
+/// The thread that writes reports and keeps transcripts as scripts end.
+#[derive(Drop)]
+pub struct Early<O: Drop, S: Drop> {
+    queue: Arc<Queue>,
+    thread: JoinHandle<Writer<O, S>>,
+}
+
+impl<O: Write + Copy + Send + Drop + 'static, S: Shelf + Send + Drop + 'static> Early<O, S> {
+    /// Starts the thread for so many scripts. It writes their reports to `out`, if a form is given, and hands their transcripts to the shelf, if
+    /// there is one.
+    pub fn start<R: Threads + Wait + Clock + Copy + Send + Drop + 'static>(
+        rt: R,
+        alloc: Global,
+        count: usize,
+        form: Option<&Form>,
+        out: O,
+        shelf: Option<S>,
+    ) -> Result<Early<O, S>, DriveFault> {
+        let bell = Bell::new(alloc)?;
+        let are_told = form.is_some() || shelf.is_some();
+        let queue = Queue::new(alloc, count, are_told, bell.ringer()?)?;
+        let theirs = Arc::try_clone(&queue)?;
+        let lines = match form {
+            Some(form) => Some(Lines::new(alloc, form, count, out)?),
+            None => None,
+        };
+        let writer = Writer {
+            alloc,
+            lines,
+            shelf,
+        };
+        let started = thread::Builder::new()
+            .stack_size(STACK)
+            .spawn(&rt, move || writer.tell_all(&rt, &theirs, &bell));
+        match started {
+            Ok(thread) => Ok(Early { queue, thread }),
+            Err(_) => Err(DriveFault::Serve(ServeFault::NoThread)),
+        }
+    }
+
+    /// What a worker's scripts are told to, which have these numbers.
+    pub fn ends<R: Wait + Drop>(
+        &self,
+        rt: R,
+        alloc: Global,
+        numbers: &[u8],
+    ) -> Result<Ends<R>, AllocError> {
+        let mut own = Vec::with_capacity(alloc, numbers.len())?;
+        for number in numbers {
+            own.push(*number)?;
+        }
+        Ok(Ends {
+            rt,
+            numbers: own,
+            queue: Arc::try_clone(&self.queue)?,
+        })
+    }
+
+    /// Waits until all that was told is written.
+    pub fn end<R: Threads>(self, rt: &R) -> Told<S> {
+        let Early { queue, thread } = self;
+        queue.is_over.store(true, Ordering::SeqCst);
+        queue.ringer.ring();
+        let Writer { lines, shelf, .. } = thread.join(rt);
+        let outcome = match lines {
+            Some(lines) => lines.outcome,
+            None => Ok(true),
+        };
+        Told { outcome, shelf }
+    }
+}
