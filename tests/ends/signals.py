@@ -11,6 +11,8 @@ from typing import NamedTuple
 
 # how ./exprun starts the program
 BLOCKED = ("env", "--block-signal=INT,TERM,HUP")
+# a gate that is started in the background has SIGINT ignored, and so would have what it runs
+HEARD = ("env", "--default-signal=INT,TERM,HUP")
 SIGNALS = (signal.SIGINT, signal.SIGTERM, signal.SIGHUP)
 # how many seconds a run takes at most from the signal on
 REST = 5
@@ -77,7 +79,7 @@ def is_started(process, binary):
 
 def stopped(binary, folder, run, environment):
     """Stops a run. Its status, its output and the seconds that it took from the signal on."""
-    words = [*BLOCKED, binary, "run", *STEPS, "--format", run.form, "--workers", str(run.workers)]
+    words = [*HEARD, *BLOCKED, binary, "run", *STEPS, "--format", run.form, "--workers", str(run.workers)]
     words += ["--record", "record", "--transcripts", "kept", "--explain", "told", *files_of(folder, run.sources)]
     with open(folder / "out", "wb") as out, open(folder / "err", "wb") as err:
         ran = subprocess.Popen(words, cwd=folder, env=environment, stdin=subprocess.DEVNULL, stdout=out, stderr=err)
