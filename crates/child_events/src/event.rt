@@ -7,7 +7,7 @@ use std::alloc::{AllocError, Global};
 use tcl_words::Text;
 
 /// Why a request to a child, or reading from it, failed.
-#[derive(Clone, Copy, Debug, PartialEq, Eq)]
+#[derive(Clone, Copy, PartialEq, Eq)]
 pub enum Cause {
     NotFound,
     Denied,
@@ -17,7 +17,7 @@ pub enum Cause {
 }
 
 /// What a request to a child came to.
-#[derive(Clone, Copy, Debug, PartialEq, Eq)]
+#[derive(Clone, Copy, PartialEq, Eq)]
 pub enum Answer {
     /// It was carried out.
     Ok,
@@ -30,7 +30,7 @@ pub enum Answer {
 }
 
 /// What an event of a child brings.
-#[derive(Debug, Drop)]
+#[derive(Drop)]
 pub enum What {
     /// Bytes that the child wrote.
     Out(Text),
@@ -57,7 +57,7 @@ impl What {
 }
 
 /// What comes from a child, in the order in which it came.
-#[derive(Debug, Drop)]
+#[derive(Drop)]
 pub enum Item {
     /// Bytes that the child wrote.
     Out(Text),
@@ -68,14 +68,14 @@ pub enum Item {
 }
 
 /// An event of one script: of one of its children, or of time alone. Moments are milliseconds.
-#[derive(Debug, Drop)]
+#[derive(Drop)]
 pub enum Event {
     Child { child: u8, moment: u64, what: What },
     Tick { moment: u64 },
 }
 
 /// An event of any script.
-#[derive(Debug, Drop)]
+#[derive(Drop)]
 pub enum HallEvent {
     Child {
         script: u8,

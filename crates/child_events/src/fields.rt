@@ -143,7 +143,7 @@ pub fn moment(line: usize, word: &[u8]) -> Result<u64, LogFault>
 }
 
 /// Whose event it is, and when.
-#[derive(Clone, Copy, Debug)]
+#[derive(Clone, Copy)]
 pub struct Stamp {
     pub script: u8,
     pub child: u8,

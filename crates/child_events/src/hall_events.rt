@@ -7,7 +7,7 @@ use std::alloc::{AllocError, Global};
 use std::marker::Model;
 
 /// Events of any scripts in order. A contract sees a list.
-#[derive(Debug, Drop)]
+#[derive(Drop)]
 pub struct HallEvents {
     /// The events, in order.
     pub list: Vec<HallEvent>,

@@ -17,7 +17,7 @@ use std::alloc::Global;
 use std::marker::Model;
 
 /// What is left of a log: so many bytes, which say events, or have a first fault. Nothing of it is kept but its bytes.
-#[derive(Debug, Drop)]
+#[derive(Drop)]
 pub struct LogLines<'a> {
     version: Version,
     rest: &'a [u8],

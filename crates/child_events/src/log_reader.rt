@@ -15,7 +15,7 @@ use std::alloc::{AllocError, Global};
 use std::marker::Model;
 
 /// The events that are left of a log, seen as a list. The log was judged, and nothing of it is kept but its bytes.
-#[derive(Debug, Drop)]
+#[derive(Drop)]
 pub struct LogReader<'a> {
     rest: &'a [u8],
     /// The number of the next line.

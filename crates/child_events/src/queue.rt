@@ -19,7 +19,7 @@ const PIECE: usize = 4096;
 ///
 /// The echoes stand with the item of the child before which they are taken, so that an echo is placed and
 /// an item taken without moving what stands before.
-#[derive(Debug, Drop)]
+#[derive(Drop)]
 pub struct Queue {
     alloc: Global,
     /// What came from the child, in order of moments.

@@ -4,7 +4,7 @@ use crate::event::Item;
 use std::collections::VecDeque;
 
 /// An item that came from a child, and the echoes that stand before it.
-#[derive(Debug, Drop)]
+#[derive(Drop)]
 pub struct Slot {
     /// The echoes, each with its moment in milliseconds.
     pub echoes: VecDeque<(u64, Item)>,

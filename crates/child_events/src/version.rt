@@ -8,7 +8,7 @@ use crate::faults::LogFault;
 use crate::fields::{LONGEST, any_number, is, split_first};
 
 /// The version of a log.
-#[derive(Clone, Copy, Debug, PartialEq, Eq)]
+#[derive(Clone, Copy, PartialEq, Eq)]
 pub enum Version {
     /// Lines of events alone.
     First,

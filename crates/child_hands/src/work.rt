@@ -45,7 +45,7 @@ pub struct Reader<K: Keeper> {
 }
 
 /// Why a hand has ended.
-#[derive(Clone, Copy, Debug, PartialEq, Eq)]
+#[derive(Clone, Copy, PartialEq, Eq)]
 pub enum Outcome {
     /// It took the stop.
     Stopped,

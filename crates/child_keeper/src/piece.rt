@@ -7,7 +7,7 @@ use std::marker::Model;
 use tcl_words::Text;
 
 /// Bytes that a child wrote, 1 to 4,096. A contract sees the list.
-#[derive(Debug, Drop)]
+#[derive(Drop)]
 pub struct Piece {
     text: Text,
 }

@@ -3,7 +3,7 @@
 use child_keeper::Gate;
 
 /// Lets every request pass.
-#[derive(Clone, Copy, Debug)]
+#[derive(Clone, Copy)]
 pub struct Free;
 
 impl Gate for Free {

@@ -14,7 +14,7 @@ const ANYBODY: u32 = 0o001;
 const SOMEBODY: u32 = 0o111;
 
 /// What the system makes of a file that is to be executed.
-#[derive(Clone, Copy, Debug, PartialEq, Eq)]
+#[derive(Clone, Copy, PartialEq, Eq)]
 enum Kind {
     /// There is no such file, or it can't be executed.
     Missing,

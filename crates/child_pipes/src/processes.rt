@@ -3,7 +3,7 @@
 use std::alloc::{AllocError, Global};
 
 /// A process that has not ended. Two of one number differ in their start.
-#[derive(Clone, Copy, Debug)]
+#[derive(Clone, Copy)]
 pub struct Process {
     pub(crate) id: u32,
     parent: u32,

@@ -7,7 +7,7 @@ ghost use Rattle.child_pipes.specs.Stage.{stage_after};
 const PAUSE: u64 = 1_000;
 
 /// How far a child is on its way to its end. Moments are in milliseconds.
-#[derive(Clone, Copy, Debug, PartialEq, Eq)]
+#[derive(Clone, Copy, PartialEq, Eq)]
 pub enum Stage {
     /// Its script needs it.
     Kept,

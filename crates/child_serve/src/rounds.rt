@@ -20,7 +20,7 @@ use tcl_host::Ending;
 const REST: u64 = 100;
 
 /// What an audience was told of a script.
-#[derive(Clone, Copy, Debug)]
+#[derive(Clone, Copy)]
 struct Told {
     /// How many bytes it has shown.
     shown: usize,

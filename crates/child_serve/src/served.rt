@@ -16,7 +16,7 @@ use session::Report;
 use std::alloc::{AllocError, Global};
 
 /// A child of which not all that came may stand in the record.
-#[derive(Clone, Copy, Debug, PartialEq, Eq)]
+#[derive(Clone, Copy, PartialEq, Eq)]
 pub struct Unsettled {
     /// Its script's number.
     pub script: u8,

@@ -31,14 +31,14 @@ pub struct Team<K: Drop, C: Drop> {
 }
 
 /// Which worker it is, of how many. Its scripts are those of the numbers worker + 1, worker + 1 + workers, ..
-#[derive(Clone, Copy, Debug)]
+#[derive(Clone, Copy)]
 pub struct Place {
     pub workers: u8,
     pub worker: u8,
 }
 
 /// Why a worker couldn't serve its scripts.
-#[derive(Clone, Copy, Debug, PartialEq, Eq)]
+#[derive(Clone, Copy, PartialEq, Eq)]
 pub enum WorkFault {
     /// Memory was refused.
     Memory,

@@ -73,7 +73,7 @@ fn header_counts_on(
 }
 
 /// An event of a cast.
-#[derive(Clone, Copy, Debug)]
+#[derive(Clone, Copy)]
 struct Scene<'a> {
     time: &'a str,
     code: &'a str,

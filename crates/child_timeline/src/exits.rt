@@ -8,7 +8,7 @@ use std::alloc::{AllocError, Global};
 use std::marker::Model;
 
 /// What a wait for a child comes to.
-#[derive(Clone, Copy, Debug)]
+#[derive(Clone, Copy)]
 pub struct Exit {
     /// The child's number, from 1.
     pub child: u8,
@@ -16,7 +16,7 @@ pub struct Exit {
 }
 
 /// What waits come to, of each child once at most. A contract sees a list.
-#[derive(Debug, Drop)]
+#[derive(Drop)]
 pub struct Exits {
     list: Vec<Exit>,
 }

@@ -3,7 +3,7 @@
 use std::alloc::{AllocError, AllocFailed};
 
 /// The first fault of a text that is no timeline, or no cast, with the number of its line, counted from 1.
-#[derive(Clone, Copy, Debug, PartialEq, Eq)]
+#[derive(Clone, Copy, PartialEq, Eq)]
 pub enum TimelineFault {
     /// What is no line of a timeline: an unknown word, one that is missing, or one too many.
     Shape(usize),

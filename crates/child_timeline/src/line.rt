@@ -13,7 +13,7 @@ use child_events::{Answer, Cause, What};
 use std::alloc::Global;
 
 /// When a line is, in milliseconds.
-#[derive(Clone, Copy, Debug)]
+#[derive(Clone, Copy)]
 pub(crate) enum When {
     At(u64),
     /// So long after the line before.

@@ -8,7 +8,7 @@ use std::alloc::{AllocError, Global};
 use tcl_words::Text;
 
 /// Where in a text a byte stands.
-#[derive(Clone, Copy, Debug)]
+#[derive(Clone, Copy)]
 pub(crate) enum Part {
     /// Where it stands for itself.
     Plain,

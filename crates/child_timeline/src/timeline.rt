@@ -20,7 +20,7 @@ const MOMENT_LIMIT: u64 = 9_000_000_000_000_000;
 const LONGEST_PIECE: usize = 4096;
 
 /// What the children of one script say, in order, and how they end.
-#[derive(Debug, Drop)]
+#[derive(Drop)]
 pub struct Timeline {
     /// What comes from the children, and ticks. The script is script 1.
     pub events: HallEvents,

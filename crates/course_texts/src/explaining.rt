@@ -21,7 +21,7 @@ use std::mem;
 use tcl_words::Text;
 
 /// Why not all courses were told.
-#[derive(Clone, Copy, Debug, PartialEq, Eq)]
+#[derive(Clone, Copy, PartialEq, Eq)]
 pub enum ExplainFault {
     /// A read of the log failed, or the most reads that are made met no end.
     Read,

@@ -15,7 +15,7 @@ use tcl_words::Text;
 const PART: usize = 256;
 
 /// Why not all of a log was shown.
-#[derive(Clone, Copy, Debug, PartialEq, Eq)]
+#[derive(Clone, Copy, PartialEq, Eq)]
 pub enum ShowFault {
     /// A read of the log failed, or the most reads that are made met no end.
     Read,

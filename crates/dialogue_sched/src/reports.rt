@@ -6,7 +6,7 @@ use session::Report;
 use std::marker::Model;
 
 /// Reports in order of their scripts, seen as a list.
-#[derive(Debug, Drop)]
+#[derive(Drop)]
 pub struct Reports {
     pub list: Vec<Report>,
 }

@@ -50,7 +50,7 @@ impl<T: Drop> From<AllocFailed<T>> for RunFault {
 }
 
 /// Why there are no reports of scripts over a log.
-#[derive(Clone, Copy, Debug, PartialEq, Eq)]
+#[derive(Clone, Copy, PartialEq, Eq)]
 pub enum LogRunFault {
     /// The first fault of the log.
     Log(LogFault),

@@ -4,7 +4,7 @@ use session::Settings;
 use tcl_words::Text;
 
 /// A script that is to be run.
-#[derive(Debug, Drop)]
+#[derive(Drop)]
 pub struct Script {
     pub source: Text,
     pub settings: Settings,

@@ -8,7 +8,7 @@ use std::alloc::{AllocError, Global};
 use std::marker::Model;
 
 /// What one script sees, seen as a list.
-#[derive(Debug, Drop)]
+#[derive(Drop)]
 pub struct Share {
     pub events: Vec<Event>,
 }
@@ -33,7 +33,7 @@ impl Share {
 }
 
 /// What each script sees, in order of the scripts, seen as a list of lists.
-#[derive(Debug, Drop)]
+#[derive(Drop)]
 pub struct Shares {
     pub list: Vec<Share>,
 }

@@ -6,7 +6,7 @@ use std::alloc::{AllocError, Global};
 use std::marker::Model;
 
 /// The bytes between the brackets of a class. A contract sees a byte list.
-#[derive(Debug, Drop)]
+#[derive(Drop)]
 pub struct Members {
     /// The bytes, in order.
     pub bytes: Vec<u8>,
@@ -39,7 +39,7 @@ impl Members {
 }
 
 /// What matches one byte.
-#[derive(Debug, Drop)]
+#[derive(Drop)]
 pub enum Single {
     /// `?`: each byte.
     Any,
@@ -50,7 +50,7 @@ pub enum Single {
 }
 
 /// An element of a pattern.
-#[derive(Debug, Drop)]
+#[derive(Drop)]
 pub enum Element {
     /// `*`: bytes, none or more.
     Star,
@@ -61,7 +61,7 @@ pub enum Element {
 }
 
 /// Elements in order. A contract sees a list.
-#[derive(Debug, Drop)]
+#[derive(Drop)]
 pub struct Elements {
     /// The elements, in order.
     pub list: Vec<Element>,

@@ -15,7 +15,7 @@ use memchr::memmem;
 use std::alloc::{AllocError, Global};
 
 /// The literal of the last run that has elements.
-#[derive(Debug, Drop)]
+#[derive(Drop)]
 pub struct Ending {
     /// How far before the end of the run it begins, or more.
     pub back: usize,

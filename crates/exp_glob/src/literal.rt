@@ -11,7 +11,7 @@ use crate::places::after;
 use memchr::memmem;
 
 /// Bytes of a run that each match of it has.
-#[derive(Debug, Drop)]
+#[derive(Drop)]
 pub struct Literal {
     /// How far behind the start of a match they stand.
     pub offset: usize,
@@ -20,7 +20,7 @@ pub struct Literal {
 }
 
 /// The literals of a pattern.
-#[derive(Debug, Drop)]
+#[derive(Drop)]
 pub struct Literals {
     /// A literal of each run, in order. The last runs may have none.
     pub runs: Vec<Literal>,

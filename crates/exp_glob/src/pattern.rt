@@ -17,7 +17,7 @@ use crate::runs::{least_run, longest, run_end, star_end};
 use std::alloc::{AllocError, Global};
 
 /// A glob pattern, read once.
-#[derive(Debug, Drop)]
+#[derive(Drop)]
 pub struct Glob {
     /// It began with `^`: it matches at the start of the text alone.
     pub anchored: bool,

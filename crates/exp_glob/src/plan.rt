@@ -14,7 +14,7 @@ use std::alloc::{AllocError, Global};
 use std::marker::Model;
 
 /// Elements, read once, and what they are sought by. A contract sees the elements.
-#[derive(Debug, Drop)]
+#[derive(Drop)]
 pub struct Plan {
     elements: Elements,
     /// Literals of a search with case.

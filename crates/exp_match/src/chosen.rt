@@ -6,7 +6,7 @@ ghost use Rattle.exp_match.specs.Choice.{with_spans as with_its_spans};
 use crate::matcher::Spans;
 
 /// What a test of the kept bytes against patterns gives.
-#[derive(Clone, Copy, Debug)]
+#[derive(Clone, Copy)]
 pub enum Chosen {
     /// The pattern with this number matches, with the spans of its groups 0 to 9.
     Pattern(usize, Spans),
@@ -18,7 +18,7 @@ pub enum Chosen {
 
 /// What a test of the kept bytes picks. It is small, since each test hands it on and few find anything: the spans of a match are written where
 /// the caller keeps them.
-#[derive(Clone, Copy, Debug)]
+#[derive(Clone, Copy)]
 pub enum Picked {
     /// The pattern with this number matches.
     Pattern(usize),

@@ -9,7 +9,7 @@ use std::marker::Model;
 use tcl_words::Text;
 
 /// A keyword in the place of a pattern.
-#[derive(Clone, Copy, Debug)]
+#[derive(Clone, Copy)]
 pub enum Keyword {
     /// `eof`: the process's output ended.
     Eof,

@@ -5,7 +5,7 @@ ghost use Rattle.std.specs.Prelude.{◌≡◌};
 use std::alloc::AllocError;
 
 /// Why a pattern of the grammar isn't compiled.
-#[derive(Clone, Copy, Debug)]
+#[derive(Clone, Copy)]
 pub enum Refusal {
     /// Its program would be too big.
     Refused,
@@ -24,7 +24,7 @@ impl From<AllocError> for Refusal {
 }
 
 /// Why a list of patterns isn't built.
-#[derive(Clone, Copy, Debug)]
+#[derive(Clone, Copy)]
 pub enum PatternFault {
     /// The argument at this index is no flag or pattern that may stand there, or it is a flag with nothing behind it.
     BadFlag(usize),

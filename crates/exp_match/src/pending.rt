@@ -4,7 +4,7 @@ use crate::entry::{Keyword, Want};
 use crate::list::PatternList;
 
 /// A flag for the next pattern.
-#[derive(Clone, Copy, Debug)]
+#[derive(Clone, Copy)]
 pub enum Mark {
     /// `-nocase`
     Nocase,
@@ -15,7 +15,7 @@ pub enum Mark {
 }
 
 /// The flags for the next pattern.
-#[derive(Clone, Copy, Debug)]
+#[derive(Clone, Copy)]
 pub struct Marks {
     /// `-nocase` stands before it.
     pub nocase: bool,
@@ -26,7 +26,7 @@ pub struct Marks {
 }
 
 /// How a pattern is written.
-#[derive(Clone, Copy, Debug)]
+#[derive(Clone, Copy)]
 pub enum Way {
     /// Behind `-ex` or `-exact`.
     Exact,
@@ -37,7 +37,7 @@ pub enum Way {
 }
 
 /// What an argument is, where a pattern may stand.
-#[derive(Clone, Copy, Debug)]
+#[derive(Clone, Copy)]
 pub enum Role {
     /// A flag for the next pattern.
     Mark(Mark),

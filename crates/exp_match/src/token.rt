@@ -1,7 +1,7 @@
 //! What a regular pattern is made of.
 
 /// What stands at a place of a regular pattern.
-#[derive(Clone, Copy, Debug)]
+#[derive(Clone, Copy)]
 pub enum Token {
     /// `|`, `^` or `$`: nothing that can be repeated.
     Bound,
@@ -16,7 +16,7 @@ pub enum Token {
 }
 
 /// What stands before a place of a regular pattern, as far as it matters behind it.
-#[derive(Clone, Copy, Debug)]
+#[derive(Clone, Copy)]
 pub struct Nesting {
     /// How many groups are open.
     pub opened: usize,

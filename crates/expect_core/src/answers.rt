@@ -10,7 +10,7 @@ use std::collections::VecDeque;
 use std::marker::Model;
 
 /// Answers that wait to be taken, each with its moment. A contract sees a list.
-#[derive(Debug, Drop)]
+#[derive(Drop)]
 pub struct Answers {
     list: VecDeque<(u64, Answer)>,
 }

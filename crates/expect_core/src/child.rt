@@ -22,7 +22,7 @@ use tty_input::{Actions, Line};
 use tty_output::{Modes, Seen, convert_behind};
 
 /// Whether a child has an id, and whether commands can still speak to it.
-#[derive(Clone, Copy, Debug, PartialEq, Eq)]
+#[derive(Clone, Copy, PartialEq, Eq)]
 pub enum Standing {
     /// It was asked for, but not started: it has no id.
     Unborn,

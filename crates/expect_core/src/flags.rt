@@ -12,7 +12,7 @@ use tcl_values::Value;
 use tcl_words::Text;
 
 /// A command's own flag.
-#[derive(Clone, Copy, Debug, PartialEq, Eq)]
+#[derive(Clone, Copy, PartialEq, Eq)]
 pub enum Switch {
     /// `-noecho` of `spawn`.
     NoEcho,
@@ -23,7 +23,7 @@ pub enum Switch {
 }
 
 /// The flags that a command takes.
-#[derive(Clone, Copy, Debug, PartialEq, Eq)]
+#[derive(Clone, Copy, PartialEq, Eq)]
 pub struct Takes {
     /// One of its own.
     pub own: Option<Switch>,

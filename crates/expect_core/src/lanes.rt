@@ -16,7 +16,7 @@ use std::alloc::{AllocError, Global};
 use std::marker::Model;
 
 /// What came from one child, and was not taken yet.
-#[derive(Debug, Drop)]
+#[derive(Drop)]
 pub struct Lane {
     /// Its output, its end, and the echo of what was sent to it.
     pub items: Queue,
@@ -65,7 +65,7 @@ impl Lane {
 }
 
 /// The lanes of children 1 to 16. A contract sees a list.
-#[derive(Debug, Drop)]
+#[derive(Drop)]
 pub struct Lanes {
     pub(crate) list: Vec<Lane>,
 }

@@ -21,7 +21,7 @@ use exp_match::{Matchers, Picked, Spans};
 use std::alloc::{AllocError, Global};
 
 /// How long a script waits: its last moment, and the greatest moment so far.
-#[derive(Clone, Copy, Debug)]
+#[derive(Clone, Copy)]
 pub struct Times {
     /// The last moment, where there is one.
     pub limit: Option<u64>,

@@ -1,7 +1,7 @@
 //! The commands of Expect by their names.
 
 /// A command of Expect.
-#[derive(Clone, Copy, Debug, PartialEq, Eq)]
+#[derive(Clone, Copy, PartialEq, Eq)]
 pub enum Name {
     Spawn,
     Send,

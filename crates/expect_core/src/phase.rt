@@ -37,7 +37,7 @@ pub enum Phase {
 }
 
 /// What came of a wait for patterns, and at which place the child stands that it is about.
-#[derive(Clone, Copy, Debug)]
+#[derive(Clone, Copy)]
 pub enum Heard {
     /// Of this child, the pattern with this number matches, with these spans.
     Match(Place, usize, Spans),

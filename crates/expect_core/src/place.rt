@@ -8,7 +8,7 @@ use std::marker::Model;
 pub(crate) const MOST_CHILDREN: usize = 16;
 
 /// The place of a child among those of a script, from 0 to 15. A contract sees a number.
-#[derive(Clone, Copy, Debug)]
+#[derive(Clone, Copy)]
 pub struct Place {
     at: u8,
 }

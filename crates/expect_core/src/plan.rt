@@ -10,7 +10,7 @@ use std::alloc::{AllocError, Global};
 use std::marker::Model;
 
 /// How long an expect waits.
-#[derive(Clone, Copy, Debug, PartialEq, Eq)]
+#[derive(Clone, Copy, PartialEq, Eq)]
 pub enum Span {
     /// For ever.
     Never,
@@ -159,7 +159,7 @@ impl Sides {
 }
 
 /// What ended the wait of an expect.
-#[derive(Clone, Copy, Debug)]
+#[derive(Clone, Copy)]
 pub struct Met {
     /// The number of the pattern or keyword in its list, from 0.
     pub entry: usize,

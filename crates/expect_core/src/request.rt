@@ -7,7 +7,7 @@ use std::marker::Model;
 use tcl_words::{Text, Texts};
 
 /// What is asked of a child.
-#[derive(Debug, Drop)]
+#[derive(Drop)]
 pub enum Act {
     /// To be started: the program and its arguments.
     Spawn(Texts),
@@ -51,7 +51,7 @@ impl Act {
 }
 
 /// A request to a child, which has a number from 1 to 16.
-#[derive(Debug, Drop)]
+#[derive(Drop)]
 pub struct Request {
     /// The child's number.
     pub child: u8,
@@ -79,7 +79,7 @@ impl Request {
 }
 
 /// Requests in order, seen as a list.
-#[derive(Debug, Drop)]
+#[derive(Drop)]
 pub struct Requests {
     /// The requests, the first one first.
     pub list: Vec<Request>,

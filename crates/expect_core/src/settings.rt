@@ -7,7 +7,7 @@ use std::marker::Model;
 use tcl_words::Text;
 
 /// Names with their values, in order, seen as a list of pairs of byte lists.
-#[derive(Debug, Drop)]
+#[derive(Drop)]
 pub struct Pairs {
     /// The pairs, the first one first.
     pub list: Vec<(Text, Text)>,
@@ -60,7 +60,7 @@ impl Pairs {
 }
 
 /// The bounds and the environment of a script.
-#[derive(Debug, Drop)]
+#[derive(Drop)]
 pub struct Settings {
     /// How many steps may be begun: from 1 to 1,000,000,000,000. A greater number counts as that.
     pub steps: u64,

@@ -4,7 +4,7 @@ ghost use Rattle.std.specs.Prelude.{◌≡◌, ◌≤◌};
 ghost use Rattle.expect_prog.specs.Outcome.{outcome_of, outcome_and, outcome_unless_stopped, status_of};
 
 /// How an order ended of which the reports, a log, or findings are printed.
-#[derive(Clone, Copy, Debug)]
+#[derive(Clone, Copy)]
 pub enum Outcome {
     /// Each script ended with status 0, or nothing was found wrong.
     Well,

@@ -20,7 +20,7 @@ const SOURCE: &[u8] = b"spawn p; send \"a\\r\"; send \"\\004\"; expect eof; puts
 const SCRIPTS: usize = 3;
 
 /// What fails of a child.
-#[derive(Clone, Copy, Debug, PartialEq, Eq)]
+#[derive(Clone, Copy, PartialEq, Eq)]
 enum Failing {
     Nothing,
     Spawn,
@@ -32,7 +32,7 @@ enum Failing {
 }
 
 /// What a script's report says: its steps, the bytes sent, its transcript's length, and its error, if it has one.
-#[derive(Clone, Copy, Debug)]
+#[derive(Clone, Copy)]
 struct Says {
     steps: u64,
     sent: u64,

@@ -74,7 +74,7 @@ pub fn is_of_cat(report: &Report) -> bool {
 }
 
 /// A clock that stands still.
-#[derive(Clone, Copy, Debug)]
+#[derive(Clone, Copy)]
 pub struct Still;
 
 impl Audience for Still {}
@@ -88,7 +88,7 @@ impl Clock for Still {
 }
 
 /// A gate that is open.
-#[derive(Clone, Copy, Debug)]
+#[derive(Clone, Copy)]
 pub struct Open;
 
 impl Gate for Open {

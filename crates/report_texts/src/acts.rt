@@ -10,7 +10,7 @@ use std::alloc::{AllocError, Global};
 use tcl_words::Text;
 
 /// How bytes are written.
-#[derive(Clone, Copy, Debug)]
+#[derive(Clone, Copy)]
 pub enum Spelling {
     /// In hexadecimal, and none as a dash.
     Hex,

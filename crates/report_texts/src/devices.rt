@@ -15,7 +15,7 @@ pub const MOST_CALLS: u64 = 1_099_511_627_776;
 const PIECE: usize = 16_384;
 
 /// Why a reader's bytes are not there.
-#[derive(Clone, Copy, Debug, PartialEq, Eq)]
+#[derive(Clone, Copy, PartialEq, Eq)]
 pub enum ReadFault {
     /// A read failed, or `MOST_CALLS` of them met no end.
     Failed,
@@ -35,7 +35,7 @@ impl From<AllocError> for ReadFault {
 }
 
 /// A writer that did not take a whole text: a write failed, or `MOST_CALLS` of them were not enough.
-#[derive(Clone, Copy, Debug, PartialEq, Eq)]
+#[derive(Clone, Copy, PartialEq, Eq)]
 pub struct Unwritten;
 
 /// A place for the bytes of one read.

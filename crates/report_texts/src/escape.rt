@@ -9,7 +9,7 @@ use std::alloc::{AllocError, Global};
 use tcl_words::Text;
 
 /// Where bytes are told as text.
-#[derive(Clone, Copy, Debug)]
+#[derive(Clone, Copy)]
 pub enum Place {
     /// In lines of their own.
     Lines,

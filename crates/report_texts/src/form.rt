@@ -14,7 +14,7 @@ use std::alloc::{AllocError, Global};
 use tcl_words::{Text, Texts};
 
 /// How reports are told.
-#[derive(Clone, Copy, Debug)]
+#[derive(Clone, Copy)]
 pub enum Format {
     /// Whole reports.
     Text,
@@ -31,7 +31,7 @@ pub enum Format {
 }
 
 /// The form that reports are told in.
-#[derive(Debug, Drop)]
+#[derive(Drop)]
 pub struct Form {
     pub format: Format,
     /// What whole reports have beside their transcripts, and objects beside theirs.
@@ -77,7 +77,7 @@ impl Form {
 }
 
 /// What is made before the first byte of reports is written.
-#[derive(Debug, Drop)]
+#[derive(Drop)]
 pub struct Spares {
     /// What stands before the parts of the reports.
     pub opening: Text,

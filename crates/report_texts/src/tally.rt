@@ -14,7 +14,7 @@ use session::Ending;
 use std::io::Write;
 
 /// The ways to end that a summary counts.
-#[derive(Clone, Copy, Debug)]
+#[derive(Clone, Copy)]
 pub enum Kind {
     /// With status 0.
     Well,

@@ -12,7 +12,7 @@ use std::alloc::{AllocError, Global};
 use tcl_words::Text;
 
 /// What a report's text has behind its transcript and its fault.
-#[derive(Clone, Copy, Debug)]
+#[derive(Clone, Copy)]
 pub struct Shown {
     /// The global variables, where the script's settings have them told.
     pub vars: bool,

@@ -7,7 +7,7 @@ use crate::stretch::is;
 use tcl_commands::{Verb, verb_of};
 
 /// A command of Expect.
-#[derive(Clone, Copy, Debug, PartialEq, Eq)]
+#[derive(Clone, Copy, PartialEq, Eq)]
 pub enum Order {
     Spawn,
     Send,
@@ -23,7 +23,7 @@ pub enum Order {
 }
 
 /// A command of the language or of Expect.
-#[derive(Clone, Copy, Debug, PartialEq, Eq)]
+#[derive(Clone, Copy, PartialEq, Eq)]
 pub enum Known {
     /// One of the language.
     Language(Verb),

@@ -7,7 +7,7 @@ use crate::stretch::is;
 use tcl_commands::{Plain, Verb};
 
 /// How many arguments a command takes.
-#[derive(Clone, Copy, Debug, PartialEq, Eq)]
+#[derive(Clone, Copy, PartialEq, Eq)]
 pub struct Count {
     /// At least so many.
     pub least: usize,

@@ -15,7 +15,7 @@ use tcl_subst::Names;
 const DEEPEST: u8 = 200;
 
 /// What is wrong with a source, in the order of its places. A contract sees the list of it.
-#[derive(Debug, Drop)]
+#[derive(Drop)]
 pub struct Findings {
     list: Vec<Finding>,
 }

@@ -12,7 +12,7 @@ use std::alloc::{AllocError, Global};
 use tcl_words::Text;
 
 /// A flag that one command alone takes.
-#[derive(Clone, Copy, Debug, PartialEq, Eq)]
+#[derive(Clone, Copy, PartialEq, Eq)]
 pub enum Own {
     /// There is none.
     None,
@@ -25,7 +25,7 @@ pub enum Own {
 }
 
 /// What a command takes.
-#[derive(Clone, Copy, Debug, PartialEq, Eq)]
+#[derive(Clone, Copy, PartialEq, Eq)]
 pub struct Takes {
     /// A flag of its own.
     pub own: Own,
@@ -38,7 +38,7 @@ pub struct Takes {
 }
 
 /// What a word is where a flag may stand.
-#[derive(Clone, Copy, Debug, PartialEq, Eq)]
+#[derive(Clone, Copy, PartialEq, Eq)]
 pub enum Role {
     /// It isn't written plainly, so it may be any word.
     Unknown,

@@ -65,7 +65,7 @@ impl Words {
 }
 
 /// What stands before a word.
-#[derive(Clone, Copy, Debug, PartialEq, Eq)]
+#[derive(Clone, Copy, PartialEq, Eq)]
 pub enum Lead {
     /// White space and ends of commands.
     White,

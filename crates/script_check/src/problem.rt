@@ -10,7 +10,7 @@ use tcl_expr::ExprFault;
 use tcl_words::{Text, WordFault};
 
 /// What is wrong with a command.
-#[derive(Debug, Drop)]
+#[derive(Drop)]
 pub enum Problem {
     /// It is malformed.
     Malformed(WordFault),
@@ -35,7 +35,7 @@ pub enum Problem {
 }
 
 /// Something that is wrong, and where.
-#[derive(Debug, Drop)]
+#[derive(Drop)]
 pub struct Finding {
     /// The byte of the source at which the command begins.
     pub at: usize,

@@ -1,7 +1,7 @@
 //! Stretches of a source.
 
 /// A stretch of a source.
-#[derive(Clone, Copy, Debug, PartialEq, Eq)]
+#[derive(Clone, Copy, PartialEq, Eq)]
 pub struct Span {
     /// The place of its first byte.
     pub from: usize,

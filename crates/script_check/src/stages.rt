@@ -9,7 +9,7 @@ use crate::stretch::{begins_with, is};
 use tcl_commands::Verb;
 
 /// As what an argument is read.
-#[derive(Clone, Copy, Debug, PartialEq, Eq)]
+#[derive(Clone, Copy, PartialEq, Eq)]
 pub enum Kind {
     Text,
     Script,
@@ -17,7 +17,7 @@ pub enum Kind {
 }
 
 /// What may stand next among the arguments of a command.
-#[derive(Clone, Copy, Debug, PartialEq, Eq)]
+#[derive(Clone, Copy, PartialEq, Eq)]
 pub enum Stage {
     /// Texts, to the end.
     Texts,

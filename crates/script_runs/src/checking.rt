@@ -12,7 +12,7 @@ use std::io::Write;
 use tcl_words::Text;
 
 /// Why not all findings were told.
-#[derive(Clone, Copy, Debug, PartialEq, Eq)]
+#[derive(Clone, Copy, PartialEq, Eq)]
 pub enum CheckFault {
     /// A write failed, or the most writes that are made were not enough.
     Write,

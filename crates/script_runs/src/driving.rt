@@ -20,7 +20,7 @@ use std::thread::Threads;
 use tcl_words::Text;
 
 /// Why not all of a run was written.
-#[derive(Clone, Copy, Debug, PartialEq, Eq)]
+#[derive(Clone, Copy, PartialEq, Eq)]
 pub enum DriveFault {
     /// The scripts weren't served. This is no want of memory.
     Serve(ServeFault),

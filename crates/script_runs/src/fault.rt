@@ -5,7 +5,7 @@ use dialogue_sched::RunFault;
 use std::alloc::AllocError;
 
 /// Why not all reports were written.
-#[derive(Clone, Copy, Debug, PartialEq, Eq)]
+#[derive(Clone, Copy, PartialEq, Eq)]
 pub enum ReplayFault {
     /// A read of the log failed, or the most reads that are made met no end.
     Read,

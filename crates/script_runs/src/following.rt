@@ -21,7 +21,7 @@ use tcl_words::Text;
 const LONGEST: usize = 4_096;
 
 /// How a script's output is told.
-#[derive(Clone, Copy, Debug)]
+#[derive(Clone, Copy)]
 pub enum Manner {
     /// As it is.
     Plain,

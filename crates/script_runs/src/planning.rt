@@ -16,7 +16,7 @@ use std::io::{Read, Write};
 use tcl_words::Text;
 
 /// Why no log was planned, or not all of it written.
-#[derive(Clone, Copy, Debug, PartialEq, Eq)]
+#[derive(Clone, Copy, PartialEq, Eq)]
 pub enum PlanLogFault {
     /// A read of the timeline failed, or the most reads that are made met no end.
     Read,

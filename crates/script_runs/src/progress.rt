@@ -19,7 +19,7 @@ const FIRST: u64 = 1_000;
 const PAUSE: u64 = 250;
 
 /// A script that isn't over.
-#[derive(Clone, Copy, Debug)]
+#[derive(Clone, Copy)]
 pub struct Quiet {
     /// Its number.
     pub number: u8,
@@ -52,7 +52,7 @@ fn quietest_of_all(scripts: &[Option<Quiet>]) -> Option<Quiet>
 }
 
 /// A script, and what is known of it.
-#[derive(Clone, Copy, Debug)]
+#[derive(Clone, Copy)]
 struct Course {
     number: u8,
     /// The moment at which it showed something for the last time.
@@ -112,7 +112,7 @@ fn quietest(scripts: &[Course]) -> Option<Quiet>
 }
 
 /// How far the scripts of one worker are.
-#[derive(Clone, Copy, Debug)]
+#[derive(Clone, Copy)]
 struct Standing {
     /// How many of them are over.
     over: u64,

@@ -10,7 +10,7 @@ use tcl_host::Values;
 use tcl_words::Text;
 
 /// Where an error was handed on.
-#[derive(Debug, Drop)]
+#[derive(Drop)]
 pub enum Place {
     /// At a command of a script with this text, which was read from this place on: behind the command before it.
     Command { script: Text, at: usize },
@@ -19,7 +19,7 @@ pub enum Place {
 }
 
 /// Where an error came by, the innermost place first. A contract sees a list.
-#[derive(Debug, Drop)]
+#[derive(Drop)]
 pub struct Places {
     pub list: Vec<Place>,
 }

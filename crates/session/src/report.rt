@@ -11,7 +11,7 @@ use tcl_host::Ending;
 use tcl_words::Text;
 
 /// Numbers in order, seen as a list.
-#[derive(Debug, Drop)]
+#[derive(Drop)]
 pub struct Counts {
     pub list: Vec<u64>,
 }
@@ -41,7 +41,7 @@ impl Counts {
 }
 
 /// What came of a script so far.
-#[derive(Debug, Drop)]
+#[derive(Drop)]
 pub struct Report {
     pub ending: Ending,
     /// The text of the error that ended it; empty at any other ending.

@@ -20,7 +20,7 @@ pub trait Watcher {
 }
 
 /// Who sees nothing.
-#[derive(Clone, Copy, Debug)]
+#[derive(Clone, Copy)]
 pub(crate) struct Nobody {}
 
 impl Watcher for Nobody {

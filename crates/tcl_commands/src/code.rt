@@ -1,7 +1,7 @@
 //! How a command or a script ends.
 
 /// How a command or a script ended.
-#[derive(Clone, Copy, Debug, PartialEq, Eq)]
+#[derive(Clone, Copy, PartialEq, Eq)]
 pub enum Code {
     /// With its value.
     Ok,

@@ -6,7 +6,7 @@ use std::alloc::{AllocError, AllocFailed};
 use tcl_words::Text;
 
 /// Why a command has no value.
-#[derive(Debug, Drop)]
+#[derive(Drop)]
 pub enum Complaint {
     /// No memory was left.
     Memory,

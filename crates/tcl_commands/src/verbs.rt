@@ -7,7 +7,7 @@ ghost use Rattle.tcl_commands.specs.Verbs.{verb_of, plain_of, control_of};
 use crate::texts::is;
 
 /// A command that reads and changes variables and texts alone.
-#[derive(Clone, Copy, Debug, PartialEq, Eq)]
+#[derive(Clone, Copy, PartialEq, Eq)]
 pub enum Plain {
     Set,
     Unset,
@@ -28,7 +28,7 @@ pub enum Plain {
 }
 
 /// An option of `string`.
-#[derive(Clone, Copy, Debug, PartialEq, Eq)]
+#[derive(Clone, Copy, PartialEq, Eq)]
 pub(crate) enum StringOption {
     Length,
     Index,
@@ -42,7 +42,7 @@ pub(crate) enum StringOption {
 }
 
 /// A command of the language.
-#[derive(Clone, Copy, Debug, PartialEq, Eq)]
+#[derive(Clone, Copy, PartialEq, Eq)]
 pub enum Verb {
     /// One that evaluates nothing.
     Plain(Plain),

@@ -6,7 +6,7 @@ ghost use Rattle.tcl_expr.specs.Truth.{word_of, word_text, says, truth_of, truth
 use crate::number::read_number;
 
 /// A word that is a truth value.
-#[derive(Clone, Copy, Debug, PartialEq, Eq)]
+#[derive(Clone, Copy, PartialEq, Eq)]
 pub(crate) enum Bareword {
     True,
     Yes,

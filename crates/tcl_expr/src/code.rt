@@ -10,7 +10,7 @@ use std::marker::Model;
 use tcl_words::Word;
 
 /// An instruction, over a stack of values.
-#[derive(Debug, Drop)]
+#[derive(Drop)]
 pub(crate) enum Op {
     /// Puts a number on the stack.
     Number(i64),
@@ -51,7 +51,7 @@ impl Op {
 }
 
 /// Instructions in order.
-#[derive(Debug, Drop)]
+#[derive(Drop)]
 pub(crate) struct Code {
     pub(crate) ops: Vec<Op>,
 }

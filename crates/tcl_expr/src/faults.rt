@@ -6,7 +6,7 @@ use std::alloc::{AllocError, AllocFailed};
 use tcl_words::{Text, WordFault};
 
 /// Why a text is no expression, or an expression has no value.
-#[derive(Debug, Drop)]
+#[derive(Drop)]
 pub enum ExprFault {
     /// The text is no expression.
     Syntax,

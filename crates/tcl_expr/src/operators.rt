@@ -1,7 +1,7 @@
 //! The operators of expressions.
 
 /// An operator before its operand.
-#[derive(Clone, Copy, Debug, PartialEq, Eq)]
+#[derive(Clone, Copy, PartialEq, Eq)]
 pub(crate) enum Prefix {
     /// `-`
     Minus,
@@ -14,7 +14,7 @@ pub(crate) enum Prefix {
 }
 
 /// An operator on two numbers that gives a number.
-#[derive(Clone, Copy, Debug, PartialEq, Eq)]
+#[derive(Clone, Copy, PartialEq, Eq)]
 pub(crate) enum Arithmetic {
     /// `*`
     Multiply,
@@ -35,7 +35,7 @@ pub(crate) enum Arithmetic {
 }
 
 /// A comparison: of numbers where both operands are numbers, else of texts.
-#[derive(Clone, Copy, Debug, PartialEq, Eq)]
+#[derive(Clone, Copy, PartialEq, Eq)]
 pub(crate) enum Comparison {
     /// `<`
     Less,
@@ -52,7 +52,7 @@ pub(crate) enum Comparison {
 }
 
 /// An operator that needs both its operands.
-#[derive(Clone, Copy, Debug, PartialEq, Eq)]
+#[derive(Clone, Copy, PartialEq, Eq)]
 pub(crate) enum Eager {
     Arithmetic(Arithmetic),
     Comparison(Comparison),
@@ -63,7 +63,7 @@ pub(crate) enum Eager {
 }
 
 /// An operator that needs its second operand only where the first doesn't decide.
-#[derive(Clone, Copy, Debug, PartialEq, Eq)]
+#[derive(Clone, Copy, PartialEq, Eq)]
 pub(crate) enum Lazy {
     /// `&&`
     And,
@@ -72,7 +72,7 @@ pub(crate) enum Lazy {
 }
 
 /// An operator between two operands.
-#[derive(Clone, Copy, Debug, PartialEq, Eq)]
+#[derive(Clone, Copy, PartialEq, Eq)]
 pub(crate) enum Infix {
     Eager(Eager),
     Lazy(Lazy),

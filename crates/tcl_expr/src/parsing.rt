@@ -15,7 +15,7 @@ use std::marker::Model;
 use tcl_words::Word;
 
 /// An expression, read from its text. A contract sees it as its tree.
-#[derive(Debug, Drop)]
+#[derive(Drop)]
 pub struct Expr {
     pub(crate) code: Code,
 }

@@ -1,7 +1,7 @@
 //! The endings of scripts.
 
 /// How a script ends.
-#[derive(Clone, Copy, Debug, PartialEq, Eq)]
+#[derive(Clone, Copy, PartialEq, Eq)]
 pub enum Ending {
     /// The script called `exit` with this status, or reached its end.
     Exit(u8),

@@ -7,7 +7,7 @@ use tcl_values::GrowFault;
 use tcl_words::ListFault;
 
 /// Why a variable could not be read or changed.
-#[derive(Clone, Copy, Debug, PartialEq, Eq)]
+#[derive(Clone, Copy, PartialEq, Eq)]
 pub enum SubstFault {
     /// There is no such variable, or the array has no such element.
     NoVariable,

@@ -6,7 +6,7 @@ use std::alloc::{AllocError, AllocFailed};
 use tcl_words::ListFault;
 
 /// Why elements could not be put behind a list.
-#[derive(Clone, Copy, Debug, PartialEq, Eq)]
+#[derive(Clone, Copy, PartialEq, Eq)]
 pub enum GrowFault {
     /// The value is no list.
     BadList,

@@ -6,7 +6,7 @@ use std::alloc::{AllocError, Global};
 use std::marker::Model;
 
 /// A text: bytes of any value. A contract sees it as the list of its bytes.
-#[derive(Debug, Drop)]
+#[derive(Drop)]
 pub struct Text {
     /// The bytes, in order.
     pub bytes: Vec<u8>,
@@ -87,7 +87,7 @@ impl Text {
 }
 
 /// Texts in order. A contract sees them as a list of byte lists.
-#[derive(Debug, Drop)]
+#[derive(Drop)]
 pub struct Texts {
     /// The texts, in order.
     pub list: Vec<Text>,

@@ -5,7 +5,7 @@ ghost use Rattle.std.specs.Prelude.{◌≡◌};
 use std::alloc::{AllocError, AllocFailed};
 
 /// Why a command could not be read. Of several constructs that are left open, the innermost one's fault is given.
-#[derive(Clone, Copy, Debug, PartialEq, Eq)]
+#[derive(Clone, Copy, PartialEq, Eq)]
 pub enum WordFault {
     /// A `{` or a `${` without its `}`.
     MissingBrace,
@@ -26,7 +26,7 @@ pub enum WordFault {
 }
 
 /// Why a list could not be read.
-#[derive(Clone, Copy, Debug, PartialEq, Eq)]
+#[derive(Clone, Copy, PartialEq, Eq)]
 pub enum ListFault {
     /// The text is no list.
     BadList,

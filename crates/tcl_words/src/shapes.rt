@@ -7,7 +7,7 @@ use crate::bytes::Text;
 use std::alloc::{AllocError, Global};
 
 /// A part of a word.
-#[derive(Debug, Drop)]
+#[derive(Drop)]
 pub enum Part {
     /// Bytes that stand for themselves, backslashes already replaced.
     Lit(Text),
@@ -18,7 +18,7 @@ pub enum Part {
 }
 
 /// A word. Its value is the values of its parts, joined.
-#[derive(Debug, Drop)]
+#[derive(Drop)]
 pub struct Word {
     /// Whether the word stands behind `{*}`: its value is then split as a list, and each element is a word.
     pub expand: bool,
@@ -27,7 +27,7 @@ pub struct Word {
 }
 
 /// A command.
-#[derive(Debug, Drop)]
+#[derive(Drop)]
 pub struct Command {
     /// The words in order, at least one.
     pub words: Vec<Word>,

@@ -3,7 +3,7 @@
 use crate::shapes::Part;
 
 /// A byte, which joins the bytes around it, or a part of its own.
-#[derive(Debug, Drop)]
+#[derive(Drop)]
 pub(crate) enum Token {
     /// A byte that stands for itself, or that a backslash gives.
     Byte(u8),

@@ -7,7 +7,7 @@ use std::marker::Model;
 use tcl_words::Text;
 
 /// What a terminal gives to the program that reads from it.
-#[derive(Debug, Drop)]
+#[derive(Drop)]
 pub enum Action {
     /// These bytes.
     Write(Text),
@@ -16,7 +16,7 @@ pub enum Action {
 }
 
 /// Actions in order. A contract sees a list.
-#[derive(Debug, Drop)]
+#[derive(Drop)]
 pub struct Actions {
     /// The actions, in order.
     pub list: Vec<Action>,

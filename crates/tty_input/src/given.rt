@@ -16,7 +16,7 @@ use tcl_words::Text;
 use tty_output::Modes;
 
 /// What a send hands over and echoes.
-#[derive(Debug, Drop)]
+#[derive(Drop)]
 pub(crate) struct Given {
     pub(crate) actions: Actions,
     /// The end of the input was given, and nothing is handed over behind it.

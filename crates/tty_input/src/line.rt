@@ -14,7 +14,7 @@ use tty_output::Modes;
 
 /// The input side of a terminal: its modes, the text of the line that isn't ended, and whether the
 /// end of the input was given.
-#[derive(Debug, Drop)]
+#[derive(Drop)]
 pub struct Line {
     alloc: Global,
     modes: Modes,

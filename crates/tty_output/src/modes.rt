@@ -8,7 +8,7 @@ use tcl_expr::read_number;
 use tcl_words::Text;
 
 /// The modes of a terminal, as POSIX.1-2017 XBD chapter 11 names them.
-#[derive(Clone, Copy, Debug, PartialEq, Eq)]
+#[derive(Clone, Copy, PartialEq, Eq)]
 pub struct Modes {
     /// Input is handed over line by line, and can be edited before.
     pub icanon: bool,
@@ -23,7 +23,7 @@ pub struct Modes {
 }
 
 /// A word that sets no mode.
-#[derive(Clone, Copy, Debug, PartialEq, Eq)]
+#[derive(Clone, Copy, PartialEq, Eq)]
 pub struct BadMode {
     /// The index of the first bad word, from 0.
     pub at: usize,

@@ -19,7 +19,7 @@ impl Modes {
 }
 
 /// Output, of which the front was given up as it is seen. A contract sees what is seen of the rest.
-#[derive(Debug, Drop)]
+#[derive(Drop)]
 pub struct Seen<'a> {
     /// Whether NUL bytes are removed.
     remove: bool,
