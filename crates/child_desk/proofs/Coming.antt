@@ -23,7 +23,7 @@ use Rattle.child_keeper.specs.declared.keeper.Keeper.{Ghosts}
 use Rattle.child_desk.specs.declared.book.Book.{Book}
 use Rattle.child_desk.specs.declared.line.Line.{Line}
 use Rattle.child_desk.specs.declared.ends.Ends.{Ends}
-use Rattle.child_desk.specs.Book.{Enters}
+use Rattle.child_desk.specs.Book.{Enters, logged}
 use Rattle.child_desk.specs.Told.{Telling, Reply, replies_in, heard_of_hand, rings_of}
 use Rattle.child_desk.specs.Line.{Keeping, answer_at, InLine, Leaves, KeepsAll}
 use Rattle.child_desk.specs.Turn as Turn
@@ -57,10 +57,10 @@ took_apart n zero e (x ∷ olds) (y ∷ news) t none =
     ap (λ (k : Kept). Some k) (subst (λ (es : List Event). Took x es y) (ap (λ (m : ℕ). own m (e ∷ [])) (sym number) ∙ none) t.0)
 took_apart n (suc i) e (x ∷ olds) (y ∷ news) t none = let number : n + 1 + i ≡ n + suc i = omega arith in took_apart (n + 1) i e olds news t.1 (ap (λ (m : ℕ). own m (e ∷ [])) number ∙ none)
 
-pub comes_same : (at : ℕ) (old new : Book) → new.hall ≡ old.hall → new.log.items ≡ old.log.items → new.stamp ≡ old.stamp → Turn.Comes at old new
+pub comes_same : (at : ℕ) (old new : Book) → new.hall ≡ old.hall → logged new ≡ logged old → new.stamp ≡ old.stamp → Turn.Comes at old new
 comes_same at old new h l s = record {
   more = [];
-  log = l ∙ sym (append-nil old.log.items);
+  log = l ∙ sym (append-nil (logged old));
   each = tt;
   stamp = s;
   others = λ i other. ap (λ (ks : List Kept). slice_get ks i) h;
@@ -72,7 +72,7 @@ comes_all at book = comes_same at book book refl refl refl
 pub comes_then : (at : ℕ) (a b c : Book) → Turn.Comes at a b → Turn.Comes at b c → Turn.Comes at a c
 comes_then at a b c f g = record {
   more = f.more ++ g.more;
-  log = g.log ∙ ap (λ (es : List HallEvent). es ++ g.more) f.log ∙ append_assoc a.log.items f.more g.more;
+  log = g.log ∙ ap (λ (es : List HallEvent). es ++ g.more) f.log ∙ append_assoc (logged a) f.more g.more;
   each = each_then (Turn.CameTo a.stamp at) f.more g.more f.each (subst (λ (s : ℕ). AllByRecursion (Turn.CameTo s at) g.more) f.stamp g.each);
   stamp = g.stamp ∙ f.stamp;
   others = λ i other. g.others i other ∙ f.others i other;
@@ -91,12 +91,12 @@ pub comes_tried : (at c : ℕ) (w : What) (e : HallEvent) (took : Bool) (old new
 comes_tried at c w e true old new t is = comes_entered at c w e old new t is
 comes_tried at c w e false old new t is = subst (Turn.Comes at old) (sym t.0) (comes_all at old)
 
-pub comes_asked : (at : ℕ) (request : Option Request) (old new : Book) → at < length old.hall → Requested (at + 1) old.hall request new.hall → new.log.items ≡ old.log.items → new.stamp ≡ old.stamp → Turn.Comes at old new
+pub comes_asked : (at : ℕ) (request : Option Request) (old new : Book) → at < length old.hall → Requested (at + 1) old.hall request new.hall → logged new ≡ logged old → new.stamp ≡ old.stamp → Turn.Comes at old new
 comes_asked at request old new lt req log stamp =
     let h = handed_at at request old.hall new.hall lt req in
     record {
       more = [];
-      log = log ∙ sym (append-nil old.log.items);
+      log = log ∙ sym (append-nil (logged old));
       each = tt;
       stamp = stamp;
       others = λ i other. ap (λ (ks : List Kept). slice_get ks i) h.4 ∙ set_there at i old.hall h.1 other;
@@ -110,14 +110,14 @@ own_each i at stamp (e ∷ es) other ((c, w, is), f) =
     ∙ ap (λ (xs : List Event). xs ++ own (i + 1) es) (ap (λ (x : HallEvent). own (i + 1) (x ∷ [])) is ∙ own_apart i at c stamp w other)
     ∙ own_each i at stamp es other f
 
-pub own_elsewhere : (i at : ℕ) (old new : Book) → (i ≡ at → ⊥) → Turn.Comes at old new → own (i + 1) new.log.items ≡ own (i + 1) old.log.items
+pub own_elsewhere : (i at : ℕ) (old new : Book) → (i ≡ at → ⊥) → Turn.Comes at old new → own (i + 1) (logged new) ≡ own (i + 1) (logged old)
 own_elsewhere i at old new other f =
-    ap (own (i + 1)) f.log ∙ own-append (i + 1) old.log.items f.more ∙ ap (λ (xs : List Event). own (i + 1) old.log.items ++ xs) (own_each i at old.stamp f.more other f.each) ∙ append-nil (own (i + 1) old.log.items)
+    ap (own (i + 1)) f.log ∙ own-append (i + 1) (logged old) f.more ∙ ap (λ (xs : List Event). own (i + 1) (logged old) ++ xs) (own_each i at old.stamp f.more other f.each) ∙ append-nil (own (i + 1) (logged old))
 
 -- a whole turn
 
-pub to_none : (book : Book) → Turn.ComesTo book.stamp book.log.items book
-to_none book = record { more = []; log = sym (append-nil book.log.items); each = tt; stamped = refl }
+pub to_none : (book : Book) → Turn.ComesTo book.stamp (logged book) book
+to_none book = record { more = []; log = sym (append-nil (logged book)); each = tt; stamped = refl }
 
 pub to_then : (at stamp : ℕ) (front : List HallEvent) (b c : Book) → Turn.ComesTo stamp front b → Turn.Comes at b c → Turn.ComesTo stamp front c
 to_then at stamp front b c f g = record {
@@ -128,8 +128,8 @@ to_then at stamp front b c f g = record {
   stamped = g.stamp ∙ f.stamped;
 }
 
-pub turns : (now : ℕ) (a b c : Book) → Turn.Ticks now a b → Turn.ComesTo b.stamp b.log.items c → Turn.Turns now a c
-turns now a b c tick f = subst (λ (s : ℕ). Turn.ComesTo s (a.log.items ++ Turn.ticks a.stamp now) c) tick.1 (subst (λ (es : List HallEvent). Turn.ComesTo b.stamp es c) tick.0 f)
+pub turns : (now : ℕ) (a b c : Book) → Turn.Ticks now a b → Turn.ComesTo b.stamp (logged b) c → Turn.Turns now a c
+turns now a b c tick f = subst (λ (s : ℕ). Turn.ComesTo s (logged a ++ Turn.ticks a.stamp now) c) tick.1 (subst (λ (es : List HallEvent). Turn.ComesTo b.stamp es c) tick.0 f)
 
 pub ok_too : {T E P : Type 0} (o : Result T E) → P → OnOk o P
 ok_too (Ok x) p = p
@@ -151,15 +151,15 @@ later stamp now h = let lt = lt_said stamp now (and_true (nat_lt stamp now) (nat
 pub tick_taken : (scripts stamp now : ℕ) → Turn.goes_on stamp now ≡ true → refusal_of scripts (hall.Tick now) ≡ None
 tick_taken scripts stamp now h = rw ((and_true (nat_lt stamp now) (nat_le now 9000000000000000) h).1)
 
-pub ticked : (now : ℕ) (old mid new : Book) → Turn.goes_on old.stamp now ≡ true → mid.log.items ≡ old.log.items → mid.stamp ≡ now → Enters (hall.Tick now) true mid new → Turn.Ticks now old new
+pub ticked : (now : ℕ) (old mid new : Book) → Turn.goes_on old.stamp now ≡ true → logged mid ≡ logged old → mid.stamp ≡ now → Enters (hall.Tick now) true mid new → Turn.Ticks now old new
 ticked now old mid new h log stamp t = (
-  t.2 ∙ ap (λ (es : List HallEvent). es ++ hall.Tick now ∷ []) log ∙ ap (λ (b : Bool). old.log.items ++ (if b then hall.Tick now ∷ [] else [])) (sym h),
+  t.2 ∙ ap (λ (es : List HallEvent). es ++ hall.Tick now ∷ []) log ∙ ap (λ (b : Bool). logged old ++ (if b then hall.Tick now ∷ [] else [])) (sym h),
   t.3 ∙ stamp ∙ ap (λ (b : Bool). if b then now else old.stamp) (sym h),
 )
 
 pub not_ticked : (now : ℕ) (book : Book) → Turn.goes_on book.stamp now ≡ false → Turn.Ticks now book book
 not_ticked now book h = (
-  sym (append-nil book.log.items) ∙ ap (λ (b : Bool). book.log.items ++ (if b then hall.Tick now ∷ [] else [])) (sym h),
+  sym (append-nil (logged book)) ∙ ap (λ (b : Bool). logged book ++ (if b then hall.Tick now ∷ [] else [])) (sym h),
   ap (λ (b : Bool). if b then now else book.stamp) (sym h),
 )
 
@@ -169,25 +169,25 @@ no_more : (at : ℕ) (es es' : List HallEvent) → replies_in (own (at + 1) es')
 no_more at es es' same = same ∙ sym (append-nil (replies_in (own (at + 1) es)))
 
 pub told_passed : (at : ℕ) (line : Line) (t : Telling) (book : Book) → (Turn.IsAwaited line t → ⊥) → Turn.IsTold at line t book book
-told_passed at line t book not = ([], no_more at book.log.items book.log.items refl, inr (not, refl))
+told_passed at line t book not = ([], no_more at (logged book) (logged book) refl, inr (not, refl))
 
 pub told_awaited : (at : ℕ) (line : Line) (t : Telling) (e : HallEvent) (old new : Book) → Turn.IsAwaited line t → e ≡ answer_at at t.request.child old.stamp t.answer → Enters e true old new → Turn.IsTold at line t old new
 told_awaited at line t e old new awaited is entered = (
   record { child = t.request.child; answer = t.answer } ∷ [],
-  ap (λ (es : List HallEvent). replies_in (own (at + 1) es)) entered.2 ∙ replies_append (at + 1) old.log.items (e ∷ [])
-      ∙ ap (λ (xs : List Reply). replies_in (own (at + 1) old.log.items) ++ xs) (ap (λ (x : HallEvent). replies_in (own (at + 1) (x ∷ []))) is ∙ own_reply at t.request.child old.stamp t.answer),
+  ap (λ (es : List HallEvent). replies_in (own (at + 1) es)) entered.2 ∙ replies_append (at + 1) (logged old) (e ∷ [])
+      ∙ ap (λ (xs : List Reply). replies_in (own (at + 1) (logged old)) ++ xs) (ap (λ (x : HallEvent). replies_in (own (at + 1) (x ∷ []))) is ∙ own_reply at t.request.child old.stamp t.answer),
   inl (awaited, refl),
 )
 
 pub hand_silent : (at : ℕ) (line : Line) (told told' : List Telling) (es es' : List HallEvent) → told' ≡ told → replies_in (own (at + 1) es') ≡ replies_in (own (at + 1) es) → Turn.HearsHand at line told es told' es'
 hand_silent at line told told' es es' same silent = record { more = []; heard = same ∙ sym (append-nil told); replies = []; recorded = no_more at es es' silent; entered = refl }
 
-pub hand_told : (at : ℕ) (line : Line) (t : Telling) (told told' : List Telling) (old mid new : Book) → told' ≡ told ++ t ∷ [] → mid.log.items ≡ old.log.items → Turn.IsTold at line t mid new → Turn.HearsHand at line told old.log.items told' new.log.items
+pub hand_told : (at : ℕ) (line : Line) (t : Telling) (told told' : List Telling) (old mid new : Book) → told' ≡ told ++ t ∷ [] → logged mid ≡ logged old → Turn.IsTold at line t mid new → Turn.HearsHand at line told (logged old) told' (logged new)
 hand_told at line t told told' old mid new is log (replies, recorded, entered) = record {
   more = t ∷ [];
   heard = is;
   replies = replies;
-  recorded = subst (λ (es : List HallEvent). Turn.Replies at es replies new.log.items) log recorded;
+  recorded = subst (λ (es : List HallEvent). Turn.Replies at es replies (logged new)) log recorded;
   entered = entered;
 }
 
@@ -207,20 +207,20 @@ module _ {K O : Type 0} {g : Ghosts K O} {r : ReadGhosts O} where
   elsewhere_same at lines ends i other = (refl, refl)
 
   pub hand_in : (at : ℕ) (lines : List Line) (ends : List (Ends K O g r)) (line : Line) (e e' : Ends K O g r) (old new : Book) → slice_get lines at ≡ Some line → slice_get ends at ≡ Some e →
-      ((keeper : Keeping) (script : Script) → InLine (rings_of e) keeper script at line old → Turn.HearsHand at line (heard_of_hand e.answers) old.log.items (heard_of_hand e'.answers) new.log.items) → Turn.HearsHandIn at lines ends old (slice_set ends at e') new
+      ((keeper : Keeping) (script : Script) → InLine (rings_of e) keeper script at line old → Turn.HearsHand at line (heard_of_hand e.answers) (logged old) (heard_of_hand e'.answers) (logged new)) → Turn.HearsHandIn at lines ends old (slice_set ends at e') new
   hand_in at lines ends line e e' old new here there hears keeper script l x got at_x is =
       let one : l ≡ line = one_there l line (sym got ∙ here) in
       let same : x ≡ e = one_there x e (sym at_x ∙ there) in
       let f = hears keeper script (subst (λ (y : Ends K O g r). InLine (rings_of y) keeper script at line old) same (subst (λ (m : Line). InLine (rings_of x) keeper script at m old) one is)) in (
         e',
         set_here at ends e e' there,
-        subst (λ (m : Line). Turn.HearsHand at m (heard_of_hand x.answers) old.log.items (heard_of_hand e'.answers) new.log.items) (sym one)
-            (subst (λ (y : Ends K O g r). Turn.HearsHand at line (heard_of_hand y.answers) old.log.items (heard_of_hand e'.answers) new.log.items) (sym same) f),
+        subst (λ (m : Line). Turn.HearsHand at m (heard_of_hand x.answers) (logged old) (heard_of_hand e'.answers) (logged new)) (sym one)
+            (subst (λ (y : Ends K O g r). Turn.HearsHand at line (heard_of_hand y.answers) (logged old) (heard_of_hand e'.answers) (logged new)) (sym same) f),
       )
 
   pub none_in : (at : ℕ) (lines : List Line) (ends : List (Ends K O g r)) (book : Book) → Turn.HearsHandIn at lines ends book ends book
   none_in at lines ends book keeper script line e here there is =
-      (e, there, hand_silent at line (heard_of_hand e.answers) (heard_of_hand e.answers) book.log.items book.log.items refl refl)
+      (e, there, hand_silent at line (heard_of_hand e.answers) (heard_of_hand e.answers) (logged book) (logged book) refl refl)
 
   pub asked_in : (at : ℕ) (lines : List Line) (ends : List (Ends K O g r)) (line line' : Line) (e e' : Ends K O g r) (new : Book) → slice_get lines at ≡ Some line → slice_get ends at ≡ Some e →
       Turn.HasAsked at line' e' new → Turn.HasAskedIn at (slice_set lines at line') (slice_set ends at e') new
@@ -239,7 +239,7 @@ module _ {K O : Type 0} {g : Ghosts K O} {r : ReadGhosts O} where
 
   -- from a place on nothing changed
   abbrev pub Behind : ℕ → List Line → List (Ends K O g r) → Book → List Line → List (Ends K O g r) → Book → Type 0
-  Behind n lines ends old lines' ends' new = (i : ℕ) → n ≤ i → (slice_get lines' i ≡ slice_get lines i) × (slice_get ends' i ≡ slice_get ends i) × (own (i + 1) new.log.items ≡ own (i + 1) old.log.items)
+  Behind n lines ends old lines' ends' new = (i : ℕ) → n ≤ i → (slice_get lines' i ≡ slice_get lines i) × (slice_get ends' i ≡ slice_get ends i) × (own (i + 1) (logged new) ≡ own (i + 1) (logged old))
 
   abbrev pub AskedTo : ℕ → List Line → List (Ends K O g r) → Book → Type 0
   AskedTo n lines ends book = (i : ℕ) → i < n → Turn.HasAskedIn i lines ends book
@@ -261,12 +261,12 @@ module _ {K O : Type 0} {g : Ghosts K O} {r : ReadGhosts O} where
       Turn.HearsHandIn n ys es b fs c → AllHeard xs ds a fs c
   heard_step n xs ys zs ds es fs a b c kept heard behind same come here i keeper script line e got there is = by_place (cases_eq i n)
     where
-      elsewhere : (i ≡ n → ⊥) → (e' : Ends K O g r) × (slice_get fs i ≡ Some e') × Turn.HearsHand i line (heard_of_hand e.answers) a.log.items (heard_of_hand e'.answers) c.log.items
+      elsewhere : (i ≡ n → ⊥) → (e' : Ends K O g r) × (slice_get fs i ≡ Some e') × Turn.HearsHand i line (heard_of_hand e.answers) (logged a) (heard_of_hand e'.answers) (logged c)
       elsewhere apart =
           let w = heard i keeper script line e got there is in
-          (w.0, (same i apart).1 ∙ w.1, hand_on i line (heard_of_hand e.answers) (heard_of_hand w.0.answers) (heard_of_hand w.0.answers) a.log.items b.log.items c.log.items w.2 refl (ap replies_in (own_elsewhere i n b c apart come)))
+          (w.0, (same i apart).1 ∙ w.1, hand_on i line (heard_of_hand e.answers) (heard_of_hand w.0.answers) (heard_of_hand w.0.answers) (logged a) (logged b) (logged c) w.2 refl (ap replies_in (own_elsewhere i n b c apart come)))
 
-      at_place : i ≡ n → (e' : Ends K O g r) × (slice_get fs i ≡ Some e') × Turn.HearsHand i line (heard_of_hand e.answers) a.log.items (heard_of_hand e'.answers) c.log.items
+      at_place : i ≡ n → (e' : Ends K O g r) × (slice_get fs i ≡ Some e') × Turn.HearsHand i line (heard_of_hand e.answers) (logged a) (heard_of_hand e'.answers) (logged c)
       at_place one =
           let was = behind i (omega (arith, one)) in
           let k = kept.each keeper script i line e got there is in
@@ -274,9 +274,9 @@ module _ {K O : Type 0} {g : Ghosts K O} {r : ReadGhosts O} where
           let same_end : k.1 ≡ e = one_there k.1 e (sym k.3 ∙ was.1 ∙ there) in
           let f = subst (λ (m : ℕ). Turn.HearsHandIn m ys es b fs c) (sym one) here keeper script line e (was.0 ∙ got) (was.1 ∙ there)
           (subst (λ (m : Line). InLine (rings_of e) keeper script i m b) same_line (subst (λ (x : Ends K O g r). InLine (rings_of x) keeper script i k.0 b) same_end k.4)) in
-          (f.0, f.1, hand_behind i line (heard_of_hand e.answers) (heard_of_hand f.0.answers) a.log.items b.log.items c.log.items (ap replies_in was.2) f.2)
+          (f.0, f.1, hand_behind i line (heard_of_hand e.answers) (heard_of_hand f.0.answers) (logged a) (logged b) (logged c) (ap replies_in was.2) f.2)
 
-      by_place : (i ≡ n) ⊎ (i ≡ n → ⊥) → (e' : Ends K O g r) × (slice_get fs i ≡ Some e') × Turn.HearsHand i line (heard_of_hand e.answers) a.log.items (heard_of_hand e'.answers) c.log.items
+      by_place : (i ≡ n) ⊎ (i ≡ n → ⊥) → (e' : Ends K O g r) × (slice_get fs i ≡ Some e') × Turn.HearsHand i line (heard_of_hand e.answers) (logged a) (heard_of_hand e'.answers) (logged c)
       by_place (inl one) = at_place one
       by_place (inr apart) = elsewhere apart
 
@@ -300,8 +300,8 @@ module _ {K O : Type 0} {g : Ghosts K O} {r : ReadGhosts O} where
   pub heard_behind : (lines : List Line) (ends ends' : List (Ends K O g r)) (a b c : Book) → Leaves a b → AllHeard lines ends b ends' c → AllHeard lines ends a ends' c
   heard_behind lines ends ends' a b c f heard i keeper script line e got there is =
       let w = heard i keeper script line e got there (f.lines (rings_of e) keeper script i line is) in
-      (w.0, w.1, hand_behind i line (heard_of_hand e.answers) (heard_of_hand w.0.answers) a.log.items b.log.items c.log.items (f.answers (i + 1)) w.2)
+      (w.0, w.1, hand_behind i line (heard_of_hand e.answers) (heard_of_hand w.0.answers) (logged a) (logged b) (logged c) (f.answers (i + 1)) w.2)
 
   pub heard_left : (lines : List Line) (ends : List (Ends K O g r)) (a b : Book) → Leaves a b → AllHeard lines ends a ends b
   heard_left lines ends a b f i keeper script line e got there is =
-      (e, there, hand_silent i line (heard_of_hand e.answers) (heard_of_hand e.answers) a.log.items b.log.items refl (f.answers (i + 1)))
+      (e, there, hand_silent i line (heard_of_hand e.answers) (heard_of_hand e.answers) (logged a) (logged b) refl (f.answers (i + 1)))

@@ -20,7 +20,7 @@ use Rattle.feed_rings.specs.declared.feed.Finished.{Finished}
 use Rattle.feed_rings.specs.declared.feed.FeedOut.{FeedOut}
 use Rattle.child_desk.specs.Ends.{IsOutput, output_at}
 use Rattle.child_desk.specs.Line.{answer_at}
-use Rattle.child_desk.specs.Book.{Enters}
+use Rattle.child_desk.specs.Book.{Enters, logged}
 use Rattle.child_desk.specs.declared.book.Book.{Book}
 use Rattle.dialogue_sched.specs.Refusal.{refusal_of, piece_len}
 use Rattle.child_desk.specs.declared.ends.Ends.{Ends}
@@ -110,15 +110,15 @@ adds_then s c xs ys a b d f g = record {
 tick_said : (m s c : ℕ) → said_by c (own s (hall.Tick m ∷ [])) ≡ []
 tick_said m s c = refl
 
-entered_unheard : (e : HallEvent) (took : Bool) (old new : Book) → Enters e took old new → ((s c : ℕ) → said_by c (own s (e ∷ [])) ≡ []) → Unheard old.log.items new.log.items
+entered_unheard : (e : HallEvent) (took : Bool) (old new : Book) → Enters e took old new → ((s c : ℕ) → said_by c (own s (e ∷ [])) ≡ []) → Unheard (logged old) (logged new)
 entered_unheard e true old new t none s c =
-    ap (recorded s c) t.2 ∙ recorded_on s c old.log.items e ∙ ap (λ (l : List What). recorded s c old.log.items ++ l) (none s c) ∙ append-nil (recorded s c old.log.items)
-entered_unheard e false old new t none s c = ap (λ (b : Book). recorded s c b.log.items) t.0
+    ap (recorded s c) t.2 ∙ recorded_on s c (logged old) e ∙ ap (λ (l : List What). recorded s c (logged old) ++ l) (none s c) ∙ append-nil (recorded s c (logged old))
+entered_unheard e false old new t none s c = ap (λ (b : Book). recorded s c (logged b)) t.0
 
-pub tick_unheard : (m : ℕ) (took : Bool) (old new : Book) → Enters (hall.Tick m) took old new → Unheard old.log.items new.log.items
+pub tick_unheard : (m : ℕ) (took : Bool) (old new : Book) → Enters (hall.Tick m) took old new → Unheard (logged old) (logged new)
 tick_unheard m took old new t = entered_unheard (hall.Tick m) took old new t (tick_said m)
 
-pub answer_unheard : (at child m : ℕ) (a : Answer) (e : HallEvent) (took : Bool) (old new : Book) → e ≡ answer_at at child m a → Enters e took old new → Unheard old.log.items new.log.items
+pub answer_unheard : (at child m : ℕ) (a : Answer) (e : HallEvent) (took : Bool) (old new : Book) → e ≡ answer_at at child m a → Enters e took old new → Unheard (logged old) (logged new)
 answer_unheard at child m a e took old new is t =
     entered_unheard e took old new t (λ s c. ap (λ (x : HallEvent). said_by c (own s (x ∷ []))) is ∙ said_answer child m a (at + 1) s c)
 

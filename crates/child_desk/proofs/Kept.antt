@@ -13,14 +13,15 @@ use Rattle.dialogue_sched.specs.Refusal.{refusal_of}
 use Rattle.std.specs.declared.io.traits.Read.{Ghosts as ReadGhosts}
 use Rattle.child_keeper.specs.declared.keeper.Keeper.{Ghosts}
 use Rattle.child_keeper.specs.declared.items.Item.{Item}
-use Rattle.feed_rings.specs.Ends.{taken_items, SameOut}
+use Rattle.feed_rings.specs.Ends.{put_items, taken_items, SameIn, SameOut}
+use Rattle.feed_rings.specs.declared.feed.FeedIn.{FeedIn}
 use Rattle.feed_rings.specs.declared.feed.FeedOut.{FeedOut}
 use Rattle.child_desk.specs.declared.ends.Ends.{Ends as HandEnds}
 use Rattle.child_desk.specs.Told.{Telling, Reply, Put, Asks, Stops, Rings, telling, asking, answers_in, replies_in, all_told, asked_of_hand, heard_of_hand, rings_of}
 use Rattle.child_desk.specs.Turn.{HasNoRequest, Waits}
 use Rattle.child_desk.specs.declared.book.Book.{Book}
 use Rattle.child_desk.specs.declared.line.Line.{Line}
-use Rattle.child_desk.specs.Book.{Enters, IsRecord, AscendsFrom, AllTaken, moment_in}
+use Rattle.child_desk.specs.Book.{Enters, IsRecord, AscendsFrom, AllTaken, moment_in, Looks, logged}
 use Rattle.child_desk.specs.Line.{Keeping, IsInLine, InLine, Leaves, Keeps, SameRings, HearsNoHand, KeepsAll}
 use Rattle.child_events.specs.declared.event.What.{What}
 use Rattle.child_events.specs.declared.event.What.TheVariants as what
@@ -59,6 +60,17 @@ took_length n es [] (y ∷ news) t = absurd t
 took_length n es (x ∷ olds) [] t = absurd t
 took_length n es (x ∷ olds) (y ∷ news) t = ap suc (took_length (n + 1) es olds news t.1)
 
+-- a ring stays what it is
+pub same_ring : (f : FeedIn HallEvent) → SameIn f f
+same_ring f = (refl, refl, refl, refl)
+
+pub then_ring : (a b c : FeedIn HallEvent) → SameIn a b → SameIn b c → SameIn a c
+then_ring a b c f g = (g.0 ∙ f.0, g.1 ∙ f.1, g.2 ∙ f.2, g.3 ∙ f.3)
+
+entered_ring : (e : HallEvent) (took : Bool) (old new : Book) → Enters e took old new → SameIn old.log new.log
+entered_ring e true old new t = t.4
+entered_ring e false old new t = subst (λ (b : Book). SameIn old.log b.log) (sym t.0) (same_ring old.log)
+
 pub entered_halls : (e : HallEvent) (took : Bool) (old new : Book) → Enters e took old new → length new.hall ≡ length old.hall
 entered_halls e true old new t = took_length 1 (e ∷ []) old.hall new.hall t.1
 entered_halls e false old new t = ap (λ (b : Book). length b.hall) t.0
@@ -66,26 +78,27 @@ entered_halls e false old new t = ap (λ (b : Book). length b.hall) t.0
 pub entered_record : (e : HallEvent) (took : Bool) (old new : Book) → Enters e took old new → moment_in e ≡ old.stamp → IsRecord old → IsRecord new
 entered_record e false old new t m r = subst IsRecord (sym t.0) r
 entered_record e true old new t m r = record {
-  ascends = subst (AscendsFrom 0) (sym t.2) (ascends_on 0 old.stamp e old.log.items (length old.hall) (let z : 0 ≤ old.stamp = omega arith in z) r.ascends r.taken m);
-  taken = subst (λ (n : ℕ). AllTaken (length new.hall) n new.log.items) (sym t.3)
-      (subst (λ (n : ℕ). AllTaken n old.stamp new.log.items) (sym (took_length 1 (e ∷ []) old.hall new.hall t.1))
-      (subst (AllTaken (length old.hall) old.stamp) (sym t.2) (taken_on (length old.hall) old.stamp e old.log.items r.taken t.0 m)));
+  ascends = subst (AscendsFrom 0) (sym t.2) (ascends_on 0 old.stamp e (logged old) (length old.hall) (let z : 0 ≤ old.stamp = omega arith in z) r.ascends r.taken m);
+  taken = subst (λ (n : ℕ). AllTaken (length new.hall) n (logged new)) (sym t.3)
+      (subst (λ (n : ℕ). AllTaken n old.stamp (logged new)) (sym (took_length 1 (e ∷ []) old.hall new.hall t.1))
+      (subst (AllTaken (length old.hall) old.stamp) (sym t.2) (taken_on (length old.hall) old.stamp e (logged old) r.taken t.0 m)));
 }
 
-pub leaves_same : (old new : Book) → new.hall ≡ old.hall → new.log.items ≡ old.log.items → new.stamp ≡ old.stamp → Leaves old new
-leaves_same old new h l s = record {
+pub leaves_same : (old new : Book) → Looks old new → Leaves old new
+leaves_same old new f = record {
   lines = λ rings keeper script at line is. in_line_same rings keeper script at line is;
-  answers = λ n. ap (λ (es : List HallEvent). replies_in (own n es)) l;
+  answers = λ n. ap (λ (es : List HallEvent). replies_in (own n es)) f.log;
   book = λ r. record {
-    ascends = subst (AscendsFrom 0) (sym l) r.ascends;
-    taken = subst (λ (n : ℕ). AllTaken (length new.hall) n new.log.items) (sym s) (subst (λ (ks : List Kept). AllTaken (length ks) old.stamp new.log.items) (sym h) (subst (AllTaken (length old.hall) old.stamp) (sym l) r.taken));
+    ascends = subst (AscendsFrom 0) (sym f.log) r.ascends;
+    taken = subst (λ (n : ℕ). AllTaken (length new.hall) n (logged new)) (sym f.stamp) (subst (λ (ks : List Kept). AllTaken (length ks) old.stamp (logged new)) (sym f.hall) (subst (AllTaken (length old.hall) old.stamp) (sym f.log) r.taken));
   };
-  halls = ap length h;
+  halls = ap length f.hall;
+  log = f.ring;
 }
   where
     in_line_same : (rings : Rings) (keeper : Keeping) (script : Script) (at : ℕ) (line : Line) → InLine rings keeper script at line old → InLine rings keeper script at line new
     in_line_same rings keeper script at line (k, here, is) =
-        (k, ap (λ (ks : List Kept). slice_get ks at) h ∙ here, subst (λ (es : List HallEvent). IsInLine rings keeper script line k (own (at + 1) es)) (sym l) is)
+        (k, ap (λ (ks : List Kept). slice_get ks at) f.hall ∙ here, subst (λ (es : List HallEvent). IsInLine rings keeper script line k (own (at + 1) es)) (sym f.log) is)
 
 pub leaves_then : (a b c : Book) → Leaves a b → Leaves b c → Leaves a c
 leaves_then a b c f g = record {
@@ -93,15 +106,16 @@ leaves_then a b c f g = record {
   answers = λ n. g.answers n ∙ f.answers n;
   book = λ r. g.book (f.book r);
   halls = g.halls ∙ f.halls;
+  log = then_ring a.log b.log c.log f.log g.log;
 }
 
-entered_silent : (e : HallEvent) (took : Bool) (old new : Book) → Enters e took old new → ((n : ℕ) → answers_in (own n (e ∷ [])) ≡ []) → (n : ℕ) → replies_in (own n new.log.items) ≡ replies_in (own n old.log.items)
-entered_silent e false old new t none n = ap (λ (b : Book). replies_in (own n b.log.items)) t.0
+entered_silent : (e : HallEvent) (took : Bool) (old new : Book) → Enters e took old new → ((n : ℕ) → answers_in (own n (e ∷ [])) ≡ []) → (n : ℕ) → replies_in (own n (logged new)) ≡ replies_in (own n (logged old))
+entered_silent e false old new t none n = ap (λ (b : Book). replies_in (own n (logged b))) t.0
 entered_silent e true old new t none n =
     ap (λ (es : List HallEvent). replies_in (own n es)) t.2
-    ∙ replies_append n old.log.items (e ∷ [])
-    ∙ ap (λ (xs : List Reply). replies_in (own n old.log.items) ++ xs) (no_replies (own n (e ∷ [])) (none n))
-    ∙ append-nil (replies_in (own n old.log.items))
+    ∙ replies_append n (logged old) (e ∷ [])
+    ∙ ap (λ (xs : List Reply). replies_in (own n (logged old)) ++ xs) (no_replies (own n (e ∷ [])) (none n))
+    ∙ append-nil (replies_in (own n (logged old)))
 
 -- an event that answers nothing
 pub leaves_entered : (e : HallEvent) (took : Bool) (old new : Book) → Enters e took old new → ((n : ℕ) → answers_in (own n (e ∷ [])) ≡ []) → moment_in e ≡ old.stamp → Leaves old new
@@ -110,6 +124,7 @@ leaves_entered e took old new t none m = record {
   answers = entered_silent e took old new t none;
   book = entered_record e took old new t m;
   halls = entered_halls e took old new t;
+  log = entered_ring e took old new t;
 }
 
 pub keeps_left : (rings : Rings) (at : ℕ) (line : Line) (old new : Book) → Leaves old new → Keeps rings rings at line old line new
@@ -118,6 +133,7 @@ keeps_left rings at line old new f = record {
   others = λ theirs keeper script i other differs is. f.lines theirs keeper script i other is;
   book = f.book;
   halls = f.halls;
+  log = f.log;
 }
 
 pub keeps_then : (rs ss ts : Rings) (at : ℕ) (x y z : Line) (a b c : Book) → Keeps rs ss at x a y b → Keeps ss ts at y b z c → Keeps rs ts at x a z c
@@ -126,6 +142,7 @@ keeps_then rs ss ts at x y z a b c f g = record {
   others = λ theirs keeper script i other differs is. g.others theirs keeper script i other differs (f.others theirs keeper script i other differs is);
   book = λ r. g.book (f.book r);
   halls = g.halls ∙ f.halls;
+  log = then_ring a.log b.log c.log f.log g.log;
 }
 
 module _ {K O : Type 0} {g : Ghosts K O} {r : ReadGhosts O} where
@@ -163,6 +180,7 @@ module _ {K O : Type 0} {g : Ghosts K O} {r : ReadGhosts O} where
     rings = rings_same ends;
     book = f.book;
     halls = f.halls;
+    log = f.log;
     count = refl;
   }
 
@@ -172,6 +190,7 @@ module _ {K O : Type 0} {g : Ghosts K O} {r : ReadGhosts O} where
     rings = rings_same ends;
     book = λ b. b;
     halls = refl;
+    log = same_ring book.log;
     count = refl;
   }
 
@@ -183,6 +202,7 @@ module _ {K O : Type 0} {g : Ghosts K O} {r : ReadGhosts O} where
     rings = rings_then ds es fs f.rings h.rings;
     book = λ b. h.book (f.book b);
     halls = h.halls ∙ f.halls;
+    log = then_ring a.log b.log c.log f.log h.log;
     count = h.count ∙ f.count;
   }
 
@@ -235,6 +255,7 @@ module _ {K O : Type 0} {g : Ghosts K O} {r : ReadGhosts O} where
     rings = same_rings a b h;
     book = f.book;
     halls = f.halls;
+    log = f.log;
     count = refl;
   }
 
@@ -246,6 +267,7 @@ module _ {K O : Type 0} {g : Ghosts K O} {r : ReadGhosts O} where
     rings = rings_set at ends e e' end ring;
     book = f.book;
     halls = f.halls;
+    log = f.log;
     count = set_length at lines line';
   }
     where
@@ -279,36 +301,38 @@ output_silent s c m w out n = by_script (s == n) w out
     by_script true (what.Answer a) out = absurd out
 
 -- a tick, in a book that was stamped for it
-pub leaves_ticked : (now : ℕ) (old mid new : Book) → mid.hall ≡ old.hall → mid.log.items ≡ old.log.items → mid.stamp ≡ now → old.stamp ≤ now → Enters (hall.Tick now) true mid new → Leaves old new
+pub leaves_ticked : (now : ℕ) (old mid new : Book) → mid.hall ≡ old.hall → mid.log ≡ old.log → mid.stamp ≡ now → old.stamp ≤ now → Enters (hall.Tick now) true mid new → Leaves old new
 leaves_ticked now old mid new h l s le t = leaves_then old mid new stamped (leaves_entered (hall.Tick now) true mid new t (tick_silent now) (sym s))
   where
     stamped : Leaves old mid
     stamped = record {
-      lines = λ rings keeper script at line is. (is.0, ap (λ (ks : List Kept). slice_get ks at) h ∙ is.1, subst (λ (es : List HallEvent). IsInLine rings keeper script line is.0 (own (at + 1) es)) (sym l) is.2);
-      answers = λ n. ap (λ (es : List HallEvent). replies_in (own n es)) l;
+      lines = λ rings keeper script at line is. (is.0, ap (λ (ks : List Kept). slice_get ks at) h ∙ is.1, subst (λ (es : List HallEvent). IsInLine rings keeper script line is.0 (own (at + 1) es)) (sym (ap put_items l)) is.2);
+      answers = λ n. ap (λ (es : List HallEvent). replies_in (own n es)) (ap put_items l);
       book = λ r. record {
-        ascends = subst (AscendsFrom 0) (sym l) r.ascends;
-        taken = subst (λ (ks : List Kept). AllTaken (length ks) mid.stamp mid.log.items) (sym h) (subst (AllTaken (length old.hall) mid.stamp) (sym l)
-            (subst (λ (n : ℕ). AllTaken (length old.hall) n old.log.items) (sym s) (taken_later (length old.hall) old.stamp now old.log.items le r.taken)));
+        ascends = subst (AscendsFrom 0) (sym (ap put_items l)) r.ascends;
+        taken = subst (λ (ks : List Kept). AllTaken (length ks) mid.stamp (logged mid)) (sym h) (subst (AllTaken (length old.hall) mid.stamp) (sym (ap put_items l))
+            (subst (λ (n : ℕ). AllTaken (length old.hall) n (logged old)) (sym s) (taken_later (length old.hall) old.stamp now (logged old) le r.taken)));
       };
       halls = ap length h;
+      log = subst (SameIn old.log) (sym l) (same_ring old.log);
     }
 
 -- the hall's next request waits
-pub keeps_asked : (rings : Rings) (at : ℕ) (line : Line) (request : Option Request) (old new : Book) → at < length old.hall → line.awaited ≡ None → Requested (at + 1) old.hall request new.hall → new.log.items ≡ old.log.items → new.stamp ≡ old.stamp →
+pub keeps_asked : (rings : Rings) (at : ℕ) (line : Line) (request : Option Request) (old new : Book) → at < length old.hall → line.awaited ≡ None → Requested (at + 1) old.hall request new.hall → new.log ≡ old.log → new.stamp ≡ old.stamp →
     Keeps rings rings at line old (record line { awaited = request }) new
 keeps_asked rings at line request old new lt free req log stamp = record {
-  here = λ keeper script is. asked_line rings keeper script at line request old new lt free req log is;
+  here = λ keeper script is. asked_line rings keeper script at line request old new lt free req (ap put_items log) is;
   others = λ us keeper script i other differs is. (
     is.0,
     ap (λ (ks : List Kept). slice_get ks i) h.4 ∙ set_there at i old.hall h.1 differs ∙ is.1,
-    subst (λ (es : List HallEvent). IsInLine us keeper script other is.0 (own (i + 1) es)) (sym log) is.2,
+    subst (λ (es : List HallEvent). IsInLine us keeper script other is.0 (own (i + 1) es)) (sym (ap put_items log)) is.2,
   );
   book = λ r. record {
-    ascends = subst (AscendsFrom 0) (sym log) r.ascends;
-    taken = subst (λ (n : ℕ). AllTaken n new.stamp new.log.items) (sym size) (subst (λ (n : ℕ). AllTaken (length old.hall) n new.log.items) (sym stamp) (subst (AllTaken (length old.hall) old.stamp) (sym log) r.taken));
+    ascends = subst (AscendsFrom 0) (sym (ap put_items log)) r.ascends;
+    taken = subst (λ (n : ℕ). AllTaken n new.stamp (logged new)) (sym size) (subst (λ (n : ℕ). AllTaken (length old.hall) n (logged new)) (sym stamp) (subst (AllTaken (length old.hall) old.stamp) (sym (ap put_items log)) r.taken));
   };
   halls = size;
+  log = subst (SameIn old.log) (sym log) (same_ring old.log);
 }
   where
     h : (k : Kept) × (k' : Kept) × (slice_get old.hall at ≡ Some k) × HandsOut k request k' × (new.hall ≡ slice_set old.hall at k')
@@ -327,6 +351,7 @@ keeps_answered rings us at line e old new r a t is sent waits within telling = r
   others = λ theirs keeper script i other differs l. passed_line theirs keeper script i other e old new t.1 t.2 (ap (λ (x : HallEvent). answers_in (own (i + 1) (x ∷ []))) is ∙ answers_other at i r.child old.stamp a differs) l;
   book = entered_record e true old new t (ap moment_in is);
   halls = entered_halls e true old new t;
+  log = entered_ring e true old new t;
 }
 
 -- the request that waits is put to the hand
@@ -336,6 +361,7 @@ keeps_sent rings at line r book still unsent waits = record {
   others = λ theirs keeper script i other differs l. l;
   book = λ b. b;
   halls = refl;
+  log = same_ring book.log;
 }
 
 -- the script at a place has ended
@@ -345,6 +371,7 @@ keeps_ended rings at line book ending still ends (e, is, over) = record {
   others = λ theirs keeper script i other differs l. l;
   book = λ r. r;
   halls = refl;
+  log = same_ring book.log;
 }
   where
     at_e : EndsAt (at + 1) book.hall (Some e)
@@ -386,7 +413,7 @@ pub none_over : AllOver []
 none_over at l got = absurd (nothing_there l got)
 
 pub leaves_all : (book : Book) → Leaves book book
-leaves_all book = leaves_same book book refl refl refl
+leaves_all book = leaves_same book book (record { hall = refl; ring = same_ring book.log; log = refl; stamp = refl })
 
 -- what is known to have been told may be more than before
 pub keeps_more : (rings : Rings) (us : List Telling) (at : ℕ) (line : Line) (book : Book) → IsWithin rings.told us → Keeps rings (record rings { told = us }) at line book line book
@@ -395,6 +422,7 @@ keeps_more rings us at line book within = record {
   others = λ theirs keeper script i other differs l. l;
   book = λ b. b;
   halls = refl;
+  log = same_ring book.log;
 }
 
 -- an entry that is refused

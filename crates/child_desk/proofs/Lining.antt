@@ -31,7 +31,7 @@ use Rattle.dialogue_sched.proofs.Running.{Took_lives, Took_says}
 use Rattle.child_desk.specs.declared.line.Line.{Line}
 use Rattle.child_desk.specs.Told.{Telling, Reply, Put, Asks, Stops, Rings, no_rings, asking, answer_in, answers_in, reply_in, replies_in, AreAmong, AreOf}
 use Rattle.child_desk.specs.declared.book.Book.{Book}
-use Rattle.child_desk.specs.Book.{Enters}
+use Rattle.child_desk.specs.Book.{Enters, logged}
 use Rattle.child_desk.specs.Line.{Keeping, answer_at, PassesAll, IsInLine, InLine, Means, AllShown}
 use Rattle.child_desk.proofs.Telling.{IsWithin, among_more, among_few, told_more, told_last, of_more, of_last}
 use Rattle.child_desk.proofs.Answering.{no_replies, replies_counted}
@@ -254,7 +254,7 @@ module _ (rings : Rings) (keeper : Keeping) (script : Script) where
       grown : take (length (answers_in (es ++ more)) + 0) (asked_by (es ++ more)) ≡ take (put_count line es) (asked_by es)
       grown = ap (λ (n : ℕ). take n (asked_by (es ++ more))) as_many ∙ ap (take (put_count line es)) on.asked ∙ take-append-le (put_count line es) (asked_by es) on.more (put_within line k es l)
 
-  pub asked_line : (at : ℕ) (line : Line) (request : Option Request) (old new : Book) → at < length old.hall → line.awaited ≡ None → Requested (at + 1) old.hall request new.hall → new.log.items ≡ old.log.items →
+  pub asked_line : (at : ℕ) (line : Line) (request : Option Request) (old new : Book) → at < length old.hall → line.awaited ≡ None → Requested (at + 1) old.hall request new.hall → logged new ≡ logged old →
       InLine rings keeper script at line old → InLine rings keeper script at (record line { awaited = request }) new
   asked_line at line request old new lt free req log (k, here, l) =
       let h = handed_at at request old.hall new.hall lt req in
@@ -262,20 +262,20 @@ module _ (rings : Rings) (keeper : Keeping) (script : Script) where
         h.1,
         ap (λ (ks : List Kept). slice_get ks at) h.4 ∙ set_here at old.hall k h.1 here,
         subst (λ (es : List HallEvent). IsInLine rings keeper script (record line { awaited = request }) h.1 (own (at + 1) es)) (sym log)
-            (asked line request k h.1 (own (at + 1) old.log.items) free (subst (λ (x : Kept). HandsOut x request h.1) is h.3) l),
+            (asked line request k h.1 (own (at + 1) (logged old)) free (subst (λ (x : Kept). HandsOut x request h.1) is h.3) l),
       )
 
   number : (at : ℕ) → 1 + at ≡ at + 1
   number at = omega arith
 
-  pub passed_line : (at : ℕ) (line : Line) (e : HallEvent) (old new : Book) → AllTook 1 (e ∷ []) old.hall new.hall → new.log.items ≡ old.log.items ++ e ∷ [] → answers_in (own (at + 1) (e ∷ [])) ≡ [] →
+  pub passed_line : (at : ℕ) (line : Line) (e : HallEvent) (old new : Book) → AllTook 1 (e ∷ []) old.hall new.hall → logged new ≡ logged old ++ e ∷ [] → answers_in (own (at + 1) (e ∷ [])) ≡ [] →
       InLine rings keeper script at line old → InLine rings keeper script at line new
   passed_line at line e old new t log none (k, here, l) =
       let w = took_at 1 at (e ∷ []) old.hall new.hall k t here in
       let took : Took k (own (at + 1) (e ∷ [])) w.0 = subst (λ (n : ℕ). Took k (own n (e ∷ [])) w.0) (number at) w.2 in
-      (w.0, w.1, subst (IsInLine rings keeper script line w.0) (sym (ap (own (at + 1)) log ∙ own-append (at + 1) old.log.items (e ∷ []))) (passed line k w.0 (own (at + 1) old.log.items) (own (at + 1) (e ∷ [])) took none l))
+      (w.0, w.1, subst (IsInLine rings keeper script line w.0) (sym (ap (own (at + 1)) log ∙ own-append (at + 1) (logged old) (e ∷ []))) (passed line k w.0 (own (at + 1) (logged old)) (own (at + 1) (e ∷ [])) took none l))
 
-  pub answered_line : (us : List Telling) → IsWithin rings.told us → (at : ℕ) (line : Line) (e : HallEvent) (old new : Book) (r : Request) (a : Answer) → AllTook 1 (e ∷ []) old.hall new.hall → new.log.items ≡ old.log.items ++ e ∷ [] → answers_in (own (at + 1) (e ∷ [])) ≡ a ∷ [] →
+  pub answered_line : (us : List Telling) → IsWithin rings.told us → (at : ℕ) (line : Line) (e : HallEvent) (old new : Book) (r : Request) (a : Answer) → AllTook 1 (e ∷ []) old.hall new.hall → logged new ≡ logged old ++ e ∷ [] → answers_in (own (at + 1) (e ∷ [])) ≡ a ∷ [] →
       replies_in (own (at + 1) (e ∷ [])) ≡ record { child = r.child; answer = a } ∷ [] → IsTrue line.sent → line.awaited ≡ Some r → Contains us (record { name = line.name; call = line.last + 1; request = r; answer = a }) →
       InLine rings keeper script at line old → InLine (record rings { told = us }) keeper script at (record line { last = line.last + 1; awaited = None; sent = false }) new
   answered_line us within at line e old new r a t log one reply sent waits is (k, here, l) =
@@ -283,8 +283,8 @@ module _ (rings : Rings) (keeper : Keeping) (script : Script) where
       let took : Took k (own (at + 1) (e ∷ [])) w.0 = subst (λ (n : ℕ). Took k (own n (e ∷ [])) w.0) (number at) w.2 in (
         w.0,
         w.1,
-        subst (IsInLine (record rings { told = us }) keeper script (record line { last = line.last + 1; awaited = None; sent = false }) w.0) (sym (ap (own (at + 1)) log ∙ own-append (at + 1) old.log.items (e ∷ [])))
-            (answered us within line k w.0 (own (at + 1) old.log.items) (own (at + 1) (e ∷ [])) r a took one reply sent waits is l),
+        subst (IsInLine (record rings { told = us }) keeper script (record line { last = line.last + 1; awaited = None; sent = false }) w.0) (sym (ap (own (at + 1)) log ∙ own-append (at + 1) (logged old) (e ∷ [])))
+            (answered us within line k w.0 (own (at + 1) (logged old)) (own (at + 1) (e ∷ [])) r a took one reply sent waits is l),
       )
 
   -- what is known to have been told may be more than before
@@ -295,7 +295,7 @@ module _ (rings : Rings) (keeper : Keeping) (script : Script) where
     record {
       name = l.name;
       last = l.last;
-      answers = among_more rings.told us within keeper.name keeper.made (answers_in (own (at + 1) book.log.items)) (asked_by (own (at + 1) book.log.items)) l.answers;
+      answers = among_more rings.told us within keeper.name keeper.made (answers_in (own (at + 1) (logged book))) (asked_by (own (at + 1) (logged book))) l.answers;
       children = l.children;
       says = l.says;
       handed = l.handed;
@@ -332,10 +332,10 @@ module _ (rings : Rings) (keeper : Keeping) (script : Script) where
   )
     where
       asks : List Request
-      asks = asked_by (own (at + 1) book.log.items)
+      asks = asked_by (own (at + 1) (logged book))
 
       count : ℕ
-      count = length (answers_in (own (at + 1) book.log.items))
+      count = length (answers_in (own (at + 1) (logged book)))
 
       was : rings.asked ≡ map Asks (take count asks)
       was =
@@ -361,27 +361,27 @@ module _ (rings : Rings) (keeper : Keeping) (script : Script) where
       next = l.next;
       sent = l.sent;
       asked = ap (λ (ps : List Put). ps ++ Stops ∷ []) (l.asked ∙ ap (λ (b : Bool). asks ++ (if b then Stops ∷ [] else [])) open_still ∙ append-nil asks);
-      over = λ o lives. subst (λ (r : Report). r.ending ≢ Waiting) (l.says lives [] ∙ ap (meaning script.source script.settings) (append-nil (own (at + 1) book.log.items))) (ended k here lives);
+      over = λ o lives. subst (λ (r : Report). r.ending ≢ Waiting) (l.says lives [] ∙ ap (meaning script.source script.settings) (append-nil (own (at + 1) (logged book)))) (ended k here lives);
     },
   )
     where
       asks : List Put
-      asks = map Asks (take (put_count line (own (at + 1) book.log.items)) (asked_by (own (at + 1) book.log.items)))
+      asks = map Asks (take (put_count line (own (at + 1) (logged book))) (asked_by (own (at + 1) (logged book))))
 
   -- the request that waits names a child from 1 to 16, so a hall takes its answer
   pub never_refused : (at : ℕ) (line : Line) (book : Book) (r : Request) (a : Answer) (e : HallEvent) → e ≡ answer_at at r.child book.stamp a → book.stamp ≤ 9000000000000000 → line.awaited ≡ Some r → InLine rings keeper script at line book →
       refusal_of (length book.hall) e ≢ None → ⊥
   never_refused at line book r a e is early waits (k, here, l) refused =
-      let es = own (at + 1) book.log.items in
+      let es = own (at + 1) (logged book) in
       let names = all_there (asked_by es) (length (answers_in es)) r (all_name_a_child script.source script.settings es) (l.next r waits) in
       refused (ap (refusal_of (length book.hall)) is ∙ answer_taken (length book.hall) at r.child book.stamp a (slice_get_within book.hall at k here) names.0 names.1 early)
 
   -- and at the end
-  pub means : (at : ℕ) (line : Line) (book : Book) (k : Kept) (r : Report) → slice_get book.hall at ≡ Some k → Reports k r → InLine rings keeper script at line book → Means script line (own (at + 1) book.log.items) r
+  pub means : (at : ℕ) (line : Line) (book : Book) (k : Kept) (r : Report) → slice_get book.hall at ≡ Some k → Reports k r → InLine rings keeper script at line book → Means script line (own (at + 1) (logged book)) r
   means at line book x r there reports (k, here, l) = by_life k.lives refl
     where
       es : List Event
-      es = own (at + 1) book.log.items
+      es = own (at + 1) (logged book)
 
       mine : Reports k r
       mine = subst (λ (z : Kept). Reports z r) (one_there x k (sym there ∙ here)) reports
@@ -401,7 +401,7 @@ passes_all e true old new t rings keeper script at line none l = passed_line rin
 passes_all e false old new t rings keeper script at line none l = subst (InLine rings keeper script at line) (sym t.0) l
 
 -- at the start
-pub first_line : (name calls at : ℕ) (script : Script) (k : Kept) (book : Book) → slice_get book.hall at ≡ Some k → book.log.items ≡ [] → Begins script k → InLine no_rings (record { name = name; made = calls }) script at (record { name = name; last = calls; awaited = None; sent = false; over = false }) book
+pub first_line : (name calls at : ℕ) (script : Script) (k : Kept) (book : Book) → slice_get book.hall at ≡ Some k → logged book ≡ [] → Begins script k → InLine no_rings (record { name = name; made = calls }) script at (record { name = name; last = calls; awaited = None; sent = false; over = false }) book
 first_line name calls at script k book here empty b = (
   k,
   here,

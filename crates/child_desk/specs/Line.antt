@@ -17,10 +17,10 @@ use Rattle.session.specs.Spent.{memory_report}
 use Rattle.dialogue_sched.specs.declared.script.Script.{Script}
 use Rattle.child_keeper.specs.declared.keeper.Keeper.{Ghosts}
 use Rattle.child_keeper.specs.declared.items.Item.{Item}
-use Rattle.feed_rings.specs.Ends.{taken_items, SameOut, IsFinishedOf}
+use Rattle.feed_rings.specs.Ends.{taken_items, SameIn, SameOut, IsFinishedOf}
 use Rattle.feed_rings.specs.declared.feed.Finished.{Finished}
 use Rattle.child_desk.specs.Told.{answers_in, replies_in, AreAmong, AreOf, Asks, Stops, Rings, asked_of_hand, rings_of}
-use Rattle.child_desk.specs.Book.{IsRecord}
+use Rattle.child_desk.specs.Book.{IsRecord, logged}
 use Rattle.child_desk.specs.declared.book.Book.{Book}
 use Rattle.child_desk.specs.declared.line.Line.{Line}
 use Rattle.child_desk.specs.declared.ends.Ends.{Ends}
@@ -51,7 +51,7 @@ pub record IsInLine (rings : Rings) (keeper : Keeping) (script : Script) (line :
 
 -- the script at a place of the hall, of whose rings this is known
 abbrev pub InLine : Rings → Keeping → Script → ℕ → Line → Book → Type 0
-InLine rings keeper script at line book = (k : Kept) × (slice_get book.hall at ≡ Some k) × IsInLine rings keeper script line k (own (at + 1) book.log.items)
+InLine rings keeper script at line book = (k : Kept) × (slice_get book.hall at ≡ Some k) × IsInLine rings keeper script line k (own (at + 1) (logged book))
 
 -- an event that answers nothing of a script leaves that script in its line
 abbrev pub PassesAll : HallEvent → Book → Book → Type 0
@@ -66,16 +66,17 @@ Means script line es r = ((r ≡ meaning script.source script.settings es) × (I
 pub record AllShown (book : Book) (reports : List Report) : Type 0 where
   pub count : length reports ≡ length book.hall
   pub each : (at : ℕ) (report : Report) → slice_get reports at ≡ Some report →
-      (rings : Rings) (keeper : Keeping) (script : Script) (line : Line) → InLine rings keeper script at line book → Means script line (own (at + 1) book.log.items) report
+      (rings : Rings) (keeper : Keeping) (script : Script) (line : Line) → InLine rings keeper script at line book → Means script line (own (at + 1) (logged book)) report
 
 -- What a call at a desk keeps, of a book and of each script in its line.
 
 -- each script stays in its line as it was, and no answer is recorded
 pub record Leaves (old new : Book) : Type 0 where
   pub lines : (rings : Rings) (keeper : Keeping) (script : Script) (at : ℕ) (line : Line) → InLine rings keeper script at line old → InLine rings keeper script at line new
-  pub answers : (script : ℕ) → replies_in (own script new.log.items) ≡ replies_in (own script old.log.items)
+  pub answers : (script : ℕ) → replies_in (own script (logged new)) ≡ replies_in (own script (logged old))
   pub book : IsRecord old → IsRecord new
   pub halls : length new.hall ≡ length old.hall
+  pub log : SameIn old.log new.log
 
 -- the script at a place goes on in its line, of whose rings this was known, and then that; each other stays in its line as it was
 pub record Keeps (rings rings' : Rings) (at : ℕ) (line : Line) (old : Book) (line' : Line) (new : Book) : Type 0 where
@@ -83,6 +84,7 @@ pub record Keeps (rings rings' : Rings) (at : ℕ) (line : Line) (old : Book) (l
   pub others : (theirs : Rings) (keeper : Keeping) (script : Script) (i : ℕ) (other : Line) → i ≢ at → InLine theirs keeper script i other old → InLine theirs keeper script i other new
   pub book : IsRecord old → IsRecord new
   pub halls : length new.hall ≡ length old.hall
+  pub log : SameIn old.log new.log
 
 module _ {K O : Type 0} {g : Ghosts K O} {r : ReadGhosts O} where
   -- nothing is taken from a script's rings
@@ -118,6 +120,7 @@ module _ {K O : Type 0} {g : Ghosts K O} {r : ReadGhosts O} where
     pub rings : SameRings ends ends'
     pub book : IsRecord old → IsRecord new
     pub halls : length new.hall ≡ length old.hall
+    pub log : SameIn old.log new.log
     pub count : length lines' ≡ length lines
 
 -- a script of this ending goes on, or it has ended

@@ -10,6 +10,7 @@ use Rattle.tcl_host.specs.declared.ending.Ending.TheVariants.{Waiting}
 use Rattle.session.specs.Left.{Kept, left}
 use Rattle.dialogue_sched.specs.declared.script.Script.{Script}
 use Rattle.child_keeper.specs.declared.keeper.Keeper.{Ghosts}
+use Rattle.child_desk.specs.Book.{logged}
 use Rattle.child_desk.specs.declared.book.Book.{Book}
 use Rattle.child_desk.specs.declared.line.Line.{Line}
 use Rattle.child_desk.specs.declared.ends.Ends.{Ends}
@@ -39,7 +40,7 @@ Came stamp e = (script child : ℕ) × (w : What) × (e ≡ hall.Child script ch
 -- Nothing is recorded but what came to the script at a place, under the book's stamp, and no other session changed.
 pub record Comes (at : ℕ) (old new : Book) : Type 0 where
   pub more : List HallEvent
-  pub log : new.log.items ≡ old.log.items ++ more
+  pub log : logged new ≡ logged old ++ more
   pub each : AllByRecursion (CameTo old.stamp at) more
   pub stamp : new.stamp ≡ old.stamp
   pub others : (i : ℕ) → (i ≡ at → ⊥) → slice_get new.hall i ≡ slice_get old.hall i
@@ -47,21 +48,17 @@ pub record Comes (at : ℕ) (old new : Book) : Type 0 where
 -- nothing is recorded behind these entries but what came to scripts, under this stamp, which is the book's
 pub record ComesTo (stamp : ℕ) (front : List HallEvent) (new : Book) : Type 0 where
   pub more : List HallEvent
-  pub log : new.log.items ≡ front ++ more
+  pub log : logged new ≡ front ++ more
   pub each : AllByRecursion (Came stamp) more
   pub stamped : new.stamp ≡ stamp
 
 -- one tick, where the time went on, and the book has its stamp
 abbrev pub Ticks : ℕ → Book → Book → Type 0
-Ticks now old new = (new.log.items ≡ old.log.items ++ ticks old.stamp now) × (new.stamp ≡ stamp_by old.stamp now)
+Ticks now old new = (logged new ≡ logged old ++ ticks old.stamp now) × (new.stamp ≡ stamp_by old.stamp now)
 
 -- one tick, where the time went on, and then what came
 abbrev pub Turns : ℕ → Book → Book → Type 0
-Turns now old new = ComesTo (stamp_by old.stamp now) (old.log.items ++ ticks old.stamp now) new
-
--- nothing is recorded
-abbrev pub Stays : Book → Book → Type 0
-Stays old new = (new.log.items ≡ old.log.items) × (new.stamp ≡ old.stamp)
+Turns now old new = ComesTo (stamp_by old.stamp now) (logged old ++ ticks old.stamp now) new
 
 -- the answer that a script waits for: of its keeper's next call, to the request that was sent
 abbrev pub IsAwaited : Line → Telling → Type 0
@@ -79,7 +76,7 @@ Replies at es replies es' = replies_in (own (at + 1) es') ≡ replies_in (own (a
 
 -- what is recorded of an answer that was told
 abbrev pub IsTold : ℕ → Line → Telling → Book → Book → Type 0
-IsTold at line t old new = (replies : List Reply) × Replies at old.log.items replies new.log.items × IsEntered line (t ∷ []) replies
+IsTold at line t old new = (replies : List Reply) × Replies at (logged old) replies (logged new) × IsEntered line (t ∷ []) replies
 
 -- what more a script's hand told, from these to those, is recorded
 pub record HearsHand (at : ℕ) (line : Line) (told : List Telling) (es : List HallEvent) (told' : List Telling) (es' : List HallEvent) : Type 0 where
@@ -117,4 +114,4 @@ module _ {K O : Type 0} {g : Ghosts K O} {r : ReadGhosts O} where
   -- of the script at a place, what more its hand told is recorded
   abbrev pub HearsHandIn : ℕ → List Line → List (Ends K O g r) → Book → List (Ends K O g r) → Book → Type 0
   HearsHandIn at lines ends old ends' new = (keeper : Keeping) (script : Script) (line : Line) (e : Ends K O g r) → slice_get lines at ≡ Some line → slice_get ends at ≡ Some e → InLine (rings_of e) keeper script at line old →
-      (e' : Ends K O g r) × (slice_get ends' at ≡ Some e') × HearsHand at line (heard_of_hand e.answers) old.log.items (heard_of_hand e'.answers) new.log.items
+      (e' : Ends K O g r) × (slice_get ends' at ≡ Some e') × HearsHand at line (heard_of_hand e.answers) (logged old) (heard_of_hand e'.answers) (logged new)

@@ -1,12 +1,13 @@
 //! What a turn does for a script: it takes what came, and puts what the script asks for.
 
-ghost use Rattle.std.specs.Prelude.{◌≡◌, ◌<◌, ◌≤◌, ◌+◌, ℕ, length, true, false, OnOk, IfErr, None, vec_len};
+ghost use Rattle.std.specs.Prelude.{◌≡◌, ◌<◌, ◌≤◌, ◌+◌, ℕ, length, true, false, OnOk, None, vec_len};
 ghost use Rattle.dialogue_sched.specs.declared.script.Script.{Script};
 ghost use Rattle.feed_rings.specs.Ends.{SameOut};
+ghost use Rattle.child_desk.specs.Book.{HasRoom, logged};
 ghost use Rattle.child_desk.specs.Told.{Rings, heard_of_hand, rings_of};
 ghost use Rattle.child_desk.specs.Line.{Keeping, InLine, Leaves, Keeps, KeepsAll, TakesNone};
 ghost use Rattle.child_desk.specs.Heard.{Unheard, Hears, HearsAll};
-ghost use Rattle.child_desk.specs.Turn.{Comes, ComesTo, Stays, Ticks, HearsHand, HearsHandIn, HasAsked, HasAskedIn, HasNoRequest, IsServed, SameElsewhere, goes_on as is_later};
+ghost use Rattle.child_desk.specs.Turn.{Comes, ComesTo, Ticks, HearsHand, HearsHandIn, HasAsked, HasAskedIn, HasNoRequest, IsServed, SameElsewhere, goes_on as is_later};
 
 use crate::book::Book;
 use crate::ends::{Ends, starts};
@@ -38,48 +39,44 @@ fn set_stamp(book: &mut Book, now: u64)
 }
 
 /// A tick, where the time went on.
-pub(crate) fn tick(book: &mut Book, now: u64) -> Result<(), AllocError>
+pub(crate) fn tick(book: &mut Book, now: u64)
+    requires room { HasRoom book.old }
     ensures kept { Leaves book.old book.new }
-    ensures silent { Unheard book.old.log.items book.new.log.items }
-    ensures ticked { OnOk result (Ticks now book.old book.new) }
-    ensures refused { IfErr result (λ _. Stays book.old book.new) }
+    ensures silent { Unheard (logged book.old) (logged book.new) }
+    ensures ticked { Ticks now book.old book.new }
 {
     if !goes_on(book.stamp, now) {
-        return Ok(());
+        return;
     }
-    book.reserve()?;
     set_stamp(book, now);
     enter_taken(
         book,
         HallEvent::Tick { moment: now },
         HallEvent::Tick { moment: now },
     );
-    Ok(())
 }
 
-/// Takes the next answer from a script's hand, and enters it where it is the one that is awaited. True where there was one.
-fn hear_answer<K: Keeper>(
-    book: &mut Book,
-    line: &mut Line,
-    ends: &mut Ends<K>,
-    at: usize,
-) -> Result<bool, AllocError>
+/// Takes the next answer from a script's hand, where the record has room for it, and enters it where it is the one that is awaited. True where there
+/// was one.
+fn hear_answer<K: Keeper>(book: &mut Book, line: &mut Line, ends: &mut Ends<K>, at: usize) -> bool
     requires { at < 64 }
     ensures kept { Keeps (rings_of ends.old) (rings_of ends.new) at line.old book.old line.new book.new }
     ensures readers { ends.new.readers ≡ ends.old.readers }
     ensures ring { SameOut ends.old.answers ends.new.answers }
-    ensures silent { Unheard book.old.log.items book.new.log.items }
+    ensures silent { Unheard (logged book.old) (logged book.new) }
     ensures comes { Comes at book.old book.new }
-    ensures entered { (keeper : Keeping) (script : Script) → InLine (rings_of ends.old) keeper script at line.old book.old → HearsHand at line.old (heard_of_hand ends.old.answers) book.old.log.items (heard_of_hand ends.new.answers) book.new.log.items }
+    ensures entered { (keeper : Keeping) (script : Script) → InLine (rings_of ends.old) keeper script at line.old book.old → HearsHand at line.old (heard_of_hand ends.old.answers) (logged book.old) (heard_of_hand ends.new.answers) (logged book.new) }
 {
-    book.reserve()?;
+    if !book.has_room() {
+        return false;
+    }
     let Some(answered) = ends.next_answer() else {
-        return Ok(false);
+        return false;
     };
     let starts = starts(&answered);
     let entered = enter_answer(book, line, at, answered);
     ends.count_start(entered && starts);
-    Ok(true)
+    true
 }
 
 /// Makes ready what is to be put to a script's hand: the request that waits, where it wasn't sent, or the stop, where the script has ended.
@@ -123,7 +120,7 @@ fn ask<K: Keeper>(
     requires { (at < length book.old.hall) × (at < 64) }
     ensures kept { Keeps (rings_of ends.old) (rings_of ends.new) at line.old book.old line.new book.new }
     ensures rings { TakesNone ends.old ends.new }
-    ensures log { book.new.log.items ≡ book.old.log.items }
+    ensures log { logged book.new ≡ logged book.old }
     ensures comes { Comes at book.old book.new }
     ensures asked { OnOk result (HasAsked at line.new ends.new book.new) }
 {
@@ -149,13 +146,13 @@ fn attend<K: Keeper>(
 ) -> Result<bool, AllocError>
     requires { (at < length book.old.hall) × (at < 64) }
     ensures kept { Keeps (rings_of ends.old) (rings_of ends.new) at line.old book.old line.new book.new }
-    ensures heard { Hears (at + 1) ends.old.readers book.old.log.items ends.new.readers book.new.log.items }
+    ensures heard { Hears (at + 1) ends.old.readers (logged book.old) ends.new.readers (logged book.new) }
     ensures ring { SameOut ends.old.answers ends.new.answers }
     ensures comes { Comes at book.old book.new }
-    ensures entered { (keeper : Keeping) (script : Script) → InLine (rings_of ends.old) keeper script at line.old book.old → HearsHand at line.old (heard_of_hand ends.old.answers) book.old.log.items (heard_of_hand ends.new.answers) book.new.log.items }
+    ensures entered { (keeper : Keeping) (script : Script) → InLine (rings_of ends.old) keeper script at line.old book.old → HearsHand at line.old (heard_of_hand ends.old.answers) (logged book.old) (heard_of_hand ends.new.answers) (logged book.new) }
     ensures asked { OnOk result (HasAsked at line.new ends.new book.new) }
 {
-    let answered = hear_answer(book, line, ends, at)?;
+    let answered = hear_answer(book, line, ends, at);
     let heard = hear_children(alloc, book, line.over, ends, at)?;
     let asked = ask(alloc, book, line, ends, at)?;
     Ok(answered | heard | asked)
@@ -172,7 +169,7 @@ fn attend_at<K: Keeper>(
     requires hall { (at < length book.old.hall) × (at < 64) }
     requires place { at < vec_len lines.old }
     ensures kept { KeepsAll lines.old.items ends.old.items book.old lines.new.items ends.new.items book.new }
-    ensures heard { HearsAll ends.old.items book.old.log.items ends.new.items book.new.log.items }
+    ensures heard { HearsAll ends.old.items (logged book.old) ends.new.items (logged book.new) }
     ensures comes { Comes at book.old book.new }
     ensures elsewhere { SameElsewhere at lines.old.items ends.old.items lines.new.items ends.new.items }
     ensures entered { HearsHandIn at lines.old.items ends.old.items book.old ends.new.items book.new }
@@ -195,8 +192,8 @@ pub(crate) fn attend_all<K: Keeper>(
 ) -> Result<bool, AllocError>
     requires { (length lines.old.items ≤ length book.old.hall) × (length book.old.hall ≤ 64) }
     ensures kept { KeepsAll lines.old.items ends.old.items book.old lines.new.items ends.new.items book.new }
-    ensures heard { HearsAll ends.old.items book.old.log.items ends.new.items book.new.log.items }
-    ensures comes { ComesTo book.old.stamp book.old.log.items book.new }
+    ensures heard { HearsAll ends.old.items (logged book.old) ends.new.items (logged book.new) }
+    ensures comes { ComesTo book.old.stamp (logged book.old) book.new }
     ensures entered { (at : ℕ) → HearsHandIn at lines.old.items ends.old.items book.old ends.new.items book.new }
     ensures asked { OnOk result ((at : ℕ) → HasAskedIn at lines.new.items ends.new.items book.new) }
 {

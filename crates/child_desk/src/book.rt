@@ -1,15 +1,16 @@
-//! A hall, and the record of what it took.
+//! A hall, and the ring into which the record of what it took goes.
 
 ghost use Rattle.std.specs.Prelude.{◌≤◌};
 
 use child_events::HallEvent;
 use dialogue_sched::Hall;
+use feed_rings::FeedIn;
 
-/// A hall, and the record of the events that it took, in order.
+/// A hall, and the record of the events that it took, in order: they are put into a ring, and whoever takes them keeps what is to be kept.
 #[derive(Drop)]
 pub struct Book {
     pub hall: Hall,
-    pub log: Vec<HallEvent>,
+    pub log: FeedIn<HallEvent>,
     /// The moment of what comes next.
     pub stamp: u64,
     pub ghost within: { stamp ≤ 9000000000000000 },

@@ -1,24 +1,25 @@
 //! A worker's desk.
 
-ghost use Rattle.std.specs.Prelude.{◌≡◌, ◌≢◌, ◌<◌, ◌≤◌, ◌⊎◌, ℕ, List, length, slice_get, OnOk, IsTrue};
+ghost use Rattle.std.specs.Prelude.{◌≡◌, ◌≢◌, ◌<◌, ◌≤◌, ℕ, List, length, slice_get, IfOk, OnOk, IsTrue};
 ghost use Rattle.child_events.specs.declared.event.HallEvent.{HallEvent};
 ghost use Rattle.dialogue_sched.specs.Deadlines.{soonest};
 ghost use Rattle.feed_rings.specs.Ends.{all_put};
-ghost use Rattle.child_desk.specs.Book.{is_behind};
+ghost use Rattle.child_desk.specs.Book.{HasRoom, Looks, is_behind, logged};
 ghost use Rattle.child_desk.specs.Line.{Leaves, KeepsAll, HearsNoHand, IsEndOf, IsFrontIn, AllOver, AllShown};
 ghost use Rattle.child_desk.specs.Heard.{HearsAll, Settles, FinishedIn, TakenIn};
-ghost use Rattle.child_desk.specs.Turn.{Turns, Stays, HearsHandIn, HasAskedIn};
+ghost use Rattle.child_desk.specs.Turn.{Turns, HearsHandIn, HasAskedIn};
 
 use crate::attending::{attend_all, tick};
 use crate::book::Book;
 use crate::ends::Ends;
 use crate::hearing::{has_come_to, settle_child};
 use crate::line::Line;
-use child_events::HallEvents;
+use child_events::HallEvent;
 use child_keeper::{Item, Keeper};
 use dialogue_sched::Reports;
-use feed_rings::Finished;
+use feed_rings::{Bell, FeedIn, Finished};
 use std::alloc::{AllocError, Global};
+use std::sync::Wait;
 
 /// A worker's desk: a hall with its record, and for each script what is open and its ends of the rings.
 #[derive(Drop)]
@@ -29,11 +30,11 @@ pub struct Desk<K: Keeper> {
     pub ends: Vec<Ends<K>>,
 }
 
-/// What came of scripts: a report of each, in order, and the record of the events that they took.
+/// What came of scripts: a report of each, in order, and the end of the ring into which the events that they took were put.
 #[derive(Drop)]
 pub struct Outcome {
     pub reports: Reports,
-    pub record: HallEvents,
+    pub log: FeedIn<HallEvent>,
 }
 
 impl<K: Keeper> Desk<K> {
@@ -51,17 +52,27 @@ impl<K: Keeper> Desk<K> {
         }
     }
 
+    /// Waits until the record has room for an entry. False where it isn't taken any more.
+    pub fn await_room<R: Wait>(&mut self, rt: &R, bell: &Bell) -> bool
+        ensures lines { self.new.lines.items ≡ self.old.lines.items }
+        ensures ends { self.new.ends.items ≡ self.old.ends.items }
+        ensures book { Looks self.old.book self.new.book }
+        ensures room { IsTrue result → HasRoom self.new.book }
+    {
+        self.book.await_room(rt, bell)
+    }
+
     /// One turn: a tick where the time went on, then for each script all that came, and what it asks for. True where there was something.
     pub fn turn(&mut self, now: u64) -> Result<bool, AllocError>
-        requires { (length self.old.lines.items ≤ length self.old.book.hall) × (length self.old.book.hall ≤ 64) }
+        requires lines { (length self.old.lines.items ≤ length self.old.book.hall) × (length self.old.book.hall ≤ 64) }
+        requires room { HasRoom self.old.book }
         ensures kept { KeepsAll self.old.lines.items self.old.ends.items self.old.book self.new.lines.items self.new.ends.items self.new.book }
-        ensures heard { HearsAll self.old.ends.items self.old.book.log.items self.new.ends.items self.new.book.log.items }
-        ensures comes { OnOk result (Turns now self.old.book self.new.book) }
-        ensures refused { Stays self.old.book self.new.book ⊎ Turns now self.old.book self.new.book }
+        ensures heard { HearsAll self.old.ends.items (logged self.old.book) self.new.ends.items (logged self.new.book) }
+        ensures comes { Turns now self.old.book self.new.book }
         ensures entered { (at : ℕ) → HearsHandIn at self.old.lines.items self.old.ends.items self.old.book self.new.ends.items self.new.book }
         ensures asked { OnOk result ((at : ℕ) → HasAskedIn at self.new.lines.items self.new.ends.items self.new.book) }
     {
-        tick(&mut self.book, now)?;
+        tick(&mut self.book, now);
         attend_all(self.alloc, &mut self.book, &mut self.lines, &mut self.ends)
     }
 
@@ -69,7 +80,7 @@ impl<K: Keeper> Desk<K> {
     pub fn has_come(&mut self) -> bool
         ensures lines { self.new.lines.items ≡ self.old.lines.items }
         ensures book { self.new.book ≡ self.old.book }
-        ensures heard { HearsAll self.old.ends.items self.old.book.log.items self.new.ends.items self.new.book.log.items }
+        ensures heard { HearsAll self.old.ends.items (logged self.old.book) self.new.ends.items (logged self.new.book) }
         ensures hands { HearsNoHand self.old.ends.items self.new.ends.items }
     {
         for at in 0..self.ends.len() {
@@ -98,24 +109,36 @@ impl<K: Keeper> Desk<K> {
         all_over(self.lines.as_slice()) && all_quiet(self.ends.as_slice())
     }
 
-    /// Takes what is left of a child of the script at a place, whose reader has finished that child's ring.
-    pub fn settle(
+    /// Takes what is left of a child of the script at a place, whose reader has finished that child's ring, as soon as the record has room. False
+    /// where it isn't taken any more.
+    pub fn settle<R: Wait>(
         &mut self,
+        rt: &R,
+        bell: &Bell,
         at: usize,
         index: u8,
         finished: Finished<Item<K>>,
-    ) -> Result<(), AllocError>
+    ) -> Result<bool, AllocError>
         requires place { (at < length self.old.book.hall) × (at < 64) × (index < 16) }
         requires finished { FinishedIn at index finished self.old.ends.items }
         ensures lines { self.new.lines.items ≡ self.old.lines.items }
         ensures book { Leaves self.old.book self.new.book }
-        ensures heard { Settles at index self.old.ends.items self.old.book.log.items self.new.ends.items self.new.book.log.items }
+        ensures heard { Settles at index self.old.ends.items (logged self.old.book) self.new.ends.items (logged self.new.book) }
         ensures hands { HearsNoHand self.old.ends.items self.new.ends.items }
-        ensures all { OnOk result (TakenIn at index (all_put finished) self.new.ends.items) }
+        ensures all { IfOk result (λ all. IsTrue all → TakenIn at index (all_put finished) self.new.ends.items) }
     {
         match self.ends.get_mut(at) {
-            Some(ends) => settle_child(self.alloc, &mut self.book, ends, at, index, finished),
-            None => Ok(()),
+            Some(ends) => settle_child(
+                rt,
+                bell,
+                self.alloc,
+                &mut self.book,
+                ends,
+                at,
+                index,
+                finished,
+            ),
+            None => Ok(true),
         }
     }
 }
@@ -127,7 +150,7 @@ impl<K: Keeper> Desk<K> {
         requires { IsEndOf at finished self.old.ends.items }
         ensures lines { self.new.lines.items ≡ self.old.lines.items }
         ensures book { self.new.book ≡ self.old.book }
-        ensures heard { HearsAll self.old.ends.items self.old.book.log.items self.new.ends.items self.new.book.log.items }
+        ensures heard { HearsAll self.old.ends.items (logged self.old.book) self.new.ends.items (logged self.new.book) }
         ensures hands { HearsNoHand self.old.ends.items self.new.ends.items }
         ensures others { (i : ℕ) → i ≢ at → slice_get self.new.ends.items i ≡ slice_get self.old.ends.items i }
         ensures front { IsFrontIn at (all_put finished) self.new.ends.items }
@@ -141,7 +164,7 @@ impl<K: Keeper> Desk<K> {
     /// part of the record, unless memory for the report was refused: that costs no other its own, nor the record.
     pub fn into_outcome(self) -> Outcome
         ensures shown { AllShown self.book result.reports }
-        ensures record { result.record ≡ self.book.log.items }
+        ensures log { result.log ≡ self.book.log }
     {
         let Desk { book, .. } = self;
         outcome_of(book)
@@ -162,12 +185,12 @@ impl<K: Keeper> Desk<K> {
 /// What came of the scripts of a book.
 fn outcome_of(book: Book) -> Outcome
     ensures shown { AllShown book result.reports }
-    ensures record { result.record ≡ book.log.items }
+    ensures log { result.log ≡ book.log }
 {
     let Book { hall, log, .. } = book;
     Outcome {
         reports: hall.into_reports(),
-        record: HallEvents { list: log },
+        log,
     }
 }
 

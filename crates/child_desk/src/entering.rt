@@ -1,61 +1,74 @@
 //! Entries in a record, behind the hall that takes them.
 
-ghost use Rattle.std.specs.Prelude.{◌≡◌, ◌<◌, [], length, true, None, vec_len, vec_capacity, OnOk};
+ghost use Rattle.std.specs.Prelude.{◌≡◌, [], length, IsTrue, true, None};
 ghost use Rattle.dialogue_sched.specs.Refusal.{refusal_of};
-ghost use Rattle.child_desk.specs.Book.{Enters, IsRecord};
+ghost use Rattle.feed_rings.specs.Ends.{put_items};
+ghost use Rattle.child_desk.specs.Book.{Enters, HasRoom, IsRecord, Looks, logged};
 
 use crate::book::Book;
 use child_events::HallEvent;
 use dialogue_sched::Hall;
-use std::alloc::{AllocError, Global};
+use feed_rings::{Bell, FeedIn, await_room};
+use std::sync::Wait;
 
 impl Book {
-    /// A hall to which nothing has happened.
-    pub fn new(alloc: Global, hall: Hall) -> Book
+    /// A hall to which nothing has happened, and the ring of its record.
+    pub fn new(hall: Hall, log: FeedIn<HallEvent>) -> Book
+        requires { put_items log ≡ [] }
         ensures hall { result.hall ≡ hall }
-        ensures log { result.log.items ≡ [] }
+        ensures log { result.log ≡ log }
         ensures record { IsRecord result }
     {
         Book {
             hall,
-            log: Vec::new(alloc),
+            log,
             stamp: 0,
         }
     }
 
-    /// Makes room for one entry.
-    pub fn reserve(&mut self) -> Result<(), AllocError>
-        ensures hall { self.new.hall ≡ self.old.hall }
-        ensures log { self.new.log.items ≡ self.old.log.items }
-        ensures stamp { self.new.stamp ≡ self.old.stamp }
-        ensures room { OnOk result (vec_len self.new.log < vec_capacity self.new.log) }
+    /// Whether there is room for an entry.
+    pub fn has_room(&mut self) -> bool
+        ensures looks { Looks self.old self.new }
+        ensures room { IsTrue result → HasRoom self.new }
     {
-        self.log.reserve(1)
+        self.log.has_room()
+    }
+
+    /// Waits until there is room for an entry. False where the record isn't taken any more.
+    pub fn await_room<R: Wait>(&mut self, rt: &R, bell: &Bell) -> bool
+        ensures looks { Looks self.old self.new }
+        ensures room { IsTrue result → HasRoom self.new }
+    {
+        await_room(rt, bell, &mut self.log)
     }
 }
 
 /// Steps the hall with an event, whose copy it takes, and records it. True where the hall took it; a refused one changes nothing.
 pub fn enter(book: &mut Book, event: HallEvent, copy: HallEvent) -> bool
     requires same { copy ≡ event }
-    requires room { vec_len book.old.log < vec_capacity book.old.log }
+    requires room { HasRoom book.old }
     ensures { Enters event result book.old book.new }
 {
     if book.hall.step(copy).is_err() {
         return false;
     }
-    book.log.push_reserved(event);
+    let Ok(()) = book.log.put(event) else {
+        unreachable!()
+    };
     true
 }
 
 /// Steps the hall with an event that it takes, and records it.
 pub fn enter_taken(book: &mut Book, entry: HallEvent, copy: HallEvent)
     requires same { copy ≡ entry }
-    requires room { vec_len book.old.log < vec_capacity book.old.log }
+    requires room { HasRoom book.old }
     requires taken { refusal_of (length book.old.hall) entry ≡ None }
     ensures { Enters entry true book.old book.new }
 {
     let Ok(()) = book.hall.step(copy) else {
         unreachable!()
     };
-    book.log.push_reserved(entry);
+    let Ok(()) = book.log.put(entry) else {
+        unreachable!()
+    };
 }

@@ -1,10 +1,11 @@
 //! What the children of a script put out.
 
-ghost use Rattle.std.specs.Prelude.{◌≡◌, ◌<◌, ◌≤◌, ◌+◌, [], ◌∷◌, ℕ, List, length, OnOk, vec_len, vec_capacity};
+ghost use Rattle.std.specs.Prelude.{◌≡◌, ◌<◌, ◌≤◌, ◌+◌, [], ◌∷◌, ℕ, List, length, IsTrue, IfOk, OnOk};
 ghost use Rattle.child_events.specs.declared.event.What.{What};
 ghost use Rattle.child_events.specs.declared.event.HallEvent.{HallEvent};
 ghost use Rattle.dialogue_sched.specs.Refusal.{piece_len};
 ghost use Rattle.feed_rings.specs.Ends.{taken_items, all_put, SameOut};
+ghost use Rattle.child_desk.specs.Book.{HasRoom, logged};
 ghost use Rattle.child_desk.specs.Told.{asked_of_hand};
 ghost use Rattle.child_desk.specs.Line.{Leaves, TakesNone};
 ghost use Rattle.child_desk.specs.Ends.{IsOutput, output_at};
@@ -17,8 +18,9 @@ use crate::entering::enter_taken;
 use crate::readers::{Taken, room};
 use child_events::{HallEvent, What};
 use child_keeper::{Item, Keeper};
-use feed_rings::Finished;
+use feed_rings::{Bell, Finished};
 use std::alloc::{AllocError, Global};
+use std::sync::Wait;
 
 /// How many items are taken from one ring before the next is looked at.
 const ROUND: u32 = 64;
@@ -44,9 +46,9 @@ fn enter_output(book: &mut Book, at: usize, child: u8, what: What, copy: What)
     requires same { copy ≡ what }
     requires output { IsOutput what × (piece_len what ≤ 4096) }
     requires place { (at < length book.old.hall) × (at < 64) × (1 ≤ child) × (child ≤ 16) }
-    requires room { vec_len book.old.log < vec_capacity book.old.log }
+    requires room { HasRoom book.old }
     ensures kept { Leaves book.old book.new }
-    ensures adds { Adds (at + 1) child (what ∷ []) book.old.log.items book.new.log.items }
+    ensures adds { Adds (at + 1) child (what ∷ []) (logged book.old) (logged book.new) }
     ensures comes { Comes at book.old book.new }
 {
     let event = output_event(at, child, book.stamp, what);
@@ -64,10 +66,10 @@ fn enter_heard<K: Keeper>(
     taken: Taken,
 ) -> bool
     requires place { (at < length book.old.hall) × (at < 64) × (index < 16) }
-    requires room { vec_len book.old.log < vec_capacity book.old.log }
+    requires room { HasRoom book.old }
     requires says { (said : List What) × Says said taken }
     ensures kept { Leaves book.old book.new }
-    ensures adds { (said : List What) → Says said taken → Adds (at + 1) (index + 1) said book.old.log.items book.new.log.items }
+    ensures adds { (said : List What) → Says said taken → Adds (at + 1) (index + 1) said (logged book.old) (logged book.new) }
     ensures comes { Comes at book.old book.new }
     ensures rings { TakesNone ends.old ends.new }
     ensures asked { asked_of_hand ends.new ≡ asked_of_hand ends.old }
@@ -83,7 +85,7 @@ fn enter_heard<K: Keeper>(
     }
 }
 
-/// Takes what comes next from the child at a place, and enters it. True where there was something.
+/// Takes what comes next from the child at a place, where the record has room for it, and enters it. True where there was something.
 #[tactic(auto, using(crate::proofs::Kept::leaves_all, crate::proofs::Kept::leaves_same, crate::proofs::Kept::leaves_then, crate::proofs::Hears::hears_at_none, crate::proofs::Hears::takes_none, crate::proofs::Coming::comes_all, crate::proofs::Coming::comes_same, crate::proofs::Coming::comes_then))]
 fn hear<K: Keeper>(
     alloc: Global,
@@ -94,14 +96,16 @@ fn hear<K: Keeper>(
 ) -> Result<bool, AllocError>
     requires place { (at < length book.old.hall) × (at < 64) × (index < 16) }
     ensures kept { Leaves book.old book.new }
-    ensures heard { HearsAt (at + 1) index ends.old.readers book.old.log.items ends.new.readers book.new.log.items }
+    ensures heard { HearsAt (at + 1) index ends.old.readers (logged book.old) ends.new.readers (logged book.new) }
     ensures comes { Comes at book.old book.new }
     ensures hand { (ends.new.answers ≡ ends.old.answers) × (asked_of_hand ends.new ≡ asked_of_hand ends.old) }
 {
     if ends.readers.seems_empty(index) {
         return Ok(false);
     }
-    book.reserve()?;
+    if !book.has_room() {
+        return Ok(false);
+    }
     let room = room(alloc)?;
     let taken = ends.readers.next(index, room);
     Ok(enter_heard(book, ends, at, index, taken))
@@ -128,7 +132,7 @@ fn hear_child<K: Keeper>(
 ) -> Result<bool, AllocError>
     requires place { (at < length book.old.hall) × (at < 64) × (index < 16) }
     ensures kept { Leaves book.old book.new }
-    ensures heard { HearsAt (at + 1) index ends.old.readers book.old.log.items ends.new.readers book.new.log.items }
+    ensures heard { HearsAt (at + 1) index ends.old.readers (logged book.old) ends.new.readers (logged book.new) }
     ensures comes { Comes at book.old book.new }
     ensures hand { (ends.new.answers ≡ ends.old.answers) × (asked_of_hand ends.new ≡ asked_of_hand ends.old) }
 {
@@ -154,7 +158,7 @@ pub(crate) fn hear_children<K: Keeper>(
 ) -> Result<bool, AllocError>
     requires place { (at < length book.old.hall) × (at < 64) }
     ensures kept { Leaves book.old book.new }
-    ensures heard { Hears (at + 1) ends.old.readers book.old.log.items ends.new.readers book.new.log.items }
+    ensures heard { Hears (at + 1) ends.old.readers (logged book.old) ends.new.readers (logged book.new) }
     ensures comes { Comes at book.old book.new }
     ensures hand { (ends.new.answers ≡ ends.old.answers) × (asked_of_hand ends.new ≡ asked_of_hand ends.old) }
 {
@@ -167,29 +171,35 @@ pub(crate) fn hear_children<K: Keeper>(
     Ok(busy)
 }
 
-/// Takes what is left of the child at a place, whose reader has finished its ring.
+/// Takes what is left of the child at a place, whose reader has finished its ring, as soon as the record has room. False where it isn't taken any
+/// more.
 #[tactic(auto, using(crate::proofs::Kept::leaves_all, crate::proofs::Kept::leaves_then, crate::proofs::Hears::hears_at_same, crate::proofs::Hears::hears_at_then))]
-pub(crate) fn settle_child<K: Keeper>(
+pub(crate) fn settle_child<K: Keeper, R: Wait>(
+    rt: &R,
+    bell: &Bell,
     alloc: Global,
     book: &mut Book,
     ends: &mut Ends<K>,
     at: usize,
     index: u8,
     finished: Finished<Item<K>>,
-) -> Result<(), AllocError>
+) -> Result<bool, AllocError>
     requires place { (at < length book.old.hall) × (at < 64) × (index < 16) }
     requires finished { FinishedAt index finished ends.old.readers }
     ensures kept { Leaves book.old book.new }
-    ensures heard { HearsAt (at + 1) index ends.old.readers book.old.log.items ends.new.readers book.new.log.items }
+    ensures heard { HearsAt (at + 1) index ends.old.readers (logged book.old) ends.new.readers (logged book.new) }
     ensures hand { (ends.new.answers ≡ ends.old.answers) × (asked_of_hand ends.new ≡ asked_of_hand ends.old) }
-    ensures all { OnOk result (TakenAt index (all_put finished) ends.new.readers) }
+    ensures all { IfOk result (λ all. IsTrue all → TakenAt index (all_put finished) ends.new.readers) }
 {
     let mut finished = finished;
     let count = ends.readers.left(index, &mut finished);
     for _ in 0..count {
+        if !book.await_room(rt, bell) {
+            return Ok(false);
+        }
         hear_left(alloc, book, ends, at, index)?;
     }
-    Ok(())
+    Ok(true)
 }
 
 /// Takes an item that is sure to be left of the child at a place, and enters what it says.
@@ -203,12 +213,12 @@ fn hear_left<K: Keeper>(
 ) -> Result<(), AllocError>
     requires place { (at < length book.old.hall) × (at < 64) × (index < 16) }
     requires seen { SeenAt index ends.old.readers }
+    requires room { HasRoom book.old }
     ensures kept { Leaves book.old book.new }
-    ensures heard { HearsAt (at + 1) index ends.old.readers book.old.log.items ends.new.readers book.new.log.items }
+    ensures heard { HearsAt (at + 1) index ends.old.readers (logged book.old) ends.new.readers (logged book.new) }
     ensures hand { (ends.new.answers ≡ ends.old.answers) × (asked_of_hand ends.new ≡ asked_of_hand ends.old) }
     ensures left { OnOk result (LeavesOneLess index ends.old.readers ends.new.readers) }
 {
-    book.reserve()?;
     let room = room(alloc)?;
     let taken = ends.readers.next_left(index, room);
     enter_heard(book, ends, at, index, taken);

@@ -1,7 +1,8 @@
 //! A script in its line: the request that waits for its answer, and the answers.
 
-ghost use Rattle.std.specs.Prelude.{◌≡◌, ◌+◌, ◌<◌, ◌↔◌, [], ◌∷◌, false, length, IsTrue, Some, None, vec_len, vec_capacity};
+ghost use Rattle.std.specs.Prelude.{◌≡◌, ◌+◌, ◌<◌, ◌↔◌, [], ◌∷◌, false, length, IsTrue, Some, None};
 ghost use Rattle.dialogue_sched.specs.declared.script.Script.{Script};
+ghost use Rattle.child_desk.specs.Book.{HasRoom, logged};
 ghost use Rattle.child_desk.specs.Told.{Rings, Stops, telling_of, telling, asking};
 ghost use Rattle.child_desk.specs.Line.{Keeping, answer_at, InLine, Keeps, Goes};
 ghost use Rattle.child_desk.specs.Heard.{Unheard};
@@ -48,7 +49,7 @@ impl Line {
 pub fn ask_next(book: &mut Book, line: &mut Line, at: usize)
     requires { (at < length book.old.hall) × (at < 64) }
     ensures kept { (rings : Rings) → Keeps rings rings at line.old book.old line.new book.new }
-    ensures log { book.new.log.items ≡ book.old.log.items }
+    ensures log { logged book.new ≡ logged book.old }
     ensures comes { Comes at book.old book.new }
     ensures line { line.new ≡ record line.old { awaited = line.new.awaited } }
     ensures next { line.new.awaited ≡ None → HasNoRequest at book.new }
@@ -115,9 +116,9 @@ pub fn enter_answer<K: Keeper>(
     answered: Answered<K>,
 ) -> bool
     requires place { at < 64 }
-    requires room { vec_len book.old.log < vec_capacity book.old.log }
+    requires room { HasRoom book.old }
     ensures kept { (rings : Rings) → Keeps rings (telling rings (telling_of answered ∷ [])) at line.old book.old line.new book.new }
-    ensures silent { Unheard book.old.log.items book.new.log.items }
+    ensures silent { Unheard (logged book.old) (logged book.new) }
     ensures comes { Comes at book.old book.new }
     ensures entered { (rings : Rings) (keeper : Keeping) (script : Script) → InLine rings keeper script at line.old book.old → IsTold at line.old (telling_of answered) book.old book.new }
 {

@@ -181,7 +181,7 @@ impl Reaper {
         }
     }
 
-    /// The children of which something is left.
+    /// The children that still run, or that left processes behind that still run.
     pub(crate) fn left(&self, rt: &impl Wait) -> Result<Vec<Name>, AllocError> {
         let mut left = Vec::new(self.alloc);
         let wards = self.shared.wards.lock(rt);

@@ -14,3 +14,6 @@ pub mod Accepting
 pub mod Teaming
 pub mod Working
 pub mod Again
+pub mod Taking
+pub mod Assembling
+pub mod Pairs

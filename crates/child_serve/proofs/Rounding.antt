@@ -1,15 +1,28 @@
 -- A desk that was turned so far, and looked at since.
-use Rattle.std.proofs.Common.{◌≡◌, List, sym, subst}
+use Rattle.std.proofs.Common.{◌≡◌, List, sym, ap, subst}
 use Rattle.std.specs.declared.io.traits.Read.{Ghosts as ReadGhosts}
 use Rattle.child_keeper.specs.declared.keeper.Keeper.{Ghosts}
 use Rattle.child_desk.specs.declared.ends.Ends.{Ends}
 use Rattle.child_desk.specs.declared.book.Book.{Book}
 use Rattle.child_desk.specs.declared.line.Line.{Line}
+use Rattle.child_desk.specs.Book.{Looks, logged}
+use Rattle.child_desk.specs.Heard.{HearsAll, recorded}
 use Rattle.child_desk.specs.Line.{HearsNoHand, KeepsAll}
-use Rattle.child_desk.proofs.Kept.{leaves_all, all_then, all_still}
+use Rattle.child_desk.proofs.Kept.{leaves_all, leaves_same, all_left, all_then, all_still}
+use Rattle.child_desk.proofs.Hears.{all_silent}
 
 module _ {K O : Type 0} {g : Ghosts K O} {r : ReadGhosts O} where
   pub kept_same : (xs ys zs : List Line) (ds es fs : List (Ends K O g r)) (a b c : Book) → KeepsAll xs ds a ys es b → zs ≡ ys → HearsNoHand es fs → c ≡ b → KeepsAll xs ds a zs fs c
   kept_same xs ys zs ds es fs a b c k lines hands book =
       subst (λ (d : Book). KeepsAll xs ds a zs fs d) (sym book)
       (subst (λ (ls : List Line). KeepsAll xs ds a ls fs b) (sym lines) (all_then xs ys ys ds es fs a b b k (all_still ys es fs b b (leaves_all b) hands)))
+
+  -- nothing happened while a desk waited for room
+  pub kept_waiting : (xs ys : List Line) (ds es : List (Ends K O g r)) (a b : Book) → ys ≡ xs → es ≡ ds → Looks a b → KeepsAll xs ds a ys es b
+  kept_waiting xs ys ds es a b lines ends looks =
+      subst (λ (ls : List Line). KeepsAll xs ds a ls es b) (sym lines)
+      (subst (λ (fs : List (Ends K O g r)). KeepsAll xs ds a xs fs b) (sym ends) (all_left xs ds a b (leaves_same a b looks)))
+
+  pub heard_waiting : (ds es : List (Ends K O g r)) (a b : Book) → es ≡ ds → Looks a b → HearsAll ds (logged a) es (logged b)
+  heard_waiting ds es a b ends looks =
+      subst (λ (fs : List (Ends K O g r)). HearsAll ds (logged a) fs (logged b)) (sym ends) (all_silent ds (logged a) (logged b) (λ s c. ap (recorded s c) looks.log))

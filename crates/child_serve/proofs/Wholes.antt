@@ -19,6 +19,9 @@ use Rattle.session.specs.Growth.{Continues}
 use Rattle.dialogue_sched.specs.declared.script.Script.{Script}
 use Rattle.dialogue_sched.specs.Ticks.{Rises, WithTicks, none, kept, tick}
 use Rattle.dialogue_sched.proofs.Ticking.{ticks_change_nothing, ticks_only_add}
+use Rattle.child_events.specs.declared.event.HallEvent.{HallEvent}
+use Rattle.feed_rings.specs.Ends.{put_items}
+use Rattle.child_serve.specs.declared.served.Part.{Part}
 use Rattle.child_serve.specs.declared.served.Served.{Served}
 use Rattle.child_serve.specs.declared.served.Unsettled.{Unsettled}
 use Rattle.child_serve.specs.Joined.{script_of, EachSees}
@@ -28,9 +31,10 @@ use Rattle.child_hands.specs.Handed.{starts}
 use Rattle.child_serve.specs.Given.{IsGiven, started_by}
 use Rattle.child_desk.specs.Heard.{said_in, said_by}
 use Rattle.child_desk.specs.Told.{Reply, answer_in, answers_in, reply_in, replies_in, AreTold, AreOf}
+use Rattle.child_desk.proofs.Places.{nothing_there, one_there}
 use Rattle.child_desk.proofs.Telling.{of_more}
 use Rattle.child_desk.specs.Line.{Keeping}
-use Rattle.child_serve.specs.Served.{Tells, IsServed, AreServed, IsPart, AreParts, records_of, any_stopped}
+use Rattle.child_serve.specs.Served.{Tells, IsServed, AreServed, IsPart, AreParts, records_of, is_any, any_stopped}
 use Rattle.child_serve.proofs.Merging.{ascends_own}
 use Rattle.child_serve.proofs.Turning.{Enough, turn_length, turn_at}
 
@@ -136,15 +140,10 @@ map_length f [] = refl
 map_length f (x ∷ xs) = ap suc (map_length f xs)
 
 -- what one of them has, all have
-among_all : (parts : List Served) (w : ℕ) (p : Served) (u : Unsettled) → slice_get parts w ≡ Some p → Contains p.unsettled.items u → Contains (flat_map (λ (s : Served). s.unsettled.items) parts) u
-among_all [] w p u got h = absurd (no_part p got)
-  where
-    no_part : (p : Served) → ◌≡◌ {A = Option Served} None (Some p) → ⊥
-    no_part p h = cc
-among_all (q ∷ parts) zero p u got h =
-    let is : p ≡ q = cc in
-    Contains-append_left q.unsettled.items _ u (subst (λ (s : Served). Contains s.unsettled.items u) is h)
-among_all (q ∷ parts) (suc w) p u got h = Contains-append_right q.unsettled.items _ u (among_all parts w p u got h)
+among_all : {V U : Type 0} (of : V → List U) (vs : List V) (w : ℕ) (v : V) (u : U) → slice_get vs w ≡ Some v → Contains (of v) u → Contains (flat_map of vs) u
+among_all of [] w v u got h = absurd (nothing_there v got)
+among_all of (x ∷ vs) zero v u got h = Contains-append_left (of x) _ u (subst (λ y. Contains (of y) u) (sym (one_there x v got)) h)
+among_all of (x ∷ vs) (suc w) v u got h = Contains-append_right (of x) _ u (among_all of vs w v u got h)
 
 or_left : (b c : Bool) → IsTrue b → IsTrue (b || c)
 or_left true c h = refl
@@ -155,53 +154,48 @@ or_right true c h = refl
 or_right false c h = h
 
 -- where one of them was given up, that is so of all
-one_stopped : (parts : List Served) (w : ℕ) (p : Served) → slice_get parts w ≡ Some p → IsTrue p.stopped → IsTrue (any_stopped parts)
-one_stopped [] w p got h = absurd (no_part p got)
-  where
-    no_part : (p : Served) → ◌≡◌ {A = Option Served} None (Some p) → ⊥
-    no_part p h = cc
-one_stopped (q ∷ parts) zero p got h =
-    let is : p ≡ q = cc in
-    or_left q.stopped (any_stopped parts) (subst (λ (s : Served). IsTrue s.stopped) is h)
-one_stopped (q ∷ parts) (suc w) p got h = or_right q.stopped (any_stopped parts) (one_stopped parts w p got h)
+one_stopped : (bs : List Bool) (w : ℕ) (b : Bool) → slice_get bs w ≡ Some b → IsTrue b → IsTrue (is_any bs)
+one_stopped [] w b got h = absurd (nothing_there b got)
+one_stopped (x ∷ bs) zero b got h = or_left x (is_any bs) (subst IsTrue (sym (one_there x b got)) h)
+one_stopped (x ∷ bs) (suc w) b got h = or_right x (is_any bs) (one_stopped bs w b got h)
 
 module _ (told : ℕ → ℕ → Request → Answer → Type 0) (gives : ℕ → ℕ → Option (List ℕ) → Type 0)
-    (keepers : List Keeping) (scripts : List Script) (parts : List Served) (s : Served) (some : 0 < length parts) (are : AreParts told gives keepers scripts parts)
-    (up : Ascends s.logged) (sees : EachSees (records_of parts) s.logged)
-    (reports : s.reports ≡ in_turn (length scripts) (map (λ (p : Served). p.reports) parts))
-    (unsettled : s.unsettled.items ≡ flat_map (λ (p : Served). p.unsettled.items) parts)
+    (keepers : List Keeping) (scripts : List Script) (parts : List Part) (es : List HallEvent) (s : Served) (some : 0 < length parts) (are : AreParts told gives keepers scripts parts)
+    (up : Ascends es) (sees : EachSees (records_of parts) es)
+    (reports : s.reports ≡ in_turn (length scripts) (map (λ (p : Part). p.served.reports) parts))
+    (unsettled : s.unsettled.items ≡ flat_map (λ (p : Part). p.served.unsettled.items) parts)
     (stopped : s.stopped ≡ any_stopped parts) where
   abbrev n : ℕ
   n = length parts
 
   abbrev of : List (List Report)
-  of = map (λ (p : Served). p.reports) parts
+  of = map (λ (p : Part). p.served.reports) parts
 
   enough : Enough n (length scripts) of
   enough w i part got lt =
-      let h = unmapped (λ (p : Served). p.reports) parts w part got in
+      let h = unmapped (λ (p : Part). p.served.reports) parts w part got in
       let mine = are w h.0 h.1 in
       let script = there scripts (i * n + w) lt in
       let within : i < length mine.few = slice_get_within mine.few i script.0 (mine.dealt i ∙ script.1) in
       subst (λ (l : List Report). i < length l) h.2 (omega (arith, within, mine.served.count))
 
   as_many : n ≡ length of
-  as_many = sym (map_length (λ (p : Served). p.reports) parts)
+  as_many = sym (map_length (λ (p : Part). p.served.reports) parts)
 
   of_one : (i : ℕ) (keeper : Keeping) (script : Script) (report : Report) → slice_get keepers i ≡ Some keeper → slice_get scripts i ≡ Some script → slice_get s.reports i ≡ Some report →
-      IsServed told gives (i + 1) keeper script report s.unsettled.items s.stopped (own (i + 1) s.logged)
+      IsServed told gives (i + 1) keeper script report s.unsettled.items s.stopped (own (i + 1) es)
   of_one i keeper script report got_keeper got_script got_report =
-      subst (λ (k : ℕ). IsServed told gives k keeper script report s.unsettled.items s.stopped (own k s.logged)) number
-      (served_on told gives (script_of n (i % n) ((i / n) + 1)) keeper script report p.0.unsettled.items s.unsettled.items p.0.stopped s.stopped (own ((i / n) + 1) p.0.logged) (own (script_of n (i % n) ((i / n) + 1)) s.logged)
-      (ascends_own (script_of n (i % n) ((i / n) + 1)) s.logged up)
-      (subst (λ (m : ℕ). WithTicks (own ((i / n) + 1) p.0.logged) (own (script_of m (i % n) ((i / n) + 1)) s.logged)) (map_length (λ (x : Served). x.logged) parts)
-      (sees (i % n) ((i / n) + 1) p.0.logged (mapped (λ (x : Served). x.logged) parts (i % n) p.0 p.1) (omega arith)))
-      (λ u h. subst (λ (l : List Unsettled). Contains l u) (sym unsettled) (among_all parts (i % n) p.0 u p.1 h))
-      (λ h. stopped ∙ one_stopped parts (i % n) p.0 p.1 h)
+      subst (λ (k : ℕ). IsServed told gives k keeper script report s.unsettled.items s.stopped (own k es)) number
+      (served_on told gives (script_of n (i % n) ((i / n) + 1)) keeper script report p.0.served.unsettled.items s.unsettled.items p.0.served.stopped s.stopped (own ((i / n) + 1) (put_items p.0.log)) (own (script_of n (i % n) ((i / n) + 1)) es)
+      (ascends_own (script_of n (i % n) ((i / n) + 1)) es up)
+      (subst (λ (m : ℕ). WithTicks (own ((i / n) + 1) (put_items p.0.log)) (own (script_of m (i % n) ((i / n) + 1)) es)) (map_length (λ (x : Part). put_items x.log) parts)
+      (sees (i % n) ((i / n) + 1) (put_items p.0.log) (mapped (λ (x : Part). put_items x.log) parts (i % n) p.0 p.1) (omega arith)))
+      (λ u h. subst (λ (l : List Unsettled). Contains l u) (sym unsettled) (among_all (λ (x : Part). x.served.unsettled.items) parts (i % n) p.0 u p.1 h))
+      (λ h. stopped ∙ one_stopped (map (λ (x : Part). x.served.stopped) parts) (i % n) p.0.served.stopped (mapped (λ (x : Part). x.served.stopped) parts (i % n) p.0 p.1) h)
       (mine.served.each (i / n) keeper script report
       (mine.kept (i / n) ∙ ap (slice_get keepers) place ∙ got_keeper)
       (mine.dealt (i / n) ∙ ap (slice_get scripts) place ∙ got_script)
-      (sym (turn_at n (length scripts) of as_many enough (i % n) (i / n) p.0.reports (mapped (λ (x : Served). x.reports) parts (i % n) p.0 p.1) (omega (arith, place, slice_get_within scripts i script got_script)))
+      (sym (turn_at n (length scripts) of as_many enough (i % n) (i / n) p.0.served.reports (mapped (λ (x : Part). x.served.reports) parts (i % n) p.0 p.1) (omega (arith, place, slice_get_within scripts i script got_script)))
       ∙ ap (slice_get (in_turn (length scripts) of)) place
       ∙ ap (λ (l : List Report). slice_get l i) (sym reports)
       ∙ got_report)))
@@ -209,7 +203,7 @@ module _ (told : ℕ → ℕ → Request → Answer → Type 0) (gives : ℕ →
       place : i / n * n + i % n ≡ i
       place = div-add-mod' i n
 
-      p : (x : Served) × (slice_get parts (i % n) ≡ Some x)
+      p : (x : Part) × (slice_get parts (i % n) ≡ Some x)
       p = there parts (i % n) (mod-lt i some)
 
       mine : IsPart told gives n (i % n) keepers scripts p.0
@@ -218,7 +212,7 @@ module _ (told : ℕ → ℕ → Request → Answer → Type 0) (gives : ℕ →
       number : script_of n (i % n) ((i / n) + 1) ≡ i + 1
       number = let e : (i / n) + 1 - 1 ≡ (i / n) = omega arith in ap (λ (k : ℕ). k * n + (i % n) + 1) e ∙ ap (λ (k : ℕ). k + 1) place
 
-  pub all_served : AreServed told gives (λ i. i + 1) keepers scripts s
+  pub all_served : AreServed told gives (λ i. i + 1) keepers scripts es s
   all_served = record {
     count = ap length reports ∙ turn_length n (length scripts) of as_many some enough;
     each = of_one;

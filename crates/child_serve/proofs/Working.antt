@@ -24,18 +24,18 @@ use Rattle.dialogue_sched.specs.Hall.{Begins, AllBegin}
 use Rattle.dialogue_sched.specs.Ticks.{WithTicks, none as no_more, kept as kept_one}
 use Rattle.child_desk.specs.declared.book.Book.{Book}
 use Rattle.child_desk.specs.declared.line.Line.{Line}
-use Rattle.child_desk.specs.Book.{Ascends, AllTaken, IsRecord}
+use Rattle.child_desk.specs.Book.{Ascends, AllTaken, IsRecord, logged}
 use Rattle.child_desk.specs.Heard.{recorded}
 use Rattle.std.specs.declared.io.traits.Read.{Ghosts as ReadGhosts}
 use Rattle.child_keeper.specs.declared.keeper.Keeper.{Ghosts}
 use Rattle.child_keeper.specs.declared.items.Item.{Item}
-use Rattle.feed_rings.specs.Ends.{taken_items}
+use Rattle.feed_rings.specs.Ends.{put_items, taken_items}
 use Rattle.child_desk.specs.declared.ends.Ends.{Ends}
 use Rattle.child_desk.specs.Told.{Put, no_rings, AreAmong, answers_in, all_told, heard_of_hand, asked_of_hand, rings_of}
 use Rattle.child_desk.specs.Line.{Keeping, InLine, Means, KeepsAll, AllOver, AllShown}
 use Rattle.child_desk.proofs.Places.{one_there}
 use Rattle.child_desk.proofs.Lining.{first_line}
-use Rattle.child_serve.specs.declared.served.Served.{Served}
+use Rattle.child_serve.specs.declared.served.Part.{Part}
 use Rattle.child_serve.specs.declared.worker.Team.{Team}
 use Rattle.child_serve.specs.Joined.{script_of, numbered}
 use Rattle.child_serve.specs.Given.{IsGiven}
@@ -126,35 +126,35 @@ all_kept [] = no_more
 all_kept (e ∷ es) = kept_one e es es (all_kept es)
 
 -- The lines and the hall at the start, what turning left of them, what was taken behind that, the reports, and what the record has of each child.
-module _ {K C O : Type 0} {g : Ghosts K O} {r : ReadGhosts O} (n w : ℕ) (team : Team K C) (first lines : List Line) (opened between ends : List (Ends K O g r)) (begun turned settled : Book) (s : Served)
+module _ {K C O : Type 0} {g : Ghosts K O} {r : ReadGhosts O} (n w : ℕ) (team : Team K C) (first lines : List Line) (opened between ends : List (Ends K O g r)) (begun turned settled : Book) (s : Part)
     (is : IsTeam n w team)
-    (are : AreFirst g.named g.made team.keepers.items first) (begin : AllBegin team.scripts.items begun.hall) (empty : begun.log.items ≡ []) (good : IsRecord begun)
+    (are : AreFirst g.named g.made team.keepers.items first) (begin : AllBegin team.scripts.items begun.hall) (empty : logged begun ≡ []) (good : IsRecord begun)
     (unheard : (i : ℕ) (keeper : K) → slice_get team.keepers.items i ≡ Some keeper → (e : Ends K O g r) × (slice_get opened i ≡ Some e) × (taken_items e.answers ≡ []) × (asked_of_hand e ≡ []))
-    (kept : KeepsAll first opened begun lines between turned) (over : s.stopped ≡ false → AllOver lines)
+    (kept : KeepsAll first opened begun lines between turned) (over : s.served.stopped ≡ false → AllOver lines)
     (left : KeepsAll lines between turned lines ends settled)
-    (shown : AllShown settled s.reports) (logged : s.logged ≡ settled.log.items)
+    (shown : AllShown settled s.served.reports) (put : put_items s.log ≡ logged settled)
     (given : (i index : ℕ) (keeper : K) (e : Ends K O g r) (xs : List Answer) (qs : List Request) → slice_get team.keepers.items i ≡ Some keeper → slice_get ends i ≡ Some e → AreAmong (heard_of_hand e.answers) (g.named keeper) (g.made keeper) xs qs →
-    index < 16 → (Contains s.unsettled.items (record { script = script_of n w (i + 1); child = index + 1 }) → ⊥) →
-    IsGiven g.told g.gives (g.named keeper) (g.made keeper) (index + 1) xs qs (recorded (i + 1) (index + 1) settled.log.items)) where
-  is_stopped : (b : Bool) → s.stopped ≡ b → (s.stopped ≡ false) ⊎ IsTrue s.stopped
+    index < 16 → (Contains s.served.unsettled.items (record { script = script_of n w (i + 1); child = index + 1 }) → ⊥) →
+    IsGiven g.told g.gives (g.named keeper) (g.made keeper) (index + 1) xs qs (recorded (i + 1) (index + 1) (logged settled))) where
+  is_stopped : (b : Bool) → s.served.stopped ≡ b → (s.served.stopped ≡ false) ⊎ IsTrue s.served.stopped
   is_stopped true e = inr e
   is_stopped false e = inl e
 
-  ended_by : (i : ℕ) (script : Script) (line : Line) (es : List Event) (report : Report) → slice_get lines i ≡ Some line → Means script line es report → Tells script report s.stopped es
+  ended_by : (i : ℕ) (script : Script) (line : Line) (es : List Event) (report : Report) → slice_get lines i ≡ Some line → Means script line es report → Tells script report s.served.stopped es
   ended_by i script line es report got (inr memory) = inr (inl memory)
-  ended_by i script line es report got (inl (same, ends)) = by_end (waits report.ending) (is_stopped s.stopped refl)
+  ended_by i script line es report got (inl (same, ends)) = by_end (waits report.ending) (is_stopped s.served.stopped refl)
     where
-      by_end : (report.ending ≡ Waiting) ⊎ (report.ending ≢ Waiting) → (s.stopped ≡ false) ⊎ IsTrue s.stopped → Tells script report s.stopped es
+      by_end : (report.ending ≡ Waiting) ⊎ (report.ending ≢ Waiting) → (s.served.stopped ≡ false) ⊎ IsTrue s.served.stopped → Tells script report s.served.stopped es
       by_end (inr ended) stop = inl (same, ended)
       by_end (inl waiting) (inr stopped) = inr (inr (stopped, waiting, (es, all_kept es, same)))
       by_end (inl waiting) (inl running) = absurd (ends (over running i line got) waiting)
 
-  of_one : (i : ℕ) (keeper : Keeping) (script : Script) (report : Report) → slice_get (map (keeping_of g.named g.made) team.keepers.items) i ≡ Some keeper → slice_get team.scripts.items i ≡ Some script → slice_get s.reports i ≡ Some report →
-      IsServed g.told g.gives (script_of n w (i + 1)) keeper script report s.unsettled.items s.stopped (own (i + 1) s.logged)
+  of_one : (i : ℕ) (keeper : Keeping) (script : Script) (report : Report) → slice_get (map (keeping_of g.named g.made) team.keepers.items) i ≡ Some keeper → slice_get team.scripts.items i ≡ Some script → slice_get s.served.reports i ≡ Some report →
+      IsServed g.told g.gives (script_of n w (i + 1)) keeper script report s.served.unsettled.items s.served.stopped (own (i + 1) (put_items s.log))
   of_one i keeper script report got_keeper got_script got_report =
-      subst (λ (es : List HallEvent). IsServed g.told g.gives (script_of n w (i + 1)) keeper script report s.unsettled.items s.stopped (own (i + 1) es)) (sym logged) (record {
-        ended = ended_by i script line.0 (own (i + 1) settled.log.items) report line.2 (shown.each i report got_report (rings_of last.0) keeper script line.0 last.2);
-        answers = among_told (taken_items last.0.answers) keeper.name keeper.made (answers_in (own (i + 1) settled.log.items)) asked last.2.2.answers;
+      subst (λ (es : List HallEvent). IsServed g.told g.gives (script_of n w (i + 1)) keeper script report s.served.unsettled.items s.served.stopped (own (i + 1) es)) (sym put) (record {
+        ended = ended_by i script line.0 (own (i + 1) (logged settled)) report line.2 (shown.each i report got_report (rings_of last.0) keeper script line.0 last.2);
+        answers = among_told (taken_items last.0.answers) keeper.name keeper.made (answers_in (own (i + 1) (logged settled))) asked last.2.2.answers;
         children = last.2.2.children;
         given = given_one;
       })
@@ -163,7 +163,7 @@ module _ {K C O : Type 0} {g : Ghosts K O} {r : ReadGhosts O} (n w : ℕ) (team 
       k = unmapped (keeping_of g.named g.made) team.keepers.items i keeper got_keeper
 
       asked : List Request
-      asked = (meaning script.source script.settings (own (i + 1) settled.log.items)).requests
+      asked = (meaning script.source script.settings (own (i + 1) (logged settled))).requests
 
       b : (x : Kept) × (slice_get begun.hall i ≡ Some x) × Begins script x
       b = begun_at team.scripts.items begun.hall i script begin got_script
@@ -185,15 +185,15 @@ module _ {K C O : Type 0} {g : Ghosts K O} {r : ReadGhosts O} (n w : ℕ) (team 
           let p = left.each keeper script i line.0 line.1 line.2 line.3 line.4 in
           (p.1, p.3, subst (λ (l : Line). InLine (rings_of p.1) keeper script i l settled) (one_there p.0 line.0 (sym p.2 ∙ line.2)) p.4)
 
-      given_one : (child : ℕ) → 1 ≤ child → child ≤ 16 → (Contains s.unsettled.items (record { script = script_of n w (i + 1); child = child }) → ⊥) →
-          IsGiven g.told g.gives keeper.name keeper.made child (answers_in (own (i + 1) settled.log.items)) asked (recorded (i + 1) child settled.log.items)
+      given_one : (child : ℕ) → 1 ≤ child → child ≤ 16 → (Contains s.served.unsettled.items (record { script = script_of n w (i + 1); child = child }) → ⊥) →
+          IsGiven g.told g.gives keeper.name keeper.made child (answers_in (own (i + 1) (logged settled))) asked (recorded (i + 1) child (logged settled))
       given_one child low high apart =
           let back : child - 1 + 1 ≡ child = omega (arith, low) in
-          let xs = answers_in (own (i + 1) settled.log.items) in
+          let xs = answers_in (own (i + 1) (logged settled)) in
           let among = subst (λ (x : Keeping). AreAmong (heard_of_hand last.0.answers) x.name x.made xs asked) (sym k.2) last.2.2.answers in
-          subst (λ (c : ℕ). IsGiven g.told g.gives keeper.name keeper.made c xs asked (recorded (i + 1) c settled.log.items)) back
-          (subst (λ (x : Keeping). IsGiven g.told g.gives x.name x.made (child - 1 + 1) xs asked (recorded (i + 1) (child - 1 + 1) settled.log.items)) k.2
-          (given i (child - 1) k.0 last.0 xs asked k.1 last.1 among (omega (arith, low, high)) (λ listed. apart (subst (λ (c : ℕ). Contains s.unsettled.items (record { script = script_of n w (i + 1); child = c })) back listed))))
+          subst (λ (c : ℕ). IsGiven g.told g.gives keeper.name keeper.made c xs asked (recorded (i + 1) c (logged settled))) back
+          (subst (λ (x : Keeping). IsGiven g.told g.gives x.name x.made (child - 1 + 1) xs asked (recorded (i + 1) (child - 1 + 1) (logged settled))) k.2
+          (given i (child - 1) k.0 last.0 xs asked k.1 last.1 among (omega (arith, low, high)) (λ listed. apart (subst (λ (c : ℕ). Contains s.served.unsettled.items (record { script = script_of n w (i + 1); child = c })) back listed))))
 
   in_record : IsRecord settled
   in_record = left.book (kept.book good)
@@ -201,8 +201,8 @@ module _ {K C O : Type 0} {g : Ghosts K O} {r : ReadGhosts O} (n w : ℕ) (team 
   as_many : length settled.hall ≡ length team.scripts.items
   as_many = left.halls ∙ kept.halls ∙ begun_length team.scripts.items begun.hall begin
 
-  taken : AllTaken (length team.scripts.items) settled.stamp s.logged
-  taken = subst (AllTaken (length team.scripts.items) settled.stamp) (sym logged) (subst (λ (k : ℕ). AllTaken k settled.stamp settled.log.items) as_many in_record.taken)
+  taken : AllTaken (length team.scripts.items) settled.stamp (put_items s.log)
+  taken = subst (AllTaken (length team.scripts.items) settled.stamp) (sym put) (subst (λ (k : ℕ). AllTaken k settled.stamp (logged settled)) as_many in_record.taken)
 
   pub is_work : IsWork g.told g.gives g.named g.made n w team s
   is_work = record {
@@ -211,9 +211,9 @@ module _ {K C O : Type 0} {g : Ghosts K O} {r : ReadGhosts O} (n w : ℕ) (team 
       each = of_one;
     };
     fits = record {
-      ascends = subst Ascends (sym logged) in_record.ascends;
-      here = all_fit (length team.scripts.items) settled.stamp s.logged is.few taken;
-      among = all_among n w (length team.scripts.items) settled.stamp s.logged is.numbers taken;
+      ascends = subst Ascends (sym put) in_record.ascends;
+      here = all_fit (length team.scripts.items) settled.stamp (put_items s.log) is.few taken;
+      among = all_among n w (length team.scripts.items) settled.stamp (put_items s.log) is.numbers taken;
     };
-    taken = accepted_none (length team.scripts.items) 0 s.logged (taken_accepted (length team.scripts.items) settled.stamp s.logged taken);
+    taken = accepted_none (length team.scripts.items) 0 (put_items s.log) (taken_accepted (length team.scripts.items) settled.stamp (put_items s.log) taken);
   }

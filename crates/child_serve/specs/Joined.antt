@@ -1,5 +1,5 @@
 -- One record of the records of several workers.
-use Rattle.std.specs.Prelude.{◌≡◌, ◌≢◌, ℕ, ◌+◌, ◌-◌, ◌*◌, ◌≤◌, ◌==◌, List, [], ◌∷◌, ◌++◌, map, length, slice_get, Some}
+use Rattle.std.specs.Prelude.{◌≡◌, ◌≢◌, ℕ, ◌+◌, ◌-◌, ◌*◌, ◌≤◌, ◌==◌, List, [], ◌∷◌, ◌++◌, map, length, slice_get, Option, None, Some}
 use Rattle.std.specs.List.{filter}
 use Rattle.child_events.specs.declared.event.HallEvent.{HallEvent}
 use Rattle.child_events.specs.declared.event.HallEvent.TheVariants as hall
@@ -50,6 +50,11 @@ AllFits records = AllFitFrom (length records) 0 records
 pub record IsJoined (records : List (List HallEvent)) (es : List HallEvent) : Type 0 where
   pub ascends : Ascends es
   pub ties : (m : ℕ) → at_moment m es ≡ at_moment m (all_of records)
+
+-- one record of several, where these are kept
+abbrev pub IsOneOf : Option (List (List HallEvent)) → Option (List HallEvent) → Type 0
+IsOneOf None one = one ≡ None
+IsOneOf (Some records) one = (es : List HallEvent) × IsJoined records es × (one ≡ Some es)
 
 -- What a script sees of the joined record is what it sees of its worker's, with ticks put in.
 abbrev pub EachSees : List (List HallEvent) → List HallEvent → Type 0

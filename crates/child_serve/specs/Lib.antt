@@ -8,3 +8,4 @@ pub mod Served
 pub mod Whole
 pub mod Teams
 pub mod Again
+pub mod Recorded

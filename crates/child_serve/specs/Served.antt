@@ -1,5 +1,5 @@
 -- What it is to have served scripts.
-use Rattle.std.specs.Prelude.{◌≡◌, ◌≢◌, ◌⊎◌, ◌≤◌, ℕ, ◌+◌, List, [], ◌∷◌, map, length, slice_get, Bool, false, ◌||◌, IsTrue, Option, Some, None, Contains}
+use Rattle.std.specs.Prelude.{◌≡◌, ◌≢◌, ◌⊎◌, ◌≤◌, ℕ, ◌+◌, List, [], ◌∷◌, map, length, slice_get, Bool, false, ◌||◌, IsTrue, Option, Some, None, option_map, Contains}
 use Rattle.std.specs.List.{flat_map}
 use Rattle.child_events.specs.declared.event.Answer.{Answer}
 use Rattle.child_events.specs.declared.event.Event.{Event}
@@ -14,6 +14,8 @@ use Rattle.session.specs.Spent.{memory_report}
 use Rattle.dialogue_sched.specs.declared.script.Script.{Script}
 use Rattle.dialogue_sched.specs.Refusal.{first_refusal}
 use Rattle.dialogue_sched.specs.Ticks.{WithTicks}
+use Rattle.feed_rings.specs.Ends.{put_items}
+use Rattle.child_serve.specs.declared.served.Part.{Part}
 use Rattle.child_serve.specs.declared.served.Served.{Served}
 use Rattle.child_serve.specs.declared.served.Unsettled.{Unsettled}
 use Rattle.child_serve.specs.declared.served.Apart.{Apart}
@@ -43,46 +45,56 @@ module _ (told : ℕ → ℕ → Request → Answer → Type 0) (gives : ℕ →
     pub children : AreOf (replies_in es) (meaning script.source script.settings es).requests
     pub given : (child : ℕ) → 1 ≤ child → child ≤ 16 → (Contains unsettled (record { script = number; child = child }) → ⊥) → IsGiven told gives keeper.name keeper.made child (answers_in es) (meaning script.source script.settings es).requests (said_by child es)
 
-  -- of several scripts, whose numbers a function gives, from their places
-  pub record AreServed (number : ℕ → ℕ) (keepers : List Keeping) (scripts : List Script) (s : Served) : Type 0 where
+  -- of several scripts, whose numbers a function gives, from their places, over a record
+  pub record AreServed (number : ℕ → ℕ) (keepers : List Keeping) (scripts : List Script) (es : List HallEvent) (s : Served) : Type 0 where
     pub count : length s.reports ≡ length scripts
     pub each : (i : ℕ) (keeper : Keeping) (script : Script) (report : Report) → slice_get keepers i ≡ Some keeper → slice_get scripts i ≡ Some script → slice_get s.reports i ≡ Some report →
-        IsServed (number i) keeper script report s.unsettled.items s.stopped (own (i + 1) s.logged)
+        IsServed (number i) keeper script report s.unsettled.items s.stopped (own (i + 1) es)
 
   -- one worker has served those that are its own, and its record has entries of those alone
-  pub record IsPart (n w : ℕ) (keepers : List Keeping) (scripts : List Script) (s : Served) : Type 0 where
+  pub record IsPart (n w : ℕ) (keepers : List Keeping) (scripts : List Script) (p : Part) : Type 0 where
     pub mine : List Keeping
     pub kept : IsDealt n w keepers mine
     pub few : List Script
     pub dealt : IsDealt n w scripts few
-    pub served : AreServed (λ i. script_of n w (i + 1)) mine few s
-    pub taken : first_refusal (length few) 0 s.logged ≡ None
+    pub served : AreServed (λ i. script_of n w (i + 1)) mine few (put_items p.log) p.served
+    pub taken : first_refusal (length few) 0 (put_items p.log) ≡ None
 
-  abbrev pub AreParts : List Keeping → List Script → List Served → Type 0
-  AreParts keepers scripts parts = (w : ℕ) (s : Served) → slice_get parts w ≡ Some s → IsPart (length parts) w keepers scripts s
+  abbrev pub AreParts : List Keeping → List Script → List Part → Type 0
+  AreParts keepers scripts parts = (w : ℕ) (p : Part) → slice_get parts w ≡ Some p → IsPart (length parts) w keepers scripts p
 
-abbrev pub records_of : List Served → List (List HallEvent)
-records_of parts = map (λ s. s.logged) parts
+-- the record of each worker: what was put into its ring
+abbrev pub records_of : List Part → List (List HallEvent)
+records_of parts = map (λ p. put_items p.log) parts
 
 -- whether one of them was given up
-abbrev pub any_stopped : List Served → Bool
-any_stopped [] = false
-any_stopped (s ∷ ss) = s.stopped || any_stopped ss
+abbrev pub is_any : List Bool → Bool
+is_any [] = false
+is_any (b ∷ bs) = b || is_any bs
+
+abbrev pub any_stopped : List Part → Bool
+any_stopped parts = is_any (map (λ p. p.served.stopped) parts)
 
 -- what each worker has, by kind
-pub record IsApart (parts : List Served) (a : Apart) : Type 0 where
-  pub records : a.records.items ≡ records_of parts
-  pub reports : a.reports.items ≡ map (λ s. s.reports) parts
-  pub unsettled : a.unsettled.items ≡ flat_map (λ s. s.unsettled.items) parts
+pub record IsApart (parts : List Part) (a : Apart) : Type 0 where
+  pub reports : a.reports.items ≡ map (λ p. p.served.reports) parts
+  pub unsettled : a.unsettled.items ≡ flat_map (λ p. p.served.unsettled.items) parts
   pub stopped : a.stopped ≡ any_stopped parts
 
 module _ (told : ℕ → ℕ → Request → Answer → Type 0) (gives : ℕ → ℕ → Option (List ℕ) → Type 0) where
-  -- All scripts were served by so many workers: each as its keeper told and gave, and the record is that of all workers, with every entry within
-  -- the limits of a log and of one of the scripts or a tick, so that a run of the scripts refuses none of them.
-  pub record IsWhole (workers : ℕ) (keepers : List Keeping) (scripts : List Script) (s : Served) : Type 0 where
-    pub served : AreServed told gives (λ i. i + 1) keepers scripts s
+  -- All scripts were served by so many workers, over a record: each as its keeper told and gave, and the record is that of all workers, with every
+  -- entry within the limits of a log and of one of the scripts or a tick, so that a run of the scripts refuses none of them.
+  pub record IsWhole (workers : ℕ) (keepers : List Keeping) (scripts : List Script) (es : List HallEvent) (s : Served) : Type 0 where
+    pub served : AreServed told gives (λ i. i + 1) keepers scripts es s
     pub records : List (List HallEvent)
     pub each : length records ≡ workers
-    pub joined : IsJoined records s.logged
-    pub fits : AllFit s.logged
-    pub taken : first_refusal (length scripts) 0 s.logged ≡ None
+    pub joined : IsJoined records es
+    pub fits : AllFit es
+    pub taken : first_refusal (length scripts) 0 es ≡ None
+
+  -- What came of so many scripts, from what came of those of each worker: they were served over the record of all workers, which is what is kept, if
+  -- anything is.
+  pub record IsAssembled (count : ℕ) (parts : List Part) {R : Type 0} (records : Option R) (s : Served) : Type 0 where
+    pub es : List HallEvent
+    pub whole : (keepers : List Keeping) (scripts : List Script) → length scripts ≡ count → AreParts told gives keepers scripts parts → IsWhole (length parts) keepers scripts es s
+    pub logged : s.logged ≡ option_map (λ _. es) records

@@ -1,6 +1,7 @@
 //! Turning a desk until nothing more can come.
 
 ghost use Rattle.std.specs.Prelude.{◌≡◌, ◌≤◌, ◌+◌, length, false, IfOk, IfSome};
+ghost use Rattle.child_desk.specs.Book.{logged};
 ghost use Rattle.child_desk.specs.Line.{KeepsAll, HearsNoHand, AllOver};
 ghost use Rattle.child_desk.specs.Heard.{HearsAll};
 ghost use Rattle.child_serve.specs.Over.{is_end as is_end_of};
@@ -88,18 +89,41 @@ fn nothing_told(alloc: Global, hall: &Hall) -> Result<Vec<Told>, AllocError> {
     Ok(told)
 }
 
+/// Turns a desk as soon as its record has room, and tells what its scripts have shown. False where the record isn't taken any more.
+fn turn<K: Keeper, C: Audience, W: Wait>(
+    rt: &W,
+    bell: &Bell,
+    desk: &mut Desk<K>,
+    now: u64,
+    audience: &mut C,
+    told: &mut [Told],
+) -> Result<bool, AllocError>
+    requires { (length desk.old.lines.items ≤ length desk.old.book.hall) × (length desk.old.book.hall ≤ 64) }
+    ensures kept { KeepsAll desk.old.lines.items desk.old.ends.items desk.old.book desk.new.lines.items desk.new.ends.items desk.new.book }
+    ensures heard { HearsAll desk.old.ends.items (logged desk.old.book) desk.new.ends.items (logged desk.new.book) }
+{
+    if !desk.await_room(rt, bell) {
+        return Ok(false);
+    }
+    desk.turn(now)?;
+    tell_all(&desk.book.hall, audience, told);
+    Ok(true)
+}
+
 /// Turns a desk for the last time, as it is given up.
-fn last_turn<K: Keeper, C: Clock + Audience + Stopping>(
+fn last_turn<K: Keeper, C: Clock + Audience, W: Wait>(
+    rt: &W,
+    bell: &Bell,
     desk: &mut Desk<K>,
     clock: &mut C,
     told: &mut [Told],
 ) -> Result<(), AllocError>
     requires { (length desk.old.lines.items ≤ length desk.old.book.hall) × (length desk.old.book.hall ≤ 64) }
     ensures kept { KeepsAll desk.old.lines.items desk.old.ends.items desk.old.book desk.new.lines.items desk.new.ends.items desk.new.book }
-    ensures heard { HearsAll desk.old.ends.items desk.old.book.log.items desk.new.ends.items desk.new.book.log.items }
+    ensures heard { HearsAll desk.old.ends.items (logged desk.old.book) desk.new.ends.items (logged desk.new.book) }
 {
-    desk.turn(clock.now())?;
-    tell_all(&desk.book.hall, clock, told);
+    let now = clock.now();
+    turn(rt, bell, desk, now, clock, told)?;
     clock.leave(&desk.book.hall);
     Ok(())
 }
@@ -108,7 +132,8 @@ fn last_turn<K: Keeper, C: Clock + Audience + Stopping>(
 /// they were given up.
 ///
 /// A turn gets the reading that was taken before the last one: what came in time is heard before the tick that would make it late, however
-/// long a script computed meanwhile. There is a turn only where something came or a script may time out.
+/// long a script computed meanwhile. There is a turn only where something came or a script may time out. Where the record isn't taken any more, the
+/// scripts are given up.
 pub fn turn_all<K: Keeper, C: Clock + Audience + Stopping, W: Wait + std::time::Clock>(
     rt: &W,
     alloc: Global,
@@ -119,25 +144,23 @@ pub fn turn_all<K: Keeper, C: Clock + Audience + Stopping, W: Wait + std::time::
     requires { (length desk.old.lines.items ≤ length desk.old.book.hall) × (length desk.old.book.hall ≤ 64) }
     ensures kept { KeepsAll desk.old.lines.items desk.old.ends.items desk.old.book desk.new.lines.items desk.new.ends.items desk.new.book }
     ensures over { IfOk result (λ stopped. stopped ≡ false → AllOver desk.new.lines.items) }
-    ensures heard { HearsAll desk.old.ends.items desk.old.book.log.items desk.new.ends.items desk.new.book.log.items }
+    ensures heard { HearsAll desk.old.ends.items (logged desk.old.book) desk.new.ends.items (logged desk.new.book) }
 {
     let mut told = nothing_told(alloc, &desk.book.hall)?;
     let mut held = clock.now();
-    desk.turn(held)?;
-    tell_all(&desk.book.hall, clock, &mut told);
+    let mut is_taken = turn(rt, bell, desk, held, clock, &mut told)?;
     for _ in rt.forever() {
         if desk.is_done() {
             clock.leave(&desk.book.hall);
             return Ok(false);
         }
-        if clock.is_stopped() {
-            last_turn(desk, clock, &mut told)?;
+        if !is_taken || clock.is_stopped() {
+            last_turn(rt, bell, desk, clock, &mut told)?;
             return Ok(true);
         }
         let reading = clock.now();
         if desk.has_come() || desk.is_due(held) {
-            desk.turn(held)?;
-            tell_all(&desk.book.hall, clock, &mut told);
+            is_taken = turn(rt, bell, desk, held, clock, &mut told)?;
         } else if !desk.is_due(reading) {
             rest(rt, bell, desk, reading);
         }
@@ -160,7 +183,7 @@ fn rest_before(deadline: Option<u64>, moment: u64) -> u64
 /// Rests until something comes or a script may have run out of time, but not too long.
 fn rest<K: Keeper, W: Wait + std::time::Clock>(rt: &W, bell: &Bell, desk: &mut Desk<K>, moment: u64)
     ensures same { (desk.new.lines.items ≡ desk.old.lines.items) × (desk.new.book ≡ desk.old.book) }
-    ensures heard { HearsAll desk.old.ends.items desk.old.book.log.items desk.new.ends.items desk.new.book.log.items }
+    ensures heard { HearsAll desk.old.ends.items (logged desk.old.book) desk.new.ends.items (logged desk.new.book) }
     ensures hands { HearsNoHand desk.old.ends.items desk.new.ends.items }
 {
     Backoff::new().spin();

@@ -1,17 +1,15 @@
 //! What came of scripts that were served.
 
-ghost use Rattle.std.specs.Prelude.{◌≡◌, ◌<◌, ◌≤◌, List, length, IfOk};
-ghost use Rattle.child_events.specs.Log.{AllFit};
-ghost use Rattle.dialogue_sched.specs.declared.script.Script.{Script};
-ghost use Rattle.child_serve.specs.Joined.{AllFits, IsJoined};
+ghost use Rattle.std.specs.Prelude.{◌≡◌, ◌<◌, ◌≤◌, List, length, IfOk, IfSome, option_map};
+ghost use Rattle.child_serve.specs.Joined.{AllFits, IsOneOf};
 ghost use Rattle.child_serve.specs.Turns.{in_turn, TakesFirst, TakesTurn};
-ghost use Rattle.child_desk.specs.Line.{Keeping};
-ghost use Rattle.child_serve.specs.Served.{AreParts, IsWhole, IsApart, records_of};
+ghost use Rattle.child_serve.specs.Served.{IsApart, IsAssembled, records_of};
 
 use crate::joining::joined;
-use child_events::HallEvents;
+use child_events::{HallEvent, HallEvents};
 use child_keeper::Keeper;
 use dialogue_sched::Reports;
+use feed_rings::FeedIn;
 use session::Report;
 use std::alloc::{AllocError, Global};
 
@@ -28,13 +26,20 @@ pub struct Unsettled {
 pub struct Served {
     /// Their reports, in order.
     pub reports: Reports,
-    /// The record.
-    pub logged: HallEvents,
+    /// The record, where it is kept.
+    pub logged: Option<HallEvents>,
     pub unsettled: Vec<Unsettled>,
     /// How many requests were let through although the gate refused them.
     pub forced: u64,
     /// Whether scripts were given up before they had ended.
     pub stopped: bool,
+}
+
+/// What came of the scripts of one worker, and the end of the ring into which their record was put.
+#[derive(Drop)]
+pub struct Part {
+    pub served: Served,
+    pub log: FeedIn<HallEvent>,
 }
 
 /// Takes what is next of the reports whose turn it is. These go behind the others.
@@ -80,30 +85,27 @@ fn all_in_turn(alloc: Global, count: usize, parts: Vec<Reports>) -> Result<Repor
 /// What each worker has, by kind.
 #[derive(Drop)]
 struct Apart {
-    records: Vec<HallEvents>,
     reports: Vec<Reports>,
     unsettled: Vec<Unsettled>,
     forced: u64,
     stopped: bool,
 }
 
-fn taken_apart(alloc: Global, parts: Vec<Served>) -> Result<Apart, AllocError>
+fn taken_apart(alloc: Global, parts: Vec<Part>) -> Result<Apart, AllocError>
     ensures { IfOk result (λ a. IsApart parts.items a) }
 {
-    let mut records = Vec::new(alloc);
     let mut reports = Vec::new(alloc);
     let mut unsettled = Vec::new(alloc);
     let mut forced: u64 = 0;
     let mut stopped = false;
     for part in parts {
-        records.push(part.logged)?;
-        reports.push(part.reports)?;
-        unsettled.extend_from_slice(part.unsettled.as_slice())?;
-        forced = forced.saturating_add(part.forced);
-        stopped = stopped || part.stopped;
+        let Part { served, .. } = part;
+        reports.push(served.reports)?;
+        unsettled.extend_from_slice(served.unsettled.as_slice())?;
+        forced = forced.saturating_add(served.forced);
+        stopped = stopped || served.stopped;
     }
     Ok(Apart {
-        records,
         reports,
         unsettled,
         forced,
@@ -111,20 +113,36 @@ fn taken_apart(alloc: Global, parts: Vec<Served>) -> Result<Apart, AllocError>
     })
 }
 
-/// What came of all scripts, from what came of those of each worker: so many scripts, of which each worker has one in turn.
+/// One record of those of the workers, where these are kept.
+fn joined_records(
+    alloc: Global,
+    records: Option<Vec<HallEvents>>,
+) -> Result<Option<HallEvents>, AllocError>
+    requires workers { IfSome records (λ rs. length rs.items ≤ 64) }
+    requires fits { IfSome records (λ rs. AllFits rs.items) }
+    ensures { IfOk result (IsOneOf (option_map (λ rs. rs.items) records)) }
+{
+    match records {
+        Some(records) => Ok(Some(joined(alloc, records)?)),
+        None => Ok(None),
+    }
+}
+
+/// What came of all scripts, from what came of those of each worker: so many scripts, of which each worker has one in turn. The records that are
+/// kept are joined.
 pub fn assembled<K: Keeper>(
     alloc: Global,
     count: usize,
-    parts: Vec<Served>,
+    parts: Vec<Part>,
+    records: Option<Vec<HallEvents>>,
 ) -> Result<Served, AllocError>
     requires workers { (0 < length parts.items) × (length parts.items ≤ 64) }
     requires fits { AllFits (records_of parts.items) }
-    ensures joined { IfOk result (λ s. IsJoined (records_of parts.items) s.logged) }
-    ensures fits { IfOk result (λ s. AllFit s.logged) }
-    ensures whole { IfOk result (λ s. (keepers : List Keeping) (scripts : List Script) → length scripts ≡ count → AreParts K.told K.gives keepers scripts parts.items → IsWhole K.told K.gives (length parts.items) keepers scripts s) }
+    requires kept { IfSome records (λ rs. rs.items ≡ records_of parts.items) }
+    ensures { IfOk result (λ s. IsAssembled K.told K.gives count parts.items records s) }
 {
+    let logged = joined_records(alloc, records)?;
     let apart = taken_apart(alloc, parts)?;
-    let logged = joined(alloc, apart.records)?;
     let reports = all_in_turn(alloc, count, apart.reports)?;
     Ok(Served {
         reports,

@@ -2,23 +2,27 @@
 
 ghost use Rattle.std.specs.Prelude.{◌≡◌, ◌<◌, ◌≤◌, ◌+◌, [], length, IsTrue, Contains, IfOk, IfSome, OnOk, None, true};
 ghost use Rattle.dialogue_sched.specs.Hall.{AllBegin, opening_fault};
+ghost use Rattle.feed_rings.specs.Ends.{SameIn};
+ghost use Rattle.child_desk.specs.Book.{logged};
 ghost use Rattle.child_desk.specs.Line.{Leaves, HearsNoHand, IsEndOf, AllShown};
 ghost use Rattle.child_desk.specs.Heard.{HearsAll, Settles};
 ghost use Rattle.child_serve.specs.Joined.{script_of};
 ghost use Rattle.child_serve.specs.Opened.{AreNumbers, AreOpened, AreLinked, IsLeftIn, AreLeftIn, IsFinishOf, IsTakenIn, AreTakenIn, IsClosedIn, AreClosedIn, SameElsewhere, AreSettled, KeepsListed, AreListed, AllListed};
-ghost use Rattle.child_serve.specs.Teams.{IsTeam, IsWork, AreFirst};
+ghost use Rattle.child_serve.specs.Teams.{IsSeated, IsWork, AreFirst};
 
 use crate::audience::Audience;
 use crate::hands::{Hand, start};
 use crate::rounds::turn_all;
-use crate::served::{Served, Unsettled};
+use crate::served::{Part, Served, Unsettled};
 use crate::stopping::Stopping;
 use child_desk::{Book, Desk, Ends, Line, Outcome};
+use child_events::HallEvent;
 use child_hands::{Fresh, HandEnd, Work};
 use child_keeper::{Clock, Gate, Item, Keeper};
 use dialogue_sched::{Hall, HallFault, Script};
-use feed_rings::{Bell, Finished};
+use feed_rings::{Bell, FeedIn, Finished, Ringer};
 use std::alloc::{AllocError, AllocFailed, Global};
+use std::sync::atomic::{AtomicU64, Ordering};
 use std::sync::{Arc, Wait};
 use std::thread::Threads;
 
@@ -28,6 +32,31 @@ pub struct Team<K: Drop, C: Drop> {
     pub keepers: Vec<K>,
     pub scripts: Vec<Script>,
     pub clock: C,
+}
+
+/// Where a worker works: its team, the bell on which it rests, the end of the ring into which its record is put, and what tells that it has ended.
+#[derive(Drop)]
+pub struct Seat<K: Drop, C: Drop> {
+    pub team: Team<K, C>,
+    pub bell: Bell,
+    pub log: FeedIn<HallEvent>,
+    pub over: Over,
+}
+
+/// Tells that a worker has ended, when it is dropped: it counts it, and rings whoever takes its record.
+pub struct Over {
+    pub ended: Arc<AtomicU64>,
+    pub ringer: Ringer,
+}
+
+impl Drop for Over {
+    fn drop(self) {
+        let Over {
+            ended,
+            ringer: _ringer,
+        } = self;
+        ended.fetch_add(1, Ordering::SeqCst);
+    }
 }
 
 /// Which worker it is, of how many. Its scripts are those of the numbers worker + 1, worker + 1 + workers, ..
@@ -188,33 +217,45 @@ fn list_children(script: u8, settled: &mut Settled) -> Result<(), AllocError>
     Ok(())
 }
 
-/// Gives scripts up: each hand is stopped and waited for. What comes of children then is taken by none, so that nothing holds a hand.
+/// Ends the part of a worker that was told to stop. It stops each hand and waits for it. What children do meanwhile is dropped, so no hand
+/// waits for room.
 fn give_up<K: Keeper, W: Threads>(
     rt: &W,
     alloc: Global,
     place: Place,
     desk: Desk<K>,
     hands: Vec<Hand<K>>,
-) -> Result<Served, AllocError>
+) -> Result<Part, AllocError>
     requires few { length hands.items ≤ 64 }
     requires numbers { AreNumbers place.workers place.worker (length hands.items) }
-    ensures shown { IfOk result (λ s. AllShown desk.book s.reports) }
-    ensures record { IfOk result (λ s. s.logged ≡ desk.book.log.items) }
-    ensures listed { IfOk result (λ s. AllListed place.workers place.worker (length hands.items) s.unsettled.items) }
-    ensures stopped { IfOk result (λ s. s.stopped ≡ true) }
+    ensures shown { IfOk result (λ p. AllShown desk.book p.served.reports) }
+    ensures log { IfOk result (λ p. p.log ≡ desk.book.log) }
+    ensures listed { IfOk result (λ p. AllListed place.workers place.worker (length hands.items) p.served.unsettled.items) }
+    ensures stopped { IfOk result (λ p. p.served.stopped ≡ true) }
 {
     let mut desk = desk;
     desk.stop_all();
     desk.ends = Vec::new(alloc);
     let settled = list_all(rt, alloc, place, hands)?;
-    let Outcome { reports, record } = desk.into_outcome();
-    Ok(Served {
-        reports,
-        logged: record,
-        unsettled: settled.unsettled,
-        forced: settled.forced,
-        stopped: true,
-    })
+    Ok(part_of(desk.into_outcome(), settled, true))
+}
+
+/// What came of a worker's scripts, and of their children.
+fn part_of(outcome: Outcome, settled: Settled, stopped: bool) -> Part
+    ensures { result ≡ record { served = record { reports = outcome.reports; logged = None; unsettled = settled.unsettled; forced = settled.forced; stopped = stopped }; log = outcome.log } }
+{
+    let Outcome { reports, log } = outcome;
+    let Settled { unsettled, forced } = settled;
+    Part {
+        served: Served {
+            reports,
+            logged: None,
+            unsettled,
+            forced,
+            stopped,
+        },
+        log,
+    }
 }
 
 /// What is known of the children when all hands have ended.
@@ -239,7 +280,7 @@ fn close<K: Keeper>(desk: &mut Desk<K>, at: usize, answers: Option<Finished<Item
     requires { IfSome answers (λ f. IsEndOf at f desk.old.ends.items) }
     ensures lines { desk.new.lines.items ≡ desk.old.lines.items }
     ensures book { desk.new.book ≡ desk.old.book }
-    ensures heard { HearsAll desk.old.ends.items desk.old.book.log.items desk.new.ends.items desk.new.book.log.items }
+    ensures heard { HearsAll desk.old.ends.items (logged desk.old.book) desk.new.ends.items (logged desk.new.book) }
     ensures hands { HearsNoHand desk.old.ends.items desk.new.ends.items }
     ensures others { SameElsewhere at desk.old.ends.items desk.new.ends.items }
     ensures closed { IsTrue result → IsClosedIn at answers desk.new.ends.items }
@@ -251,8 +292,11 @@ fn close<K: Keeper>(desk: &mut Desk<K>, at: usize, answers: Option<Finished<Item
     true
 }
 
-/// Takes what is left of the child at a place. Where that can't be had, or what its hand answered, the child isn't settled.
-fn settle_child<K: Keeper>(
+/// Takes what is left of the child at a place. Where that can't be had, or what its hand answered, or the record isn't taken any more, the child isn't
+/// settled.
+fn settle_child<K: Keeper, W: Wait>(
+    rt: &W,
+    bell: &Bell,
     desk: &mut Desk<K>,
     at: usize,
     script: u8,
@@ -265,7 +309,7 @@ fn settle_child<K: Keeper>(
     requires left { IsLeftIn at index work desk.old.ends.items }
     ensures lines { desk.new.lines.items ≡ desk.old.lines.items }
     ensures book { Leaves desk.old.book desk.new.book }
-    ensures heard { Settles at index desk.old.ends.items desk.old.book.log.items desk.new.ends.items desk.new.book.log.items }
+    ensures heard { Settles at index desk.old.ends.items (logged desk.old.book) desk.new.ends.items (logged desk.new.book) }
     ensures hands { HearsNoHand desk.old.ends.items desk.new.ends.items }
     ensures listed { KeepsListed settled.old.unsettled.items settled.new.unsettled.items }
     ensures taken { OnOk result (IsTakenIn at script index work desk.new.ends.items settled.new.unsettled.items) }
@@ -274,10 +318,13 @@ fn settle_child<K: Keeper>(
     if !closed {
         return list_child(script, index, settled);
     }
-    match finished_of(work) {
-        Some(finished) => desk.settle(at, index, finished),
-        None => list_child(script, index, settled),
+    let Some(finished) = finished_of(work) else {
+        return list_child(script, index, settled);
+    };
+    if desk.settle(rt, bell, at, index, finished)? {
+        return Ok(());
     }
+    list_child(script, index, settled)
 }
 
 /// Lists the child at a place, which isn't settled.
@@ -292,7 +339,9 @@ fn list_child(script: u8, index: u8, settled: &mut Settled) -> Result<(), AllocE
 }
 
 /// Takes what is left of the children of the script at a place, whose hand has ended.
-fn settle_script<K: Keeper>(
+fn settle_script<K: Keeper, W: Wait>(
+    rt: &W,
+    bell: &Bell,
     desk: &mut Desk<K>,
     at: usize,
     script: u8,
@@ -304,7 +353,7 @@ fn settle_script<K: Keeper>(
     requires answers { IfSome end.answers (λ f. IsEndOf at f desk.old.ends.items) }
     ensures lines { desk.new.lines.items ≡ desk.old.lines.items }
     ensures book { Leaves desk.old.book desk.new.book }
-    ensures heard { HearsAll desk.old.ends.items desk.old.book.log.items desk.new.ends.items desk.new.book.log.items }
+    ensures heard { HearsAll desk.old.ends.items (logged desk.old.book) desk.new.ends.items (logged desk.new.book) }
     ensures hands { HearsNoHand desk.old.ends.items desk.new.ends.items }
     ensures others { SameElsewhere at desk.old.ends.items desk.new.ends.items }
     ensures listed { KeepsListed settled.old.unsettled.items settled.new.unsettled.items }
@@ -315,17 +364,18 @@ fn settle_script<K: Keeper>(
     let closed = close(desk, at, end.answers);
     let mut index: u8 = 0;
     for work in end.works {
-        settle_child(desk, at, script, index, closed, work, settled)?;
+        settle_child(rt, bell, desk, at, script, index, closed, work, settled)?;
         index += 1;
     }
     Ok(())
 }
 
 /// Waits for each hand, and takes what is left of its children.
-fn settle_all<K: Keeper, W: Threads>(
+fn settle_all<K: Keeper, W: Threads + Wait>(
     rt: &W,
     alloc: Global,
     place: Place,
+    bell: &Bell,
     desk: &mut Desk<K>,
     hands: Vec<Hand<K>>,
 ) -> Result<Settled, AllocError>
@@ -334,7 +384,7 @@ fn settle_all<K: Keeper, W: Threads>(
     requires linked { AreLinked hands.items desk.old.ends.items }
     ensures lines { desk.new.lines.items ≡ desk.old.lines.items }
     ensures book { Leaves desk.old.book desk.new.book }
-    ensures heard { HearsAll desk.old.ends.items desk.old.book.log.items desk.new.ends.items desk.new.book.log.items }
+    ensures heard { HearsAll desk.old.ends.items (logged desk.old.book) desk.new.ends.items (logged desk.new.book) }
     ensures hands { HearsNoHand desk.old.ends.items desk.new.ends.items }
     ensures settled { IfOk result (λ s. AreSettled place.workers place.worker hands.items desk.new.ends.items s.unsettled.items) }
 {
@@ -346,7 +396,7 @@ fn settle_all<K: Keeper, W: Threads>(
     for hand in hands {
         let end = hand.join(rt);
         let number = number_of(place, at);
-        settle_script(desk, at, number, end, &mut settled)?;
+        settle_script(rt, bell, desk, at, number, end, &mut settled)?;
         at += 1;
     }
     Ok(settled)
@@ -358,19 +408,24 @@ pub fn work<
     C: Clock + Audience + Stopping + Drop,
     G: Gate + Sync + Send + Drop + 'static,
     W: Threads + Wait + std::time::Clock + Copy + Send + Drop + 'static,
->(rt: W, alloc: Global, place: Place, team: Team<K, C>, gate: Arc<G>) -> Result<Served, WorkFault>
-    requires { IsTeam place.workers place.worker team }
-    ensures { IfOk result (IsWork K.told K.gives K.named K.made place.workers place.worker team) }
+>(rt: W, alloc: Global, place: Place, seat: Seat<K, C>, gate: Arc<G>) -> Result<Part, WorkFault>
+    requires { IsSeated place.workers place.worker seat }
+    ensures { IfOk result (λ p. IsWork K.told K.gives K.named K.made place.workers place.worker seat.team p × SameIn seat.log p.log) }
 {
+    let Seat {
+        team,
+        bell,
+        log,
+        over: _over,
+    } = seat;
     let Team {
         keepers,
         scripts,
         clock,
     } = team;
     let mut clock = clock;
-    let bell = Bell::new(alloc)?;
     let lines = lines_of(alloc, keepers.as_slice())?;
-    let book = Book::new(alloc, hall_of(alloc, scripts)?);
+    let book = Book::new(hall_of(alloc, scripts)?, log);
     let mut opened = Opened {
         ends: Vec::new(alloc),
         hands: Vec::new(alloc),
@@ -389,13 +444,6 @@ pub fn work<
     if stopped {
         return Ok(give_up(&rt, alloc, place, desk, hands)?);
     }
-    let settled = settle_all(&rt, alloc, place, &mut desk, hands)?;
-    let Outcome { reports, record } = desk.into_outcome();
-    Ok(Served {
-        reports,
-        logged: record,
-        unsettled: settled.unsettled,
-        forced: settled.forced,
-        stopped: false,
-    })
+    let settled = settle_all(&rt, alloc, place, &bell, &mut desk, hands)?;
+    Ok(part_of(desk.into_outcome(), settled, false))
 }

@@ -141,9 +141,12 @@ fn run_scripts<
     )?;
     drop(cancellations);
     let watch = Watch::start(rt, alloc, &wall, reaper, Arc::try_clone(stop)?, errors)?;
+    let recorded = order.record.is_some() || order.explain.is_some();
     let mut log = Counted::new(record);
     let driven = if is_early {
-        match drive_early(rt, alloc, scripts, keepers, clocks, Free, &mut log) {
+        match drive_early(
+            rt, alloc, scripts, keepers, clocks, Free, recorded, &mut log,
+        ) {
             Ok(()) => Ok(true),
             Err(fault) => Err(fault),
         }
@@ -151,7 +154,7 @@ fn run_scripts<
         let mut out = Counted::new(out);
         let shelf = &mut NoShelf;
         drive(
-            rt, alloc, scripts, keepers, clocks, Free, form, shelf, &mut log, &mut out,
+            rt, alloc, scripts, keepers, clocks, Free, recorded, form, shelf, &mut log, &mut out,
         )
     };
     let told = early.end(&rt);

@@ -143,7 +143,19 @@ impl<T: Drop> FeedOut<T> {
         self.consumer.slots_after(&mut finished.ring)
     }
 
-    /// Takes an item that is sure to be there, of a ring whose putting end has finished: nobody is rung.
+    /// How many items are left, where both ends are at hand: what was taken and these are all that was put.
+    pub fn left_beside(&mut self, feed: &mut FeedIn<T>) -> usize
+        requires { IsPair feed.old self.old }
+        ensures ring { SameOut self.old self.new }
+        ensures feed { LooksOn feed.old feed.new }
+        ensures taken { taken_items self.new ≡ taken_items self.old }
+        ensures all { taken_items self.new ++ seen_items self.new ≡ put_items feed.old }
+        ensures count { result ≡ length (seen_items self.new) }
+    {
+        self.consumer.slots_beside(&mut feed.producer)
+    }
+
+    /// Takes an item that is sure to be there, of a ring into which nobody puts any more: nobody is rung.
     pub fn take_seen(&mut self) -> T
         requires { 0 < length (seen_items self.old) }
         ensures ring { SameOut self.old self.new }

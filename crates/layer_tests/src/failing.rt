@@ -228,7 +228,7 @@ fn served<W: Threads + Wait + std::time::Clock + Copy + Send + Drop + 'static>(
     let scripts = scripts(alloc, SOURCE, SCRIPTS)?;
     let keepers = keepers(alloc, SCRIPTS, unlucky, failing)?;
     let clocks = stopped(alloc, workers)?;
-    match serve(rt, alloc, scripts, keepers, clocks, Open) {
+    match serve(rt, alloc, scripts, keepers, clocks, Open, false) {
         Ok(served) => Ok(served),
         Err(_) => Err(Fail::from("not served")),
     }

@@ -167,7 +167,7 @@ fn serves_three<W: Threads + Wait + std::time::Clock + Copy + Send + Drop + 'sta
     let scripts = scripts(alloc, CAT, 3)?;
     let keepers = liners(alloc, 3)?;
     let clocks = stopped(alloc, workers)?;
-    let served = serve(rt, alloc, scripts, keepers, clocks, Open)?;
+    let served = serve(rt, alloc, scripts, keepers, clocks, Open, true)?;
     are_of_cat(&served)
 }
 

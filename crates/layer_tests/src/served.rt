@@ -1,6 +1,6 @@
 //! Scripts that are served, over keepers in memory.
 
-ghost use Rattle.std.specs.Prelude.{◌≡◌, length, IfOk};
+ghost use Rattle.std.specs.Prelude.{◌≡◌, length, IfOk, IfSome};
 ghost use Rattle.child_events.specs.Log.{AllFit};
 
 use crate::keeper::Liner;
@@ -136,7 +136,7 @@ fn served<W: Threads + Wait + std::time::Clock + Copy + Send + Drop + 'static>(
     gain: u64,
     passes: bool,
 ) -> Result<Served, Fail>
-    ensures { IfOk result (λ s. AllFit s.logged) }
+    ensures { IfOk result (λ s. IfSome s.logged (λ es. AllFit es)) }
 {
     let mut scripts = Vec::new(alloc);
     scripts.push(script(alloc, source)?)?;
@@ -144,7 +144,7 @@ fn served<W: Threads + Wait + std::time::Clock + Copy + Send + Drop + 'static>(
     keepers.push(keeper)?;
     let mut clocks = Vec::new(alloc);
     clocks.push(Gaining { moment: 0, gain })?;
-    match serve(rt, alloc, scripts, keepers, clocks, Always { passes }) {
+    match serve(rt, alloc, scripts, keepers, clocks, Always { passes }, true) {
         Ok(served) => Ok(served),
         Err(_) => Err(Fail::from("not served")),
     }
@@ -156,9 +156,12 @@ fn a_script_over_a_keeper(rt: HostRuntime) -> Result<(), Fail> {
     let served = served(rt, alloc, CAT, Liner::new(None, true), 0, true)?;
     assert!(rt; all_of_cat(&served, 1));
     assert!(rt; served.unsettled.is_empty() && served.forced == 0);
-    let record = write_log(alloc, served.logged.as_slice())?;
+    let Some(logged) = &served.logged else {
+        return Err(Fail::from("no record"));
+    };
+    let record = write_log(alloc, logged.as_slice())?;
     let again = read_log(alloc, record.as_slice()).ok().ok_or("no log")?;
-    assert_eq!(rt; again.len(), served.logged.len());
+    assert_eq!(rt; again.len(), logged.len());
     assert_eq!(rt;
         write_log(alloc, again.as_slice())?.as_slice(),
         record.as_slice()

@@ -122,7 +122,7 @@ fn workers_wait_for_one_another(rt: HostRuntime) -> Result<(), Fail> {
         rt,
         course: Arc::try_clone(&course)?,
     };
-    let served = serve(rt, alloc, scripts, keepers, clocks, gate);
+    let served = serve(rt, alloc, scripts, keepers, clocks, gate, false);
     let served = served.ok().ok_or("not served")?;
     for worker in 0..2usize {
         assert_eq!(rt; course.passed[worker].load(Ordering::SeqCst), 2);

@@ -1,5 +1,5 @@
 -- A run over children, and a replay of the record that it wrote.
-use Rattle.std.proofs.Common.{◌≡◌, ◌≢◌, ◌⊎◌, inl, inr, ◌<◌, ◌^◌, ℕ, ◌+◌, List, [], ◌∷◌, length, false, Option, Some, None, Ok, Err, refl, sym, ap, subst, ◌∙◌}
+use Rattle.std.proofs.Common.{◌≡◌, ◌≢◌, ◌⊎◌, inl, inr, ◌<◌, ◌^◌, ℕ, ◌+◌, List, [], ◌∷◌, length, true, false, Option, Some, None, Ok, Err, refl, sym, ap, subst, ◌∙◌}
 use Rattle.child_events.specs.declared.event.Answer.{Answer}
 use Rattle.child_events.specs.declared.event.HallEvent.{HallEvent}
 use Rattle.child_events.specs.declared.faults.LogFault.{LogFault}
@@ -92,10 +92,10 @@ same_reports rs ts rs' ts' agree stand stand' =
     record { reports = agree; printed = printed; same = all_same ts ts' printed }
 
 module _ (told : ℕ → ℕ → Request → Answer → Type 0) (gives : ℕ → ℕ → Option (List ℕ) → Type 0) (workers : ℕ) (keepers : List Keeping) (scripts : List Script) (size : length keepers ≡ length scripts) (served : Served) where
-  runs_again : (text : List ℕ) (rs : List Report) → served.stopped ≡ false → WasServed told gives workers keepers scripts served text → RunOver scripts text (Ok rs) → AllAgree served.reports rs
+  runs_again : (text : List ℕ) (rs : List Report) → served.stopped ≡ false → WasServed told gives true workers keepers scripts served text → RunOver scripts text (Ok rs) → AllAgree served.reports rs
   runs_again text rs running was over =
-      let is = one_written_list text served.logged over.events was.log over.log in
-      all_agree 1 served.logged scripts served.reports rs (serving_is_run told gives workers keepers scripts served size was.serves running).2 (subst (λ (es : List HallEvent). AllMean 1 es scripts rs) is over.runs.2)
+      let is = one_written_list text was.es over.events was.log over.log in
+      all_agree 1 was.es scripts served.reports rs (serving_is_run told gives true workers keepers scripts was.es served size was.serves running).2 (subst (λ (es : List HallEvent). AllMean 1 es scripts rs) is over.runs.2)
 
   no_new : (f : HallFault) → ◌≡◌ {A = Option HallFault} None (Some f) → ⊥
   no_new f h = cc
@@ -108,16 +108,16 @@ module _ (told : ℕ → ℕ → Request → Answer → Type 0) (gives : ℕ →
   runs_unrefused es (run.Refused at r) opens taken failed = absurd (no_refusal (at, r) (sym taken ∙ failed.1))
   runs_unrefused es run.Memory opens taken failed = refl
 
-  run_unrefused : (text : List ℕ) (f : RunFault) → WasServed told gives workers keepers scripts served text → RunOver scripts text (Err f) → f ≡ run.Memory
+  run_unrefused : (text : List ℕ) (f : RunFault) → WasServed told gives true workers keepers scripts served text → RunOver scripts text (Err f) → f ≡ run.Memory
   run_unrefused text f was over =
-      let is = one_written_list text served.logged over.events was.log over.log in
-      runs_unrefused served.logged f was.serves.0 was.serves.1.taken (subst (λ (es : List HallEvent). Runs scripts es (Err f)) is over.runs)
+      let is = one_written_list text was.es over.events was.log over.log in
+      runs_unrefused was.es f was.serves.opens was.serves.whole.taken (subst (λ (es : List HallEvent). Runs scripts es (Err f)) is over.runs)
 
-  log_unrefused : (text : List ℕ) (f : LogFault) → WasServed told gives workers keepers scripts served text → length text < 10 ^ 16 → Refused text f → ⊥
-  log_unrefused text f was few refused = refused.1 served.logged (inr (was.log, below (length served.logged) (length text) (10 ^ 16) (text_longer text served.logged was.log) few))
+  log_unrefused : (text : List ℕ) (f : LogFault) → WasServed told gives true workers keepers scripts served text → length text < 10 ^ 16 → Refused text f → ⊥
+  log_unrefused text f was few refused = refused.1 was.es (inr (was.log, below (length was.es) (length text) (10 ^ 16) (text_longer text was.es was.log) few))
 
   unrefused : (form : Form) (text : List ℕ) (shelf shelf' : Option (List (List ℕ))) (old new : Option (List ℕ)) (fault : ReplayFault) →
-      WasServed told gives workers keepers scripts served text → IsNoWant fault → Replays scripts form text shelf shelf' old new (Err fault) → IsOfDevices text fault
+      WasServed told gives true workers keepers scripts served text → IsNoWant fault → Replays scripts form text shelf shelf' old new (Err fault) → IsOfDevices text fault
   unrefused form text shelf shelf' old new Read was sound says = tt
   unrefused form text shelf shelf' old new (Log f) was sound says = λ few. log_unrefused text f was few says
   unrefused form text shelf shelf' old new (Run f) was sound says = sound.0 (run_unrefused text f was says)
@@ -128,18 +128,18 @@ module _ (told : ℕ → ℕ → Request → Answer → Type 0) (gives : ℕ →
   pub replays_same : ReplaysSame told gives
   replays_same workers keepers scripts form form' well well' kept kept' shelf shelf' bytes log log' out out' old new size ran running is again =
       same_reports ran.served.reports ran.printed again.reports again.printed
-      (runs_again told gives workers keepers scripts size ran.served bytes again.reports running (subst (WasServed told gives workers keepers scripts ran.served) (sym is) ran.was) again.run) ran.stand again.stand
+      (runs_again told gives workers keepers scripts size ran.served bytes again.reports running (subst (WasServed told gives true workers keepers scripts ran.served) (sym is) ran.was) again.run) ran.stand again.stand
 
   pub replays_part : ReplaysPart told gives
   replays_part workers keepers scripts form form' well kept kept' shelf shelf' bytes log log' out out' old new size ran running is again =
       same_reports ran.served.reports ran.printed again.reports again.printed
-      (runs_again told gives workers keepers scripts size ran.served bytes again.reports running (subst (WasServed told gives workers keepers scripts ran.served) (sym is) ran.was) again.run) ran.stand again.stand
+      (runs_again told gives workers keepers scripts size ran.served bytes again.reports running (subst (WasServed told gives true workers keepers scripts ran.served) (sym is) ran.was) again.run) ran.stand again.stand
 
   pub replays_cut : ReplaysCut told gives
   replays_cut workers keepers scripts form form' well' kept kept' shelf shelf' bytes log log' out out' old new size ran running is again =
       same_reports ran.served.reports ran.printed again.reports again.printed
-      (runs_again told gives workers keepers scripts size ran.served bytes again.reports running (subst (WasServed told gives workers keepers scripts ran.served) (sym is) ran.was) again.run) ran.stand again.stand
+      (runs_again told gives workers keepers scripts size ran.served bytes again.reports running (subst (WasServed told gives true workers keepers scripts ran.served) (sym is) ran.was) again.run) ran.stand again.stand
 
   pub replays_unrefused : ReplaysUnrefused told gives
   replays_unrefused workers keepers scripts form form' well kept kept' shelf shelf' bytes log log' out out' old new fault size ran is sound says =
-      unrefused told gives workers keepers scripts size ran.served form' bytes shelf shelf' old new fault (subst (WasServed told gives workers keepers scripts ran.served) (sym is) ran.was) sound says
+      unrefused told gives workers keepers scripts size ran.served form' bytes shelf shelf' old new fault (subst (WasServed told gives true workers keepers scripts ran.served) (sym is) ran.was) sound says

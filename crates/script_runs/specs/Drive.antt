@@ -1,7 +1,8 @@
 -- What a run over children answers and writes.
-use Rattle.std.specs.Prelude.{◌≡◌, ◌≢◌, ℕ, List, Bool, Option, Result, Ok, Err}
+use Rattle.std.specs.Prelude.{◌≡◌, ◌≢◌, ℕ, List, [], Bool, MatchBool, Option, Result, Ok, Err}
 use Rattle.std.specs.Io.KnownBytes.{Appends}
 use Rattle.child_events.specs.declared.event.Answer.{Answer}
+use Rattle.child_events.specs.declared.event.HallEvent.{HallEvent}
 use Rattle.child_events.specs.Log.{LogText2}
 use Rattle.expect_core.specs.declared.request.Request.{Request}
 use Rattle.session.specs.declared.report.Report.{Report}
@@ -9,6 +10,7 @@ use Rattle.dialogue_sched.specs.declared.script.Script.{Script}
 use Rattle.child_desk.specs.Line.{Keeping}
 use Rattle.child_serve.specs.declared.served.Served.{Served}
 use Rattle.child_serve.specs.declared.serving.ServeFault.TheVariants as serve
+use Rattle.child_serve.specs.Whole as Serving
 use Rattle.child_serve.specs.Whole.{IsServing}
 use Rattle.script_runs.specs.declared.driving.DriveFault.{DriveFault}
 use Rattle.script_runs.specs.declared.driving.DriveFault.TheVariants.{Serve, WriteLog, Write, Memory}
@@ -19,11 +21,12 @@ use Rattle.report_texts.specs.Written.{AllStandFor}
 use Rattle.script_runs.specs.Shelf.{Keeps, transcripts_of}
 use Rattle.report_texts.specs.declared.form.Form.{Form}
 
-module _ (told : ℕ → ℕ → Request → Answer → Type 0) (gives : ℕ → ℕ → Option (List ℕ) → Type 0) (workers : ℕ) (keepers : List Keeping) (scripts : List Script) where
-  -- The scripts were served, and this is the log text of their record.
+module _ (told : ℕ → ℕ → Request → Answer → Type 0) (gives : ℕ → ℕ → Option (List ℕ) → Type 0) (recorded : Bool) (workers : ℕ) (keepers : List Keeping) (scripts : List Script) where
+  -- The scripts were served, and this is the log text of their record; there is none where it isn't recorded.
   pub record WasServed (served : Served) (text : List ℕ) : Type 0 where
-    pub serves : IsServing told gives workers keepers scripts (Ok served)
-    pub log : LogText2 text served.logged
+    pub es : List HallEvent
+    pub serves : Serving.WasServed told gives recorded workers keepers scripts es served
+    pub log : MatchBool recorded (LogText2 text es) (text ≡ [])
 
   -- The transcripts of the reports are kept, and what is written is the log text of the record, and the text of what stands for the reports.
   pub record Driven (form : Form) (well : Bool) (kept kept' : Option (List (List ℕ))) (log log' out out' : Option (List ℕ)) : Type 0 where
@@ -59,7 +62,7 @@ module _ (told : ℕ → ℕ → Request → Answer → Type 0) (gives : ℕ →
   -- what a run answers, what it keeps, and what it puts behind what was written before
   abbrev pub Drives : Form → Option (List (List ℕ)) → Option (List (List ℕ)) → Option (List ℕ) → Option (List ℕ) → Option (List ℕ) → Option (List ℕ) → Result Bool DriveFault → Type 0
   Drives form kept kept' log log' out out' (Ok well) = Driven form well kept kept' log log' out out'
-  Drives form kept kept' log log' out out' (Err (Serve f)) = (f ≢ serve.Memory) × IsServing told gives workers keepers scripts (Err f)
+  Drives form kept kept' log log' out out' (Err (Serve f)) = (f ≢ serve.Memory) × IsServing told gives recorded workers keepers scripts (Err f)
   Drives form kept kept' log log' out out' (Err WriteLog) = PartLogged kept kept' log log'
   Drives form kept kept' log log' out out' (Err Write) = PartDriven form kept kept' log log' out out'
   Drives form kept kept' log log' out out' (Err Memory) = Unit {0}
@@ -81,15 +84,15 @@ module _ (told : ℕ → ℕ → Request → Answer → Type 0) (gives : ℕ →
   -- the same for a run whose reports are told as its scripts end
   abbrev pub Records : Option (List ℕ) → Option (List ℕ) → Result (Unit {0}) DriveFault → Type 0
   Records log log' (Ok done) = Recorded log log'
-  Records log log' (Err (Serve f)) = (f ≢ serve.Memory) × IsServing told gives workers keepers scripts (Err f)
+  Records log log' (Err (Serve f)) = (f ≢ serve.Memory) × IsServing told gives recorded workers keepers scripts (Err f)
   Records log log' (Err WriteLog) = PartRecorded log log'
   Records log log' (Err Write) = ⊥
   Records log log' (Err Memory) = Unit {0}
 
   -- what serving the scripts answers here
   abbrev pub Serves : Result Served DriveFault → Type 0
-  Serves (Ok s) = IsServing told gives workers keepers scripts (Ok s)
-  Serves (Err (Serve f)) = (f ≢ serve.Memory) × IsServing told gives workers keepers scripts (Err f)
+  Serves (Ok s) = IsServing told gives recorded workers keepers scripts (Ok s)
+  Serves (Err (Serve f)) = (f ≢ serve.Memory) × IsServing told gives recorded workers keepers scripts (Err f)
   Serves (Err WriteLog) = ⊥
   Serves (Err Write) = ⊥
   Serves (Err Memory) = Unit {0}

@@ -1,13 +1,14 @@
 //! Scripts over children, whose record and reports go to any two writers.
 
-ghost use Rattle.std.specs.Prelude.{◌≡◌, ◌≢◌, ◌<◌, ◌≤◌, length, map, IfErr, Err};
+ghost use Rattle.std.specs.Prelude.{◌≡◌, ◌≢◌, ◌<◌, ◌≤◌, [], length, map, IfErr, IfOk, IfSome, MatchOption, Err};
+ghost use Rattle.child_events.specs.Log.{AllFit, LogText2};
 ghost use Rattle.child_serve.specs.Whole.{keeping_of};
 ghost use Rattle.report_texts.specs.Devices.{GaveUp};
 ghost use Rattle.script_runs.specs.Drive.{Drives, Records, Serves, Puts, IsBefore};
 ghost use Rattle.report_texts.specs.Written.{AreSpares};
 
 use crate::shelf::{Shelf, keep_all};
-use child_events::{Counted, write_log};
+use child_events::{Counted, HallEvents, write_log};
 use child_keeper::{Clock, Gate, Keeper};
 use child_serve::{Audience, ServeFault, Served, Stopping, serve};
 use dialogue_sched::Script;
@@ -56,12 +57,13 @@ fn served_by<
     keepers: Vec<K>,
     clocks: Vec<C>,
     gate: G,
+    recorded: bool,
 ) -> Result<Served, DriveFault>
     requires workers { (0 < length clocks.items) × (length clocks.items ≤ 64) }
     requires keepers { length keepers.items ≡ length scripts.items }
-    ensures { Serves K.told K.gives (length clocks.items) (map (keeping_of K.named K.made) keepers.items) scripts.items result }
+    ensures { Serves K.told K.gives recorded (length clocks.items) (map (keeping_of K.named K.made) keepers.items) scripts.items result }
 {
-    match serve(rt, alloc, scripts, keepers, clocks, gate) {
+    match serve(rt, alloc, scripts, keepers, clocks, gate, recorded) {
         Ok(served) => Ok(served),
         Err(ServeFault::New(fault)) => Err(DriveFault::Serve(ServeFault::New(fault))),
         Err(ServeFault::NoThread) => Err(DriveFault::Serve(ServeFault::NoThread)),
@@ -69,8 +71,19 @@ fn served_by<
     }
 }
 
-/// Serves scripts, each with its keeper, by as many workers as there are clocks, and writes the record's log text to `log`. The clocks are told of
-/// reports as scripts end.
+/// The log text of a record, or nothing where none is kept.
+fn log_text(alloc: Global, logged: &Option<HallEvents>) -> Result<Text, AllocError>
+    requires { IfSome logged.now (λ es. AllFit es) }
+    ensures { IfOk result (λ text. MatchOption logged.now (text ≡ []) (LogText2 text)) }
+{
+    match logged {
+        Some(events) => write_log(alloc, events.as_slice()),
+        None => Ok(Text::new(alloc)),
+    }
+}
+
+/// Serves scripts, each with its keeper, by as many workers as there are clocks, and writes the record's log text to `log`, where it is recorded.
+/// The clocks are told of reports as scripts end.
 ///
 /// After `WriteLog` a front of the record was written, after any other fault nothing. An interrupted write is tried again.
 pub fn drive_early<
@@ -86,20 +99,21 @@ pub fn drive_early<
     keepers: Vec<K>,
     clocks: Vec<C>,
     gate: G,
+    recorded: bool,
     log: &mut Counted<L>,
 ) -> Result<(), DriveFault>
     requires workers { (0 < length clocks.items) × (length clocks.items ≤ 64) }
     requires keepers { length keepers.items ≡ length scripts.items }
     requires log_failures { log.old.failures ≡ 0 }
     requires log_calls { log.old.calls ≡ 0 }
-    ensures answers { Records K.told K.gives (length clocks.items) (map (keeping_of K.named K.made) keepers.items) scripts.items
+    ensures answers { Records K.told K.gives recorded (length clocks.items) (map (keeping_of K.named K.made) keepers.items) scripts.items
         (L.contents log.old.device) (L.contents log.new.device) result }
     ensures unwritten { IfErr result (λ fault. IsBefore fault → log.new ≡ log.old) }
     ensures log { result ≡ Err DriveFault.WriteLog → GaveUp log.new.failures log.new.calls }
     ensures log_whole { result ≢ Err DriveFault.WriteLog → log.new.failures ≡ 0 }
 {
-    let served = served_by(rt, alloc, scripts, keepers, clocks, gate)?;
-    let text = write_log(alloc, served.logged.as_slice())?;
+    let served = served_by(rt, alloc, scripts, keepers, clocks, gate, recorded)?;
+    let text = log_text(alloc, &served.logged)?;
     match write_all(log, text.as_slice()) {
         Ok(()) => Ok(()),
         Err(_) => Err(DriveFault::WriteLog),
@@ -138,7 +152,7 @@ fn write_both<L: Write, O: Write>(
 }
 
 /// Serves scripts, each with its keeper, by as many workers as there are clocks. Hands their transcripts to a shelf, writes the record's log text
-/// to `log` and then the reports to `out`, in a form. The answer says whether each script ended with status 0.
+/// to `log`, where it is recorded, and then the reports to `out`, in a form. The answer says whether each script ended with status 0.
 ///
 /// The record's text is made before the first transcript is kept, and reports are written one by one: where memory is refused for one report or
 /// its text, that script's report says `memory`, and the others are whole. After `WriteLog` a front of the record was written and nothing of the
@@ -159,6 +173,7 @@ pub fn drive<
     keepers: Vec<K>,
     clocks: Vec<C>,
     gate: G,
+    recorded: bool,
     form: &Form,
     shelf: &mut S,
     log: &mut Counted<L>,
@@ -170,7 +185,7 @@ pub fn drive<
     requires log_calls { log.old.calls ≡ 0 }
     requires out_failures { out.old.failures ≡ 0 }
     requires out_calls { out.old.calls ≡ 0 }
-    ensures answers { Drives K.told K.gives (length clocks.items) (map (keeping_of K.named K.made) keepers.items) scripts.items form.now
+    ensures answers { Drives K.told K.gives recorded (length clocks.items) (map (keeping_of K.named K.made) keepers.items) scripts.items form.now
         (S.handed shelf.old) (S.handed shelf.new) (L.contents log.old.device) (L.contents log.new.device) (O.contents out.old.device) (O.contents out.new.device) result }
     ensures unwritten { IfErr result (λ fault. IsBefore fault → (shelf.new ≡ shelf.old) × (log.new ≡ log.old) × (out.new ≡ out.old)) }
     ensures reports { result ≡ Err DriveFault.WriteLog → out.new ≡ out.old }
@@ -180,8 +195,8 @@ pub fn drive<
     ensures out_whole { result ≢ Err DriveFault.Write → out.new.failures ≡ 0 }
 {
     let spares = made_spares(alloc, form, scripts.len())?;
-    let served = served_by(rt, alloc, scripts, keepers, clocks, gate)?;
-    let record = write_log(alloc, served.logged.as_slice())?;
+    let served = served_by(rt, alloc, scripts, keepers, clocks, gate, recorded)?;
+    let record = log_text(alloc, &served.logged)?;
     let reports = served.reports.as_slice();
     keep_all(reports, shelf);
     write_both(alloc, form, &record, reports, spares, log, out)

@@ -197,8 +197,8 @@ pub struct Early<O: Drop, S: Drop> {
 }
 
 impl<O: Write + Copy + Send + Drop + 'static, S: Shelf + Send + Drop + 'static> Early<O, S> {
-    /// Starts the thread for so many scripts. It writes their reports to `out`, if a form is given, and hands their transcripts to the shelf, if
-    /// there is one.
+    /// Starts a thread that takes up to `count` scripts as they end. With a form it writes their reports to `out`; with a shelf it hands it
+    /// their transcripts.
     pub fn start<R: Threads + Wait + Clock + Copy + Send + Drop + 'static>(
         rt: R,
         alloc: Global,

@@ -4,7 +4,7 @@ ghost use Rattle.script_runs.specs.Again.{ReplaysSame, ReplaysPart, ReplaysCut, 
 
 use child_keeper::Keeper;
 
-/// A run is its replay. Where `drive` answered `Ok`, and `replay` reads its record with the same scripts, the reports are the same, and so are those
+/// A run that is recorded is its replay. Where `drive` answered `Ok`, and `replay` reads its record with the same scripts, the reports are the same, and so are those
 /// that are printed, but for a script that was refused memory in one of the two. The same holds where only a front of the reports could be written.
 /// No entry of the record is refused, and where it is shorter than 10^16 bytes, no fault is found in it. It does nothing when it runs.
 pub fn run_is_replay<K: Keeper>()

@@ -1,3 +1,4 @@
+use Rattle.child_desk.specs.Book.{logged}
 use Rattle.std.proofs.lemmas.Option.{slice_get_read}
 use Rattle.std.proofs.lemmas.Result.{on_ok_weaker}
 use Rattle.std.proofs.Common.{refl}
@@ -19,7 +20,7 @@ pub returns-clause-heard : goal.returns-clause-heard
 returns-clause-heard g c =
     let ends = c.args.ends.now in
     let e = c.in-Some.ends.now in
-    all_set c.args.at ends.items e c.attend.new.ends c.args.book.now.log.items c.attend.new.book.log.items
+    all_set c.args.at ends.items e c.attend.new.ends (logged c.args.book.now) (logged c.attend.new.book)
     (slice_get_read ends.items ends.len c.args.at e ends.ok.0 (c.in-Some.ensures.variant.0 refl) c.in-Some.ensures.value) c.attend.ensures.heard
 
 pub returns-clause-elsewhere : goal.returns-clause-elsewhere
@@ -43,7 +44,7 @@ returns-clause-asked g c =
     (slice_get_read ends.items ends.len c.args.at e ends.ok.0 (c.in-Some.ensures.variant.0 refl) c.in-Some.ensures.value)) c.attend.ensures.asked
 
 pub returns-in_default-clause-heard : goal.returns-in_default-clause-heard
-returns-in_default-clause-heard g c = all_same c.args.ends.now.items c.args.book.now.log.items
+returns-in_default-clause-heard g c = all_same c.args.ends.now.items (logged c.args.book.now)
 
 pub returns-in_default-clause-kept : goal.returns-in_default-clause-kept
 returns-in_default-clause-kept g c = kept_same c.args.lines.now.items c.args.ends.now.items c.args.book.now

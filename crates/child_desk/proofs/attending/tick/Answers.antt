@@ -1,3 +1,5 @@
+use Rattle.feed_rings.specs.Ends.{put_items}
+use Rattle.child_desk.specs.Book.{logged}
 use Rattle.std.proofs.Common.{true, length, sym, ap, ◌∙◌}
 use Rattle.child_desk.proofs.Kept.{leaves_ticked}
 use Rattle.child_desk.proofs.Coming.{later, tick_taken, ticked, not_ticked}
@@ -12,16 +14,16 @@ enter_taken-requires-clause-taken c = tick_taken (length c.set_stamp.new.book.ha
 
 pub returns-clause-kept : goal.returns-clause-kept
 returns-clause-kept c =
-    leaves_ticked c.args.now c.args.book.now c.set_stamp.new.book c.enter_taken.new.book (c.set_stamp.ensures.hall ∙ c.in_ok-reserve.ensures.hall)
-    (ap (λ v. v.items) c.set_stamp.ensures.log ∙ c.in_ok-reserve.ensures.log) c.set_stamp.ensures.stamp
+    leaves_ticked c.args.now c.args.book.now c.set_stamp.new.book c.enter_taken.new.book c.set_stamp.ensures.hall
+    c.set_stamp.ensures.log c.set_stamp.ensures.stamp
     (later c.args.book.now.stamp c.args.now (sym c.goes_on.ensures ∙ c.if-not-goes_on.false)) c.enter_taken.ensures
 
 pub returns-clause-silent : goal.returns-clause-silent
 returns-clause-silent c =
-    unheard_on c.args.book.now.log.items c.set_stamp.new.book.log.items c.enter_taken.new.book.log.items (ap (λ v. v.items) c.set_stamp.ensures.log ∙ c.in_ok-reserve.ensures.log)
+    unheard_on (logged c.args.book.now) (logged c.set_stamp.new.book) (logged c.enter_taken.new.book) (ap put_items c.set_stamp.ensures.log)
     (tick_unheard c.args.now true c.set_stamp.new.book c.enter_taken.new.book c.enter_taken.ensures)
 
 pub returns-clause-ticked : goal.returns-clause-ticked
 returns-clause-ticked c =
     ticked c.args.now c.args.book.now c.set_stamp.new.book c.enter_taken.new.book (sym c.goes_on.ensures ∙ c.if-not-goes_on.false)
-    (ap (λ v. v.items) c.set_stamp.ensures.log ∙ c.in_ok-reserve.ensures.log) c.set_stamp.ensures.stamp c.enter_taken.ensures
+    (ap put_items c.set_stamp.ensures.log) c.set_stamp.ensures.stamp c.enter_taken.ensures

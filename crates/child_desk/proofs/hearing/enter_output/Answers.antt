@@ -1,3 +1,4 @@
+use Rattle.child_desk.specs.Book.{logged}
 use Rattle.std.proofs.Common.{true, ◌++◌, [], ◌∷◌, ap, ◌∙◌}
 use Rattle.child_desk.proofs.Kept.{leaves_output}
 use Rattle.child_desk.proofs.Coming.{comes_entered}
@@ -11,8 +12,8 @@ returns-clause-kept c =
 
 pub returns-clause-adds : goal.returns-clause-adds
 returns-clause-adds c =
-    let old = c.args.book.now.log.items in
-    adds_output c.args.at c.args.child c.args.book.now.stamp c.args.what old c.enter_taken.new.book.log.items
+    let old = (logged c.args.book.now) in
+    adds_output c.args.at c.args.child c.args.book.now.stamp c.args.what old (logged c.enter_taken.new.book)
     (c.enter_taken.ensures.2 ∙ ap (λ e. old ++ e ∷ []) c.output_event-event.ensures) c.requires.output.0
 
 pub returns-clause-comes : goal.returns-clause-comes

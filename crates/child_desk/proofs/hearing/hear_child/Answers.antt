@@ -1,3 +1,4 @@
+use Rattle.child_desk.specs.Book.{logged}
 use Rattle.std.proofs.Common.{◌+◌, ◌∙◌}
 use Rattle.child_desk.proofs.Kept.{leaves_then}
 use Rattle.child_desk.proofs.Coming.{comes_then}
@@ -13,7 +14,7 @@ loop-turn-preserved g c =
       hand = (c.hear.ensures.hand.0 ∙ now.invariant.hand.0, c.hear.ensures.hand.1 ∙ now.invariant.hand.1);
       comes = comes_then c.args.at c.args.book.now now.book new.book now.invariant.comes c.hear.ensures.comes;
       heard =
-          hears_at_then (c.args.at + 1) c.args.index c.args.ends.now.readers now.ends.readers new.ends.readers c.args.book.now.log.items now.book.log.items new.book.log.items
+          hears_at_then (c.args.at + 1) c.args.index c.args.ends.now.readers now.ends.readers new.ends.readers (logged c.args.book.now) (logged now.book) (logged new.book)
           now.invariant.heard c.hear.ensures.heard;
     }
 
@@ -21,7 +22,7 @@ pub returns-in_err-hear-clause-heard : goal.returns-in_err-hear-clause-heard
 returns-in_err-hear-clause-heard g c =
     let now = c.loop-turn in
     let new = c.hear.new in
-    hears_at_then (c.args.at + 1) c.args.index c.args.ends.now.readers now.ends.readers new.ends.readers c.args.book.now.log.items now.book.log.items new.book.log.items now.invariant.heard c.hear.ensures.heard
+    hears_at_then (c.args.at + 1) c.args.index c.args.ends.now.readers now.ends.readers new.ends.readers (logged c.args.book.now) (logged now.book) (logged new.book) now.invariant.heard c.hear.ensures.heard
 
 pub returns-then-not-branch-clause-kept : goal.returns-then-not-branch-clause-kept
 returns-then-not-branch-clause-kept g c =
@@ -32,7 +33,7 @@ pub returns-then-not-branch-clause-heard : goal.returns-then-not-branch-clause-h
 returns-then-not-branch-clause-heard g c =
     let now = c.loop-turn in
     let new = c.hear.new in
-    hears_at_then (c.args.at + 1) c.args.index c.args.ends.now.readers now.ends.readers new.ends.readers c.args.book.now.log.items now.book.log.items new.book.log.items now.invariant.heard c.hear.ensures.heard
+    hears_at_then (c.args.at + 1) c.args.index c.args.ends.now.readers now.ends.readers new.ends.readers (logged c.args.book.now) (logged now.book) (logged new.book) now.invariant.heard c.hear.ensures.heard
 
 pub returns-in_err-hear-clause-kept : goal.returns-in_err-hear-clause-kept
 returns-in_err-hear-clause-kept g c =

@@ -1,4 +1,5 @@
 use Rattle.std.proofs.Common.{◌≡◌, ◌+◌}
+use Rattle.child_desk.specs.Book.{logged}
 use Rattle.child_desk.specs.Line.{Leaves}
 use Rattle.child_desk.specs.Told.{asked_of_hand}
 use Rattle.child_desk.specs.Turn.{Comes}
@@ -10,5 +11,5 @@ invariant-loop-index g l = record {
   kept : Leaves l.fn.book l.book;
   hand : (l.ends.answers ≡ l.fn.ends.answers) × (asked_of_hand l.ends ≡ asked_of_hand l.fn.ends);
   comes : Comes l.at l.fn.book l.book;
-  heard : Hears (l.at + 1) l.fn.ends.readers l.fn.book.log.items l.ends.readers l.book.log.items;
+  heard : Hears (l.at + 1) l.fn.ends.readers (logged l.fn.book) l.ends.readers (logged l.book);
 }

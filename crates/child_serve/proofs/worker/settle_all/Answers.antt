@@ -1,3 +1,4 @@
+use Rattle.child_desk.specs.Book.{logged}
 use Rattle.std.proofs.Common.{◌≡◌, ℕ, ◌+◌, length, refl, ap, subst, ◌∙◌, arith}
 use Rattle.child_desk.proofs.Hears.{all_same, all_then}
 use Rattle.child_desk.proofs.Kept.{leaves_all, leaves_then, no_hand_same, no_hand_then, same_rings}
@@ -17,7 +18,7 @@ loop-hand-init g c =
       count = omega (arith, size);
       lines = refl;
       book = leaves_all was.book;
-      heard = all_same was.ends.items was.book.log.items;
+      heard = all_same was.ends.items (logged was.book);
       hands = no_hand_same was.ends.items;
       settled = λ at hand lt got. absurd (omega (arith, lt));
     }
@@ -42,7 +43,7 @@ settle_script-requires-clause-left g c κs within =
     let hands = c.args.hands.items in
     let mine = rest_first hands c.loop-hand.at c.loop-hand.hand-iterator.rest.items c.next.new.self.rest.items c.in-Some.hand c.loop-hand.invariant.rest c.in-Some.ensures.steps.0 in
     left_of c.loop-hand.at c.in-Some.hand c.join-end.result hands now.ends.items
-    (linked_still hands was.ends.items now.ends.items was.book.log.items now.book.log.items c.loop-hand.invariant.heard (same_rings was.ends.items now.ends.items c.loop-hand.invariant.hands) c.requires.linked) mine c.join-end.ensures
+    (linked_still hands was.ends.items now.ends.items (logged was.book) (logged now.book) c.loop-hand.invariant.heard (same_rings was.ends.items now.ends.items c.loop-hand.invariant.hands) c.requires.linked) mine c.join-end.ensures
 
 pub settle_script-requires-clause-answers : goal.settle_script-requires-clause-answers
 settle_script-requires-clause-answers g c κs within =
@@ -51,7 +52,7 @@ settle_script-requires-clause-answers g c κs within =
     let hands = c.args.hands.items in
     let mine = rest_first hands c.loop-hand.at c.loop-hand.hand-iterator.rest.items c.next.new.self.rest.items c.in-Some.hand c.loop-hand.invariant.rest c.in-Some.ensures.steps.0 in
     end_of c.loop-hand.at c.in-Some.hand c.join-end.result hands now.ends.items
-    (linked_still hands was.ends.items now.ends.items was.book.log.items now.book.log.items c.loop-hand.invariant.heard (same_rings was.ends.items now.ends.items c.loop-hand.invariant.hands) c.requires.linked) mine c.join-end.ensures
+    (linked_still hands was.ends.items now.ends.items (logged was.book) (logged now.book) c.loop-hand.invariant.heard (same_rings was.ends.items now.ends.items c.loop-hand.invariant.hands) c.requires.linked) mine c.join-end.ensures
 
 pub returns-in_err-settle_script-clause-hands : goal.returns-in_err-settle_script-clause-hands
 returns-in_err-settle_script-clause-hands g c =
@@ -62,7 +63,7 @@ returns-in_err-settle_script-clause-heard g c =
     let was = c.args.desk.now in
     let now = c.loop-hand.desk in
     let left = c.settle_script.new.desk in
-    all_then was.ends.items now.ends.items left.ends.items was.book.log.items now.book.log.items left.book.log.items c.loop-hand.invariant.heard c.settle_script.ensures.heard
+    all_then was.ends.items now.ends.items left.ends.items (logged was.book) (logged now.book) (logged left.book) c.loop-hand.invariant.heard c.settle_script.ensures.heard
 
 pub loop-hand-preserved : goal.loop-hand-preserved
 loop-hand-preserved g c =
@@ -88,7 +89,7 @@ loop-hand-preserved g c =
       count = omega (arith, size, less);
       lines = c.settle_script.ensures.lines ∙ c.loop-hand.invariant.lines;
       book = leaves_then was.book now.book left.book c.loop-hand.invariant.book c.settle_script.ensures.book;
-      heard = all_then was.ends.items now.ends.items left.ends.items was.book.log.items now.book.log.items left.book.log.items c.loop-hand.invariant.heard c.settle_script.ensures.heard;
+      heard = all_then was.ends.items now.ends.items left.ends.items (logged was.book) (logged now.book) (logged left.book) c.loop-hand.invariant.heard c.settle_script.ensures.heard;
       hands = no_hand_then was.ends.items now.ends.items left.ends.items c.loop-hand.invariant.hands c.settle_script.ensures.hands;
       settled = settled_next at workers worker hand hands now.ends.items left.ends.items c.loop-hand.settled.unsettled.items listed mine c.settle_script.ensures.others c.settle_script.ensures.hands c.settle_script.ensures.listed
           (settled_of at (script_of workers worker (at + 1)) hand end hands was.ends.items left.ends.items listed c.requires.linked mine c.join-end.ensures taken closed) c.loop-hand.invariant.settled;

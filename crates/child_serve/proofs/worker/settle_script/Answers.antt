@@ -1,4 +1,5 @@
 use Rattle.std.proofs.Common.{◌≡◌, length, sym, ap, subst, ◌∙◌, arith}
+use Rattle.child_desk.specs.Book.{logged}
 use Rattle.child_desk.specs.Line.{Leaves}
 use Rattle.child_desk.proofs.Hears.{all_then}
 use Rattle.child_desk.proofs.Kept.{leaves_all, leaves_then, no_hand_then}
@@ -30,7 +31,7 @@ pub settle_child-requires-clause-left : goal.settle_child-requires-clause-left
 settle_child-requires-clause-left g c κs within =
     let was = c.args.desk.now in
     let now = c.loop-work.desk in
-    left_still c.args.at c.args.end.works.items was.ends.items now.ends.items was.book.log.items now.book.log.items c.loop-work.invariant.heard c.requires.left c.loop-work.index c.in-Some.work
+    left_still c.args.at c.args.end.works.items was.ends.items now.ends.items (logged was.book) (logged now.book) c.loop-work.invariant.heard c.requires.left c.loop-work.index c.in-Some.work
     (rest_first c.args.end.works.items c.loop-work.index c.loop-work.work-iterator.rest.items c.next.new.self.rest.items c.in-Some.work c.loop-work.invariant.rest c.in-Some.ensures.steps.0)
 
 pub returns-in_err-settle_child-clause-heard : goal.returns-in_err-settle_child-clause-heard
@@ -38,8 +39,8 @@ returns-in_err-settle_child-clause-heard g c =
     let was = c.args.desk.now in
     let now = c.loop-work.desk in
     let left = c.settle_child.new.desk in
-    all_then was.ends.items now.ends.items left.ends.items was.book.log.items now.book.log.items left.book.log.items c.loop-work.invariant.heard
-    (settles_hears c.args.at c.loop-work.index now.ends.items left.ends.items now.book.log.items left.book.log.items c.settle_child.ensures.heard)
+    all_then was.ends.items now.ends.items left.ends.items (logged was.book) (logged now.book) (logged left.book) c.loop-work.invariant.heard
+    (settles_hears c.args.at c.loop-work.index now.ends.items left.ends.items (logged now.book) (logged left.book) c.settle_child.ensures.heard)
 
 pub returns-in_err-settle_child-clause-hands : goal.returns-in_err-settle_child-clause-hands
 returns-in_err-settle_child-clause-hands g c =
@@ -63,14 +64,14 @@ loop-work-preserved g c =
       count = omega (arith, size, less);
       lines = c.settle_child.ensures.lines ∙ c.loop-work.invariant.lines;
       book = leaves_then was.book now.book left.book c.loop-work.invariant.book c.settle_child.ensures.book;
-      heard = all_then was.ends.items now.ends.items left.ends.items was.book.log.items now.book.log.items left.book.log.items c.loop-work.invariant.heard
-          (settles_hears c.args.at c.loop-work.index now.ends.items left.ends.items now.book.log.items left.book.log.items settles);
+      heard = all_then was.ends.items now.ends.items left.ends.items (logged was.book) (logged now.book) (logged left.book) c.loop-work.invariant.heard
+          (settles_hears c.args.at c.loop-work.index now.ends.items left.ends.items (logged now.book) (logged left.book) settles);
       hands = no_hand_then was.ends.items now.ends.items left.ends.items c.loop-work.invariant.hands c.settle_child.ensures.hands;
       others = λ i other. settles.others i other ∙ c.loop-work.invariant.others i other;
       listed = λ u h. c.settle_child.ensures.listed u (c.loop-work.invariant.listed u h);
       closed = closed_next c.loop-work.index c.args.script c.close-closed.result before listed c.settle_child.ensures.listed c.in_ok-settle_child.ensures.closed c.loop-work.invariant.closed;
       front = λ t. closed_still c.args.at c.args.end.answers now.ends.items left.ends.items c.settle_child.ensures.hands (c.loop-work.invariant.front t);
-      taken = taken_next c.loop-work.index c.args.at c.args.script works c.in-Some.work now.ends.items left.ends.items now.book.log.items left.book.log.items before listed
+      taken = taken_next c.loop-work.index c.args.at c.args.script works c.in-Some.work now.ends.items left.ends.items (logged now.book) (logged left.book) before listed
           (rest_first works c.loop-work.index rest c.next.new.self.rest.items c.in-Some.work c.loop-work.invariant.rest step) settles c.settle_child.ensures.listed c.in_ok-settle_child.ensures.taken c.loop-work.invariant.taken;
     }
 

@@ -1,5 +1,6 @@
 use Rattle.std.proofs.Common.{◌≡◌, ◌+◌, length}
 use Rattle.std.specs.Prelude.{IsTrue}
+use Rattle.child_desk.specs.Book.{logged}
 use Rattle.child_desk.specs.Heard.{HearsAll}
 use Rattle.child_desk.specs.Line.{Leaves, HearsNoHand}
 use Rattle.child_serve.specs.Opened.{IsClosedIn, SameElsewhere, KeepsListed}
@@ -13,7 +14,7 @@ invariant-loop-work g l = record {
   count : l.index + length l.work-iterator.rest.items ≡ length l.fn.end.works.items;
   lines : l.desk.lines.items ≡ l.fn.desk.lines.items;
   book : Leaves l.fn.desk.book l.desk.book;
-  heard : HearsAll l.fn.desk.ends.items l.fn.desk.book.log.items l.desk.ends.items l.desk.book.log.items;
+  heard : HearsAll l.fn.desk.ends.items (logged l.fn.desk.book) l.desk.ends.items (logged l.desk.book);
   hands : HearsNoHand l.fn.desk.ends.items l.desk.ends.items;
   others : SameElsewhere l.at l.fn.desk.ends.items l.desk.ends.items;
   listed : KeepsListed l.fn.settled.unsettled.items l.settled.unsettled.items;

@@ -2,6 +2,7 @@ use Rattle.std.proofs.Common.{◌≡◌, ◌+◌, refl, sym, subst, ◌∙◌, S
 use Rattle.std.specs.List.{slice_get}
 use Rattle.std.proofs.lemmas.Option.{slice_get_read}
 use Rattle.feed_rings.specs.Ends.{taken_items, all_put}
+use Rattle.child_desk.specs.Book.{logged}
 use Rattle.child_desk.specs.Line.{IsFrontOf}
 use Rattle.child_desk.proofs.Places.{one_there, none_past, set_here, set_there}
 use Rattle.child_desk.proofs.Kept.{no_hand_set}
@@ -18,7 +19,7 @@ pub returns-in-Some-clause-heard : goal.returns-in-Some-clause-heard
 returns-in-Some-clause-heard g c =
     let ends = c.args.self.now.ends in
     let e = c.in-Some.ends.now in
-    let log = c.args.self.now.book.log.items in
+    let log = (logged c.args.self.now.book) in
     let here : slice_get ends.items c.args.at ≡ Some e = slice_get_read ends.items ends.len c.args.at e ends.ok.0 (c.in-Some.ensures.variant.0 refl) c.in-Some.ensures.value in
     all_set c.args.at ends.items e c.close.new.self log log here (hears_silent (c.args.at + 1) e.readers c.close.new.self.readers log log c.close.ensures.readers (λ s k. refl))
 
@@ -40,7 +41,7 @@ returns-in-Some-clause-front g c = λ x got.
     subst (λ y. IsFrontOf (taken_items y.answers) (all_put c.args.finished)) (one_there c.close.new.self x (sym (set_here c.args.at ends.items e c.close.new.self here) ∙ got)) c.close.ensures.front
 
 pub returns-in_default-clause-heard : goal.returns-in_default-clause-heard
-returns-in_default-clause-heard g c = all_same c.args.self.now.ends.items c.args.self.now.book.log.items
+returns-in_default-clause-heard g c = all_same c.args.self.now.ends.items (logged c.args.self.now.book)
 
 pub returns-in_default-clause-front : goal.returns-in_default-clause-front
 returns-in_default-clause-front g c = λ e got.

@@ -1,5 +1,6 @@
 use Rattle.std.proofs.Common.{List, refl, sym, ap, subst}
 use Rattle.child_events.specs.declared.event.HallEvent.{HallEvent}
+use Rattle.child_desk.specs.Book.{logged}
 use Rattle.child_desk.specs.declared.book.Book.{Book}
 use Rattle.child_desk.specs.Heard.{HearsAll}
 use Rattle.child_desk.proofs.Kept.{no_hand_same, no_hand_then}
@@ -7,14 +8,14 @@ use Rattle.child_desk.proofs.Hears.{all_same, all_then}
 use Rattle.child_desk.proofs.desk.Desk.has_come.Goals as goal
 
 pub loop-at-init : goal.loop-at-init
-loop-at-init g c = record { lines = refl; book = refl; hands = no_hand_same c.args.self.now.ends.items; heard = all_same c.args.self.now.ends.items c.args.self.now.book.log.items }
+loop-at-init g c = record { lines = refl; book = refl; hands = no_hand_same c.args.self.now.ends.items; heard = all_same c.args.self.now.ends.items (logged c.args.self.now.book) }
 
 pub returns-then-has_come_at-clause-heard : goal.returns-then-has_come_at-clause-heard
 returns-then-has_come_at-clause-heard g c =
     let was = c.args.self.now in
     let now = c.loop-at in
-    let log = was.book.log.items in
-    subst (λ (es : List HallEvent). HearsAll was.ends.items log c.has_come_at.new.ends.items es) (sym (ap (λ (b : Book). b.log.items) now.invariant.book))
+    let log = (logged was.book) in
+    subst (λ (es : List HallEvent). HearsAll was.ends.items log c.has_come_at.new.ends.items es) (sym (ap (λ (b : Book). logged b) now.invariant.book))
     (all_then was.ends.items now.self.ends.items c.has_come_at.new.ends.items log log log now.invariant.heard (c.has_come_at.ensures.heard log))
 
 pub returns-then-has_come_at-clause-hands : goal.returns-then-has_come_at-clause-hands
@@ -26,7 +27,7 @@ pub loop-at-preserved : goal.loop-at-preserved
 loop-at-preserved g c =
     let was = c.args.self.now in
     let now = c.loop-at in
-    let log = was.book.log.items in
+    let log = (logged was.book) in
     record {
       lines = now.invariant.lines;
       book = now.invariant.book;

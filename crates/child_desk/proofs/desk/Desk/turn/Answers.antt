@@ -1,3 +1,4 @@
+use Rattle.child_desk.specs.Book.{logged}
 use Rattle.std.proofs.Common.{inl, inr}
 use Rattle.child_desk.proofs.Kept.{all_left, all_then}
 use Rattle.child_desk.proofs.Coming.{turns, heard_behind, heard_left, ok_too}
@@ -10,37 +11,16 @@ returns-clause-kept g c =
     all_then was.lines.items was.lines.items c.attend_all.new.lines.items was.ends.items was.ends.items c.attend_all.new.ends.items was.book c.tick.new.book c.attend_all.new.book
     (all_left was.lines.items was.ends.items was.book c.tick.new.book c.tick.ensures.kept) c.attend_all.ensures.kept
 
-pub returns-in_err-tick-clause-kept : goal.returns-in_err-tick-clause-kept
-returns-in_err-tick-clause-kept g c =
-    let was = c.args.self.now in
-    all_left was.lines.items was.ends.items was.book c.tick.new.book c.tick.ensures.kept
-
 pub returns-clause-heard : goal.returns-clause-heard
 returns-clause-heard g c =
     let was = c.args.self.now in
-    heard_then was.ends.items was.ends.items c.attend_all.new.ends.items was.book.log.items c.tick.new.book.log.items c.attend_all.new.book.log.items
-    (all_silent was.ends.items was.book.log.items c.tick.new.book.log.items c.tick.ensures.silent) c.attend_all.ensures.heard
-
-pub returns-in_err-tick-clause-heard : goal.returns-in_err-tick-clause-heard
-returns-in_err-tick-clause-heard g c =
-    let was = c.args.self.now in
-    all_silent was.ends.items was.book.log.items c.tick.new.book.log.items c.tick.ensures.silent
+    heard_then was.ends.items was.ends.items c.attend_all.new.ends.items (logged was.book) (logged c.tick.new.book) (logged c.attend_all.new.book)
+    (all_silent was.ends.items (logged was.book) (logged c.tick.new.book) c.tick.ensures.silent) c.attend_all.ensures.heard
 
 pub returns-clause-comes : goal.returns-clause-comes
-returns-clause-comes g c = ok_too c.attend_all.result (turns c.args.now c.args.self.now.book c.tick.new.book c.attend_all.new.book c.in_ok-tick.ensures.ticked c.attend_all.ensures.comes)
-
-pub returns-clause-refused : goal.returns-clause-refused
-returns-clause-refused g c = inr (turns c.args.now c.args.self.now.book c.tick.new.book c.attend_all.new.book c.in_ok-tick.ensures.ticked c.attend_all.ensures.comes)
-
-pub returns-in_err-tick-clause-refused : goal.returns-in_err-tick-clause-refused
-returns-in_err-tick-clause-refused g c = inl c.in_err-tick.ensures.refused
+returns-clause-comes g c = turns c.args.now c.args.self.now.book c.tick.new.book c.attend_all.new.book c.tick.ensures.ticked c.attend_all.ensures.comes
 
 pub returns-clause-entered : goal.returns-clause-entered
 returns-clause-entered g c =
     let was = c.args.self.now in
     heard_behind was.lines.items was.ends.items c.attend_all.new.ends.items was.book c.tick.new.book c.attend_all.new.book c.tick.ensures.kept c.attend_all.ensures.entered
-
-pub returns-in_err-tick-clause-entered : goal.returns-in_err-tick-clause-entered
-returns-in_err-tick-clause-entered g c =
-    let was = c.args.self.now in
-    heard_left was.lines.items was.ends.items was.book c.tick.new.book c.tick.ensures.kept
