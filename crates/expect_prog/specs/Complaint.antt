@@ -25,6 +25,7 @@ use Rattle.script_runs.specs.declared.fault.ReplayFault.{ReplayFault}
 use Rattle.script_runs.specs.declared.fault.ReplayFault.TheVariants as replay
 use Rattle.script_runs.specs.declared.planning.PlanLogFault.{PlanLogFault}
 use Rattle.script_runs.specs.declared.planning.PlanLogFault.TheVariants as plan
+use Rattle.command_line.specs.Given.{file_of_lines}
 use Rattle.course_texts.specs.declared.showing.ShowFault.{ShowFault}
 use Rattle.course_texts.specs.declared.showing.ShowFault.TheVariants as show
 
@@ -130,11 +131,6 @@ IsUnending file m c = ⊥
 abbrev pub IsLongSource : Bor (List ℕ) → Complaint → Type 0
 IsLongSource file (line.SourceTooLong path) = path ≡ file
 IsLongSource file c = ⊥
-
--- the file of which lines are bad: the timing's, where there is one, or else the timeline's
-abbrev pub file_of_lines : Bor (List ℕ) → Option (Bor (List ℕ)) → Bor (List ℕ)
-file_of_lines timeline None = timeline
-file_of_lines timeline (Some timing) = timing
 
 -- the line where a log is planned, of a script's file over a timeline's, with a timing's
 abbrev pub PlanLine : Bor (List ℕ) → Bor (List ℕ) → Option (Bor (List ℕ)) → PlanLogFault → Complaint → Type 0

@@ -1,22 +1,11 @@
 -- The scripts that an order's settings and files make.
-use Rattle.std.specs.Prelude.{◌≡◌, ℕ, ◌*◌, List, [], map, Option, unwrap_or, option_map, codes, Bool, false, if◌then◌else◌}
-use Rattle.std.specs.Str.{bytes_eq}
+use Rattle.std.specs.Prelude.{◌≡◌, ℕ, List, [], map, Option, Bool, false}
 use Rattle.std.specs.Borrow.{Bor}
-use Rattle.clap.specs.Matches.{found_of, matched_of, raw_values}
-use Rattle.clap.specs.declared.parser.matches.ArgMatches.{ArgMatches}
 use Rattle.report_texts.specs.declared.form.Format.{Format}
 use Rattle.report_texts.specs.declared.form.Format.TheVariants.{Text, Escaped, Summary, Json, JsonLines, Tap}
 use Rattle.expect_core.specs.declared.settings.Settings.{Settings}
 use Rattle.dialogue_sched.specs.declared.script.Script.{Script}
 use Rattle.dialogue_sched.specs.Pairs.{Paired}
-
--- as many steps as are asked for, or a million
-abbrev pub steps_given : Option ℕ → ℕ
-steps_given asked = unwrap_or asked 1000000
-
--- as many seconds as are asked for, or two, for a program to end after its script
-abbrev pub grace_seconds : Option ℕ → ℕ
-grace_seconds asked = unwrap_or asked 2
 
 -- whether reports in a format have the variables in them, where that is asked for: a summary and TAP never do
 abbrev pub vars_told : Format → Bool → Bool
@@ -47,17 +36,3 @@ pub record AreOfFiles (holds : List ℕ → List ℕ → Type 0) (steps : ℕ) (
   pub sources : List (List ℕ)
   pub held : AreHeld holds files sources
   pub given : scripts ≡ scripts_given steps limit tells sources
-
-abbrev pub names_of : List (Bor (List ℕ)) → List (List ℕ)
-names_of files = map (λ file. file.now) files
-
--- the words of the command line that name the files of sources, in their order
-abbrev pub files_told : ArgMatches → List (List ℕ)
-files_told matches = unwrap_or (option_map raw_values (matched_of (found_of matches) (codes "sources"))) []
-
-abbrev pub format_named : List ℕ → Format
-format_named name = if bytes_eq name (codes "json") then Json else if bytes_eq name (codes "jsonl") then JsonLines else if bytes_eq name (codes "tap") then Tap else Text
-
--- a summary, or what is for terminals, where it is asked for, and else the format of a name, or whole reports
-abbrev pub format_given : Bool → Bool → Option (List ℕ) → Format
-format_given summary escape name = if summary then Summary else if escape then Escaped else unwrap_or (option_map format_named name) Text

@@ -3,10 +3,10 @@
 ghost use Rattle.std.specs.Prelude.{◌≡◌};
 ghost use Rattle.expect_prog.specs.Complaint.{LogLine, OpeningLine, RunLine, FaultLine, DriveLine, ShowLine, ExplainLine, AccountLine, PlanLine, TimelineLine, BadLine, refusal_number as number_of};
 
-use crate::command_line::{Explain, Plan, Replay, Run, Show};
 use child_events::LogFault;
 use child_serve::ServeFault;
 use child_timeline::TimelineFault;
+use command_line::{Explain, Plan, Replay, Run, Show};
 use course_texts::{ExplainFault, ShowFault};
 use dialogue_sched::{HallFault, HallRefusal, RunFault};
 use log_plan::PlanFault;

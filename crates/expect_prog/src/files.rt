@@ -3,11 +3,11 @@
 ghost use Rattle.std.specs.Prelude.{◌≡◌, ◌≤◌, ℕ, List, IfOk, OnOk};
 ghost use Rattle.expect_prog.specs.Given.{script_given, scripts_given, vars_told, AreHeld, AreOfFiles};
 
-use crate::command_line::{Check, Explain, Plan, Replay, Scripts, Show};
 use crate::complaint::Complaint;
 use crate::folder::{Folder, Pages};
 use crate::outcome::Outcome;
 use child_events::Counted;
+use command_line::{Check, Explain, Plan, Replay, Scripts, Show};
 use course_texts::{explain, show_log};
 use dialogue_sched::Script;
 use report_texts::{Form, Format, ReadFault, read_all};

@@ -2,20 +2,18 @@
 #![tactic(auto)]
 
 mod account;
-mod command_line;
 mod complaint;
 mod files;
 mod folder;
-mod help;
 mod outcome;
 mod running;
 mod standard;
 
-use crate::command_line::{Order, read_words};
 use crate::complaint::{Complaint, tell};
 use crate::files::{check_files, explain_files, plan_file, replay_files, show_file};
 use crate::running::run_files;
 use crate::standard::{is_unread, open_closed};
+use command_line::{Order, read_words};
 use std::alloc::Global;
 use std::env;
 use std::env::Env;

@@ -3,13 +3,13 @@
 ghost use Rattle.std.specs.Prelude.{◌≡◌, ◌≤◌, length, vec_len, IfOk};
 
 use crate::account::{Account, opened_account};
-use crate::command_line::Run;
 use crate::complaint::{Complaint, tell};
 use crate::files::{Disk, scripts};
 use crate::folder::{Folder, Pages};
 use crate::outcome::Outcome;
 use child_events::Counted;
 use child_pipes::{Cancellation, Free, Pipes, Programs, Reaper, Stop, Wall, Watch};
+use command_line::Run;
 use dialogue_sched::Script;
 use report_texts::Format;
 use script_runs::{DriveFault, Early, NoShelf, Record, Telling, Told, clocks, drive, drive_early};

@@ -1,0 +1,354 @@
+//! What the command line offers: its commands, their options and files, and what help tells of each.
+
+use crate::help;
+use clap::{Arg, ArgAction, Command, value_parser};
+use session::STEPS_LIMIT;
+use std::alloc::{AllocError, Global};
+
+/// The most seconds of a time limit.
+const SECONDS_LIMIT: i64 = 9_000_000_000;
+
+/// The most seconds that a program may have to end after its script.
+const GRACE_LIMIT: i64 = 86_400;
+
+/// The most workers, and the most scripts.
+const MANY: i64 = 64;
+
+/// The names of formats.
+const FORMATS: [&str; 4] = ["text", "json", "jsonl", "tap"];
+
+/// What an option or a file takes. Help names the value by the word that stands here.
+#[derive(Clone, Copy)]
+enum Takes {
+    /// An option without a value.
+    Nothing,
+    /// An option with any value.
+    Word(&'static str),
+    /// An option with a number, from the least to the most.
+    Number(&'static str, i64, i64),
+    /// An option with the name of a format.
+    Format(&'static str),
+    /// A file.
+    File(&'static str),
+    /// One file or more.
+    Files(&'static str),
+}
+
+/// An option or a file of a command.
+#[derive(Clone, Copy)]
+struct Offer {
+    name: &'static str,
+    takes: Takes,
+    help: &'static str,
+}
+
+const LIMIT: Offer = Offer {
+    name: "limit",
+    takes: Takes::Number("S", 1, SECONDS_LIMIT),
+    help: "End a script that still waits after S seconds",
+};
+
+const STEPS: Offer = Offer {
+    name: "steps",
+    takes: Takes::Number("N", 1, STEPS_LIMIT as i64),
+    help: "End a script behind N steps [default: 1000000]",
+};
+
+const VARS: Offer = Offer {
+    name: "vars",
+    takes: Takes::Nothing,
+    help: "Show each script's global variables, in hexadecimal",
+};
+
+const REQUESTS: Offer = Offer {
+    name: "requests",
+    takes: Takes::Nothing,
+    help: "Show what each script asked of its children, in hex",
+};
+
+const FORMAT: Offer = Offer {
+    name: "format",
+    takes: Takes::Format("F"),
+    help: "Print reports as text, json, jsonl or tap [default: text]",
+};
+
+const SUMMARY: Offer = Offer {
+    name: "summary",
+    takes: Takes::Nothing,
+    help: "Print a line of each report, and one of counts",
+};
+
+const ESCAPE: Offer = Offer {
+    name: "escape",
+    takes: Takes::Nothing,
+    help: "Print reports as text that is safe on a terminal",
+};
+
+const TRANSCRIPTS: Offer = Offer {
+    name: "transcripts",
+    takes: Takes::Word("DIR"),
+    help: "Write each transcript to a file in the folder DIR",
+};
+
+const SOURCES: Offer = Offer {
+    name: "sources",
+    takes: Takes::Files("FILE"),
+    help: "The file of a script; the first is script 1",
+};
+
+const LOG: Offer = Offer {
+    name: "log",
+    takes: Takes::File("LOG"),
+    help: "The file of the log, or /dev/stdin",
+};
+
+const WORKERS: Offer = Offer {
+    name: "workers",
+    takes: Takes::Number("N", 1, MANY),
+    help: "Share the scripts out among N threads [default: 1]",
+};
+
+const RECORD: Offer = Offer {
+    name: "record",
+    takes: Takes::Word("FILE"),
+    help: "Write a log of what happened, which replay reads",
+};
+
+const GRACE: Offer = Offer {
+    name: "grace",
+    takes: Takes::Number("S", 0, GRACE_LIMIT),
+    help: "Hang up programs that go on S seconds [default: 2]",
+};
+
+const HANGUP: Offer = Offer {
+    name: "hangup",
+    takes: Takes::Nothing,
+    help: "Count these seconds from a close on, too",
+};
+
+const GUARD: Offer = Offer {
+    name: "guard",
+    takes: Takes::Nothing,
+    help: "Hang up programs if exprun is killed, too",
+};
+
+const FOLLOW: Offer = Offer {
+    name: "follow",
+    takes: Takes::Nothing,
+    help: "Tell on standard error what scripts show, as it comes",
+};
+
+const ACCOUNT: Offer = Offer {
+    name: "explain",
+    takes: Takes::Word("FILE"),
+    help: "Tell in FILE what scripts did, and what they waited for",
+};
+
+const SHOWN_SCRIPT: Offer = Offer {
+    name: "script",
+    takes: Takes::Number("N", 1, MANY),
+    help: "Show the events of script N alone, and the ticks",
+};
+
+const TOLD_SCRIPT: Offer = Offer {
+    name: "script",
+    takes: Takes::Number("N", 1, MANY),
+    help: "Tell the course of script N alone",
+};
+
+const TIMING: Offer = Offer {
+    name: "timing",
+    takes: Takes::Word("TIMING"),
+    help: "The file of a typescript's timing",
+};
+
+const SOURCE: Offer = Offer {
+    name: "source",
+    takes: Takes::File("FILE"),
+    help: "The file of the script",
+};
+
+const TIMELINE: Offer = Offer {
+    name: "timeline",
+    takes: Takes::File("TIMELINE"),
+    help: "The file of what its children say, or /dev/stdin",
+};
+
+static RUN: [Offer; 16] = [
+    WORKERS,
+    LIMIT,
+    STEPS,
+    RECORD,
+    GRACE,
+    HANGUP,
+    GUARD,
+    FOLLOW,
+    ACCOUNT,
+    VARS,
+    REQUESTS,
+    FORMAT,
+    SUMMARY,
+    ESCAPE,
+    TRANSCRIPTS,
+    SOURCES,
+];
+
+static REPLAY: [Offer; 10] = [
+    LIMIT,
+    STEPS,
+    VARS,
+    REQUESTS,
+    FORMAT,
+    SUMMARY,
+    ESCAPE,
+    TRANSCRIPTS,
+    LOG,
+    SOURCES,
+];
+
+static SHOW: [Offer; 2] = [SHOWN_SCRIPT, LOG];
+
+static EXPLAIN: [Offer; 5] = [TOLD_SCRIPT, LIMIT, STEPS, LOG, SOURCES];
+
+static PLAN: [Offer; 5] = [LIMIT, STEPS, TIMING, SOURCE, TIMELINE];
+
+static CHECK: [Offer; 1] = [SOURCES];
+
+/// The names of the commands, in the order of the help.
+const COMMANDS: [&str; 6] = ["run", "replay", "show", "explain", "plan", "check"];
+
+/// The argument of an option or a file.
+fn arg_of<'a>(alloc: Global, offer: &Offer) -> Arg<'a> {
+    let arg = Arg::new(alloc, offer.name).help(offer.help);
+    match offer.takes {
+        Takes::Nothing => arg.long(offer.name).action(ArgAction::SetTrue),
+        Takes::Word(value) => arg.long(offer.name).value_name(value),
+        Takes::Number(value, least, most) => arg
+            .long(offer.name)
+            .value_name(value)
+            .value_parser(value_parser!(u64).range(least..=most)),
+        Takes::Format(value) => arg
+            .long(offer.name)
+            .value_name(value)
+            .value_parser(FORMATS.as_slice())
+            .hide_possible_values(true),
+        Takes::File(value) => arg.value_name(value).required(true),
+        Takes::Files(value) => arg
+            .value_name(value)
+            .required(true)
+            .num_args(1..)
+            .action(ArgAction::Append),
+    }
+}
+
+/// An argument that doesn't stand beside the other forms of reports.
+fn alone<'a>(arg: Arg<'a>, name: &str) -> Result<Arg<'a>, AllocError> {
+    match name {
+        "summary" => arg.conflicts_with("format"),
+        "escape" => arg.conflicts_with("format")?.conflicts_with("summary"),
+        _ => Ok(arg),
+    }
+}
+
+/// The arguments of what a command offers.
+fn args_of<'a>(alloc: Global, offers: &[Offer]) -> Result<Vec<Arg<'a>>, AllocError> {
+    let mut args = Vec::new(alloc);
+    for offer in offers {
+        let arg = alone(arg_of(alloc, offer), offer.name)?;
+        args.push(arg)?;
+    }
+    Ok(args)
+}
+
+/// A command: its name, what it does, what help tells behind its options, and what it offers.
+#[derive(Clone, Copy)]
+struct Part {
+    name: &'static str,
+    about: &'static str,
+    after: &'static str,
+    offers: &'static [Offer],
+}
+
+/// The command of a name of `COMMANDS`.
+fn part_named(name: &str) -> Part {
+    match name {
+        "run" => Part {
+            name: "run",
+            about: "Runs scripts with real programs, and prints their reports",
+            after: help::RUN,
+            offers: RUN.as_slice(),
+        },
+        "replay" => Part {
+            name: "replay",
+            about: "Runs scripts over a log of a run, and prints their reports",
+            after: help::REPLAY,
+            offers: REPLAY.as_slice(),
+        },
+        "show" => Part {
+            name: "show",
+            about: "Shows a log of a run, a line for each event",
+            after: help::SHOW,
+            offers: SHOW.as_slice(),
+        },
+        "explain" => Part {
+            name: "explain",
+            about: "Tells what scripts did over a log, and what they waited for",
+            after: help::EXPLAIN,
+            offers: EXPLAIN.as_slice(),
+        },
+        "plan" => Part {
+            name: "plan",
+            about: "Plans a log for replay, of a script and what its children say",
+            after: help::PLAN,
+            offers: PLAN.as_slice(),
+        },
+        _ => Part {
+            name: "check",
+            about: "Says what is wrong with scripts, and runs nothing",
+            after: help::CHECK,
+            offers: CHECK.as_slice(),
+        },
+    }
+}
+
+/// A command that offers nothing yet.
+fn bare<'a>(alloc: Global, part: Part) -> Command<'a> {
+    Command::new(alloc, part.name)
+        .about(part.about)
+        .after_help(part.after)
+}
+
+fn command_named<'a>(alloc: Global, name: &str) -> Result<Command<'a>, AllocError> {
+    let part = part_named(name);
+    let args = args_of(alloc, part.offers)?;
+    bare(alloc, part).args(args)
+}
+
+/// The program with the commands that its first word may mean: the one that it names, or all of them. So a start doesn't pay for the words of
+/// the others.
+fn with_commands<'a>(
+    alloc: Global,
+    program: Command<'a>,
+    first: &str,
+) -> Result<Command<'a>, AllocError> {
+    if COMMANDS.contains(&first) {
+        return program.subcommand(command_named(alloc, first)?);
+    }
+    let mut program = program;
+    for name in COMMANDS {
+        program = program.subcommand(command_named(alloc, name)?)?;
+    }
+    Ok(program)
+}
+
+/// The program, whose first word this is.
+pub(crate) fn command<'a>(alloc: Global, first: &str) -> Result<Command<'a>, AllocError> {
+    let program = Command::new(alloc, "exprun")
+        .bin_name("exprun")?
+        .about("Runs Expect scripts with real programs, or over a log of what programs did")
+        .version(help::VERSION)
+        .long_version(help::LONG_VERSION)
+        .after_help(help::PROGRAM)
+        .subcommand_required(true);
+    with_commands(alloc, program, first)
+}

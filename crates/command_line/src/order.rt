@@ -1,0 +1,108 @@
+//! What may be asked for.
+
+ghost use Rattle.std.specs.Prelude.{◌≡◌};
+ghost use Rattle.command_line.specs.Given.{file_of_lines};
+
+use child_pipes::Terms;
+use report_texts::Form;
+
+/// What is asked for.
+#[derive(Drop)]
+pub enum Order<'a> {
+    Replay(Replay<'a>),
+    Run(Run<'a>),
+    Show(Show<'a>),
+    Plan(Plan<'a>),
+    Check(Check<'a>),
+    Explain(Explain<'a>),
+}
+
+/// Scripts, and what is the same for each of them.
+#[derive(Drop)]
+pub struct Scripts<'a> {
+    /// How many steps each script may begin.
+    pub steps: u64,
+    /// The last moment of each script, in milliseconds.
+    pub limit_ms: Option<u64>,
+    /// The form that their reports are told in.
+    pub form: Form,
+    /// The folder that their transcripts are written to.
+    pub transcripts: Option<&'a str>,
+    /// The files of their sources.
+    pub sources: Vec<&'a str>,
+}
+
+/// A replay that is asked for: of a log's file.
+#[derive(Drop)]
+pub struct Replay<'a> {
+    pub scripts: Scripts<'a>,
+    pub log: &'a str,
+}
+
+/// A run over real children that is asked for.
+#[derive(Drop)]
+pub struct Run<'a> {
+    pub scripts: Scripts<'a>,
+    /// How many workers there are.
+    pub workers: u8,
+    /// The file that the record is written to.
+    pub record: Option<&'a str>,
+    /// Whether what the scripts show is told as it comes.
+    pub follow: bool,
+    /// When children are ended.
+    pub terms: Terms,
+    /// Whether children are ended also if this program is killed.
+    pub guard: bool,
+    /// The file that what they did is told in.
+    pub explain: Option<&'a str>,
+}
+
+/// A log's file that is to be shown.
+#[derive(Drop)]
+pub struct Show<'a> {
+    pub log: &'a str,
+    /// The script whose events are shown, where not all are.
+    pub script: Option<u8>,
+}
+
+/// Scripts whose courses over a log are to be told.
+#[derive(Drop)]
+pub struct Explain<'a> {
+    pub scripts: Scripts<'a>,
+    pub log: &'a str,
+    /// The script whose course is told, where not all are.
+    pub only: Option<u8>,
+}
+
+/// A log that is to be planned, of a script over a timeline.
+#[derive(Drop)]
+pub struct Plan<'a> {
+    /// How many steps the script may begin.
+    pub steps: u64,
+    /// Its last moment, in milliseconds.
+    pub limit_ms: Option<u64>,
+    /// The file of its source.
+    pub source: &'a str,
+    /// The file of the timeline, or of a recording.
+    pub timeline: &'a str,
+    /// The file of a typescript's timing.
+    pub timing: Option<&'a str>,
+}
+
+impl<'a> Plan<'a> {
+    /// The file of which lines may be bad.
+    pub fn lines(&self) -> &'a str
+        ensures { result ≡ file_of_lines self.now.timeline self.now.timing }
+    {
+        match self.timing {
+            Some(timing) => timing,
+            None => self.timeline,
+        }
+    }
+}
+
+/// Files of scripts that are to be checked.
+#[derive(Drop)]
+pub struct Check<'a> {
+    pub sources: Vec<&'a str>,
+}
