@@ -20,8 +20,11 @@ use Rattle.child_desk.specs.declared.ends.Ends.{Ends as HandEnds}
 use Rattle.child_desk.specs.Told.{Telling, Reply, Put, Asks, Stops, Rings, telling, asking, answers_in, replies_in, all_told, asked_of_hand, heard_of_hand, rings_of}
 use Rattle.child_desk.specs.Turn.{HasNoRequest, Waits}
 use Rattle.child_desk.specs.declared.book.Book.{Book}
+use Rattle.child_keeper.specs.declared.log_item.LogItem.{LogItem}
+use Rattle.child_keeper.specs.declared.log_item.LogItem.TheVariants as item
 use Rattle.child_desk.specs.declared.line.Line.{Line}
-use Rattle.child_desk.specs.Book.{Enters, IsRecord, AscendsFrom, AllTaken, moment_in, Looks, logged}
+use Rattle.child_desk.specs.Book.{Enters, IsRecord, AllUntil, AllTaken, Looks, logged, ring_log}
+use Rattle.child_keeper.specs.Record.{ItemsAscendFrom, moment_in, moment_at, events_in}
 use Rattle.child_desk.specs.Line.{Keeping, IsInLine, InLine, Leaves, Keeps, SameRings, HearsNoHand, KeepsAll}
 use Rattle.child_events.specs.declared.event.What.{What}
 use Rattle.child_events.specs.declared.event.What.TheVariants as what
@@ -41,10 +44,18 @@ use Rattle.child_desk.proofs.Answering.{own_reply, replies_append, no_replies}
 use Rattle.child_desk.proofs.Hears.{same_out, then_out}
 use Rattle.child_desk.proofs.Lining.{numbered, handed_at, more_told, answers_own, answers_other, asked_line, passed_line, answered_line, sent_line, ended_line, passes_all}
 
--- an entry with the book's stamp makes no moment go back
-ascends_on : (least last : ℕ) (e : HallEvent) (es : List HallEvent) (scripts : ℕ) → least ≤ last → AscendsFrom least es → AllTaken scripts last es → moment_in e ≡ last → AscendsFrom least (es ++ e ∷ [])
-ascends_on least last e [] scripts le a t m = (subst (λ (n : ℕ). least ≤ n) (sym m) le, tt)
-ascends_on least last e (x ∷ es) scripts le a t m = (a.0, ascends_on (moment_in x) last e es scripts t.0.1 a.1 t.1 m)
+-- an item with the book's stamp makes no moment go back
+rises_on : (least last : ℕ) (x : LogItem) (xs : List LogItem) → least ≤ last → ItemsAscendFrom least xs → AllUntil last xs → moment_at x ≡ last → ItemsAscendFrom least (xs ++ x ∷ [])
+rises_on least last x [] le a u m = (subst (λ (n : ℕ). least ≤ n) (sym m) le, tt)
+rises_on least last x (y ∷ xs) le a u m = (a.0, rises_on (moment_at y) last x xs u.0 a.1 u.1 m)
+
+until_on : (last : ℕ) (x : LogItem) (xs : List LogItem) → AllUntil last xs → moment_at x ≡ last → AllUntil last (xs ++ x ∷ [])
+until_on last x [] u m = (subst (λ (n : ℕ). n ≤ last) (sym m) (let le : last ≤ last = omega arith in le), tt)
+until_on last x (y ∷ xs) u m = (u.0, until_on last x xs u.1 m)
+
+pub until_later : (last later : ℕ) (xs : List LogItem) → last ≤ later → AllUntil last xs → AllUntil later xs
+until_later last later [] le u = tt
+until_later last later (x ∷ xs) le u = ((let m = u.0 in omega (arith, le, m)), until_later last later xs le u.1)
 
 taken_on : (scripts last : ℕ) (e : HallEvent) (es : List HallEvent) → AllTaken scripts last es → refusal_of scripts e ≡ None → moment_in e ≡ last → AllTaken scripts last (es ++ e ∷ [])
 taken_on scripts last e [] t r m = ((r, subst (λ (n : ℕ). n ≤ last) (sym m) (let le : last ≤ last = omega arith in le)), tt)
@@ -61,10 +72,10 @@ took_length n es (x ∷ olds) [] t = absurd t
 took_length n es (x ∷ olds) (y ∷ news) t = ap suc (took_length (n + 1) es olds news t.1)
 
 -- a ring stays what it is
-pub same_ring : (f : FeedIn HallEvent) → SameIn f f
+pub same_ring : (f : FeedIn LogItem) → SameIn f f
 same_ring f = (refl, refl, refl, refl)
 
-pub then_ring : (a b c : FeedIn HallEvent) → SameIn a b → SameIn b c → SameIn a c
+pub then_ring : (a b c : FeedIn LogItem) → SameIn a b → SameIn b c → SameIn a c
 then_ring a b c f g = (g.0 ∙ f.0, g.1 ∙ f.1, g.2 ∙ f.2, g.3 ∙ f.3)
 
 entered_ring : (e : HallEvent) (took : Bool) (old new : Book) → Enters e took old new → SameIn old.log new.log
@@ -78,7 +89,8 @@ entered_halls e false old new t = ap (λ (b : Book). length b.hall) t.0
 pub entered_record : (e : HallEvent) (took : Bool) (old new : Book) → Enters e took old new → moment_in e ≡ old.stamp → IsRecord old → IsRecord new
 entered_record e false old new t m r = subst IsRecord (sym t.0) r
 entered_record e true old new t m r = record {
-  ascends = subst (AscendsFrom 0) (sym t.2) (ascends_on 0 old.stamp e (logged old) (length old.hall) (let z : 0 ≤ old.stamp = omega arith in z) r.ascends r.taken m);
+  rises = subst (ItemsAscendFrom 0) (sym t.5) (rises_on 0 old.stamp (item.Event e) (put_items old.log) (let z : 0 ≤ old.stamp = omega arith in z) r.rises r.until m);
+  until = subst (λ (n : ℕ). AllUntil n (put_items new.log)) (sym t.3) (subst (AllUntil old.stamp) (sym t.5) (until_on old.stamp (item.Event e) (put_items old.log) r.until m));
   taken = subst (λ (n : ℕ). AllTaken (length new.hall) n (logged new)) (sym t.3)
       (subst (λ (n : ℕ). AllTaken n old.stamp (logged new)) (sym (took_length 1 (e ∷ []) old.hall new.hall t.1))
       (subst (AllTaken (length old.hall) old.stamp) (sym t.2) (taken_on (length old.hall) old.stamp e (logged old) r.taken t.0 m)));
@@ -87,10 +99,11 @@ entered_record e true old new t m r = record {
 pub leaves_same : (old new : Book) → Looks old new → Leaves old new
 leaves_same old new f = record {
   lines = λ rings keeper script at line is. in_line_same rings keeper script at line is;
-  answers = λ n. ap (λ (es : List HallEvent). replies_in (own n es)) f.log;
+  answers = λ n. ap (λ (es : List HallEvent). replies_in (own n es)) (ap events_in f.items);
   book = λ r. record {
-    ascends = subst (AscendsFrom 0) (sym f.log) r.ascends;
-    taken = subst (λ (n : ℕ). AllTaken (length new.hall) n (logged new)) (sym f.stamp) (subst (λ (ks : List Kept). AllTaken (length ks) old.stamp (logged new)) (sym f.hall) (subst (AllTaken (length old.hall) old.stamp) (sym f.log) r.taken));
+    rises = subst (ItemsAscendFrom 0) (sym f.items) r.rises;
+    until = subst (λ (n : ℕ). AllUntil n (put_items new.log)) (sym f.stamp) (subst (AllUntil old.stamp) (sym f.items) r.until);
+    taken = subst (λ (n : ℕ). AllTaken (length new.hall) n (logged new)) (sym f.stamp) (subst (λ (ks : List Kept). AllTaken (length ks) old.stamp (logged new)) (sym f.hall) (subst (AllTaken (length old.hall) old.stamp) (sym (ap events_in f.items)) r.taken));
   };
   halls = ap length f.hall;
   log = f.ring;
@@ -98,7 +111,7 @@ leaves_same old new f = record {
   where
     in_line_same : (rings : Rings) (keeper : Keeping) (script : Script) (at : ℕ) (line : Line) → InLine rings keeper script at line old → InLine rings keeper script at line new
     in_line_same rings keeper script at line (k, here, is) =
-        (k, ap (λ (ks : List Kept). slice_get ks at) f.hall ∙ here, subst (λ (es : List HallEvent). IsInLine rings keeper script line k (own (at + 1) es)) (sym f.log) is)
+        (k, ap (λ (ks : List Kept). slice_get ks at) f.hall ∙ here, subst (λ (es : List HallEvent). IsInLine rings keeper script line k (own (at + 1) es)) (sym (ap events_in f.items)) is)
 
 pub leaves_then : (a b c : Book) → Leaves a b → Leaves b c → Leaves a c
 leaves_then a b c f g = record {
@@ -306,30 +319,64 @@ leaves_ticked now old mid new h l s le t = leaves_then old mid new stamped (leav
   where
     stamped : Leaves old mid
     stamped = record {
-      lines = λ rings keeper script at line is. (is.0, ap (λ (ks : List Kept). slice_get ks at) h ∙ is.1, subst (λ (es : List HallEvent). IsInLine rings keeper script line is.0 (own (at + 1) es)) (sym (ap put_items l)) is.2);
-      answers = λ n. ap (λ (es : List HallEvent). replies_in (own n es)) (ap put_items l);
+      lines = λ rings keeper script at line is. (is.0, ap (λ (ks : List Kept). slice_get ks at) h ∙ is.1, subst (λ (es : List HallEvent). IsInLine rings keeper script line is.0 (own (at + 1) es)) (sym (ap ring_log l)) is.2);
+      answers = λ n. ap (λ (es : List HallEvent). replies_in (own n es)) (ap ring_log l);
       book = λ r. record {
-        ascends = subst (AscendsFrom 0) (sym (ap put_items l)) r.ascends;
-        taken = subst (λ (ks : List Kept). AllTaken (length ks) mid.stamp (logged mid)) (sym h) (subst (AllTaken (length old.hall) mid.stamp) (sym (ap put_items l))
+        rises = subst (ItemsAscendFrom 0) (sym (ap put_items l)) r.rises;
+        until = subst (λ (n : ℕ). AllUntil n (put_items mid.log)) (sym s) (until_later old.stamp now (put_items mid.log) le (subst (AllUntil old.stamp) (sym (ap put_items l)) r.until));
+        taken = subst (λ (ks : List Kept). AllTaken (length ks) mid.stamp (logged mid)) (sym h) (subst (AllTaken (length old.hall) mid.stamp) (sym (ap ring_log l))
             (subst (λ (n : ℕ). AllTaken (length old.hall) n (logged old)) (sym s) (taken_later (length old.hall) old.stamp now (logged old) le r.taken)));
       };
       halls = ap length h;
       log = subst (SameIn old.log) (sym l) (same_ring old.log);
     }
 
+pub events_event : (xs : List LogItem) (e : HallEvent) → events_in (xs ++ item.Event e ∷ []) ≡ events_in xs ++ e ∷ []
+events_event [] e = refl
+events_event (item.Event x ∷ xs) e = ap (λ (es : List HallEvent). x ∷ es) (events_event xs e)
+events_event (item.Still m ∷ xs) e = events_event xs e
+
+pub events_still : (xs : List LogItem) (m : ℕ) → events_in (xs ++ item.Still m ∷ []) ≡ events_in xs
+events_still [] m = refl
+events_still (item.Event x ∷ xs) m = ap (λ (es : List HallEvent). x ∷ es) (events_still xs m)
+events_still (item.Still n ∷ xs) m = events_still xs m
+
+-- nothing but that nothing earlier comes, in a book that was stamped for it
+pub leaves_still : (now : ℕ) (old mid new : Book) → mid.hall ≡ old.hall → mid.log ≡ old.log → mid.stamp ≡ now → old.stamp ≤ now →
+    new.hall ≡ mid.hall → new.stamp ≡ mid.stamp → SameIn mid.log new.log → put_items new.log ≡ put_items mid.log ++ item.Still now ∷ [] → Leaves old new
+leaves_still now old mid new h l s le hall stamp ring put = record {
+  lines = λ rings keeper script at line is. (is.0, ap (λ (ks : List Kept). slice_get ks at) (hall ∙ h) ∙ is.1, subst (λ (es : List HallEvent). IsInLine rings keeper script line is.0 (own (at + 1) es)) (sym same) is.2);
+  answers = λ n. ap (λ (es : List HallEvent). replies_in (own n es)) same;
+  book = λ r. record {
+    rises = subst (ItemsAscendFrom 0) (sym items) (rises_on 0 now (item.Still now) (put_items old.log) (let z : 0 ≤ now = omega arith in z) r.rises (until_later old.stamp now (put_items old.log) le r.until) refl);
+    until = subst (λ (n : ℕ). AllUntil n (put_items new.log)) (sym (stamp ∙ s)) (subst (AllUntil now) (sym items) (until_on now (item.Still now) (put_items old.log) (until_later old.stamp now (put_items old.log) le r.until) refl));
+    taken = subst (λ (ks : List Kept). AllTaken (length ks) new.stamp (logged new)) (sym (hall ∙ h)) (subst (AllTaken (length old.hall) new.stamp) (sym same)
+        (subst (λ (n : ℕ). AllTaken (length old.hall) n (logged old)) (sym (stamp ∙ s)) (taken_later (length old.hall) old.stamp now (logged old) le r.taken)));
+  };
+  halls = ap length (hall ∙ h);
+  log = subst (λ (f : FeedIn LogItem). SameIn f new.log) l ring;
+}
+  where
+    items : put_items new.log ≡ put_items old.log ++ item.Still now ∷ []
+    items = put ∙ ap (λ (f : FeedIn LogItem). put_items f ++ item.Still now ∷ []) l
+
+    same : logged new ≡ logged old
+    same = ap events_in items ∙ events_still (put_items old.log) now
+
 -- the hall's next request waits
 pub keeps_asked : (rings : Rings) (at : ℕ) (line : Line) (request : Option Request) (old new : Book) → at < length old.hall → line.awaited ≡ None → Requested (at + 1) old.hall request new.hall → new.log ≡ old.log → new.stamp ≡ old.stamp →
     Keeps rings rings at line old (record line { awaited = request }) new
 keeps_asked rings at line request old new lt free req log stamp = record {
-  here = λ keeper script is. asked_line rings keeper script at line request old new lt free req (ap put_items log) is;
+  here = λ keeper script is. asked_line rings keeper script at line request old new lt free req (ap ring_log log) is;
   others = λ us keeper script i other differs is. (
     is.0,
     ap (λ (ks : List Kept). slice_get ks i) h.4 ∙ set_there at i old.hall h.1 differs ∙ is.1,
-    subst (λ (es : List HallEvent). IsInLine us keeper script other is.0 (own (i + 1) es)) (sym (ap put_items log)) is.2,
+    subst (λ (es : List HallEvent). IsInLine us keeper script other is.0 (own (i + 1) es)) (sym (ap ring_log log)) is.2,
   );
   book = λ r. record {
-    ascends = subst (AscendsFrom 0) (sym (ap put_items log)) r.ascends;
-    taken = subst (λ (n : ℕ). AllTaken n new.stamp (logged new)) (sym size) (subst (λ (n : ℕ). AllTaken (length old.hall) n (logged new)) (sym stamp) (subst (AllTaken (length old.hall) old.stamp) (sym (ap put_items log)) r.taken));
+    rises = subst (ItemsAscendFrom 0) (sym (ap put_items log)) r.rises;
+    until = subst (λ (n : ℕ). AllUntil n (put_items new.log)) (sym stamp) (subst (AllUntil old.stamp) (sym (ap put_items log)) r.until);
+    taken = subst (λ (n : ℕ). AllTaken n new.stamp (logged new)) (sym size) (subst (λ (n : ℕ). AllTaken (length old.hall) n (logged new)) (sym stamp) (subst (AllTaken (length old.hall) old.stamp) (sym (ap ring_log log)) r.taken));
   };
   halls = size;
   log = subst (SameIn old.log) (sym log) (same_ring old.log);
@@ -413,7 +460,7 @@ pub none_over : AllOver []
 none_over at l got = absurd (nothing_there l got)
 
 pub leaves_all : (book : Book) → Leaves book book
-leaves_all book = leaves_same book book (record { hall = refl; ring = same_ring book.log; log = refl; stamp = refl })
+leaves_all book = leaves_same book book (record { hall = refl; ring = same_ring book.log; items = refl; stamp = refl })
 
 -- what is known to have been told may be more than before
 pub keeps_more : (rings : Rings) (us : List Telling) (at : ℕ) (line : Line) (book : Book) → IsWithin rings.told us → Keeps rings (record rings { told = us }) at line book line book

@@ -6,11 +6,19 @@ use Rattle.child_events.specs.declared.event.HallEvent.TheVariants as hall
 use Rattle.dialogue_sched.specs.Refusal.{refusal_of}
 use Rattle.dialogue_sched.specs.Took.{AllTook}
 use Rattle.feed_rings.specs.Ends.{put_items, room, SameIn}
+use Rattle.feed_rings.specs.declared.feed.FeedIn.{FeedIn}
 use Rattle.child_desk.specs.declared.book.Book.{Book}
+use Rattle.child_keeper.specs.declared.log_item.LogItem.{LogItem}
+use Rattle.child_keeper.specs.declared.log_item.LogItem.TheVariants as item
+use Rattle.child_keeper.specs.Record.{moment_in, moment_at, events_in, ItemsAscendFrom}
 
--- the record: the events that were put into its ring, in order
+-- the events that were put into a record's ring, in order
+abbrev pub ring_log : FeedIn LogItem → List HallEvent
+ring_log ring = events_in (put_items ring)
+
+-- the record
 abbrev pub logged : Book → List HallEvent
-logged book = put_items book.log
+logged book = ring_log book.log
 
 -- there is room for an entry
 abbrev pub HasRoom : Book → Type 0
@@ -20,34 +28,26 @@ HasRoom book = 0 < room book.log
 pub record Looks (old new : Book) : Type 0 where
   pub hall : new.hall ≡ old.hall
   pub ring : SameIn old.log new.log
-  pub log : logged new ≡ logged old
+  pub items : put_items new.log ≡ put_items old.log
   pub stamp : new.stamp ≡ old.stamp
-
-abbrev pub moment_in : HallEvent → ℕ
-moment_in (hall.Child s c m x) = m
-moment_in (hall.Tick m) = m
-
--- no moment is below the one before it, and the first is not below this one
-abbrev pub AscendsFrom : ℕ → List HallEvent → Type 0
-AscendsFrom least [] = Unit {0}
-AscendsFrom least (e ∷ es) = (least ≤ moment_in e) × AscendsFrom (moment_in e) es
-
--- moments don't go back
-abbrev pub Ascends : List HallEvent → Type 0
-Ascends es = AscendsFrom 0 es
 
 -- a hall of so many scripts takes each of these events, and none is later than this moment
 abbrev pub AllTaken : ℕ → ℕ → List HallEvent → Type 0
 AllTaken scripts last es = AllByRecursion (λ e. (refusal_of scripts e ≡ None) × (moment_in e ≤ last)) es
 
+-- none is later than this one
+abbrev pub AllUntil : ℕ → List LogItem → Type 0
+AllUntil last xs = AllByRecursion (λ x. moment_at x ≤ last) xs
+
 -- a record whose moments don't go back, up to the book's stamp, of events that its hall takes
 pub record IsRecord (book : Book) : Type 0 where
-  pub ascends : Ascends (logged book)
+  pub rises : ItemsAscendFrom 0 (put_items book.log)
+  pub until : AllUntil book.stamp (put_items book.log)
   pub taken : AllTaken (length book.hall) book.stamp (logged book)
 
 -- the hall took the event and the record has it, or the hall refuses it and nothing changed
 abbrev pub Enters : HallEvent → Bool → Book → Book → Type 0
-Enters e true old new = (refusal_of (length old.hall) e ≡ None) × AllTook 1 (e ∷ []) old.hall new.hall × (logged new ≡ logged old ++ e ∷ []) × (new.stamp ≡ old.stamp) × SameIn old.log new.log
+Enters e true old new = (refusal_of (length old.hall) e ≡ None) × AllTook 1 (e ∷ []) old.hall new.hall × (logged new ≡ logged old ++ e ∷ []) × (new.stamp ≡ old.stamp) × SameIn old.log new.log × (put_items new.log ≡ put_items old.log ++ item.Event e ∷ [])
 Enters e false old new = (new ≡ old) × (refusal_of (length old.hall) e ≢ None)
 
 -- the moment is behind another, where there is one

@@ -15,7 +15,7 @@ use crate::entering::enter_taken;
 use crate::hearing::hear_children;
 use crate::line::{Line, ask_next, enter_answer, enter_end};
 use child_events::HallEvent;
-use child_keeper::Keeper;
+use child_keeper::{Keeper, LogItem};
 use std::alloc::{AllocError, Global};
 
 /// The last moment.
@@ -54,6 +54,20 @@ pub(crate) fn tick(book: &mut Book, now: u64)
         HallEvent::Tick { moment: now },
         HallEvent::Tick { moment: now },
     );
+}
+
+/// Puts into the record's ring, where it has room, that no event of an earlier moment comes behind. What comes next has that stamp.
+pub(crate) fn still(book: &mut Book, now: u64)
+    ensures kept { Leaves book.old book.new }
+    ensures log { logged book.new ≡ logged book.old }
+{
+    if !book.has_room() || !goes_on(book.stamp, now) {
+        return;
+    }
+    set_stamp(book, now);
+    let Ok(()) = book.log.put(LogItem::Still(now)) else {
+        unreachable!()
+    };
 }
 
 /// Takes the next answer from a script's hand, where the record has room for it, and enters it where it is the one that is awaited. True where there

@@ -2,7 +2,7 @@
 
 ghost use Rattle.std.specs.Prelude.{◌≤◌};
 
-use child_events::HallEvent;
+use child_keeper::LogItem;
 use dialogue_sched::Hall;
 use feed_rings::FeedIn;
 
@@ -10,7 +10,7 @@ use feed_rings::FeedIn;
 #[derive(Drop)]
 pub struct Book {
     pub hall: Hall,
-    pub log: FeedIn<HallEvent>,
+    pub log: FeedIn<LogItem>,
     /// The moment of what comes next.
     pub stamp: u64,
     pub ghost within: { stamp ≤ 9000000000000000 },

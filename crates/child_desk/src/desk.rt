@@ -9,13 +9,13 @@ ghost use Rattle.child_desk.specs.Line.{Leaves, KeepsAll, HearsNoHand, IsEndOf, 
 ghost use Rattle.child_desk.specs.Heard.{HearsAll, Settles, FinishedIn, TakenIn};
 ghost use Rattle.child_desk.specs.Turn.{Turns, HearsHandIn, HasAskedIn};
 
-use crate::attending::{attend_all, tick};
+use crate::attending::{attend_all, still, tick};
 use crate::book::Book;
 use crate::ends::Ends;
 use crate::hearing::{has_come_to, settle_child};
 use crate::line::Line;
 use child_events::HallEvent;
-use child_keeper::{Item, Keeper};
+use child_keeper::{Item, Keeper, LogItem};
 use dialogue_sched::Reports;
 use feed_rings::{Bell, FeedIn, Finished};
 use std::alloc::{AllocError, Global};
@@ -34,7 +34,7 @@ pub struct Desk<K: Keeper> {
 #[derive(Drop)]
 pub struct Outcome {
     pub reports: Reports,
-    pub log: FeedIn<HallEvent>,
+    pub log: FeedIn<LogItem>,
 }
 
 impl<K: Keeper> Desk<K> {
@@ -74,6 +74,16 @@ impl<K: Keeper> Desk<K> {
     {
         tick(&mut self.book, now);
         attend_all(self.alloc, &mut self.book, &mut self.lines, &mut self.ends)
+    }
+
+    /// Puts into the record's ring, where it has room, that no event of an earlier moment comes behind. No script's time is up at that moment.
+    pub fn still(&mut self, now: u64)
+        ensures lines { self.new.lines.items ≡ self.old.lines.items }
+        ensures ends { self.new.ends.items ≡ self.old.ends.items }
+        ensures book { Leaves self.old.book self.new.book }
+        ensures log { logged self.new.book ≡ logged self.old.book }
+    {
+        still(&mut self.book, now);
     }
 
     /// Whether something seems to have come for some script.

@@ -7,13 +7,14 @@ ghost use Rattle.child_desk.specs.Book.{Enters, HasRoom, IsRecord, Looks, logged
 
 use crate::book::Book;
 use child_events::HallEvent;
+use child_keeper::LogItem;
 use dialogue_sched::Hall;
 use feed_rings::{Bell, FeedIn, await_room};
 use std::sync::Wait;
 
 impl Book {
     /// A hall to which nothing has happened, and the ring of its record.
-    pub fn new(hall: Hall, log: FeedIn<HallEvent>) -> Book
+    pub fn new(hall: Hall, log: FeedIn<LogItem>) -> Book
         requires { put_items log ≡ [] }
         ensures hall { result.hall ≡ hall }
         ensures log { result.log ≡ log }
@@ -52,7 +53,7 @@ pub fn enter(book: &mut Book, event: HallEvent, copy: HallEvent) -> bool
     if book.hall.step(copy).is_err() {
         return false;
     }
-    let Ok(()) = book.log.put(event) else {
+    let Ok(()) = book.log.put(LogItem::Event(event)) else {
         unreachable!()
     };
     true
@@ -68,7 +69,7 @@ pub fn enter_taken(book: &mut Book, entry: HallEvent, copy: HallEvent)
     let Ok(()) = book.hall.step(copy) else {
         unreachable!()
     };
-    let Ok(()) = book.log.put(entry) else {
+    let Ok(()) = book.log.put(LogItem::Event(entry)) else {
         unreachable!()
     };
 }

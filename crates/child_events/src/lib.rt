@@ -30,4 +30,4 @@ pub use next::{pick, pick_law};
 pub use queue::Queue;
 pub use reading::{log_laws, read_log};
 pub use world::{later, world_law};
-pub use writing::{cause_name, fits, write_log};
+pub use writing::{cause_name, fits, push_heading, push_lines, push_total, write_log};

@@ -2,7 +2,7 @@
 
 ghost use Rattle.std.specs.Bool.{Decides};
 ghost use Rattle.std.specs.Prelude.{◌≡◌, ◌<◌, ◌++◌, ◌∷◌, [], IfOk, OnOk};
-ghost use Rattle.std.specs.List.{flat_map};
+ghost use Rattle.std.specs.List.{flat_map, AllByRecursion};
 ghost use Rattle.std.specs.Fmt.{decimal};
 ghost use Rattle.hex.specs.Hex.{IsBytes};
 ghost use Rattle.child_events.specs.Log.{cause_text, fits as fits_meant, piece_len as piece_len_of, hex_text, kind_text, held_text, line_of, heading, lines_text, total_line, AllFit, LogText2, HoldsBytes, IsOfBytes};
@@ -114,15 +114,6 @@ fn push_line(alloc: Global, text: &mut Text, event: &HallEvent) -> Result<(), Al
     end_line(text)
 }
 
-/// Puts the line behind the text that says how many events a log has, with its newline.
-fn push_total(alloc: Global, text: &mut Text, count: usize) -> Result<(), AllocError>
-    ensures { OnOk result (text.new ≡ text.old ++ total_line count) }
-{
-    text.extend(b"total")?;
-    push_number(alloc, text, count as u64)?;
-    end_line(text)
-}
-
 /// Says that a slice is of bytes. It does nothing when it runs, as the next two.
 fn tell_slice_bytes(bytes: &[u8])
     ensures { IsBytes bytes.now }
@@ -194,17 +185,42 @@ pub fn fits(events: &[HallEvent]) -> bool
     events.iter().all(|event| fits_alone(event))
 }
 
+/// Puts the first line of a log in version 2 behind the text.
+pub fn push_heading(text: &mut Text) -> Result<(), AllocError>
+    ensures { OnOk result (text.new ≡ text.old ++ heading) }
+{
+    text.extend(b"exprun-log 2\n")
+}
+
+/// Puts a line for each event behind the text.
+pub fn push_lines(alloc: Global, text: &mut Text, events: &[HallEvent]) -> Result<(), AllocError>
+    ensures text { OnOk result (text.new ≡ text.old ++ lines_text events.now) }
+    ensures bytes { OnOk result (AllByRecursion IsOfBytes events.now) }
+{
+    'events: for event in events {
+        tell_event_bytes(event);
+        push_line(alloc, text, event)?;
+    }
+    Ok(())
+}
+
+/// Puts the last line of a log in version 2 behind the text, of which so many events stand before it.
+pub fn push_total(alloc: Global, text: &mut Text, count: u64) -> Result<(), AllocError>
+    ensures { OnOk result (text.new ≡ text.old ++ total_line count) }
+{
+    text.extend(b"total")?;
+    push_number(alloc, text, count)?;
+    end_line(text)
+}
+
 /// The log of a list of events that fit, in version 2.
 pub fn write_log(alloc: Global, events: &[HallEvent]) -> Result<Text, AllocError>
     requires { AllFit events.now }
     ensures { IfOk result (λ t. LogText2 t events.now) }
 {
     let mut text = Text::new(alloc);
-    text.extend(b"exprun-log 2\n")?;
-    'events: for event in events {
-        tell_event_bytes(event);
-        push_line(alloc, &mut text, event)?;
-    }
-    push_total(alloc, &mut text, events.len())?;
+    push_heading(&mut text)?;
+    push_lines(alloc, &mut text, events)?;
+    push_total(alloc, &mut text, events.len() as u64)?;
     Ok(text)
 }

@@ -15,11 +15,11 @@ use Rattle.dialogue_sched.specs.declared.refusal.HallRefusal.TheVariants.{NoSuch
 use Rattle.dialogue_sched.specs.Refusal.{refusal_of, refused_or, first_refusal, piece_len as taken_len}
 use Rattle.child_desk.specs.Book.{AllTaken}
 use Rattle.child_desk.specs.Line.{Keeping}
-use Rattle.feed_rings.specs.Ends.{put_items}
+use Rattle.child_desk.specs.Book.{ring_log}
 use Rattle.child_serve.specs.declared.served.Part.{Part}
-use Rattle.child_serve.specs.Joined.{script_of, numbered, AllFits, IsJoined}
+use Rattle.run_records.specs.Joined.{script_of, numbered, AllFits, IsJoined}
 use Rattle.child_serve.specs.Served.{IsPart, AreParts, records_of}
-use Rattle.child_serve.proofs.Merging.{EachFrom, joined_each}
+use Rattle.run_records.proofs.Merging.{EachFrom, joined_each}
 use Rattle.child_serve.proofs.Wholes.{there, map_length}
 
 lt_said : (a b : ℕ) → nat_lt a b ≡ true → a < b
@@ -119,8 +119,8 @@ module _ (told : ℕ → ℕ → Request → Answer → Type 0) (gives : ℕ →
         (taken_as (length part.few) (length scripts) (script_of n w number) number c m x l (let low : 1 ≤ (number - 1) * n + w + 1 = omega arith in low) (within number l.script_low l.script_high), numbered_taken es a.1)
     numbered_taken (hall.Tick m ∷ es) a = (a.0, numbered_taken es a.1)
 
-    part_taken : AllAccepted (length scripts) (map (numbered n w) (put_items s.log))
-    part_taken = numbered_taken (put_items s.log) (none_accepted (length part.few) 0 (put_items s.log) part.taken)
+    part_taken : AllAccepted (length scripts) (map (numbered n w) (ring_log s.log))
+    part_taken = numbered_taken (ring_log s.log) (none_accepted (length part.few) 0 (ring_log s.log) part.taken)
 
   parts_taken : (n w : ℕ) (parts : List Part) → ((i : ℕ) (s : Part) → slice_get parts i ≡ Some s → IsPart told gives n (w + i) keepers scripts s) →
       EachFrom (λ e. refusal_of (length scripts) e ≡ None) n w (records_of parts)
@@ -135,5 +135,5 @@ module _ (told : ℕ → ℕ → Request → Answer → Type 0) (gives : ℕ →
   whole_taken parts es fits joined are =
       accepted_none (length scripts) 0 es
       (joined_each (records_of parts) es fits joined (λ e. refusal_of (length scripts) e ≡ None)
-      (subst (λ (n : ℕ). EachFrom (λ e. refusal_of (length scripts) e ≡ None) n 0 (records_of parts)) (sym (map_length (λ (s : Part). put_items s.log) parts))
+      (subst (λ (n : ℕ). EachFrom (λ e. refusal_of (length scripts) e ≡ None) n 0 (records_of parts)) (sym (map_length (λ (s : Part). ring_log s.log) parts))
       (parts_taken (length parts) 0 parts (λ i s got. subst (λ (v : ℕ). IsPart told gives (length parts) v keepers scripts s) (let e : i ≡ 0 + i = omega arith in e) (are i s got)))))

@@ -36,7 +36,7 @@ ended_means s r stopped n es running (inr (inl spent)) = inr spent
 ended_means s r stopped n es running (inr (inr given)) = absurd (let h : ◌≡◌ {A = Bool} true false = sym given.0 ∙ running in cc)
 
 pub serving_is_run : (told : ℕ → ℕ → Request → Answer → Type 0) (gives : ℕ → ℕ → Option (List ℕ) → Type 0) → ServingIsRun told gives
-serving_is_run told gives keeps workers keepers scripts es s size serving running = (serving.opens, serving.whole.taken, all_mean 1 es scripts s.reports serving.whole.served.count each)
+serving_is_run told gives workers keepers scripts es s size serving running = (serving.opens, serving.whole.taken, all_mean 1 es scripts s.reports serving.whole.served.count each)
   where
     each : (i : ℕ) (script : Script) (r : Report) → slice_get scripts i ≡ Some script → slice_get s.reports i ≡ Some r → MeansOwn (1 + i) es script r
     each i script r got made =
@@ -46,6 +46,6 @@ serving_is_run told gives keeps workers keepers scripts es s size serving runnin
         (ended_means script r s.stopped (i + 1) es running (serving.whole.served.each i keeper.0 script r keeper.1 got made).ended)
 
 pub servings_isolated : (told told' : ℕ → ℕ → Request → Answer → Type 0) (gives gives' : ℕ → ℕ → Option (List ℕ) → Type 0) → ServingsIsolated told told' gives gives'
-servings_isolated told told' gives gives' keeps keeps' workers workers' i j keepers keepers' scripts scripts' es es' s s' script r r' size size' serving running serving' running' got got' same made made' =
+servings_isolated told told' gives gives' workers workers' i j keepers keepers' scripts scripts' es es' s s' script r r' size size' serving running serving' running' got got' same made made' =
     isolated i j scripts scripts' es es' s.reports s'.reports script r r'
-    (serving_is_run told gives keeps workers keepers scripts es s size serving running) (serving_is_run told' gives' keeps' workers' keepers' scripts' es' s' size' serving' running') got got' same made made'
+    (serving_is_run told gives workers keepers scripts es s size serving running) (serving_is_run told' gives' workers' keepers' scripts' es' s' size' serving' running') got got' same made made'

@@ -10,7 +10,7 @@ use Rattle.dialogue_sched.specs.declared.hall.HallFault.TheVariants as halls
 use Rattle.dialogue_sched.specs.Hall.{opening_fault, too_long}
 use Rattle.child_serve.specs.declared.worker.Team.{Team}
 use Rattle.child_serve.specs.Dealt.{IsDealt, AllDealt}
-use Rattle.child_serve.specs.Joined.{script_of}
+use Rattle.run_records.specs.Joined.{script_of}
 use Rattle.child_serve.specs.Whole.{keeping_of}
 use Rattle.child_serve.specs.Teams.{AreTeams, AreDealt, IsTeam, AllTeams}
 use Rattle.child_serve.proofs.Deals.{there, snoc_count}

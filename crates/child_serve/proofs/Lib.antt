@@ -1,9 +1,6 @@
 pub mod Deals
 pub mod Formed
-pub mod Ticking
 pub mod Listing
-pub mod Merging
-pub mod Sorting
 pub mod Turning
 pub mod Rounding
 pub mod Giving

@@ -2,7 +2,7 @@
 use Rattle.std.proofs.Common.{◌≡◌, ◌⊎◌, inl, inr, ℕ, zero, suc, ◌+◌, ◌<◌, List, refl, sym, ap, subst, arith}
 use Rattle.std.specs.Prelude.{Contains}
 use Rattle.child_serve.specs.declared.served.Unsettled.{Unsettled}
-use Rattle.child_serve.specs.Joined.{script_of}
+use Rattle.run_records.specs.Joined.{script_of}
 use Rattle.child_serve.specs.Opened.{KeepsListed, AreListed, AllListed}
 
 -- the first so many children of a script

@@ -20,7 +20,7 @@ use Rattle.child_hands.specs.Pumped.{IsPumpList}
 use Rattle.child_desk.specs.declared.ends.Ends.{Ends}
 use Rattle.child_desk.specs.Told.{put_of, waiting, asked_of_hand}
 use Rattle.child_desk.proofs.Places.{nothing_there, one_there}
-use Rattle.child_serve.specs.Joined.{script_of}
+use Rattle.run_records.specs.Joined.{script_of}
 use Rattle.child_serve.specs.Given.{IsPut}
 use Rattle.child_serve.specs.Opened.{AreUnused, ArePaired, AreUntaken, AreRings, IsOpened, OpenedTo, IsLeftAt, IsAllOf, IsFinishOf}
 

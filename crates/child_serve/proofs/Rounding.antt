@@ -6,8 +6,9 @@ use Rattle.child_desk.specs.declared.ends.Ends.{Ends}
 use Rattle.child_desk.specs.declared.book.Book.{Book}
 use Rattle.child_desk.specs.declared.line.Line.{Line}
 use Rattle.child_desk.specs.Book.{Looks, logged}
+use Rattle.child_keeper.specs.Record.{events_in}
 use Rattle.child_desk.specs.Heard.{HearsAll, recorded}
-use Rattle.child_desk.specs.Line.{HearsNoHand, KeepsAll}
+use Rattle.child_desk.specs.Line.{HearsNoHand, KeepsAll, Leaves}
 use Rattle.child_desk.proofs.Kept.{leaves_all, leaves_same, all_left, all_then, all_still}
 use Rattle.child_desk.proofs.Hears.{all_silent}
 
@@ -25,4 +26,10 @@ module _ {K O : Type 0} {g : Ghosts K O} {r : ReadGhosts O} where
 
   pub heard_waiting : (ds es : List (Ends K O g r)) (a b : Book) → es ≡ ds → Looks a b → HearsAll ds (logged a) es (logged b)
   heard_waiting ds es a b ends looks =
-      subst (λ (fs : List (Ends K O g r)). HearsAll ds (logged a) fs (logged b)) (sym ends) (all_silent ds (logged a) (logged b) (λ s c. ap (recorded s c) looks.log))
+      subst (λ (fs : List (Ends K O g r)). HearsAll ds (logged a) fs (logged b)) (sym ends) (all_silent ds (logged a) (logged b) (λ s c. ap (λ xs. recorded s c (events_in xs)) looks.items))
+
+  -- a desk said that nothing earlier comes, and rested
+  pub stood_by : (xs ys zs : List Line) (ds es fs : List (Ends K O g r)) (a b c : Book) → ys ≡ xs → es ≡ ds → Leaves a b → zs ≡ ys → HearsNoHand es fs → c ≡ b → KeepsAll xs ds a zs fs c
+  stood_by xs ys zs ds es fs a b c lines ends leaves more hands book =
+      kept_same xs ys zs ds es fs a b c
+      (subst (λ (ls : List Line). KeepsAll xs ds a ls es b) (sym lines) (subst (λ (ss : List (Ends K O g r)). KeepsAll xs ds a xs ss b) (sym ends) (all_left xs ds a b leaves))) more hands book

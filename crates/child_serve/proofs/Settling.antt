@@ -25,7 +25,7 @@ use Rattle.child_desk.specs.Heard.{recorded, heard, HearsMore, HearsOwn, HearsAl
 use Rattle.child_desk.proofs.Places.{one_there}
 use Rattle.child_desk.proofs.Hears.{takes_none, hears_at_none, hears_of, more_none}
 use Rattle.child_serve.specs.declared.served.Unsettled.{Unsettled}
-use Rattle.child_serve.specs.Joined.{script_of}
+use Rattle.run_records.specs.Joined.{script_of}
 use Rattle.child_serve.specs.Given.{IsGiven, IsPut}
 use Rattle.child_serve.specs.Opened.{AreOpened, IsOpened, AreLinked, IsLeftAt, AreLeftIn, IsTakenIn, AreTakenIn, IsClosedIn, AreClosedIn, SameElsewhere, IsSettled, AreSettled, KeepsListed}
 use Rattle.child_serve.proofs.Giving.{given_of}

@@ -20,12 +20,12 @@ use Rattle.dialogue_sched.specs.declared.script.Script.{Script}
 use Rattle.dialogue_sched.specs.Ticks.{Rises, WithTicks, none, kept, tick}
 use Rattle.dialogue_sched.proofs.Ticking.{ticks_change_nothing, ticks_only_add}
 use Rattle.child_events.specs.declared.event.HallEvent.{HallEvent}
-use Rattle.feed_rings.specs.Ends.{put_items}
+use Rattle.child_desk.specs.Book.{ring_log}
 use Rattle.child_serve.specs.declared.served.Part.{Part}
 use Rattle.child_serve.specs.declared.served.Served.{Served}
 use Rattle.child_serve.specs.declared.served.Unsettled.{Unsettled}
-use Rattle.child_serve.specs.Joined.{script_of, EachSees}
-use Rattle.child_desk.specs.Book.{Ascends}
+use Rattle.run_records.specs.Joined.{script_of, EachSees}
+use Rattle.child_keeper.specs.Record.{Ascends}
 use Rattle.child_serve.specs.Turns.{in_turn}
 use Rattle.child_hands.specs.Handed.{starts}
 use Rattle.child_serve.specs.Given.{IsGiven, started_by}
@@ -34,8 +34,8 @@ use Rattle.child_desk.specs.Told.{Reply, answer_in, answers_in, reply_in, replie
 use Rattle.child_desk.proofs.Places.{nothing_there, one_there}
 use Rattle.child_desk.proofs.Telling.{of_more}
 use Rattle.child_desk.specs.Line.{Keeping}
-use Rattle.child_serve.specs.Served.{Tells, IsServed, AreServed, IsPart, AreParts, records_of, is_any, any_stopped}
-use Rattle.child_serve.proofs.Merging.{ascends_own}
+use Rattle.child_serve.specs.Served.{Tells, IsServed, AreServed, IsPart, AreParts, records_of, is_any}
+use Rattle.run_records.proofs.Merging.{ascends_own}
 use Rattle.child_serve.proofs.Turning.{Enough, turn_length, turn_at}
 
 -- ticks bring no answer and no output
@@ -164,7 +164,7 @@ module _ (told : ℕ → ℕ → Request → Answer → Type 0) (gives : ℕ →
     (up : Ascends es) (sees : EachSees (records_of parts) es)
     (reports : s.reports ≡ in_turn (length scripts) (map (λ (p : Part). p.served.reports) parts))
     (unsettled : s.unsettled.items ≡ flat_map (λ (p : Part). p.served.unsettled.items) parts)
-    (stopped : s.stopped ≡ any_stopped parts) where
+    (stopped : s.stopped ≡ is_any (map (λ (p : Part). p.served.stopped) parts)) where
   abbrev n : ℕ
   n = length parts
 
@@ -186,10 +186,10 @@ module _ (told : ℕ → ℕ → Request → Answer → Type 0) (gives : ℕ →
       IsServed told gives (i + 1) keeper script report s.unsettled.items s.stopped (own (i + 1) es)
   of_one i keeper script report got_keeper got_script got_report =
       subst (λ (k : ℕ). IsServed told gives k keeper script report s.unsettled.items s.stopped (own k es)) number
-      (served_on told gives (script_of n (i % n) ((i / n) + 1)) keeper script report p.0.served.unsettled.items s.unsettled.items p.0.served.stopped s.stopped (own ((i / n) + 1) (put_items p.0.log)) (own (script_of n (i % n) ((i / n) + 1)) es)
+      (served_on told gives (script_of n (i % n) ((i / n) + 1)) keeper script report p.0.served.unsettled.items s.unsettled.items p.0.served.stopped s.stopped (own ((i / n) + 1) (ring_log p.0.log)) (own (script_of n (i % n) ((i / n) + 1)) es)
       (ascends_own (script_of n (i % n) ((i / n) + 1)) es up)
-      (subst (λ (m : ℕ). WithTicks (own ((i / n) + 1) (put_items p.0.log)) (own (script_of m (i % n) ((i / n) + 1)) es)) (map_length (λ (x : Part). put_items x.log) parts)
-      (sees (i % n) ((i / n) + 1) (put_items p.0.log) (mapped (λ (x : Part). put_items x.log) parts (i % n) p.0 p.1) (omega arith)))
+      (subst (λ (m : ℕ). WithTicks (own ((i / n) + 1) (ring_log p.0.log)) (own (script_of m (i % n) ((i / n) + 1)) es)) (map_length (λ (x : Part). ring_log x.log) parts)
+      (sees (i % n) ((i / n) + 1) (ring_log p.0.log) (mapped (λ (x : Part). ring_log x.log) parts (i % n) p.0 p.1) (omega arith)))
       (λ u h. subst (λ (l : List Unsettled). Contains l u) (sym unsettled) (among_all (λ (x : Part). x.served.unsettled.items) parts (i % n) p.0 u p.1 h))
       (λ h. stopped ∙ one_stopped (map (λ (x : Part). x.served.stopped) parts) (i % n) p.0.served.stopped (mapped (λ (x : Part). x.served.stopped) parts (i % n) p.0 p.1) h)
       (mine.served.each (i / n) keeper script report

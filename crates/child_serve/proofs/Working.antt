@@ -24,7 +24,11 @@ use Rattle.dialogue_sched.specs.Hall.{Begins, AllBegin}
 use Rattle.dialogue_sched.specs.Ticks.{WithTicks, none as no_more, kept as kept_one}
 use Rattle.child_desk.specs.declared.book.Book.{Book}
 use Rattle.child_desk.specs.declared.line.Line.{Line}
-use Rattle.child_desk.specs.Book.{Ascends, AllTaken, IsRecord, logged}
+use Rattle.child_desk.specs.Book.{AllTaken, AllUntil, IsRecord, logged, ring_log}
+use Rattle.child_keeper.specs.Record.{Ascends, ItemsAscendFrom}
+use Rattle.run_records.specs.Merged.{AllNumbered}
+use Rattle.run_records.proofs.Handing.{items_events}
+use Rattle.child_desk.proofs.Kept.{until_later}
 use Rattle.child_desk.specs.Heard.{recorded}
 use Rattle.std.specs.declared.io.traits.Read.{Ghosts as ReadGhosts}
 use Rattle.child_keeper.specs.declared.keeper.Keeper.{Ghosts}
@@ -37,7 +41,7 @@ use Rattle.child_desk.proofs.Places.{one_there}
 use Rattle.child_desk.proofs.Lining.{first_line}
 use Rattle.child_serve.specs.declared.served.Part.{Part}
 use Rattle.child_serve.specs.declared.worker.Team.{Team}
-use Rattle.child_serve.specs.Joined.{script_of, numbered}
+use Rattle.run_records.specs.Joined.{script_of, numbered}
 use Rattle.child_serve.specs.Given.{IsGiven}
 use Rattle.child_serve.specs.Served.{Tells, IsServed}
 use Rattle.child_serve.specs.Whole.{keeping_of}
@@ -91,6 +95,14 @@ all_among n w scripts last (hall.Child s c m x ∷ es) numbers t =
     (child_fits scripts s c m (script_of n w s) x l (let low : 1 ≤ (s - 1) * n + w + 1 = omega arith in low) (numbers s l.script_low l.script_high), all_among n w scripts last es numbers t.1)
 all_among n w scripts last (hall.Tick m ∷ es) numbers t = (tick_fits scripts m t.0.0, all_among n w scripts last es numbers t.1)
 
+all_numbered : (n w scripts last : ℕ) (es : List HallEvent) → ((number : ℕ) → 1 ≤ number → number ≤ scripts → script_of n w number ≤ 64) → AllTaken scripts last es → AllNumbered n w es
+all_numbered n w scripts last [] numbers t = tt
+all_numbered n w scripts last (hall.Child s c m x ∷ es) numbers t =
+    let l = limits scripts s c m x t.0.0 in
+    let few = numbers s l.script_low l.script_high in
+    (omega (arith, few), all_numbered n w scripts last es numbers t.1)
+all_numbered n w scripts last (hall.Tick m ∷ es) numbers t = (tt, all_numbered n w scripts last es numbers t.1)
+
 -- scripts to which nothing has happened
 
 begun_at : (scripts : List Script) (ks : List Kept) (i : ℕ) (script : Script) → AllBegin scripts ks → slice_get scripts i ≡ Some script → (k : Kept) × (slice_get ks i ≡ Some k) × Begins script k
@@ -132,7 +144,7 @@ module _ {K C O : Type 0} {g : Ghosts K O} {r : ReadGhosts O} (n w : ℕ) (team 
     (unheard : (i : ℕ) (keeper : K) → slice_get team.keepers.items i ≡ Some keeper → (e : Ends K O g r) × (slice_get opened i ≡ Some e) × (taken_items e.answers ≡ []) × (asked_of_hand e ≡ []))
     (kept : KeepsAll first opened begun lines between turned) (over : s.served.stopped ≡ false → AllOver lines)
     (left : KeepsAll lines between turned lines ends settled)
-    (shown : AllShown settled s.served.reports) (put : put_items s.log ≡ logged settled)
+    (shown : AllShown settled s.served.reports) (put : s.log ≡ settled.log)
     (given : (i index : ℕ) (keeper : K) (e : Ends K O g r) (xs : List Answer) (qs : List Request) → slice_get team.keepers.items i ≡ Some keeper → slice_get ends i ≡ Some e → AreAmong (heard_of_hand e.answers) (g.named keeper) (g.made keeper) xs qs →
     index < 16 → (Contains s.served.unsettled.items (record { script = script_of n w (i + 1); child = index + 1 }) → ⊥) →
     IsGiven g.told g.gives (g.named keeper) (g.made keeper) (index + 1) xs qs (recorded (i + 1) (index + 1) (logged settled))) where
@@ -150,9 +162,9 @@ module _ {K C O : Type 0} {g : Ghosts K O} {r : ReadGhosts O} (n w : ℕ) (team 
       by_end (inl waiting) (inl running) = absurd (ends (over running i line got) waiting)
 
   of_one : (i : ℕ) (keeper : Keeping) (script : Script) (report : Report) → slice_get (map (keeping_of g.named g.made) team.keepers.items) i ≡ Some keeper → slice_get team.scripts.items i ≡ Some script → slice_get s.served.reports i ≡ Some report →
-      IsServed g.told g.gives (script_of n w (i + 1)) keeper script report s.served.unsettled.items s.served.stopped (own (i + 1) (put_items s.log))
+      IsServed g.told g.gives (script_of n w (i + 1)) keeper script report s.served.unsettled.items s.served.stopped (own (i + 1) (ring_log s.log))
   of_one i keeper script report got_keeper got_script got_report =
-      subst (λ (es : List HallEvent). IsServed g.told g.gives (script_of n w (i + 1)) keeper script report s.served.unsettled.items s.served.stopped (own (i + 1) es)) (sym put) (record {
+      subst (λ (es : List HallEvent). IsServed g.told g.gives (script_of n w (i + 1)) keeper script report s.served.unsettled.items s.served.stopped (own (i + 1) es)) (sym (ap ring_log put)) (record {
         ended = ended_by i script line.0 (own (i + 1) (logged settled)) report line.2 (shown.each i report got_report (rings_of last.0) keeper script line.0 last.2);
         answers = among_told (taken_items last.0.answers) keeper.name keeper.made (answers_in (own (i + 1) (logged settled))) asked last.2.2.answers;
         children = last.2.2.children;
@@ -201,8 +213,8 @@ module _ {K C O : Type 0} {g : Ghosts K O} {r : ReadGhosts O} (n w : ℕ) (team 
   as_many : length settled.hall ≡ length team.scripts.items
   as_many = left.halls ∙ kept.halls ∙ begun_length team.scripts.items begun.hall begin
 
-  taken : AllTaken (length team.scripts.items) settled.stamp (put_items s.log)
-  taken = subst (AllTaken (length team.scripts.items) settled.stamp) (sym put) (subst (λ (k : ℕ). AllTaken k settled.stamp (logged settled)) as_many in_record.taken)
+  taken : AllTaken (length team.scripts.items) settled.stamp (ring_log s.log)
+  taken = subst (AllTaken (length team.scripts.items) settled.stamp) (sym (ap ring_log put)) (subst (λ (k : ℕ). AllTaken k settled.stamp (logged settled)) as_many in_record.taken)
 
   pub is_work : IsWork g.told g.gives g.named g.made n w team s
   is_work = record {
@@ -211,9 +223,14 @@ module _ {K C O : Type 0} {g : Ghosts K O} {r : ReadGhosts O} (n w : ℕ) (team 
       each = of_one;
     };
     fits = record {
-      ascends = subst Ascends (sym put) in_record.ascends;
-      here = all_fit (length team.scripts.items) settled.stamp (put_items s.log) is.few taken;
-      among = all_among n w (length team.scripts.items) settled.stamp (put_items s.log) is.numbers taken;
+      ascends = subst Ascends (sym (ap ring_log put)) (items_events 0 (put_items settled.log) in_record.rises);
+      here = all_fit (length team.scripts.items) settled.stamp (ring_log s.log) is.few taken;
+      among = all_among n w (length team.scripts.items) settled.stamp (ring_log s.log) is.numbers taken;
     };
-    taken = accepted_none (length team.scripts.items) 0 (put_items s.log) (taken_accepted (length team.scripts.items) settled.stamp (put_items s.log) taken);
+    sound = record {
+      ascends = subst (ItemsAscendFrom 0) (sym (ap put_items put)) in_record.rises;
+      until = subst (AllUntil 9000000000000000) (sym (ap put_items put)) (until_later settled.stamp 9000000000000000 (put_items settled.log) settled.within in_record.until);
+      numbers = all_numbered n w (length team.scripts.items) settled.stamp (ring_log s.log) is.numbers taken;
+    };
+    taken = accepted_none (length team.scripts.items) 0 (ring_log s.log) (taken_accepted (length team.scripts.items) settled.stamp (ring_log s.log) taken);
   }

@@ -16,16 +16,16 @@ module _ (told : ℕ → ℕ → Request → Answer → Type 0) (gives : ℕ →
   -- The scripts that were served and not given up, run over the record of that, may give the reports that serving them gave: no entry is refused, and each report is the
   -- meaning of its script over its own part of the record, or says that the script was refused memory.
   abbrev pub ServingIsRun : Type 0
-  ServingIsRun = (keeps : Bool) (workers : ℕ) (keepers : List Keeping) (scripts : List Script) (es : List HallEvent) (s : Served) → length keepers ≡ length scripts →
-      WasServed told gives keeps workers keepers scripts es s → s.stopped ≡ false → Runs scripts es (Ok s.reports)
+  ServingIsRun = (workers : ℕ) (keepers : List Keeping) (scripts : List Script) (es : List HallEvent) (s : Served) → length keepers ≡ length scripts →
+      WasServed told gives workers keepers scripts es s → s.stopped ≡ false → Runs scripts es (Ok s.reports)
 
 module _ (told told' : ℕ → ℕ → Request → Answer → Type 0) (gives gives' : ℕ → ℕ → Option (List ℕ) → Type 0) where
   -- Two servings, neither of which was given up, that have one script, at any two places, by any workers and keepers and beside any other scripts: where its own parts of the two
   -- records are the same once their moments are raised, its reports are the same, unless it was refused memory in one of them.
   abbrev pub ServingsIsolated : Type 0
-  ServingsIsolated = (keeps keeps' : Bool) (workers workers' i j : ℕ) (keepers keepers' : List Keeping) (scripts scripts' : List Script) (es es' : List HallEvent) (s s' : Served) (script : Script) (r r' : Report) →
+  ServingsIsolated = (workers workers' i j : ℕ) (keepers keepers' : List Keeping) (scripts scripts' : List Script) (es es' : List HallEvent) (s s' : Served) (script : Script) (r r' : Report) →
       length keepers ≡ length scripts → length keepers' ≡ length scripts' →
-      WasServed told gives keeps workers keepers scripts es s → s.stopped ≡ false → WasServed told' gives' keeps' workers' keepers' scripts' es' s' → s'.stopped ≡ false →
+      WasServed told gives workers keepers scripts es s → s.stopped ≡ false → WasServed told' gives' workers' keepers' scripts' es' s' → s'.stopped ≡ false →
       slice_get scripts i ≡ Some script → slice_get scripts' j ≡ Some script → raised (own (i + 1) es) ≡ raised (own (j + 1) es') →
       slice_get s.reports i ≡ Some r → slice_get s'.reports j ≡ Some r' →
       (r ≡ r') ⊎ ((r ≡ memory_report) ⊎ (r' ≡ memory_report))

@@ -1,5 +1,4 @@
 pub mod Dealt
-pub mod Joined
 pub mod Turns
 pub mod Given
 pub mod Opened
@@ -8,4 +7,3 @@ pub mod Served
 pub mod Whole
 pub mod Teams
 pub mod Again
-pub mod Recorded

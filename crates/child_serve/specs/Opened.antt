@@ -19,7 +19,7 @@ use Rattle.child_desk.specs.Heard.{TakenIn}
 use Rattle.child_desk.specs.Told.{asked_of_hand}
 use Rattle.child_desk.specs.Line.{IsFrontIn}
 use Rattle.child_serve.specs.declared.served.Unsettled.{Unsettled}
-use Rattle.child_serve.specs.Joined.{script_of}
+use Rattle.run_records.specs.Joined.{script_of}
 use Rattle.child_serve.specs.Given.{IsPut}
 
 -- the numbers of so many scripts of a worker are at most 64

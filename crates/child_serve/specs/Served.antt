@@ -14,7 +14,8 @@ use Rattle.session.specs.Spent.{memory_report}
 use Rattle.dialogue_sched.specs.declared.script.Script.{Script}
 use Rattle.dialogue_sched.specs.Refusal.{first_refusal}
 use Rattle.dialogue_sched.specs.Ticks.{WithTicks}
-use Rattle.feed_rings.specs.Ends.{put_items}
+use Rattle.child_desk.specs.Book.{ring_log}
+use Rattle.child_serve.specs.Turns.{in_turn}
 use Rattle.child_serve.specs.declared.served.Part.{Part}
 use Rattle.child_serve.specs.declared.served.Served.{Served}
 use Rattle.child_serve.specs.declared.served.Unsettled.{Unsettled}
@@ -22,7 +23,7 @@ use Rattle.child_serve.specs.declared.served.Apart.{Apart}
 use Rattle.child_desk.specs.Line.{Keeping}
 use Rattle.child_serve.specs.Dealt.{IsDealt}
 use Rattle.child_serve.specs.Given.{IsGiven}
-use Rattle.child_serve.specs.Joined.{script_of, IsJoined}
+use Rattle.run_records.specs.Joined.{script_of, IsJoined}
 use Rattle.child_desk.specs.Heard.{said_by}
 use Rattle.child_desk.specs.Told.{answers_in, replies_in, AreTold, AreOf}
 
@@ -57,29 +58,35 @@ module _ (told : ℕ → ℕ → Request → Answer → Type 0) (gives : ℕ →
     pub kept : IsDealt n w keepers mine
     pub few : List Script
     pub dealt : IsDealt n w scripts few
-    pub served : AreServed (λ i. script_of n w (i + 1)) mine few (put_items p.log) p.served
-    pub taken : first_refusal (length few) 0 (put_items p.log) ≡ None
+    pub served : AreServed (λ i. script_of n w (i + 1)) mine few (ring_log p.log) p.served
+    pub taken : first_refusal (length few) 0 (ring_log p.log) ≡ None
 
   abbrev pub AreParts : List Keeping → List Script → List Part → Type 0
   AreParts keepers scripts parts = (w : ℕ) (p : Part) → slice_get parts w ≡ Some p → IsPart (length parts) w keepers scripts p
 
--- the record of each worker: what was put into its ring
+-- the record of each worker: the events that were put into its ring
 abbrev pub records_of : List Part → List (List HallEvent)
-records_of parts = map (λ p. put_items p.log) parts
+records_of parts = map (λ p. ring_log p.log) parts
 
 -- whether one of them was given up
 abbrev pub is_any : List Bool → Bool
 is_any [] = false
 is_any (b ∷ bs) = b || is_any bs
 
-abbrev pub any_stopped : List Part → Bool
-any_stopped parts = is_any (map (λ p. p.served.stopped) parts)
+abbrev pub any_stopped : List Served → Bool
+any_stopped parts = is_any (map (λ s. s.stopped) parts)
 
 -- what each worker has, by kind
-pub record IsApart (parts : List Part) (a : Apart) : Type 0 where
-  pub reports : a.reports.items ≡ map (λ p. p.served.reports) parts
-  pub unsettled : a.unsettled.items ≡ flat_map (λ p. p.served.unsettled.items) parts
+pub record IsApart (parts : List Served) (a : Apart) : Type 0 where
+  pub reports : a.reports.items ≡ map (λ s. s.reports) parts
+  pub unsettled : a.unsettled.items ≡ flat_map (λ s. s.unsettled.items) parts
   pub stopped : a.stopped ≡ any_stopped parts
+
+-- so many reports, one of each worker in turn, and what else each has
+pub record IsAssembled (count : ℕ) (parts : List Served) (s : Served) : Type 0 where
+  pub reports : s.reports ≡ in_turn count (map (λ p. p.reports) parts)
+  pub unsettled : s.unsettled.items ≡ flat_map (λ p. p.unsettled.items) parts
+  pub stopped : s.stopped ≡ any_stopped parts
 
 module _ (told : ℕ → ℕ → Request → Answer → Type 0) (gives : ℕ → ℕ → Option (List ℕ) → Type 0) where
   -- All scripts were served by so many workers, over a record: each as its keeper told and gave, and the record is that of all workers, with every
@@ -91,10 +98,3 @@ module _ (told : ℕ → ℕ → Request → Answer → Type 0) (gives : ℕ →
     pub joined : IsJoined records es
     pub fits : AllFit es
     pub taken : first_refusal (length scripts) 0 es ≡ None
-
-  -- What came of so many scripts, from what came of those of each worker: they were served over the record of all workers, which is what is kept, if
-  -- anything is.
-  pub record IsAssembled (count : ℕ) (parts : List Part) {R : Type 0} (records : Option R) (s : Served) : Type 0 where
-    pub es : List HallEvent
-    pub whole : (keepers : List Keeping) (scripts : List Script) → length scripts ≡ count → AreParts told gives keepers scripts parts → IsWhole (length parts) keepers scripts es s
-    pub logged : s.logged ≡ option_map (λ _. es) records

@@ -1,5 +1,5 @@
 -- Scripts that are served by workers.
-use Rattle.std.specs.Prelude.{◌≡◌, ℕ, ◌+◌, ◌≤◌, List, [], ◌∷◌, map, length, slice_get, false, Option, Some, None}
+use Rattle.std.specs.Prelude.{◌≡◌, ℕ, ◌+◌, ◌≤◌, List, [], ◌∷◌, map, length, slice_get, false, Option, Some, None, Result}
 use Rattle.child_events.specs.declared.event.Answer.{Answer}
 use Rattle.expect_core.specs.declared.request.Request.{Request}
 use Rattle.dialogue_sched.specs.declared.script.Script.{Script}
@@ -8,29 +8,24 @@ use Rattle.dialogue_sched.specs.Refusal.{first_refusal}
 use Rattle.child_serve.specs.declared.served.Part.{Part}
 use Rattle.child_serve.specs.declared.worker.Seat.{Seat}
 use Rattle.child_serve.specs.declared.worker.Team.{Team}
-use Rattle.child_serve.specs.declared.serving.Working.{Working}
-use Rattle.child_serve.specs.Recorded.{IsAllTaken}
+use Rattle.child_serve.specs.declared.worker.WorkFault.{WorkFault}
+use Rattle.child_serve.specs.declared.serving.Works.{Works}
+use Rattle.child_serve.specs.declared.served.Served.{Served}
+use Rattle.std.specs.declared.thread.PromisedHandle.{PromisedHandle}
+use Rattle.feed_rings.specs.declared.feed.FeedIn.{FeedIn}
+use Rattle.child_keeper.specs.declared.log_item.LogItem.{LogItem}
+use Rattle.run_records.specs.declared.reel.Reel.{Reel}
+use Rattle.run_records.specs.Merged.{AllPaired, IsSound}
+use Rattle.child_desk.specs.Book.{ring_log}
 use Rattle.std.specs.List.{AllByRecursion}
-use Rattle.feed_rings.specs.Ends.{put_items, IsPair, SameOut}
-use Rattle.child_serve.specs.Joined.{script_of, Fits}
+use Rattle.feed_rings.specs.Ends.{put_items, IsPair, SameIn}
+use Rattle.run_records.specs.Joined.{script_of, Fits}
 use Rattle.child_desk.specs.declared.line.Line.{Line}
 use Rattle.child_desk.specs.Line.{Keeping}
 use Rattle.child_serve.specs.Dealt.{IsDealt}
 use Rattle.child_serve.specs.Opened.{AreNumbers}
 use Rattle.child_serve.specs.Served.{AreServed}
 use Rattle.child_serve.specs.Whole.{keeping_of}
-
--- elements of two lists belong together, as so manyth ones, counted from a number on
-abbrev pub AllPaired : {X Y : Type 0} → (ℕ → X → Y → Type 0) → ℕ → List X → List Y → Type 0
-AllPaired Are w [] [] = Unit {0}
-AllPaired Are w [] (y ∷ ys) = ⊥
-AllPaired Are w (x ∷ xs) [] = ⊥
-AllPaired Are w (x ∷ xs) (y ∷ ys) = Are w x y × AllPaired Are (w + 1) xs ys
-
--- each element became another
-pub record AllGo {X : Type 0} (Goes : X → X → Type 0) (xs ys : List X) : Type 0 where
-  pub each : (i : ℕ) (x : X) → slice_get xs i ≡ Some x → (y : X) × (slice_get ys i ≡ Some y) × Goes x y
-  pub count : length ys ≡ length xs
 
 -- a line for each keeper, to whose script nothing has happened
 abbrev pub AreFirst : {K : Type 0} → (K → ℕ) → (K → ℕ) → List K → List Line → Type 0
@@ -55,9 +50,10 @@ module _ {K C : Type 0} where
 
   -- a worker has served its scripts
   pub record IsWork (told : ℕ → ℕ → Request → Answer → Type 0) (gives : ℕ → ℕ → Option (List ℕ) → Type 0) (named made : K → ℕ) (n w : ℕ) (team : Team K C) (p : Part) : Type 0 where
-    pub served : AreServed told gives (λ i. script_of n w (i + 1)) (map (keeping_of named made) team.keepers.items) team.scripts.items (put_items p.log) p.served
-    pub fits : Fits n w (put_items p.log)
-    pub taken : first_refusal (length team.scripts.items) 0 (put_items p.log) ≡ None
+    pub served : AreServed told gives (λ i. script_of n w (i + 1)) (map (keeping_of named made) team.keepers.items) team.scripts.items (ring_log p.log) p.served
+    pub fits : Fits n w (ring_log p.log)
+    pub sound : IsSound n w (put_items p.log)
+    pub taken : first_refusal (length team.scripts.items) 0 (ring_log p.log) ≡ None
 
   -- each worker has served its scripts
   abbrev pub AllWork : (ℕ → ℕ → Request → Answer → Type 0) → (ℕ → ℕ → Option (List ℕ) → Type 0) → (K → ℕ) → (K → ℕ) → ℕ → ℕ → List Part → List (Team K C) → Type 0
@@ -72,26 +68,33 @@ module _ {K C : Type 0} where
   abbrev pub AllTeams : List (Team K C) → Type 0
   AllTeams teams = (w : ℕ) (team : Team K C) → slice_get teams w ≡ Some team → IsTeam (length teams) w team
 
-module _ {K C O : Type 0} where
+-- a worker that runs
+abbrev pub Handle : Type 0 → Type 0 → Type 0
+Handle K C = PromisedHandle (Result Part WorkFault) (Works K C)
+
+module _ {K C : Type 0} where
   -- this worker was started for that team, of so many, as that one of them
-  abbrev pub IsStarted : ℕ → ℕ → Team K C → Working K C O → Type 0
-  IsStarted n w t x = (x.handle.promise.workers ≡ n) × (x.handle.promise.worker ≡ w) × (x.handle.promise.team.value ≡ t)
+  abbrev pub IsStarted : ℕ → ℕ → Team K C → Handle K C → Type 0
+  IsStarted n w t h = (h.promise.workers ≡ n) × (h.promise.worker ≡ w) × (h.promise.team.value ≡ t)
 
   -- one was started for each team
-  abbrev pub AllStarted : ℕ → ℕ → List (Working K C O) → List (Team K C) → Type 0
-  AllStarted n = AllPaired (λ w x t. IsStarted n w t x)
+  abbrev pub AllStarted : ℕ → ℕ → List (Handle K C) → List (Team K C) → Type 0
+  AllStarted n = AllPaired (λ w h t. IsStarted n w t h)
 
-  -- its record is taken from the ring into which it puts it, and what is kept, if anything is, is all that was taken
-  abbrev pub IsReady : Working K C O → Type 0
-  IsReady x = IsPair x.handle.promise.log.value x.reel.out × IsAllTaken x.reel
+  -- its record is taken from the ring into which it puts it
+  abbrev pub IsRingOf : Handle K C → Reel → Type 0
+  IsRingOf h reel = IsPair h.promise.log.value reel.out
 
-  abbrev pub AllReady : List (Working K C O) → Type 0
-  AllReady xs = AllByRecursion IsReady xs
+  abbrev pub AreRingsOf : List (Handle K C) → List Reel → Type 0
+  AreRingsOf hs reels = AllPaired (λ w h reel. IsRingOf h reel) 0 hs reels
 
-  -- more of its record was taken
-  abbrev pub GoesOn : Working K C O → Working K C O → Type 0
-  GoesOn x y = (y.handle ≡ x.handle) × SameOut x.reel.out y.reel.out × (IsAllTaken x.reel → IsAllTaken y.reel)
+  -- into that ring its record was put
+  abbrev pub AreLogsOf : List (Handle K C) → List (FeedIn LogItem) → Type 0
+  AreLogsOf hs logs = AllPaired (λ w h log. SameIn h.promise.log.value log) 0 hs logs
 
-  -- of each
-  abbrev pub AllGoOn : List (Working K C O) → List (Working K C O) → Type 0
-  AllGoOn xs ys = AllGo GoesOn xs ys
+  -- what came of workers, in order: each has served its scripts
+  pub record HaveServed (told : ℕ → ℕ → Request → Answer → Type 0) (gives : ℕ → ℕ → Option (List ℕ) → Type 0) (named made : K → ℕ) (n : ℕ) (teams : List (Team K C)) (served : List Served) (logs : List (FeedIn LogItem)) : Type 0 where
+    pub parts : List Part
+    pub work : AllWork told gives named made n 0 parts teams
+    pub are : served ≡ map (λ p. p.served) parts
+    pub rings : logs ≡ map (λ p. p.log) parts

@@ -4,9 +4,7 @@
 mod audience;
 mod dealing;
 mod hands;
-mod joining;
 mod laws;
-mod recording;
 mod rounds;
 mod served;
 mod serving;
@@ -14,7 +12,6 @@ mod stopping;
 mod worker;
 
 pub use audience::Audience;
-pub use joining::joined;
 pub use laws::{serving_is_run, serving_isolation};
 pub use served::{Part, Served, Unsettled, assembled};
 pub use serving::{ServeFault, serve};

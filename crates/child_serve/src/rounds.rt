@@ -162,11 +162,25 @@ pub fn turn_all<K: Keeper, C: Clock + Audience + Stopping, W: Wait + std::time::
         if desk.has_come() || desk.is_due(held) {
             is_taken = turn(rt, bell, desk, held, clock, &mut told)?;
         } else if !desk.is_due(reading) {
-            rest(rt, bell, desk, reading);
+            stand_by(rt, bell, desk, reading);
         }
         held = reading;
     }
     unreachable!()
+}
+
+/// Says that nothing earlier than a moment comes, and rests until something comes.
+fn stand_by<K: Keeper, W: Wait + std::time::Clock>(
+    rt: &W,
+    bell: &Bell,
+    desk: &mut Desk<K>,
+    moment: u64,
+)
+    ensures kept { KeepsAll desk.old.lines.items desk.old.ends.items desk.old.book desk.new.lines.items desk.new.ends.items desk.new.book }
+    ensures heard { HearsAll desk.old.ends.items (logged desk.old.book) desk.new.ends.items (logged desk.new.book) }
+{
+    desk.still(moment);
+    rest(rt, bell, desk, moment);
 }
 
 /// How many milliseconds a desk rests at a moment: until its deadline is past, but not too long.

@@ -1,13 +1,10 @@
 //! What came of scripts that were served.
 
-ghost use Rattle.std.specs.Prelude.{◌≡◌, ◌<◌, ◌≤◌, List, length, IfOk, IfSome, option_map};
-ghost use Rattle.child_serve.specs.Joined.{AllFits, IsOneOf};
+ghost use Rattle.std.specs.Prelude.{◌≡◌, IfOk};
 ghost use Rattle.child_serve.specs.Turns.{in_turn, TakesFirst, TakesTurn};
-ghost use Rattle.child_serve.specs.Served.{IsApart, IsAssembled, records_of};
+ghost use Rattle.child_serve.specs.Served.{IsApart, IsAssembled};
 
-use crate::joining::joined;
-use child_events::{HallEvent, HallEvents};
-use child_keeper::Keeper;
+use child_keeper::LogItem;
 use dialogue_sched::Reports;
 use feed_rings::FeedIn;
 use session::Report;
@@ -26,8 +23,6 @@ pub struct Unsettled {
 pub struct Served {
     /// Their reports, in order.
     pub reports: Reports,
-    /// The record, where it is kept.
-    pub logged: Option<HallEvents>,
     pub unsettled: Vec<Unsettled>,
     /// How many requests were let through although the gate refused them.
     pub forced: u64,
@@ -39,7 +34,7 @@ pub struct Served {
 #[derive(Drop)]
 pub struct Part {
     pub served: Served,
-    pub log: FeedIn<HallEvent>,
+    pub log: FeedIn<LogItem>,
 }
 
 /// Takes what is next of the reports whose turn it is. These go behind the others.
@@ -91,15 +86,14 @@ struct Apart {
     stopped: bool,
 }
 
-fn taken_apart(alloc: Global, parts: Vec<Part>) -> Result<Apart, AllocError>
+fn taken_apart(alloc: Global, parts: Vec<Served>) -> Result<Apart, AllocError>
     ensures { IfOk result (λ a. IsApart parts.items a) }
 {
     let mut reports = Vec::new(alloc);
     let mut unsettled = Vec::new(alloc);
     let mut forced: u64 = 0;
     let mut stopped = false;
-    for part in parts {
-        let Part { served, .. } = part;
+    for served in parts {
         reports.push(served.reports)?;
         unsettled.extend_from_slice(served.unsettled.as_slice())?;
         forced = forced.saturating_add(served.forced);
@@ -113,40 +107,14 @@ fn taken_apart(alloc: Global, parts: Vec<Part>) -> Result<Apart, AllocError>
     })
 }
 
-/// One record of those of the workers, where these are kept.
-fn joined_records(
-    alloc: Global,
-    records: Option<Vec<HallEvents>>,
-) -> Result<Option<HallEvents>, AllocError>
-    requires workers { IfSome records (λ rs. length rs.items ≤ 64) }
-    requires fits { IfSome records (λ rs. AllFits rs.items) }
-    ensures { IfOk result (IsOneOf (option_map (λ rs. rs.items) records)) }
+/// What came of all scripts, from what came of those of each worker: so many scripts, of which each worker has one in turn.
+pub fn assembled(alloc: Global, count: usize, parts: Vec<Served>) -> Result<Served, AllocError>
+    ensures { IfOk result (λ s. IsAssembled count parts.items s) }
 {
-    match records {
-        Some(records) => Ok(Some(joined(alloc, records)?)),
-        None => Ok(None),
-    }
-}
-
-/// What came of all scripts, from what came of those of each worker: so many scripts, of which each worker has one in turn. The records that are
-/// kept are joined.
-pub fn assembled<K: Keeper>(
-    alloc: Global,
-    count: usize,
-    parts: Vec<Part>,
-    records: Option<Vec<HallEvents>>,
-) -> Result<Served, AllocError>
-    requires workers { (0 < length parts.items) × (length parts.items ≤ 64) }
-    requires fits { AllFits (records_of parts.items) }
-    requires kept { IfSome records (λ rs. rs.items ≡ records_of parts.items) }
-    ensures { IfOk result (λ s. IsAssembled K.told K.gives count parts.items records s) }
-{
-    let logged = joined_records(alloc, records)?;
     let apart = taken_apart(alloc, parts)?;
     let reports = all_in_turn(alloc, count, apart.reports)?;
     Ok(Served {
         reports,
-        logged,
         unsettled: apart.unsettled,
         forced: apart.forced,
         stopped: apart.stopped,

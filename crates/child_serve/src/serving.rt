@@ -1,23 +1,23 @@
 //! Scripts over real children, by workers in threads.
 
-ghost use Rattle.std.specs.Prelude.{◌≡◌, ◌<◌, ◌≤◌, [], ℕ, List, length, map, IfOk, IfSome, OnOk, is_some, option_map};
+ghost use Rattle.std.specs.Prelude.{◌≡◌, ◌<◌, ◌≤◌, [], ℕ, List, length, map, false, None, IfOk, IfSome, OnOk};
 ghost use mathlib.Core.List.{Mem};
 ghost use Rattle.feed_rings.specs.Ends.{IsPair, SameIn};
-ghost use Rattle.child_serve.specs.Recorded.{IsAllTaken};
-ghost use Rattle.child_serve.specs.Served.{records_of};
-ghost use Rattle.child_serve.specs.Teams.{IsWork, IsTeam, IsSeated, IsStarted, IsReady, AllStarted, AllReady, AllGoOn, AllWork, AllTeams};
-ghost use Rattle.child_serve.specs.Whole.{keeping_of, IsServing, Joins, JoinsPart, JoinsRecord};
+ghost use Rattle.dialogue_sched.specs.Hall.{opening_fault as fault_in};
+ghost use Rattle.run_records.specs.Merged.{IsFresh, AreFresh, ArePairs, IsMerging, SameRings, WasHanded};
+ghost use Rattle.child_serve.specs.declared.worker.Team.{Team as TeamOf};
+ghost use Rattle.child_serve.specs.Teams.{IsWork, IsTeam, IsSeated, IsStarted, IsRingOf, AllStarted, AllTeams, AreDealt, AreRingsOf, AreLogsOf, HaveServed};
+ghost use Rattle.child_serve.specs.Whole.{keeping_of, IsServing, Gathers, Joins, JoinsPart};
 
 use crate::audience::Audience;
 use crate::dealing::dealt;
-use crate::recording::{ROOM, Reel};
 use crate::served::{Part, Served, assembled};
 use crate::stopping::Stopping;
 use crate::worker::{Over, Place, Seat, Team, WorkFault, work};
-use child_events::{HallEvent, HallEvents};
-use child_keeper::{Clock, Gate, Keeper};
+use child_keeper::{Clock, Gate, Keeper, LogItem};
 use dialogue_sched::{HallFault, Script, opening_fault};
 use feed_rings::{Bell, FeedIn, feed_pair};
+use run_records::{Merger, Recorder, Reel};
 use std::alloc::{AllocError, AllocFailed, Global};
 use std::snapshot::Snapshot;
 use std::sync::atomic::{AtomicU64, Ordering};
@@ -79,7 +79,7 @@ pub struct Works<K: Drop, C: Drop> {
     pub workers: u8,
     pub worker: u8,
     pub team: Snapshot<Team<K, C>>,
-    pub log: Snapshot<FeedIn<HallEvent>>,
+    pub log: Snapshot<FeedIn<LogItem>>,
 }
 
 impl<K: Keeper + Drop, C: Drop> Promise<Result<Part, WorkFault>> for Works<K, C> {
@@ -89,12 +89,8 @@ impl<K: Keeper + Drop, C: Drop> Promise<Result<Part, WorkFault>> for Works<K, C>
 /// A worker that runs.
 type Handle<K, C> = PromisedHandle<Result<Part, WorkFault>, Works<K, C>>;
 
-/// A worker that runs, and the end of the ring from which its record is taken.
-#[derive(Drop)]
-pub(crate) struct Working<K: Keeper + Drop, C: Drop> {
-    handle: Handle<K, C>,
-    reel: Reel,
-}
+/// How many items a worker's ring has room for.
+const ROOM: usize = 1_024;
 
 /// How many milliseconds pass at most before the rings of workers are looked at again.
 const REST: u64 = 100;
@@ -102,22 +98,18 @@ const REST: u64 = 100;
 /// How many milliseconds pass if there was something in a ring: so that not each entry wakes the thread that takes it.
 const PAUSE: u64 = 1;
 
-/// Where the record of workers is taken: a bell that they ring, how many of them have ended, and whether what is taken is kept.
+/// Where the records of workers are taken: a bell that they ring, and how many of them have ended.
 #[derive(Drop)]
-struct Recorder {
+struct Takings {
     bell: Bell,
     ended: Arc<AtomicU64>,
-    keeps: bool,
 }
 
-impl Recorder {
-    fn new(alloc: Global, keeps: bool) -> Result<Recorder, AllocError>
-        ensures { IfOk result (λ r. r.keeps ≡ keeps) }
-    {
-        Ok(Recorder {
+impl Takings {
+    fn new(alloc: Global) -> Result<Takings, AllocError> {
+        Ok(Takings {
             bell: Bell::new(alloc)?,
             ended: Arc::new(alloc, AtomicU64::new(0))?,
-            keeps,
         })
     }
 }
@@ -149,7 +141,7 @@ fn start_worker<
     .ok()
 }
 
-/// Starts a worker, the end of whose record's ring is at hand then.
+/// Starts a worker, and gives the end of its record's ring, from which nothing was taken.
 fn start_at<
     K: Keeper + Send + Drop + 'static,
     C: Clock + Audience + Stopping + Send + Drop + 'static,
@@ -161,18 +153,17 @@ fn start_at<
     place: Place,
     team: Team<K, C>,
     gate: &Arc<G>,
-    recorder: &Recorder,
-) -> Result<Working<K, C>, WorkFault>
+    takings: &Takings,
+) -> Result<(Handle<K, C>, Reel), WorkFault>
     requires { IsTeam place.workers place.worker team }
-    ensures { IfOk result (λ w. IsStarted place.workers place.worker team w × IsReady w) }
+    ensures { IfOk result (λ s. IsStarted place.workers place.worker team s.0 × IsRingOf s.0 s.1 × IsFresh s.1) }
 {
     let bell = Bell::new(alloc)?;
-    let (log, out) = feed_pair(alloc, ROOM, &bell, &recorder.bell)?;
-    let reel = Reel::new(alloc, out, recorder.keeps);
+    let (log, out) = feed_pair(alloc, ROOM, &bell, &takings.bell)?;
     let gate = Arc::try_clone(gate)?;
     let over = Over {
-        ended: Arc::try_clone(&recorder.ended)?,
-        ringer: recorder.bell.ringer()?,
+        ended: Arc::try_clone(&takings.ended)?,
+        ringer: takings.bell.ringer()?,
     };
     let seat = Seat {
         team,
@@ -181,7 +172,7 @@ fn start_at<
         over,
     };
     match start_worker(rt, alloc, place, seat, gate) {
-        Some(handle) => Ok(Working { handle, reel }),
+        Some(handle) => Ok((handle, Reel::new(alloc, out))),
         None => Err(WorkFault::NoThread),
     }
 }
@@ -197,107 +188,81 @@ fn start_all<
     alloc: Global,
     teams: Vec<Team<K, C>>,
     gate: &Arc<G>,
-    recorder: &Recorder,
-    workings: &mut Vec<Working<K, C>>,
+    takings: &Takings,
+    handles: &mut Vec<Handle<K, C>>,
+    reels: &mut Vec<Reel>,
 ) -> Result<(), WorkFault>
     requires few { length teams.items ≤ 64 }
     requires teams { AllTeams teams.items }
-    requires none { workings.old.items ≡ [] }
-    ensures started { OnOk result (AllStarted (length teams.items) 0 workings.new.items teams.items) }
-    ensures ready { AllReady workings.new.items }
+    requires none { (handles.old.items ≡ []) × (reels.old.items ≡ []) }
+    ensures started { OnOk result (AllStarted (length teams.items) 0 handles.new.items teams.items) }
+    ensures rings { AreRingsOf handles.new.items reels.new.items }
+    ensures fresh { AreFresh reels.new.items }
+    ensures count { length reels.new.items ≤ 64 }
 {
     let workers = teams.len() as u8;
     let mut worker = 0;
     for team in teams {
-        workings.reserve(1)?;
+        handles.reserve(1)?;
+        reels.reserve(1)?;
         let place = Place { workers, worker };
-        let working = start_at(rt, alloc, place, team, gate, recorder)?;
-        workings.push_reserved(working);
+        let (handle, reel) = start_at(rt, alloc, place, team, gate, takings)?;
+        handles.push_reserved(handle);
+        reels.push_reserved(reel);
         worker += 1;
     }
     Ok(())
 }
 
-/// Takes what there is of the record of each worker. True where there was something.
-fn take_all<K: Keeper + Drop, C: Drop>(workings: &mut Vec<Working<K, C>>) -> bool
-    ensures { AllGoOn workings.old.items workings.new.items }
-{
-    let mut busy = false;
-    for at in 0..workings.len() {
-        let working = &mut workings[at];
-        if working.reel.take_some() {
-            busy = true;
-        }
-    }
-    busy
-}
-
 /// Takes the records of workers as they come, until all of the workers have ended.
-fn take_records<K: Keeper + Drop, C: Drop, W: Wait + std::time::Clock>(
+fn take_records<R: Recorder + Drop, W: Wait + std::time::Clock>(
     rt: &W,
-    recorder: &Recorder,
-    workings: &mut Vec<Working<K, C>>,
+    takings: &Takings,
+    count: u64,
+    merger: &mut Merger<R>,
 )
-    ensures { AllGoOn workings.old.items workings.new.items }
+    requires few { length merger.old.reels.items ≤ 64 }
+    ensures rings { SameRings merger.old.reels.items merger.new.reels.items }
+    ensures keeps { merger.new.keeps ≡ merger.old.keeps }
+    ensures merging { (first : R) → IsMerging R.notes first merger.old → IsMerging R.notes first merger.new }
+    ensures handed { (first : R) → WasHanded R.notes first merger.old.recorder → WasHanded R.notes first merger.new.recorder }
+    ensures unkept { merger.old.keeps ≡ false → merger.new.recorder ≡ merger.old.recorder }
 {
-    let count = workings.len() as u64;
     for _ in rt.forever() {
-        let are_over = recorder.ended.load(Ordering::SeqCst) >= count;
-        let busy = take_all(workings);
+        let are_over = takings.ended.load(Ordering::SeqCst) >= count;
+        let busy = merger.turn();
         if are_over {
             return;
         }
         if busy {
             thread::sleep(rt, Duration::from_millis(PAUSE));
         } else {
-            recorder.bell.rest_at_most(rt, REST);
+            takings.bell.rest_at_most(rt, REST);
         }
     }
     unreachable!()
 }
 
-/// What came of workers so far, their records where these are kept, and the first fault.
+/// What came of workers so far, in order, the ends of the rings of their records, and the first fault.
 #[derive(Drop)]
 pub(crate) struct Joined {
-    pub(crate) parts: Vec<Part>,
-    pub(crate) records: Option<Vec<HallEvents>>,
+    pub(crate) parts: Vec<Served>,
+    pub(crate) logs: Vec<FeedIn<LogItem>>,
     pub(crate) fault: Option<WorkFault>,
 }
 
-/// Puts the record of a worker behind the others, where these are kept.
-fn join_record(
-    records: &mut Option<Vec<HallEvents>>,
-    kept: Option<HallEvents>,
-) -> Result<(), AllocError>
-    ensures { OnOk result (JoinsRecord kept (option_map (λ v. v.items) records.old) (option_map (λ v. v.items) records.new)) }
-{
-    let Some(records) = records else {
-        return Ok(());
-    };
-    let Some(kept) = kept else {
-        return Err(AllocError);
-    };
-    records.push(kept)?;
-    Ok(())
-}
-
-/// What came of one worker more, and what is left of its record.
-fn join_part(joined: &mut Joined, part: Part, reel: Reel) -> Result<(), AllocError>
-    requires pair { IsPair part.log reel.out }
-    requires all { IsAllTaken reel }
+/// What came of one worker more.
+fn join_part(joined: &mut Joined, part: Part) -> Result<(), AllocError>
     ensures { OnOk result (JoinsPart part joined.old joined.new) }
 {
-    let mut part = part;
-    let kept = reel.settle(&mut part.log);
-    join_record(&mut joined.records, kept)?;
-    joined.parts.push(part)?;
+    let Part { served, log } = part;
+    joined.parts.push(served)?;
+    joined.logs.push(log)?;
     Ok(())
 }
 
 /// What came of one worker more, unless a fault came before.
-fn join_one(joined: &mut Joined, outcome: Result<Part, WorkFault>, reel: Reel)
-    requires pair { IfOk outcome (λ p. IsPair p.log reel.out) }
-    requires all { IsAllTaken reel }
+fn join_one(joined: &mut Joined, outcome: Result<Part, WorkFault>)
     ensures { Joins outcome joined.old joined.new }
 {
     if joined.fault.is_some() {
@@ -305,7 +270,7 @@ fn join_one(joined: &mut Joined, outcome: Result<Part, WorkFault>, reel: Reel)
     }
     match outcome {
         Ok(part) => {
-            let Ok(()) = join_part(joined, part, reel) else {
+            let Ok(()) = join_part(joined, part) else {
                 joined.fault = Some(WorkFault::Memory);
                 return;
             };
@@ -314,26 +279,23 @@ fn join_one(joined: &mut Joined, outcome: Result<Part, WorkFault>, reel: Reel)
     }
 }
 
-/// Waits for all workers, and takes what is left of their records. What came of each, in order, or the first fault.
+/// Waits for all workers. What came of each, in order, or the first fault.
 fn join_all<K: Keeper + Drop, C: Drop, W: Threads>(
     rt: &W,
     alloc: Global,
-    workings: Vec<Working<K, C>>,
-    keeps: bool,
+    handles: Vec<Handle<K, C>>,
 ) -> Result<Joined, WorkFault>
-    requires { AllReady workings.items }
-    ensures work { IfOk result (λ j. (n : ℕ) (teams : List (Team K C)) → AllStarted n 0 workings.items teams → AllWork K.told K.gives K.named K.made n 0 j.parts.items teams) }
-    ensures records { IfOk result (λ j. IfSome j.records (λ rs. rs.items ≡ records_of j.parts.items) × (is_some j.records ≡ keeps)) }
+    ensures served { IfOk result (λ j. (n : ℕ) (teams : List (TeamOf K C)) → AllStarted n 0 handles.items teams → HaveServed K.told K.gives K.named K.made n teams j.parts.items j.logs.items) }
+    ensures logs { IfOk result (λ j. AreLogsOf handles.items j.logs.items) }
 {
     let mut joined = Joined {
         parts: Vec::new(alloc),
-        records: if keeps { Some(Vec::new(alloc)) } else { None },
+        logs: Vec::new(alloc),
         fault: None,
     };
-    for working in workings {
-        let Working { handle, reel } = working;
+    for handle in handles {
         let outcome = handle.join(rt);
-        join_one(&mut joined, outcome, reel);
+        join_one(&mut joined, outcome);
     }
     match joined.fault {
         None => Ok(joined),
@@ -341,11 +303,70 @@ fn join_all<K: Keeper + Drop, C: Drop, W: Threads>(
     }
 }
 
-/// Serves scripts, each with its keeper, by as many workers as there are clocks, each with its own. Where `keeps` says so, the record is kept.
+/// What workers share, and the team of each.
+#[derive(Drop)]
+struct Prepared<K: Drop, C: Drop, G: Drop> {
+    gate: Arc<G>,
+    takings: Takings,
+    teams: Vec<Team<K, C>>,
+}
+
+/// Deals out scripts, each with its keeper, to as many workers as there are clocks.
+fn prepare<K: Keeper + Drop, C: Clock + Drop, G: Drop>(
+    alloc: Global,
+    scripts: Vec<Script>,
+    keepers: Vec<K>,
+    clocks: Vec<C>,
+    gate: G,
+) -> Result<Prepared<K, C, G>, AllocError>
+    requires clocks { 0 < length clocks.items }
+    requires keepers { length keepers.items ≡ length scripts.items }
+    requires opens { fault_in scripts.items ≡ None }
+    ensures count { IfOk result (λ p. length p.teams.items ≡ length clocks.items) }
+    ensures dealt { IfOk result (λ p. AreDealt K.named K.made (map (keeping_of K.named K.made) keepers.items) scripts.items p.teams.items) }
+    ensures teams { IfOk result (λ p. AllTeams p.teams.items) }
+{
+    Ok(Prepared {
+        gate: Arc::new(alloc, gate)?,
+        takings: Takings::new(alloc)?,
+        teams: dealt(alloc, scripts, keepers, clocks)?,
+    })
+}
+
+/// What came of so many scripts, from what came of each worker, and the recorder, which is handed what is left of their records.
+fn gathered<R: Recorder + Drop>(
+    alloc: Global,
+    count: usize,
+    joined: Result<Joined, WorkFault>,
+    merger: Merger<R>,
+) -> (Result<Served, ServeFault>, R)
+    requires few { length merger.reels.items ≤ 64 }
+    requires pairs { IfOk joined (λ j. ArePairs j.logs.items merger.reels.items) }
+    ensures gathers { Gathers R.notes count joined merger result.0 result.1 }
+    ensures handed { (first : R) → WasHanded R.notes first merger.recorder → WasHanded R.notes first result.1 }
+    ensures unkept { merger.keeps ≡ false → result.1 ≡ merger.recorder }
+{
+    let Joined { parts, logs, .. } = match joined {
+        Ok(joined) => joined,
+        Err(fault) => return (Err(fault.into()), merger.into_recorder()),
+    };
+    let (taken, recorder) = merger.finish(logs);
+    if taken.is_err() {
+        return (Err(ServeFault::Memory), recorder);
+    }
+    match assembled(alloc, count, parts) {
+        Ok(served) => (Ok(served), recorder),
+        Err(_) => (Err(ServeFault::Memory), recorder),
+    }
+}
+
+/// Serves scripts, each with its keeper, by as many workers as there are clocks, each with its own. Where `keeps` says so, a recorder is handed the
+/// record as it comes. It is given back; after a fault it was handed a part of what came.
 pub fn serve<
     K: Keeper + Send + Drop + 'static,
     C: Clock + Audience + Stopping + Send + Drop + 'static,
     G: Gate + Sync + Send + Drop + 'static,
+    R: Recorder + Drop,
     W: Threads + Wait + std::time::Clock + Copy + Send + Drop + 'static,
 >(
     rt: W,
@@ -354,24 +375,34 @@ pub fn serve<
     keepers: Vec<K>,
     clocks: Vec<C>,
     gate: G,
+    recorder: R,
     keeps: bool,
-) -> Result<Served, ServeFault>
+) -> (Result<Served, ServeFault>, R)
     requires workers { (0 < length clocks.items) × (length clocks.items ≤ 64) }
     requires keepers { length keepers.items ≡ length scripts.items }
-    ensures { IsServing K.told K.gives keeps (length clocks.items) (map (keeping_of K.named K.made) keepers.items) scripts.items result }
+    ensures serves { IsServing K.told K.gives (length clocks.items) (map (keeping_of K.named K.made) keepers.items) scripts.items R.notes recorder keeps result.0 result.1 }
+    ensures unkept { keeps ≡ false → result.1 ≡ recorder }
 {
     if let Some(fault) = opening_fault(scripts.as_slice()) {
-        return Err(ServeFault::New(fault));
+        return (Err(ServeFault::New(fault)), recorder);
     }
     let count = scripts.len();
-    let gate = Arc::new(alloc, gate)?;
-    let recorder = Recorder::new(alloc, keeps)?;
-    let teams = dealt(alloc, scripts, keepers, clocks)?;
-    let mut workings = Vec::new(alloc);
-    let started = start_all(rt, alloc, teams, &gate, &recorder, &mut workings);
-    take_records(&rt, &recorder, &mut workings);
-    let joined = join_all(&rt, alloc, workings, keeps);
-    started?;
-    let Joined { parts, records, .. } = joined?;
-    Ok(assembled::<K>(alloc, count, parts, records)?)
+    let Prepared {
+        gate,
+        takings,
+        teams,
+    } = match prepare(alloc, scripts, keepers, clocks, gate) {
+        Ok(prepared) => prepared,
+        Err(_) => return (Err(ServeFault::Memory), recorder),
+    };
+    let mut handles = Vec::new(alloc);
+    let mut reels = Vec::new(alloc);
+    let started = start_all(rt, alloc, teams, &gate, &takings, &mut handles, &mut reels);
+    let mut merger = Merger::new(alloc, reels, recorder, keeps);
+    take_records(&rt, &takings, handles.len() as u64, &mut merger);
+    let joined = join_all(&rt, alloc, handles);
+    match started {
+        Ok(()) => gathered(alloc, count, joined, merger),
+        Err(fault) => (Err(fault.into()), merger.into_recorder()),
+    }
 }

@@ -6,7 +6,7 @@ ghost use Rattle.feed_rings.specs.Ends.{SameIn};
 ghost use Rattle.child_desk.specs.Book.{logged};
 ghost use Rattle.child_desk.specs.Line.{Leaves, HearsNoHand, IsEndOf, AllShown};
 ghost use Rattle.child_desk.specs.Heard.{HearsAll, Settles};
-ghost use Rattle.child_serve.specs.Joined.{script_of};
+ghost use Rattle.run_records.specs.Joined.{script_of};
 ghost use Rattle.child_serve.specs.Opened.{AreNumbers, AreOpened, AreLinked, IsLeftIn, AreLeftIn, IsFinishOf, IsTakenIn, AreTakenIn, IsClosedIn, AreClosedIn, SameElsewhere, AreSettled, KeepsListed, AreListed, AllListed};
 ghost use Rattle.child_serve.specs.Teams.{IsSeated, IsWork, AreFirst};
 
@@ -16,9 +16,8 @@ use crate::rounds::turn_all;
 use crate::served::{Part, Served, Unsettled};
 use crate::stopping::Stopping;
 use child_desk::{Book, Desk, Ends, Line, Outcome};
-use child_events::HallEvent;
 use child_hands::{Fresh, HandEnd, Work};
-use child_keeper::{Clock, Gate, Item, Keeper};
+use child_keeper::{Clock, Gate, Item, Keeper, LogItem};
 use dialogue_sched::{Hall, HallFault, Script};
 use feed_rings::{Bell, FeedIn, Finished, Ringer};
 use std::alloc::{AllocError, AllocFailed, Global};
@@ -39,7 +38,7 @@ pub struct Team<K: Drop, C: Drop> {
 pub struct Seat<K: Drop, C: Drop> {
     pub team: Team<K, C>,
     pub bell: Bell,
-    pub log: FeedIn<HallEvent>,
+    pub log: FeedIn<LogItem>,
     pub over: Over,
 }
 
@@ -242,14 +241,13 @@ fn give_up<K: Keeper, W: Threads>(
 
 /// What came of a worker's scripts, and of their children.
 fn part_of(outcome: Outcome, settled: Settled, stopped: bool) -> Part
-    ensures { result ≡ record { served = record { reports = outcome.reports; logged = None; unsettled = settled.unsettled; forced = settled.forced; stopped = stopped }; log = outcome.log } }
+    ensures { result ≡ record { served = record { reports = outcome.reports; unsettled = settled.unsettled; forced = settled.forced; stopped = stopped }; log = outcome.log } }
 {
     let Outcome { reports, log } = outcome;
     let Settled { unsettled, forced } = settled;
     Part {
         served: Served {
             reports,
-            logged: None,
             unsettled,
             forced,
             stopped,

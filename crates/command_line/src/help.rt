@@ -78,7 +78,9 @@ is told: `exprun: log fault F at line L`, where F is
     8  a total that is wrong, is missing, or has a line behind it
     9  a first line exprun-log that isn't `exprun-log 2`
 
-Fault 8 at the line behind the last one tells of a log that was cut off. 7 isn't
+Fault 8 at the line behind the last one tells of a log that was cut off, as the
+FILE.part of a run that was killed. With --cut such a log is taken up to its
+last whole line, and what was going on then is reported as waiting. 7 isn't
 told: it is want of memory, which is `exprun: out of memory`.
 
 A report has a line with the script's ending and counts, and then its
@@ -153,6 +155,12 @@ blocked, as ./exprun starts it. Scripts that have not ended are reported as
 `waiting`, the record and all other files are written, the programs are hung up
 at once, and the status is 128 plus the signal's number. A script that computes
 and doesn't wait is given three seconds; then the run is killed.
+
+With --record the log is written to FILE.part while the run goes on, at most 0.2
+seconds late, and is sent to the disk about once a second. When it is whole it
+gets the name FILE, in the place of what stood there. `exprun replay --cut
+FILE.part` reads it after a run that was killed. What is a link or no file, as
+/dev/stdout, is written under its own name.
 
 With --follow what the scripts show is also told on standard error, as it comes:
 of one script on a terminal as it is, else so that it does nothing there; of
@@ -233,7 +241,9 @@ pub const EXPLAIN: &str = "\
 LOG comes before FILE. /dev/stdin as LOG is standard input. `exprun replay
 --help` says what a log is, and `exprun show --help` how its events are shown.
 
-For each script its events are told in order, and behind each
+For each script its events are told in order. `output closed by exprun` stands
+in place of `output lost: CAUSE` where the script had asked to close that child,
+or had ended: a run closes the output itself then. Behind each event stand
 
     asks child C: ..      what it asked of a child: spawn, write, end, close, wait
     waits for the answer of child C

@@ -102,6 +102,12 @@ const LOG: Offer = Offer {
     help: "The file of the log, or /dev/stdin",
 };
 
+const CUT: Offer = Offer {
+    name: "cut",
+    takes: Takes::Nothing,
+    help: "Take a log that was cut off up to its last whole line",
+};
+
 const WORKERS: Offer = Offer {
     name: "workers",
     takes: Takes::Number("N", 1, MANY),
@@ -193,7 +199,8 @@ static RUN: [Offer; 16] = [
     SOURCES,
 ];
 
-static REPLAY: [Offer; 10] = [
+static REPLAY: [Offer; 11] = [
+    CUT,
     LIMIT,
     STEPS,
     VARS,

@@ -37,6 +37,8 @@ pub struct Scripts<'a> {
 pub struct Replay<'a> {
     pub scripts: Scripts<'a>,
     pub log: &'a str,
+    /// Whether the log may be cut off.
+    pub cut: bool,
 }
 
 /// A run over real children that is asked for.

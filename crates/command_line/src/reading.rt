@@ -142,6 +142,7 @@ fn replay_of<'a>(alloc: Global, matches: &ArgMatches<'a>) -> Result<Order<'a>, A
     Ok(Order::Replay(Replay {
         scripts: scripts_of(alloc, matches)?,
         log: matches.get_str("log").unwrap_or(""),
+        cut: matches.get_flag("cut"),
     }))
 }
 

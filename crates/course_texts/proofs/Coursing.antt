@@ -1,23 +1,26 @@
 -- How a course is told, event by event, and courses script by script.
 use Rattle.std.proofs.Common.{◌≡◌, ℕ, suc, ◌+◌, ◌-◌, ◌<◌, Bool, true, false, List, [], ◌∷◌, ◌++◌, length, take, drop, ◌==◌, Option, Some, None, Result, Ok, Err, slice_index_or, refl, sym, ap, subst, ◌∙◌, arith, append_assoc, append-nil}
-use Rattle.std.specs.Prelude.{if◌then◌else◌, IfSome}
+use Rattle.std.specs.Prelude.{if◌then◌else◌, IfSome, IsTrue}
 use Rattle.std.specs.List.{slice_get}
 use Rattle.std.specs.Io.KnownBytes.{Appends}
 use Rattle.child_events.specs.declared.event.Event.{Event}
 use Rattle.child_events.specs.declared.event.HallEvent.{HallEvent}
 use Rattle.child_events.specs.Log.{LogText}
 use Rattle.child_events.specs.World.{own_of}
+use Rattle.tcl_host.specs.declared.ending.Ending.{Ending}
 use Rattle.expect_core.specs.declared.request.Request.{Request}
-use Rattle.session.specs.Left.{Kept, Fed, HasAsked, HasBegun}
+use Rattle.session.specs.declared.report.Report.{Report}
+use Rattle.session.specs.Left.{Kept, left, Fed, HasAsked, HasBegun}
 use Rattle.session.specs.Watching.{Sights, met_from, met_over}
 use Rattle.dialogue_sched.specs.declared.script.Script.{Script}
 use Rattle.dialogue_sched.specs.Hall.{Begins}
 use Rattle.course_texts.specs.declared.explaining.ExplainFault.{ExplainFault}
 use Rattle.course_texts.specs.declared.explaining.ExplainFault.TheVariants.{Read, Log, TooManyScripts, SourceTooLong, Write, Memory}
 use Rattle.report_texts.specs.Devices.{WasPut}
-use Rattle.course_texts.specs.Explain.{Told, Explained, no_script, others, own, silent, told, StepOf, StepTold, OwnTold, TellsBehind, is_quiet, step_text, heading, Starts, is_told, Course, Courses, Explains, Tells, TellsOne}
+use Rattle.course_texts.specs.Explain.{Told, Explained, no_script, others, own, silent, told, StepOf, StepTold, OwnTold, TellsBehind, is_quiet, line_behind, step_text, heading, Starts, is_told, Course, Courses, Explains, Tells, TellsOne}
 use Rattle.course_texts.specs.declared.meetings.Teller.{Teller}
-use Rattle.course_texts.specs.Show.{event_line}
+use Rattle.course_texts.specs.Show.{told_line}
+use Rattle.course_texts.specs.Closing.{is_closed}
 use Rattle.course_texts.specs.Waits.{request_lines, wait_lines}
 use Rattle.course_texts.specs.Meetings.{course_text, Writes}
 use Rattle.report_texts.proofs.Carried.{carried}
@@ -30,15 +33,26 @@ Writing old new text (Ok done) = Appends old new text
 Writing old new text (Err Write) = WasPut old new text
 Writing old new text (Err _) = ⊥
 
+-- the line of an event, by the script's requests and ending as they stood
+pub line_is : (old : Kept) (e : HallEvent) (asked : List Request) (how : Ending) (closed : Bool) (text put : List ℕ)
+    → IsTrue old.lives → HasAsked old asked → (IsTrue old.lives → how ≡ (left old []).ending) → closed ≡ is_closed asked how e
+    → put ≡ text ++ told_line closed e → put ≡ text ++ line_behind (left old []) e
+line_is old e asked how closed text put alive asks ends is line =
+    let so_far : Report = left old [] in
+    let decided : closed ≡ is_closed so_far.requests so_far.ending e =
+    is ∙ ap (λ (rs : List Request). is_closed rs how e) (asks.lives alive) ∙ ap (λ (h : Ending). is_closed so_far.requests h e) (ends alive) in
+    line ∙ ap (λ (b : Bool). text ++ told_line b e) decided
+
 -- what is told of a script's own event
 pub own_told : (e : HallEvent) (event : Event) (old new : Kept) (text put written text' : List ℕ) (a b : Teller) (before after : List Request) (begun steps : ℕ) (quiet : Bool)
     → HasAsked old before → HasBegun old begun → Fed old (event ∷ []) new → HasBegun new steps
-    → put ≡ text ++ event_line e → a.text ≡ put → a.told ≡ length before
+    → put ≡ text ++ line_behind (left old []) e → a.text ≡ put → a.told ≡ length before
     → Sights Writes (λ later. met_from old (event ∷ later)) a (met_from new) b → b.refused ≡ false → HasAsked new after → written ≡ b.text ++ request_lines (drop b.told after)
     → quiet ≡ is_quiet e (begun == steps) → text' ≡ written ++ (if quiet then [] else wait_lines new) → OwnTold e event old new text text'
 own_told e event old new text put written text' a b before after begun steps quiet asked began fed begins line front count saw well asks wrote is behind =
     let c : List ℕ = course_text (length before) saw.met after in
     let w : List ℕ = (if is_quiet e (begun == steps) then [] else wait_lines new) in
+    let its : List ℕ = line_behind (left old []) e in
     record {
       before = before;
       after = after;
@@ -57,8 +71,8 @@ own_told e event old new text put written text' a b before after begun steps qui
           ∙ ap (λ (t : List ℕ). t ++ w) (
           wrote ∙ (writes_all saw.met a b after saw.seen well).1 ∙ ap (λ (n : ℕ). a.text ++ course_text n saw.met after) count ∙ ap (λ (t : List ℕ). t ++ c) (front ∙ line)
           )
-          ∙ append_assoc (text ++ event_line e) c w
-          ∙ append_assoc text (event_line e) (c ++ w);
+          ∙ append_assoc (text ++ its) c w
+          ∙ append_assoc text its (c ++ w);
     }
 
 -- how a course begins
@@ -87,7 +101,7 @@ by_own : (n : ℕ) (first k l : Kept) (es : List HallEvent) (e : HallEvent) (bef
 by_own n first k l es e before text text' None is (same, still) (so_far, goes, at) =
     (so_far, subst (λ (m : Kept). Told n first (es ++ e ∷ []) so_far m) (sym same) (others es so_far k e is goes), still ∙ at)
 by_own n first k l es e before text text' (Some event) is step (so_far, goes, at) =
-    let more = step_text e (length step.before) step.met step.after (step.begun == step.steps) l in (
+    let more = step_text (left k []) e (length step.before) step.met step.after (step.begun == step.steps) l in (
       so_far ++ more,
       own es so_far k l e event step.before step.after step.met step.begun step.steps is step.asked step.began step.fed step.asks step.begins step.meets goes,
       step.told ∙ ap (λ (t : List ℕ). t ++ more) at ∙ append_assoc before so_far more,

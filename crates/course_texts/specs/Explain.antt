@@ -13,7 +13,7 @@ use Rattle.tcl_host.specs.declared.ending.Ending.{Ending}
 use Rattle.tcl_host.specs.declared.ending.Ending.TheVariants as ending
 use Rattle.expect_core.specs.declared.request.Request.{Request}
 use Rattle.session.specs.declared.report.Report.{Report}
-use Rattle.session.specs.Left.{Kept, Fed, HasAsked, HasBegun}
+use Rattle.session.specs.Left.{Kept, left, Fed, HasAsked, HasBegun}
 use Rattle.session.specs.Spent.{Reports}
 use Rattle.session.specs.Watching.{Meeting, met_from, met_over}
 use Rattle.dialogue_sched.specs.declared.script.Script.{Script}
@@ -23,7 +23,8 @@ use Rattle.course_texts.specs.declared.explaining.ExplainFault.TheVariants.{Read
 use Rattle.report_texts.specs.Report.{labelled, head_line}
 use Rattle.report_texts.specs.Escape.{quoted}
 use Rattle.report_texts.specs.Devices.{WasPut}
-use Rattle.course_texts.specs.Show.{event_line}
+use Rattle.course_texts.specs.Show.{told_line}
+use Rattle.course_texts.specs.Closing.{is_closed}
 use Rattle.course_texts.specs.Trail.{place_lines}
 use Rattle.course_texts.specs.Waits.{request_lines, wait_lines}
 use Rattle.course_texts.specs.Meetings.{course_text}
@@ -38,10 +39,14 @@ abbrev pub is_quiet : HallEvent → Bool → Bool
 is_quiet (hall.Child s c m w) still = false
 is_quiet (hall.Tick m) still = still
 
+-- the line of an event, where the script's report so far says what it had asked for, and whether it had ended
+abbrev pub line_behind : Report → HallEvent → List ℕ
+line_behind so_far e = told_line (is_closed so_far.requests so_far.ending e) e
+
 -- What the script asked for and met at an event, behind its first requests, and what it waits for then. A tick that changed nothing is told
 -- alone.
-abbrev pub step_text : HallEvent → ℕ → List Meeting → List Request → Bool → Kept → List ℕ
-step_text e n met asked still k = event_line e ++ (course_text n met asked ++ (if is_quiet e still then [] else wait_lines k))
+abbrev pub step_text : Report → HallEvent → ℕ → List Meeting → List Request → Bool → Kept → List ℕ
+step_text so_far e n met asked still k = line_behind so_far e ++ (course_text n met asked ++ (if is_quiet e still then [] else wait_lines k))
 
 -- The text of a script's events, from how it began to where it stands. Events of others are not told.
 pub data Told (n : ℕ) (first : Kept) : List HallEvent → List ℕ → Kept → Type 0 where
@@ -50,7 +55,7 @@ pub data Told (n : ℕ) (first : Kept) : List HallEvent → List ℕ → Kept �
   own : (es : List HallEvent) (text : List ℕ) (k l : Kept) (e : HallEvent) (event : Event) (before after : List Request) (met : List Meeting) (begun steps : ℕ)
       → own_of n e ≡ Some event → HasAsked k before → HasBegun k begun → Fed k (event ∷ []) l → HasAsked l after → HasBegun l steps
       → ((later : List Event) → met_from k (event ∷ later) ≡ met ++ met_from l later)
-      → Told n first es text k → Told n first (es ++ e ∷ []) (text ++ step_text e (length before) met after (begun == steps) l) l
+      → Told n first es text k → Told n first (es ++ e ∷ []) (text ++ step_text (left k []) e (length before) met after (begun == steps) l) l
 
 -- what an event of a script's own leaves, and what is told of it
 pub record OwnTold (e : HallEvent) (event : Event) (old new : Kept) (text text' : List ℕ) : Type 0 where
@@ -65,7 +70,7 @@ pub record OwnTold (e : HallEvent) (event : Event) (old new : Kept) (text text' 
   pub asks : HasAsked new after
   pub begins : HasBegun new steps
   pub meets : (later : List Event) → met_from old (event ∷ later) ≡ met ++ met_from new later
-  pub told : text' ≡ text ++ step_text e (length before) met after (begun == steps) new
+  pub told : text' ≡ text ++ step_text (left old []) e (length before) met after (begun == steps) new
 
 -- the same of any event
 abbrev pub StepOf : Option Event → HallEvent → Kept → Kept → List ℕ → List ℕ → Type 0

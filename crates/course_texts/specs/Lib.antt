@@ -3,4 +3,5 @@ pub mod Patterns
 pub mod Waits
 pub mod Meetings
 pub mod Trail
+pub mod Closing
 pub mod Explain

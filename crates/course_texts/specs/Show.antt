@@ -1,8 +1,9 @@
 -- The text of a log's events, and what showing a log answers and writes.
-use Rattle.std.specs.Prelude.{◌≡◌, ◌≢◌, ◌⊎◌, ℕ, List, [], ◌∷◌, ◌++◌, length, drop, codes, Bool, true, ◌==◌, if◌then◌else◌, Option, Some, None, Result, Ok, Err}
+use Rattle.std.specs.Prelude.{◌≡◌, ◌≢◌, ◌⊎◌, ℕ, List, [], ◌∷◌, ◌++◌, length, drop, codes, Bool, true, false, ◌==◌, if◌then◌else◌, Option, Some, None, Result, Ok, Err}
 use Rattle.std.specs.Fmt.{decimal}
 use Rattle.std.specs.Io.KnownBytes.{Appends}
 use Rattle.tcl_words.specs.Bytes as ascii
+use Rattle.child_events.specs.declared.event.Cause.{Cause}
 use Rattle.child_events.specs.declared.event.Answer.{Answer}
 use Rattle.child_events.specs.declared.event.Answer.TheVariants as answer
 use Rattle.child_events.specs.declared.event.What.{What}
@@ -32,17 +33,26 @@ answer_text (answer.Fail c) = codes "request failed: " ++ cause_text c
 answer_text (answer.Exit n) = labelled (codes "ended with status ") n
 answer_text answer.Killed = codes "ended by a signal"
 
--- what happened to a child
-abbrev pub what_text : What → List ℕ
-what_text (what.Out piece) = codes "wrote " ++ quoted piece
-what_text what.Eof = codes "output ended"
-what_text (what.ReadFail c) = codes "output lost: " ++ cause_text c
-what_text (what.Answer a) = answer_text a
+-- why a child can't be read any more: exprun closed its output itself, or it was lost
+abbrev pub loss_text : Bool → Cause → List ℕ
+loss_text true c = codes "output closed by exprun"
+loss_text false c = codes "output lost: " ++ cause_text c
+
+-- what happened to a child, whose output exprun had closed itself, or not
+abbrev pub what_text : Bool → What → List ℕ
+what_text closed (what.Out piece) = codes "wrote " ++ quoted piece
+what_text closed what.Eof = codes "output ended"
+what_text closed (what.ReadFail c) = loss_text closed c
+what_text closed (what.Answer a) = answer_text a
 
 -- the line of an event: its moment, whom it is of, and what happened
-unfoldable pub event_line : HallEvent → List ℕ
-event_line (hall.Child s c m w) = moment_text m ++ labelled (codes "  script ") s ++ labelled (codes "  child ") c ++ codes "  " ++ what_text w ++ ascii.newline ∷ []
-event_line (hall.Tick m) = moment_text m ++ codes "  tick" ++ ascii.newline ∷ []
+unfoldable pub told_line : Bool → HallEvent → List ℕ
+told_line closed (hall.Child s c m w) = moment_text m ++ labelled (codes "  script ") s ++ labelled (codes "  child ") c ++ codes "  " ++ what_text closed w ++ ascii.newline ∷ []
+told_line closed (hall.Tick m) = moment_text m ++ codes "  tick" ++ ascii.newline ∷ []
+
+-- its line in a log that is shown, where nothing is known of scripts
+abbrev pub event_line : HallEvent → List ℕ
+event_line e = told_line false e
 
 -- whether an event is of a script; each is where none is named, and a tick is of all
 abbrev pub is_of : Option ℕ → HallEvent → Bool

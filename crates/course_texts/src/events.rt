@@ -1,9 +1,9 @@
 //! The text of events, a line each.
 
 ghost use Rattle.std.specs.Prelude.{◌≡◌, ◌++◌, drop, codes, IfOk, OnOk};
-ghost use Rattle.course_texts.specs.Show.{moment_text, answer_text, what_text, event_line, is_of as is_of_script, shown_event, shown_log};
+ghost use Rattle.course_texts.specs.Show.{moment_text, answer_text, loss_text, what_text, told_line, is_of as is_of_script, shown_event, shown_log};
 
-use child_events::{Answer, HallEvent, What, cause_name};
+use child_events::{Answer, Cause, HallEvent, What, cause_name};
 use report_texts::{push_labelled, push_quoted};
 use std::alloc::{AllocError, Global};
 use tcl_words::Text;
@@ -53,9 +53,19 @@ fn push_answer(alloc: Global, text: &mut Text, answer: Answer) -> Result<(), All
     }
 }
 
-/// Puts what happened to a child behind a text.
-fn push_what(alloc: Global, text: &mut Text, what: &What) -> Result<(), AllocError>
-    ensures { OnOk result (text.new ≡ text.old ++ what_text what.now) }
+/// Puts why a child can't be read any more behind a text.
+fn push_loss(text: &mut Text, closed: bool, cause: Cause) -> Result<(), AllocError>
+    ensures { OnOk result (text.new ≡ text.old ++ loss_text closed cause) }
+{
+    if closed {
+        return text.extend(b"output closed by exprun");
+    }
+    push_word(text, b"output lost: ", cause_name(cause))
+}
+
+/// Puts what happened to a child behind a text; exprun had closed its output itself, or not.
+fn push_what(alloc: Global, text: &mut Text, closed: bool, what: &What) -> Result<(), AllocError>
+    ensures { OnOk result (text.new ≡ text.old ++ what_text closed what.now) }
 {
     match what {
         What::Out(piece) => {
@@ -63,15 +73,20 @@ fn push_what(alloc: Global, text: &mut Text, what: &What) -> Result<(), AllocErr
             push_quoted(alloc, text, piece.as_slice())
         }
         What::Eof => text.extend(b"output ended"),
-        What::ReadFail(cause) => push_word(text, b"output lost: ", cause_name(*cause)),
+        What::ReadFail(cause) => push_loss(text, closed, *cause),
         What::Answer(answer) => push_answer(alloc, text, *answer),
     }
 }
 
-/// Puts the line of an event behind a text.
-#[tactic(auto, unfolding(crate::specs::Show::event_line))]
-pub(crate) fn push_line(alloc: Global, text: &mut Text, event: &HallEvent) -> Result<(), AllocError>
-    ensures { OnOk result (text.new ≡ text.old ++ event_line event.now) }
+/// Puts the line of an event behind a text; exprun had closed the output of its child itself, or not.
+#[tactic(auto, unfolding(crate::specs::Show::told_line))]
+pub(crate) fn push_line(
+    alloc: Global,
+    text: &mut Text,
+    closed: bool,
+    event: &HallEvent,
+) -> Result<(), AllocError>
+    ensures { OnOk result (text.new ≡ text.old ++ told_line closed event.now) }
 {
     match event {
         HallEvent::Child {
@@ -84,7 +99,7 @@ pub(crate) fn push_line(alloc: Global, text: &mut Text, event: &HallEvent) -> Re
             push_labelled(alloc, text, b"  script ", u128::from(*script))?;
             push_labelled(alloc, text, b"  child ", u128::from(*child))?;
             text.extend(b"  ")?;
-            push_what(alloc, text, what)?;
+            push_what(alloc, text, closed, what)?;
             text.push(b'\n')
         }
         HallEvent::Tick { moment } => {
@@ -120,7 +135,7 @@ fn push_event(
     if !is_of(script, event) {
         return Ok(());
     }
-    push_line(alloc, text, event)
+    push_line(alloc, text, false, event)
 }
 
 /// The lines of those events that are of a script, or of all where none is named.

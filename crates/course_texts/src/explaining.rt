@@ -7,6 +7,7 @@ ghost use Rattle.report_texts.specs.Devices.{GaveUp};
 ghost use Rattle.course_texts.specs.Waits.{wait_lines};
 ghost use Rattle.course_texts.specs.Explain.{is_quiet as is_quiet_of, SaysAll, TellsBehind, heading as heading_of, StartsOne, fault_line, end_text, is_told as is_told_of, Explains, Tells, TellsOne, StepTold, Judged, IsNoWant};
 
+use crate::closing::is_closed;
 use crate::events::push_line;
 use crate::meetings::{Teller, rest_of};
 use crate::trail::push_places;
@@ -106,7 +107,8 @@ fn step(
     let Some(own) = own_event(alloc, number, event)? else {
         return Ok(());
     };
-    push_line(alloc, text, event)?;
+    let closed = is_closed(session.requests(), session.ending(), event);
+    push_line(alloc, text, closed, event)?;
     let asked = session.requests().len();
     let begun = session.steps();
     let front = mem::replace(text, Text::new(alloc));

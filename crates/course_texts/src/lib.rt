@@ -4,6 +4,7 @@
 //! behind each of its own. What these texts say is defined in `specs/Show` and `specs/Explain`.
 #![tactic(auto)]
 
+mod closing;
 mod events;
 mod explaining;
 mod meetings;

@@ -181,6 +181,7 @@ fn replay_order<'a, R: Files + Print, L: Read + Drop, S: Shelf>(
     match replay(
         alloc,
         &mut log,
+        order.cut,
         scripts,
         &order.scripts.form,
         shelf,

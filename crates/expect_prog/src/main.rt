@@ -6,6 +6,7 @@ mod complaint;
 mod files;
 mod folder;
 mod outcome;
+mod part;
 mod running;
 mod standard;
 

@@ -7,6 +7,7 @@ use crate::complaint::{Complaint, tell};
 use crate::files::{Disk, scripts};
 use crate::folder::{Folder, Pages};
 use crate::outcome::Outcome;
+use crate::part::{Name, SyncedFile};
 use child_events::Counted;
 use child_pipes::{Cancellation, Free, Pipes, Programs, Reaper, Stop, Wall, Watch};
 use command_line::Run;
@@ -14,7 +15,6 @@ use dialogue_sched::Script;
 use report_texts::Format;
 use script_runs::{DriveFault, Early, NoShelf, Record, Telling, Told, clocks, drive, drive_early};
 use std::alloc::{AllocError, Global};
-use std::fs;
 use std::io::{IsTerminal, Write};
 use std::rt::Files;
 use std::sync::{Arc, Wait};
@@ -91,13 +91,14 @@ fn outcome_of<R: Pages + Drop>(
     Ok(Outcome::of(all_well && well, is_whole))
 }
 
-/// Runs scripts over processes. Transcripts go to `folder` as scripts end, the record goes to `record`, and the reports go to `out`; what is to
-/// be told of them while they run is told on `errors`.
+/// Runs scripts over processes. Transcripts go to `folder` as scripts end, the record goes to `record` as it comes, and the reports go to `out`; what
+/// is to be told of them while they run is told on `errors`. Where the run can't begin, a fault says why. Else what came of it is given, and `record`
+/// is given back.
 fn run_scripts<
     R: Files + Eprint + Pages + Threads + Wait + Clock + Programs + Copy + Send + Drop + 'static,
     E: Write + IsTerminal + Copy + Send + Drop + 'static,
     O: Write + Copy + Send + Drop + 'static,
-    L: Write,
+    L: Write + Drop,
 >(
     rt: R,
     alloc: Global,
@@ -106,9 +107,9 @@ fn run_scripts<
     errors: E,
     out: O,
     folder: Option<Folder<R>>,
-    record: &mut L,
+    record: L,
     stop: &Arc<Stop>,
-) -> Result<Outcome, DriveFault> {
+) -> Result<(Result<Outcome, DriveFault>, L), DriveFault> {
     let guard = match order.guard {
         true => rt.start_guard(alloc).ok(),
         false => None,
@@ -142,46 +143,34 @@ fn run_scripts<
     drop(cancellations);
     let watch = Watch::start(rt, alloc, &wall, reaper, Arc::try_clone(stop)?, errors)?;
     let recorded = order.record.is_some() || order.explain.is_some();
-    let mut log = Counted::new(record);
-    let driven = if is_early {
-        match drive_early(
-            rt, alloc, scripts, keepers, clocks, Free, recorded, &mut log,
-        ) {
-            Ok(()) => Ok(true),
-            Err(fault) => Err(fault),
+    let log = Counted::new(record);
+    let (driven, log) = if is_early {
+        let (outcome, log) = drive_early(rt, alloc, scripts, keepers, clocks, Free, recorded, log);
+        match outcome {
+            Ok(()) => (Ok(true), log),
+            Err(fault) => (Err(fault), log),
         }
     } else {
         let mut out = Counted::new(out);
         let shelf = &mut NoShelf;
         drive(
-            rt, alloc, scripts, keepers, clocks, Free, recorded, form, shelf, &mut log, &mut out,
+            rt, alloc, scripts, keepers, clocks, Free, recorded, form, shelf, log, &mut out,
         )
     };
     let told = early.end(&rt);
     telling.end();
     watch.stop(rt, alloc, errors);
-    outcome_of(driven, told)
-}
-
-/// The file that the record of an order is written to, which is made.
-fn record_file<'a, R: Files>(rt: &R, order: &Run<'a>) -> Result<Option<R::File>, Complaint<'a>> {
-    let Some(path) = order.record else {
-        return Ok(None);
-    };
-    match fs::File::create(rt, path) {
-        Ok(file) => Ok(Some(file)),
-        Err(_) => Err(Complaint::Unwritten),
-    }
+    Ok((outcome_of(driven, told), log.device))
 }
 
 /// Runs an order's scripts over real children, keeps their transcripts where that is asked for, hands their record to `record`, and prints the
-/// reports.
+/// reports. Where the run can't begin, a complaint says why.
 fn run_order<
     'a,
     R: Files + Eprint + Pages + Threads + Wait + Clock + Programs + Copy + Send + Drop + 'static,
     E: Write + IsTerminal + Copy + Send + Drop + 'static,
     O: Write + Copy + Send + Drop + 'static,
-    L: Write,
+    L: Write + Drop,
 >(
     rt: R,
     alloc: Global,
@@ -189,15 +178,85 @@ fn run_order<
     errors: E,
     out: O,
     scripts: Vec<Script>,
-    record: &mut L,
+    record: L,
     stop: &Arc<Stop>,
-) -> Result<Outcome, Complaint<'a>> {
+) -> Result<(Result<Outcome, DriveFault>, L), Complaint<'a>> {
     let folder = match order.scripts.transcripts {
         Some(path) => Some(Folder::new(rt, alloc, path, order.scripts.sources.as_slice())?),
         None => None,
     };
     match run_scripts(rt, alloc, scripts, order, errors, out, folder, record, stop) {
-        Ok(outcome) => Ok(outcome),
+        Ok(ran) => Ok(ran),
+        Err(fault) => Err(Complaint::of_drive(fault, order)),
+    }
+}
+
+/// Runs an order's scripts, and writes their record to a file, which has its name when all of the record is written. Gives what came of the run, and
+/// what was kept of the record behind `kept`.
+fn run_to_file<
+    'a,
+    R: Files + Eprint + Pages + Threads + Wait + Clock + Programs + Copy + Send + Drop + 'static,
+    E: Write + IsTerminal + Copy + Send + Drop + 'static,
+    O: Write + Copy + Send + Drop + 'static,
+>(
+    rt: R,
+    alloc: Global,
+    order: &Run<'a>,
+    errors: E,
+    out: O,
+    scripts: Vec<Script>,
+    path: &'a str,
+    kept: Option<Text>,
+    stop: &Arc<Stop>,
+) -> Result<(Outcome, Option<Text>), Complaint<'a>> {
+    let name = Name::new(&rt, alloc, path)?;
+    let file = SyncedFile::new(rt, name.create(&rt)?);
+    let record = Record::new(Some(file), kept);
+    let (driven, record) = match run_order(rt, alloc, order, errors, out, scripts, record, stop) {
+        Ok(ran) => ran,
+        Err(complaint) => {
+            name.remove(&rt);
+            return Err(complaint);
+        }
+    };
+    let (file, kept) = record.into_parts();
+    let is_whole = matches!(driven, Ok(_) | Err(DriveFault::Write));
+    let named = match &file {
+        Some(file) if is_whole => name.give(&rt, file.file()),
+        _ => Ok(()),
+    };
+    match driven {
+        Ok(outcome) => {
+            named?;
+            Ok((outcome, kept))
+        }
+        Err(fault) => Err(Complaint::of_drive(fault, order)),
+    }
+}
+
+/// Runs an order's scripts, and writes their record where that is asked for. Gives what came of the run, and what was kept of the record behind `kept`.
+fn run_recorded<
+    'a,
+    R: Files + Eprint + Pages + Threads + Wait + Clock + Programs + Copy + Send + Drop + 'static,
+    E: Write + IsTerminal + Copy + Send + Drop + 'static,
+    O: Write + Copy + Send + Drop + 'static,
+>(
+    rt: R,
+    alloc: Global,
+    order: &Run<'a>,
+    errors: E,
+    out: O,
+    scripts: Vec<Script>,
+    kept: Option<Text>,
+    stop: &Arc<Stop>,
+) -> Result<(Outcome, Option<Text>), Complaint<'a>> {
+    if let Some(path) = order.record {
+        return run_to_file(rt, alloc, order, errors, out, scripts, path, kept, stop);
+    }
+    let record = Record::<R::File>::new(None, kept);
+    let (driven, record) = run_order(rt, alloc, order, errors, out, scripts, record, stop)?;
+    match driven {
+        Ok(outcome) => Ok((outcome, record.into_parts().1)),
         Err(fault) => Err(Complaint::of_drive(fault, order)),
     }
 }
@@ -238,13 +297,13 @@ fn run_and_tell<
     stop: &Arc<Stop>,
 ) -> Result<Outcome, Complaint<'a>> {
     let Some(path) = order.explain else {
-        let mut record = Record::new(record_file(&rt, order)?, None);
-        return run_order(rt, alloc, order, errors, out, scripts, &mut record, stop);
+        let (outcome, _) = run_recorded(rt, alloc, order, errors, out, scripts, None, stop)?;
+        return Ok(outcome);
     };
     let account = opened_account(&rt, alloc, path, scripts.as_slice())?;
-    let mut record = Record::new(record_file(&rt, order)?, Some(Text::new(alloc)));
-    let outcome = run_order(rt, alloc, order, errors, out, scripts, &mut record, stop)?;
-    Ok(outcome.and(tell_account(&rt, alloc, account, record.kept())))
+    let kept = Some(Text::new(alloc));
+    let (outcome, record) = run_recorded(rt, alloc, order, errors, out, scripts, kept, stop)?;
+    Ok(outcome.and(tell_account(&rt, alloc, account, record)))
 }
 
 /// Runs the files of an order over real children, keeps their transcripts where that is asked for, prints the reports, and then tells what

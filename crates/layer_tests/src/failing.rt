@@ -6,6 +6,7 @@ use crate::served::{Open, scripts, stopped};
 use child_events::{Answer, Cause};
 use child_keeper::Keeper;
 use child_serve::{Served, serve};
+use run_records::NoRecorder;
 use session::{Ending, Report};
 use std::alloc::{AllocError, Global};
 use std::io;
@@ -228,7 +229,8 @@ fn served<W: Threads + Wait + std::time::Clock + Copy + Send + Drop + 'static>(
     let scripts = scripts(alloc, SOURCE, SCRIPTS)?;
     let keepers = keepers(alloc, SCRIPTS, unlucky, failing)?;
     let clocks = stopped(alloc, workers)?;
-    match serve(rt, alloc, scripts, keepers, clocks, Open, false) {
+    let (served, _) = serve(rt, alloc, scripts, keepers, clocks, Open, NoRecorder, false);
+    match served {
         Ok(served) => Ok(served),
         Err(_) => Err(Fail::from("not served")),
     }

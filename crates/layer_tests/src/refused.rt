@@ -4,7 +4,7 @@
 ghost use Rattle.std.specs.Prelude.{◌<◌, ◌≤◌};
 
 use crate::keeper::liners;
-use crate::served::{CAT, Open, is_of_cat, script, scripts, stopped};
+use crate::served::{CAT, KeptRecord, Open, is_of_cat, script, scripts, stopped};
 use child_events::{HallEvent, own_event, read_log};
 use child_serve::{Served, serve};
 use dialogue_sched::{Script, run_all};
@@ -167,8 +167,12 @@ fn serves_three<W: Threads + Wait + std::time::Clock + Copy + Send + Drop + 'sta
     let scripts = scripts(alloc, CAT, 3)?;
     let keepers = liners(alloc, 3)?;
     let clocks = stopped(alloc, workers)?;
-    let served = serve(rt, alloc, scripts, keepers, clocks, Open, true)?;
-    are_of_cat(&served)
+    let recorder = KeptRecord::new(alloc);
+    let (served, record) = serve(rt, alloc, scripts, keepers, clocks, Open, recorder, true);
+    if record.is_lost {
+        return Err(Fail::from(REFUSED));
+    }
+    are_of_cat(&served?)
 }
 
 /// Whether three reports are those of [`CAT`]; where one of them alone isn't, memory was refused.

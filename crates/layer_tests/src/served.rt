@@ -1,13 +1,13 @@
 //! Scripts that are served, over keepers in memory.
 
-ghost use Rattle.std.specs.Prelude.{◌≡◌, length, IfOk, IfSome};
-ghost use Rattle.child_events.specs.Log.{AllFit};
+ghost use Rattle.std.specs.Prelude.{◌≡◌, length, IfOk, ⊤};
 
 use crate::keeper::Liner;
-use child_events::{read_log, write_log};
+use child_events::{HallEvents, fits, read_log, write_log};
 use child_keeper::{Clock, Gate};
 use child_serve::{Audience, Served, Stopping, serve};
 use dialogue_sched::Script;
+use run_records::Recorder;
 use session::{Ending, Pairs, Report, Settings};
 use std::alloc::{AllocError, Global};
 use std::sync::Wait;
@@ -127,7 +127,38 @@ impl Gate for Always {
     }
 }
 
-/// A script that one worker serves.
+/// Keeps the record of a run.
+#[derive(Drop)]
+pub struct KeptRecord {
+    pub events: HallEvents,
+    /// Whether memory for an event was refused.
+    pub is_lost: bool,
+}
+
+impl KeptRecord {
+    pub fn new(alloc: Global) -> KeptRecord {
+        KeptRecord {
+            events: HallEvents::new(alloc),
+            is_lost: false,
+        }
+    }
+}
+
+impl Recorder for KeptRecord {
+    ghost use Rattle.std.specs.Prelude.{⊤};
+
+    ghost notes = { λ _ _ _. ⊤ };
+
+    fn note(&mut self, events: HallEvents) {
+        for event in events.list {
+            if self.events.push(event).is_err() {
+                self.is_lost = true;
+            }
+        }
+    }
+}
+
+/// A script that one worker serves, and its record.
 fn served<W: Threads + Wait + std::time::Clock + Copy + Send + Drop + 'static>(
     rt: W,
     alloc: Global,
@@ -135,30 +166,39 @@ fn served<W: Threads + Wait + std::time::Clock + Copy + Send + Drop + 'static>(
     keeper: Liner,
     gain: u64,
     passes: bool,
-) -> Result<Served, Fail>
-    ensures { IfOk result (λ s. IfSome s.logged (λ es. AllFit es)) }
-{
+) -> Result<(Served, HallEvents), Fail> {
     let mut scripts = Vec::new(alloc);
     scripts.push(script(alloc, source)?)?;
     let mut keepers = Vec::new(alloc);
     keepers.push(keeper)?;
     let mut clocks = Vec::new(alloc);
     clocks.push(Gaining { moment: 0, gain })?;
-    match serve(rt, alloc, scripts, keepers, clocks, Always { passes }, true) {
-        Ok(served) => Ok(served),
-        Err(_) => Err(Fail::from("not served")),
+    let recorder = KeptRecord::new(alloc);
+    let (served, record) = serve(
+        rt,
+        alloc,
+        scripts,
+        keepers,
+        clocks,
+        Always { passes },
+        recorder,
+        true,
+    );
+    match served {
+        Ok(served) if !record.is_lost => Ok((served, record.events)),
+        _ => Err(Fail::from("not served")),
     }
 }
 
 #[test]
 fn a_script_over_a_keeper(rt: HostRuntime) -> Result<(), Fail> {
     let alloc = rt.alloc();
-    let served = served(rt, alloc, CAT, Liner::new(None, true), 0, true)?;
+    let (served, logged) = served(rt, alloc, CAT, Liner::new(None, true), 0, true)?;
     assert!(rt; all_of_cat(&served, 1));
     assert!(rt; served.unsettled.is_empty() && served.forced == 0);
-    let Some(logged) = &served.logged else {
+    if !fits(logged.as_slice()) {
         return Err(Fail::from("no record"));
-    };
+    }
     let record = write_log(alloc, logged.as_slice())?;
     let again = read_log(alloc, record.as_slice()).ok().ok_or("no log")?;
     assert_eq!(rt; again.len(), logged.len());
@@ -171,7 +211,7 @@ fn a_script_over_a_keeper(rt: HostRuntime) -> Result<(), Fail> {
 
 #[test]
 fn a_gate_that_always_refuses(rt: HostRuntime) -> Result<(), Fail> {
-    let served = served(rt, rt.alloc(), CAT, Liner::new(None, true), 0, false)?;
+    let (served, _) = served(rt, rt.alloc(), CAT, Liner::new(None, true), 0, false)?;
     assert!(rt; all_of_cat(&served, 1));
     assert!(rt; served.unsettled.is_empty() && served.forced == 2);
     Ok(())
@@ -179,7 +219,7 @@ fn a_gate_that_always_refuses(rt: HostRuntime) -> Result<(), Fail> {
 
 #[test]
 fn a_clock_that_runs(rt: HostRuntime) -> Result<(), Fail> {
-    let served = served(
+    let (served, _) = served(
         rt,
         rt.alloc(),
         LATE,

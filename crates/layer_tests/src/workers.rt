@@ -4,6 +4,7 @@ use crate::keeper::liners;
 use crate::served::{CAT, all_of_cat, scripts};
 use child_keeper::{Clock, Gate};
 use child_serve::{Audience, Stopping, serve};
+use run_records::NoRecorder;
 use std::alloc::{AllocError, Global};
 use std::sync::Arc;
 use std::sync::atomic::{AtomicBool, AtomicU64, Ordering};
@@ -122,7 +123,7 @@ fn workers_wait_for_one_another(rt: HostRuntime) -> Result<(), Fail> {
         rt,
         course: Arc::try_clone(&course)?,
     };
-    let served = serve(rt, alloc, scripts, keepers, clocks, gate, false);
+    let (served, _) = serve(rt, alloc, scripts, keepers, clocks, gate, NoRecorder, false);
     let served = served.ok().ok_or("not served")?;
     for worker in 0..2usize {
         assert_eq!(rt; course.passed[worker].load(Ordering::SeqCst), 2);

@@ -11,7 +11,7 @@ front zero text more = (zero, refl)
 front (suc n) [] more = (zero, refl)
 front (suc n) (x ∷ text) more = let p = front n text more in (suc p.0, ap (λ (zs : List ℕ). x ∷ zs) p.1)
 
-put_front : (old new : Option (List ℕ)) (text more : List ℕ) → WasPut old new text → WasPut old new (text ++ more)
+pub put_front : (old new : Option (List ℕ)) (text more : List ℕ) → WasPut old new text → WasPut old new (text ++ more)
 put_front old new text more (n, put) = let p = front n text more in (p.0, subst (λ (t : List ℕ). Appends old new t) (sym p.1) put)
 
 -- and so is a text with a front behind it

@@ -95,7 +95,7 @@ module _ (told : ℕ → ℕ → Request → Answer → Type 0) (gives : ℕ →
   runs_again : (text : List ℕ) (rs : List Report) → served.stopped ≡ false → WasServed told gives true workers keepers scripts served text → RunOver scripts text (Ok rs) → AllAgree served.reports rs
   runs_again text rs running was over =
       let is = one_written_list text was.es over.events was.log over.log in
-      all_agree 1 was.es scripts served.reports rs (serving_is_run told gives true workers keepers scripts was.es served size was.serves running).2 (subst (λ (es : List HallEvent). AllMean 1 es scripts rs) is over.runs.2)
+      all_agree 1 was.es scripts served.reports rs (serving_is_run told gives workers keepers scripts was.es served size was.serves running).2 (subst (λ (es : List HallEvent). AllMean 1 es scripts rs) is over.runs.2)
 
   no_new : (f : HallFault) → ◌≡◌ {A = Option HallFault} None (Some f) → ⊥
   no_new f h = cc

@@ -1,5 +1,6 @@
 pub mod Counting
 pub mod Standing
+pub mod Writers
 pub mod Drives
 pub mod Lines
 pub mod OverLogs

@@ -1,6 +1,6 @@
 -- What scripts over a slice answer, they answer over the log that a reader had left, where its bytes are known.
-use Rattle.std.proofs.Common.{◌≡◌, ℕ, List, subst}
-use Rattle.std.specs.Prelude.{Option, IfSome, Result, Ok, Err}
+use Rattle.std.proofs.Common.{◌≡◌, ℕ, List, Bool, Some, None, ap, subst, ◌∙◌}
+use Rattle.std.specs.Prelude.{Option, option_map, IfSome, Result, Ok, Err}
 use Rattle.child_events.specs.declared.event.HallEvent.{HallEvent}
 use Rattle.child_events.specs.declared.faults.LogFault.{LogFault}
 use Rattle.child_events.specs.Reading.{Refused}
@@ -10,7 +10,7 @@ use Rattle.dialogue_sched.specs.declared.script.Script.{Script}
 use Rattle.report_texts.proofs.Carried.{carried}
 use Rattle.script_runs.specs.declared.fault.ReplayFault.{ReplayFault}
 use Rattle.script_runs.specs.declared.fault.ReplayFault.TheVariants.{Read, Log, Run, Write, Memory}
-use Rattle.script_runs.specs.Replay.{RunOver, RunOrFault, ReportsOver, ReportsRead}
+use Rattle.script_runs.specs.Replay.{log_of, RunOver, RunOrFault, ReportsOver, ReportsRead}
 
 -- the reports over what the log of these bytes says
 pub over_log : (scripts : List Script) (bytes : List ℕ) (said : Result (List HallEvent) LogFault) (r : Result (List Report) ReplayFault) → SaysLog bytes said → RunOrFault scripts said r → ReportsOver scripts bytes r
@@ -29,3 +29,8 @@ over_read scripts known text slice failures calls (Err (Log f)) is same ran = (r
 over_read scripts known text slice failures calls (Err (Run f)) is same ran = (ran.0, carried (λ (bytes : List ℕ). RunOver scripts bytes (Err f)) known text slice is same ran.1)
 over_read scripts known text slice failures calls (Err Write) is same ran = ran
 over_read scripts known text slice failures calls (Err Memory) is same ran = tt
+
+-- the log that is read of the bytes that a reader had left
+pub read_as : (cut : Bool) (known : Option (List ℕ)) (text log : List ℕ) → IfSome known (λ bytes. text ≡ bytes) → log ≡ log_of cut text → IfSome (option_map (log_of cut) known) (λ bytes. log ≡ bytes)
+read_as cut None text log is made = tt
+read_as cut (Some bytes) text log is made = made ∙ ap (log_of cut) is

@@ -1,6 +1,7 @@
 pub mod Shelf
 pub mod Record
 pub mod Replay
+pub mod Logging
 pub mod Drive
 pub mod Planning
 pub mod Follow

@@ -1,5 +1,5 @@
 -- What a replay answers and writes.
-use Rattle.std.specs.Prelude.{◌≡◌, ◌≢◌, ℕ, List, Bool, Option, Result, Ok, Err, IfSome}
+use Rattle.std.specs.Prelude.{◌≡◌, ◌≢◌, ℕ, List, Bool, true, false, Option, Result, Ok, Err, IfSome}
 use Rattle.std.specs.Io.KnownBytes.{Appends}
 use Rattle.child_events.specs.declared.event.HallEvent.{HallEvent}
 use Rattle.child_events.specs.declared.faults.LogFault.{LogFault}
@@ -7,6 +7,7 @@ use Rattle.child_events.specs.declared.faults.LogFault.TheVariants as logs
 use Rattle.child_events.specs.Log.{LogText}
 use Rattle.child_events.specs.Reading.{Refused}
 use Rattle.child_events.specs.Judging.{Left, SaysLog}
+use Rattle.cut_logs.specs.Cut.{mended}
 use Rattle.session.specs.declared.report.Report.{Report}
 use Rattle.dialogue_sched.specs.declared.script.Script.{Script}
 use Rattle.dialogue_sched.specs.declared.hall.HallFault.TheVariants as halls
@@ -21,6 +22,11 @@ use Rattle.report_texts.specs.Devices.{WasPut, GaveUp}
 use Rattle.report_texts.specs.Written.{AllStandFor}
 use Rattle.script_runs.specs.Shelf.{Keeps, transcripts_of}
 use Rattle.report_texts.specs.declared.form.Form.{Form}
+
+-- the log that is read of bytes, which may be cut off
+abbrev pub log_of : Bool → List ℕ → List ℕ
+log_of true bytes = mended bytes
+log_of false bytes = bytes
 
 -- The bytes are the log text of some events, and the run of the scripts over these answers so.
 pub record RunOver (scripts : List Script) (bytes : List ℕ) (answer : Result (List Report) RunFault) : Type 0 where

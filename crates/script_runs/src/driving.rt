@@ -1,24 +1,23 @@
 //! Scripts over children, whose record and reports go to any two writers.
 
-ghost use Rattle.std.specs.Prelude.{◌≡◌, ◌≢◌, ◌<◌, ◌≤◌, [], length, map, IfErr, IfOk, IfSome, MatchOption, Err};
-ghost use Rattle.child_events.specs.Log.{AllFit, LogText2};
+ghost use Rattle.std.specs.Prelude.{◌≡◌, ◌≢◌, ◌<◌, ◌≤◌, length, map, IfErr, Err};
 ghost use Rattle.child_serve.specs.Whole.{keeping_of};
 ghost use Rattle.report_texts.specs.Devices.{GaveUp};
-ghost use Rattle.script_runs.specs.Drive.{Drives, Records, Serves, Puts, IsBefore};
+ghost use Rattle.script_runs.specs.Drive.{Drives, Records, Logs, Puts, LeavesLog, IsBefore, by_fault, records_alone};
 ghost use Rattle.report_texts.specs.Written.{AreSpares};
 
+use crate::log_writer::{LogWriteFault, LogWriter};
 use crate::shelf::{Shelf, keep_all};
-use child_events::{Counted, HallEvents, write_log};
+use child_events::Counted;
 use child_keeper::{Clock, Gate, Keeper};
 use child_serve::{Audience, ServeFault, Served, Stopping, serve};
 use dialogue_sched::Script;
-use report_texts::{Form, Spares, made_spares, write_all, write_reports};
+use report_texts::{Form, Spares, made_spares, write_reports};
 use session::Report;
 use std::alloc::{AllocError, Global};
 use std::io::Write;
 use std::sync::Wait;
 use std::thread::Threads;
-use tcl_words::Text;
 
 /// Why not all of a run was written.
 #[derive(Clone, Copy, PartialEq, Eq)]
@@ -44,12 +43,40 @@ impl From<AllocError> for DriveFault {
     }
 }
 
-/// Serves scripts, each with its keeper.
-fn served_by<
+impl From<ServeFault> for DriveFault {
+    ghost use Rattle.std.specs.Prelude.{◌≡◌};
+    ghost use Rattle.script_runs.specs.Drive.{fault_of};
+
+    ghost from_gives = { λ f e. e ≡ fault_of f };
+
+    fn from(fault: ServeFault) -> DriveFault {
+        match fault {
+            ServeFault::New(fault) => DriveFault::Serve(ServeFault::New(fault)),
+            ServeFault::NoThread => DriveFault::Serve(ServeFault::NoThread),
+            ServeFault::Memory => DriveFault::Memory,
+        }
+    }
+}
+
+/// What was served, and whether all of the log text of its record is written, by the fault of its writer.
+fn with_fault(served: Served, fault: Option<LogWriteFault>) -> Result<(Served, bool), DriveFault>
+    ensures { result ≡ by_fault served fault }
+{
+    match fault {
+        None => Ok((served, true)),
+        Some(LogWriteFault::Write) => Ok((served, false)),
+        Some(LogWriteFault::Memory) => Err(DriveFault::Memory),
+    }
+}
+
+/// Serves scripts, each with its keeper, and writes the log text of their record as it comes, where it is recorded. Says too whether all of it was
+/// written.
+fn serve_and_log<
     K: Keeper + Send + Drop + 'static,
     C: Clock + Audience + Stopping + Send + Drop + 'static,
     G: Gate + Sync + Send + Drop + 'static,
     W: Threads + Wait + std::time::Clock + Copy + Send + Drop + 'static,
+    L: Write + Drop,
 >(
     rt: W,
     alloc: Global,
@@ -58,40 +85,46 @@ fn served_by<
     clocks: Vec<C>,
     gate: G,
     recorded: bool,
-) -> Result<Served, DriveFault>
+    log: Counted<L>,
+) -> (Result<(Served, bool), DriveFault>, Counted<L>)
     requires workers { (0 < length clocks.items) × (length clocks.items ≤ 64) }
     requires keepers { length keepers.items ≡ length scripts.items }
-    ensures { Serves K.told K.gives recorded (length clocks.items) (map (keeping_of K.named K.made) keepers.items) scripts.items result }
+    requires log_failures { log.failures ≡ 0 }
+    requires log_calls { log.calls ≡ 0 }
+    ensures { Logs K.told K.gives recorded (length clocks.items) (map (keeping_of K.named K.made) keepers.items) scripts.items
+        (L.contents log.device) (L.contents result.1.device) result.1.failures result.1.calls result.0 }
 {
-    match serve(rt, alloc, scripts, keepers, clocks, gate, recorded) {
-        Ok(served) => Ok(served),
-        Err(ServeFault::New(fault)) => Err(DriveFault::Serve(ServeFault::New(fault))),
-        Err(ServeFault::NoThread) => Err(DriveFault::Serve(ServeFault::NoThread)),
-        Err(ServeFault::Memory) => Err(DriveFault::Memory),
+    let writer = LogWriter::begun(alloc, log, recorded);
+    let (outcome, writer) = serve(rt, alloc, scripts, keepers, clocks, gate, writer, recorded);
+    let served = match outcome {
+        Ok(served) => served,
+        Err(fault) => return (Err(fault.into()), writer.log),
+    };
+    let mut writer = writer;
+    writer.end(recorded);
+    (with_fault(served, writer.fault), writer.log)
+}
+
+/// What is answered of scripts that were served where nothing is to be written but their record.
+fn without_reports(outcome: Result<(Served, bool), DriveFault>) -> Result<(), DriveFault>
+    ensures { result ≡ records_alone outcome }
+{
+    match outcome? {
+        (_, true) => Ok(()),
+        (_, false) => Err(DriveFault::WriteLog),
     }
 }
 
-/// The log text of a record, or nothing where none is kept.
-fn log_text(alloc: Global, logged: &Option<HallEvents>) -> Result<Text, AllocError>
-    requires { IfSome logged.now (λ es. AllFit es) }
-    ensures { IfOk result (λ text. MatchOption logged.now (text ≡ []) (LogText2 text)) }
-{
-    match logged {
-        Some(events) => write_log(alloc, events.as_slice()),
-        None => Ok(Text::new(alloc)),
-    }
-}
-
-/// Serves scripts, each with its keeper, by as many workers as there are clocks, and writes the record's log text to `log`, where it is recorded.
-/// The clocks are told of reports as scripts end.
+/// Serves scripts, each with its keeper, by as many workers as there are clocks, and writes the record's log text to `log` as it comes, where it is
+/// recorded. The clocks are told of reports as scripts end. The log's device is given back.
 ///
-/// After `WriteLog` a front of the record was written, after any other fault nothing. An interrupted write is tried again.
+/// After `WriteLog` a front of the record was written, after `Serve` and `Memory` a front of a log. An interrupted write is tried again.
 pub fn drive_early<
     K: Keeper + Send + Drop + 'static,
     C: Clock + Audience + Stopping + Send + Drop + 'static,
     G: Gate + Sync + Send + Drop + 'static,
     W: Threads + Wait + std::time::Clock + Copy + Send + Drop + 'static,
-    L: Write,
+    L: Write + Drop,
 >(
     rt: W,
     alloc: Global,
@@ -100,71 +133,55 @@ pub fn drive_early<
     clocks: Vec<C>,
     gate: G,
     recorded: bool,
-    log: &mut Counted<L>,
-) -> Result<(), DriveFault>
+    log: Counted<L>,
+) -> (Result<(), DriveFault>, Counted<L>)
     requires workers { (0 < length clocks.items) × (length clocks.items ≤ 64) }
     requires keepers { length keepers.items ≡ length scripts.items }
-    requires log_failures { log.old.failures ≡ 0 }
-    requires log_calls { log.old.calls ≡ 0 }
+    requires log_failures { log.failures ≡ 0 }
+    requires log_calls { log.calls ≡ 0 }
     ensures answers { Records K.told K.gives recorded (length clocks.items) (map (keeping_of K.named K.made) keepers.items) scripts.items
-        (L.contents log.old.device) (L.contents log.new.device) result }
-    ensures unwritten { IfErr result (λ fault. IsBefore fault → log.new ≡ log.old) }
-    ensures log { result ≡ Err DriveFault.WriteLog → GaveUp log.new.failures log.new.calls }
-    ensures log_whole { result ≢ Err DriveFault.WriteLog → log.new.failures ≡ 0 }
+        (L.contents log.device) (L.contents result.1.device) result.0 }
+    ensures log { LeavesLog result.1.failures result.1.calls result.0 }
 {
-    let served = served_by(rt, alloc, scripts, keepers, clocks, gate, recorded)?;
-    let text = log_text(alloc, &served.logged)?;
-    match write_all(log, text.as_slice()) {
-        Ok(()) => Ok(()),
-        Err(_) => Err(DriveFault::WriteLog),
-    }
+    let (outcome, log) = serve_and_log(rt, alloc, scripts, keepers, clocks, gate, recorded, log);
+    (without_reports(outcome), log)
 }
 
-/// Writes the text of a record, and then the reports.
-fn write_both<L: Write, O: Write>(
+/// Writes reports.
+fn put_reports<O: Write>(
     alloc: Global,
     form: &Form,
-    record: &Text,
     reports: &[Report],
     spares: Spares,
-    log: &mut Counted<L>,
     out: &mut Counted<O>,
 ) -> Result<bool, DriveFault>
     requires spares { AreSpares form.now (length reports.now) spares }
-    requires log_failures { log.old.failures ≡ 0 }
-    requires log_calls { log.old.calls ≡ 0 }
     requires out_failures { out.old.failures ≡ 0 }
     requires out_calls { out.old.calls ≡ 0 }
-    ensures answers { Puts record.now form.now reports.now (L.contents log.old.device) (L.contents log.new.device) (O.contents out.old.device) (O.contents out.new.device) result }
-    ensures reports { result ≡ Err DriveFault.WriteLog → out.new ≡ out.old }
-    ensures log { result ≡ Err DriveFault.WriteLog → GaveUp log.new.failures log.new.calls }
+    ensures answers { Puts form.now reports.now (O.contents out.old.device) (O.contents out.new.device) result }
     ensures out { result ≡ Err DriveFault.Write → GaveUp out.new.failures out.new.calls }
-    ensures log_whole { result ≢ Err DriveFault.WriteLog → log.new.failures ≡ 0 }
     ensures out_whole { result ≢ Err DriveFault.Write → out.new.failures ≡ 0 }
 {
-    match write_all(log, record.as_slice()) {
-        Ok(()) => match write_reports(alloc, form, reports, spares, out) {
-            Ok(well) => Ok(well),
-            Err(_) => Err(DriveFault::Write),
-        },
-        Err(_) => Err(DriveFault::WriteLog),
+    match write_reports(alloc, form, reports, spares, out) {
+        Ok(well) => Ok(well),
+        Err(_) => Err(DriveFault::Write),
     }
 }
 
-/// Serves scripts, each with its keeper, by as many workers as there are clocks. Hands their transcripts to a shelf, writes the record's log text
-/// to `log`, where it is recorded, and then the reports to `out`, in a form. The answer says whether each script ended with status 0.
+/// Serves scripts, each with its keeper, by as many workers as there are clocks. Writes the record's log text to `log` as it comes, where it is
+/// recorded; then hands the transcripts to a shelf, and writes the reports to `out`, in a form. The answer says whether each script ended with status
+/// 0. The log's device is given back.
 ///
-/// The record's text is made before the first transcript is kept, and reports are written one by one: where memory is refused for one report or
-/// its text, that script's report says `memory`, and the others are whole. After `WriteLog` a front of the record was written and nothing of the
-/// reports, after `Write` the record and a front of the reports, after any other fault nothing, and nothing was kept. An interrupted write is
-/// tried again.
+/// Reports are written one by one: where memory is refused for one report or its text, that script's report says `memory`, and the others are whole.
+/// After `WriteLog` a front of the record was written and nothing of the reports, after `Write` the record and a front of the reports. After `Serve`
+/// and `Memory` a front of a log was written, and nothing of the reports, and nothing was kept. An interrupted write is tried again.
 pub fn drive<
     K: Keeper + Send + Drop + 'static,
     C: Clock + Audience + Stopping + Send + Drop + 'static,
     G: Gate + Sync + Send + Drop + 'static,
     W: Threads + Wait + std::time::Clock + Copy + Send + Drop + 'static,
     S: Shelf,
-    L: Write,
+    L: Write + Drop,
     O: Write,
 >(
     rt: W,
@@ -176,28 +193,36 @@ pub fn drive<
     recorded: bool,
     form: &Form,
     shelf: &mut S,
-    log: &mut Counted<L>,
+    log: Counted<L>,
     out: &mut Counted<O>,
-) -> Result<bool, DriveFault>
+) -> (Result<bool, DriveFault>, Counted<L>)
     requires workers { (0 < length clocks.items) × (length clocks.items ≤ 64) }
     requires keepers { length keepers.items ≡ length scripts.items }
-    requires log_failures { log.old.failures ≡ 0 }
-    requires log_calls { log.old.calls ≡ 0 }
+    requires log_failures { log.failures ≡ 0 }
+    requires log_calls { log.calls ≡ 0 }
     requires out_failures { out.old.failures ≡ 0 }
     requires out_calls { out.old.calls ≡ 0 }
     ensures answers { Drives K.told K.gives recorded (length clocks.items) (map (keeping_of K.named K.made) keepers.items) scripts.items form.now
-        (S.handed shelf.old) (S.handed shelf.new) (L.contents log.old.device) (L.contents log.new.device) (O.contents out.old.device) (O.contents out.new.device) result }
-    ensures unwritten { IfErr result (λ fault. IsBefore fault → (shelf.new ≡ shelf.old) × (log.new ≡ log.old) × (out.new ≡ out.old)) }
-    ensures reports { result ≡ Err DriveFault.WriteLog → out.new ≡ out.old }
-    ensures log { result ≡ Err DriveFault.WriteLog → GaveUp log.new.failures log.new.calls }
-    ensures out { result ≡ Err DriveFault.Write → GaveUp out.new.failures out.new.calls }
-    ensures log_whole { result ≢ Err DriveFault.WriteLog → log.new.failures ≡ 0 }
-    ensures out_whole { result ≢ Err DriveFault.Write → out.new.failures ≡ 0 }
+        (S.handed shelf.old) (S.handed shelf.new) (L.contents log.device) (L.contents result.1.device) (O.contents out.old.device) (O.contents out.new.device) result.0 }
+    ensures unwritten { IfErr result.0 (λ fault. IsBefore fault → (shelf.new ≡ shelf.old) × (out.new ≡ out.old)) }
+    ensures reports { result.0 ≡ Err DriveFault.WriteLog → out.new ≡ out.old }
+    ensures log { LeavesLog result.1.failures result.1.calls result.0 }
+    ensures out { result.0 ≡ Err DriveFault.Write → GaveUp out.new.failures out.new.calls }
+    ensures out_whole { result.0 ≢ Err DriveFault.Write → out.new.failures ≡ 0 }
 {
-    let spares = made_spares(alloc, form, scripts.len())?;
-    let served = served_by(rt, alloc, scripts, keepers, clocks, gate, recorded)?;
-    let record = log_text(alloc, &served.logged)?;
+    let spares = match made_spares(alloc, form, scripts.len()) {
+        Ok(spares) => spares,
+        Err(_) => return (Err(DriveFault::Memory), log),
+    };
+    let (outcome, log) = serve_and_log(rt, alloc, scripts, keepers, clocks, gate, recorded, log);
+    let (served, is_logged) = match outcome {
+        Ok(served) => served,
+        Err(fault) => return (Err(fault), log),
+    };
     let reports = served.reports.as_slice();
     keep_all(reports, shelf);
-    write_both(alloc, form, &record, reports, spares, log, out)
+    if !is_logged {
+        return (Err(DriveFault::WriteLog), log);
+    }
+    (put_reports(alloc, form, reports, spares, out), log)
 }

@@ -11,6 +11,8 @@ mod early;
 mod fault;
 mod following;
 mod laws;
+mod log_writer;
+mod logging;
 mod planning;
 mod progress;
 mod record;

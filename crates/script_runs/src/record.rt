@@ -37,11 +37,13 @@ impl<F: Drop> Record<F> {
         Record { file, kept }
     }
 
-    /// What was kept of it, if that is all that was taken.
-    pub fn kept(self) -> Option<Text>
-        ensures { result ≡ self.kept }
+    /// The file, and what was kept of the record, if that is all that was taken.
+    pub fn into_parts(self) -> (Option<F>, Option<Text>)
+        ensures file { result.0 ≡ self.file }
+        ensures kept { result.1 ≡ self.kept }
     {
-        self.kept
+        let Record { file, kept } = self;
+        (file, kept)
     }
 }
 

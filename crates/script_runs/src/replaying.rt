@@ -1,16 +1,18 @@
 //! Scripts over a log of events, from any reader to any writer.
 
-ghost use Rattle.std.specs.Prelude.{◌≡◌, ◌≢◌, length, IfOk, IfErr, IfSome, Err};
+ghost use Rattle.std.specs.Prelude.{◌≡◌, ◌≢◌, length, option_map, IfOk, IfErr, IfSome, Err};
 ghost use Rattle.report_texts.specs.Devices.{GaveUp};
-ghost use Rattle.script_runs.specs.Replay.{Opens, RunOrFault, ReportsOver, ReportsRead, Replays, IsNoWant};
+ghost use Rattle.script_runs.specs.Replay.{Opens, log_of, RunOrFault, ReportsOver, ReportsRead, Replays, IsNoWant};
 
 use crate::fault::ReplayFault;
 use crate::shelf::{Shelf, keep_all};
 use child_events::{Counted, LogFault, LogLines};
+use cut_logs::mend;
 use dialogue_sched::{HallFault, LogRunFault, Reports, RunFault, Script, run_log};
 use report_texts::{Form, ReadFault, made_spares, read_all, write_reports};
 use std::alloc::Global;
 use std::io::{Read, Write};
+use tcl_words::Text;
 
 /// The reports of scripts over what is left of a log.
 fn reports_of(
@@ -51,19 +53,35 @@ fn reports_over(alloc: Global, scripts: Vec<Script>, bytes: &[u8]) -> Result<Rep
     reports_of(alloc, scripts, &mut log)
 }
 
-/// The reports of scripts over the log that a reader has left.
+/// The bytes that a reader has left; where they may be of a log that was cut off, the whole log that is made of them.
+fn log_bytes<R: Read>(alloc: Global, log: &mut Counted<R>, cut: bool) -> Result<Text, ReadFault>
+    requires failures { log.old.failures ≡ 0 }
+    requires calls { log.old.calls ≡ 0 }
+    ensures bytes { IfOk result (λ text. IfSome (option_map (log_of cut) (R.remaining log.old.device)) (λ bytes. text ≡ bytes)) }
+    ensures failed { result ≡ Err ReadFault.Failed → GaveUp log.new.failures log.new.calls }
+    ensures unfailed { result ≢ Err ReadFault.Failed → log.new.failures ≡ 0 }
+{
+    let mut bytes = read_all(alloc, log)?;
+    if cut {
+        mend(alloc, &mut bytes)?;
+    }
+    Ok(bytes)
+}
+
+/// The reports of scripts over the log that a reader has left, which may be cut off where `cut` says so.
 fn reports_read<R: Read>(
     alloc: Global,
     log: &mut Counted<R>,
+    cut: bool,
     scripts: Vec<Script>,
 ) -> Result<Reports, ReplayFault>
     requires failures { log.old.failures ≡ 0 }
     requires calls { log.old.calls ≡ 0 }
-    ensures read { ReportsRead scripts.items (R.remaining log.old.device) log.new.failures log.new.calls result }
+    ensures read { ReportsRead scripts.items (option_map (log_of cut) (R.remaining log.old.device)) log.new.failures log.new.calls result }
     ensures read_whole { result ≢ Err ReplayFault.Read → log.new.failures ≡ 0 }
     ensures count { IfOk result (λ rs. length rs ≡ length scripts.items) }
 {
-    let bytes = match read_all(alloc, log) {
+    let bytes = match log_bytes(alloc, log, cut) {
         Ok(bytes) => bytes,
         Err(ReadFault::Failed) => return Err(ReplayFault::Read),
         Err(ReadFault::Memory) => return Err(ReplayFault::Memory),
@@ -72,7 +90,8 @@ fn reports_read<R: Read>(
 }
 
 /// Reads a log, runs the scripts over its events while it is judged, hands their transcripts to a shelf, and writes their reports one by one,
-/// in a form. The answer says whether each script ended with status 0.
+/// in a form. The answer says whether each script ended with status 0. Where `cut` says so, the log may be cut off: it is taken up to its last whole
+/// line.
 ///
 /// Where memory is refused for one report or its text, that script's report says `memory`, and the others are whole.
 ///
@@ -82,6 +101,7 @@ fn reports_read<R: Read>(
 pub fn replay<R: Read, S: Shelf, W: Write>(
     alloc: Global,
     log: &mut Counted<R>,
+    cut: bool,
     scripts: Vec<Script>,
     form: &Form,
     shelf: &mut S,
@@ -91,7 +111,7 @@ pub fn replay<R: Read, S: Shelf, W: Write>(
     requires log_calls { log.old.calls ≡ 0 }
     requires out_failures { out.old.failures ≡ 0 }
     requires out_calls { out.old.calls ≡ 0 }
-    ensures answers { IfSome (R.remaining log.old.device) (λ bytes.
+    ensures answers { IfSome (option_map (log_of cut) (R.remaining log.old.device)) (λ bytes.
         Replays scripts.items form.now bytes (S.handed shelf.old) (S.handed shelf.new) (W.contents out.old.device) (W.contents out.new.device) result) }
     ensures unwritten { IfErr result (λ fault. fault ≢ ReplayFault.Write → (shelf.new ≡ shelf.old) × (out.new ≡ out.old)) }
     ensures read { result ≡ Err ReplayFault.Read → GaveUp log.new.failures log.new.calls }
@@ -101,7 +121,7 @@ pub fn replay<R: Read, S: Shelf, W: Write>(
     ensures memory { IfErr result (λ fault. IsNoWant fault) }
 {
     let spares = made_spares(alloc, form, scripts.len())?;
-    let reports = reports_read(alloc, log, scripts)?;
+    let reports = reports_read(alloc, log, cut, scripts)?;
     keep_all(reports.as_slice(), shelf);
     match write_reports(alloc, form, reports.as_slice(), spares, out) {
         Ok(well) => Ok(well),

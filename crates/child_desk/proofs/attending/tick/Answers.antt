@@ -1,5 +1,5 @@
 use Rattle.feed_rings.specs.Ends.{put_items}
-use Rattle.child_desk.specs.Book.{logged}
+use Rattle.child_desk.specs.Book.{logged, ring_log}
 use Rattle.std.proofs.Common.{true, length, sym, ap, ◌∙◌}
 use Rattle.child_desk.proofs.Kept.{leaves_ticked}
 use Rattle.child_desk.proofs.Coming.{later, tick_taken, ticked, not_ticked}
@@ -20,10 +20,10 @@ returns-clause-kept c =
 
 pub returns-clause-silent : goal.returns-clause-silent
 returns-clause-silent c =
-    unheard_on (logged c.args.book.now) (logged c.set_stamp.new.book) (logged c.enter_taken.new.book) (ap put_items c.set_stamp.ensures.log)
+    unheard_on (logged c.args.book.now) (logged c.set_stamp.new.book) (logged c.enter_taken.new.book) (ap ring_log c.set_stamp.ensures.log)
     (tick_unheard c.args.now true c.set_stamp.new.book c.enter_taken.new.book c.enter_taken.ensures)
 
 pub returns-clause-ticked : goal.returns-clause-ticked
 returns-clause-ticked c =
     ticked c.args.now c.args.book.now c.set_stamp.new.book c.enter_taken.new.book (sym c.goes_on.ensures ∙ c.if-not-goes_on.false)
-    (ap put_items c.set_stamp.ensures.log) c.set_stamp.ensures.stamp c.enter_taken.ensures
+    (ap ring_log c.set_stamp.ensures.log) c.set_stamp.ensures.stamp c.enter_taken.ensures

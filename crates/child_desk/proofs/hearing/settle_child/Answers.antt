@@ -1,5 +1,6 @@
 use Rattle.child_desk.specs.Book.{logged}
-use Rattle.std.proofs.Common.{List, ◌+◌, subst, ◌∙◌}
+use Rattle.child_keeper.specs.Record.{events_in}
+use Rattle.std.proofs.Common.{List, ◌+◌, ap, subst, ◌∙◌}
 use Rattle.child_events.specs.declared.event.HallEvent.{HallEvent}
 use Rattle.child_desk.specs.Heard.{HearsAt}
 use Rattle.child_desk.proofs.Kept.{leaves_same, leaves_then}
@@ -15,7 +16,7 @@ loop-preserved g c =
       hand = (c.hear_left.ensures.hand.0 ∙ now.invariant.hand.0, c.hear_left.ensures.hand.1 ∙ now.invariant.hand.1);
       heard =
           hears_at_then (c.args.at + 1) c.args.index c.args.ends.now.readers now.ends.readers new.ends.readers (logged c.args.book.now) (logged now.book) (logged new.book)
-          now.invariant.heard (subst (λ (es : List HallEvent). HearsAt (c.args.at + 1) c.args.index now.ends.readers es new.ends.readers (logged new.book)) c.await_room.ensures.looks.log c.hear_left.ensures.heard);
+          now.invariant.heard (subst (λ (es : List HallEvent). HearsAt (c.args.at + 1) c.args.index now.ends.readers es new.ends.readers (logged new.book)) (ap events_in c.await_room.ensures.looks.items) c.hear_left.ensures.heard);
       left = left_step c.args.index now.counter c.left-count.result c.left-count.new.finished now.ends.readers new.ends.readers c.loop-test.true now.invariant.left c.in_ok-hear_left.ensures.left;
       put = now.invariant.put;
     }

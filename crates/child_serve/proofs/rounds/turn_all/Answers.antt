@@ -1,7 +1,6 @@
 use Rattle.child_desk.specs.Book.{logged}
-use Rattle.std.proofs.Common.{◌∙◌}
 use Rattle.child_desk.proofs.Hears.{all_same as hears_nothing, all_then as hears_then}
-use Rattle.child_desk.proofs.Kept.{all_then, no_hand_then}
+use Rattle.child_desk.proofs.Kept.{all_then}
 use Rattle.child_serve.proofs.Rounding.{kept_same}
 use Rattle.child_serve.proofs.rounds.turn_all.Goals as goal
 
@@ -44,12 +43,12 @@ loop-preserved-then-not-is_due g c =
     let was = c.args.desk.now in
     let now = c.loop.desk in
     let desk = c.has_come.new.self in
-    let left = c.rest.new.desk in
+    let left = c.stand_by.new.desk in
     record {
-      kept = kept_same was.lines.items now.lines.items left.lines.items was.ends.items now.ends.items left.ends.items was.book now.book left.book c.loop.invariant.kept (c.rest.ensures.same.0 ∙ c.has_come.ensures.lines)
-          (no_hand_then now.ends.items desk.ends.items left.ends.items c.has_come.ensures.hands c.rest.ensures.hands) (c.rest.ensures.same.1 ∙ c.has_come.ensures.book);
+      kept = all_then was.lines.items desk.lines.items left.lines.items was.ends.items desk.ends.items left.ends.items was.book desk.book left.book
+          (kept_same was.lines.items now.lines.items desk.lines.items was.ends.items now.ends.items desk.ends.items was.book now.book desk.book c.loop.invariant.kept c.has_come.ensures.lines c.has_come.ensures.hands c.has_come.ensures.book) c.stand_by.ensures.kept;
       heard = hears_then was.ends.items desk.ends.items left.ends.items (logged was.book) (logged desk.book) (logged left.book)
-          (hears_then was.ends.items now.ends.items desk.ends.items (logged was.book) (logged now.book) (logged desk.book) c.loop.invariant.heard c.has_come.ensures.heard) c.rest.ensures.heard;
+          (hears_then was.ends.items now.ends.items desk.ends.items (logged was.book) (logged now.book) (logged desk.book) c.loop.invariant.heard c.has_come.ensures.heard) c.stand_by.ensures.heard;
     }
 
 pub loop-preserved : goal.loop-preserved

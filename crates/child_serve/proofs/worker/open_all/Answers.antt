@@ -1,6 +1,6 @@
 use Rattle.std.proofs.Common.{◌≡◌, ℕ, ◌+◌, ◌++◌, ◌∷◌, [], length, Some, sym, ap, subst, ◌∙◌, arith}
 use Rattle.std.specs.Prelude.{slice_get}
-use Rattle.child_serve.specs.Joined.{script_of}
+use Rattle.run_records.specs.Joined.{script_of}
 use Rattle.child_serve.specs.Opened.{IsOpened}
 use Rattle.child_serve.proofs.Opening.{rest_first, rest_next, one_longer, one_opened}
 use Rattle.child_serve.proofs.worker.open_all.Goals as goal

@@ -2,7 +2,7 @@ use Rattle.child_desk.specs.Book.{logged}
 use Rattle.std.proofs.Common.{◌≡◌, ℕ, ◌+◌, length, refl, ap, subst, ◌∙◌, arith}
 use Rattle.child_desk.proofs.Hears.{all_same, all_then}
 use Rattle.child_desk.proofs.Kept.{leaves_all, leaves_then, no_hand_same, no_hand_then, same_rings}
-use Rattle.child_serve.specs.Joined.{script_of}
+use Rattle.run_records.specs.Joined.{script_of}
 use Rattle.child_serve.specs.Opened.{AreTakenIn, AreClosedIn}
 use Rattle.child_serve.proofs.Opening.{rest_whole, rest_first, rest_next}
 use Rattle.child_serve.proofs.Settling.{linked_still, left_of, end_of, settled_of, settled_next, settled_all}

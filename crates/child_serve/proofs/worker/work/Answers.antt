@@ -1,13 +1,14 @@
-use Rattle.std.proofs.Common.{◌≡◌, Bool, true, false, None, length, map, sym, ap, subst, ◌∙◌, arith}
+use Rattle.std.proofs.Common.{◌≡◌, Bool, true, false, length, map, sym, ap, subst, ◌∙◌, arith}
 use Rattle.std.proofs.lemmas.Option.{slice_get_within}
 use Rattle.dialogue_sched.specs.Hall.{AllBegin}
 use Rattle.child_desk.specs.declared.book.Book.{Book}
-use Rattle.child_desk.specs.Book.{IsRecord, logged}
+use Rattle.child_desk.specs.Book.{IsRecord, logged, ring_log}
 use Rattle.child_desk.proofs.Hears.{all_then}
 use Rattle.child_desk.proofs.Kept.{all_still, leaves_all, no_hand_same}
 use Rattle.child_serve.specs.Opened.{AreOpened}
 use Rattle.child_serve.proofs.Settling.{linked_all, linked_still, given_all, unheard_all}
-use Rattle.feed_rings.specs.Ends.{put_items, SameIn}
+use Rattle.feed_rings.specs.Ends.{SameIn}
+use Rattle.child_keeper.specs.Record.{events_in}
 use Rattle.child_serve.specs.declared.served.Part.{Part}
 use Rattle.child_serve.specs.Teams.{IsWork}
 use Rattle.child_serve.proofs.Taking.{then_in, kept_in}
@@ -52,9 +53,9 @@ returns g c =
     let hands = c.open_all-outcome.new.opened.hands.items in
     let outcome = c.into_outcome.result in
     let children = c.in_ok-settled.settled in
-    let part : Part = record { served = record { reports = outcome.reports; logged = None; unsettled = children.unsettled; forced = children.forced; stopped = false }; log = outcome.log } in
+    let part : Part = record { served = record { reports = outcome.reports; unsettled = children.unsettled; forced = children.forced; stopped = false }; log = outcome.log } in
     let first = ap (λ (b : Book). b.log) c.new-desk.ensures.book ∙ c.new-book.ensures.log in
-    let empty = ap put_items first ∙ c.requires.1 in
+    let empty = ap ring_log first ∙ ap events_in c.requires.1 in
     let are_opened = subst (λ es. AreOpened workers worker keepers es hands) (sym c.new-desk.ensures.ends) c.in_default.ensures.opened in
     subst (λ (p : Part). IsWork g.K.Keeper.told g.K.Keeper.gives g.K.Keeper.named g.K.Keeper.made workers worker c.args.seat.team p × SameIn c.args.seat.log p.log) (sym c.part_of.ensures) (
       is_work workers worker c.args.seat.team desk.lines.items turned.lines.items desk.ends.items turned.ends.items settled.ends.items begun turned.book settled.book part
@@ -68,7 +69,7 @@ returns g c =
           (λ running. c.in-Ok.ensures.over c.if-stopped.false)
           (all_still turned.lines.items turned.ends.items settled.ends.items turned.book settled.book c.settle_all.ensures.book c.settle_all.ensures.hands)
           c.into_outcome.ensures.shown
-          (ap put_items c.into_outcome.ensures.log)
+          c.into_outcome.ensures.log
           (given_all workers worker keepers desk.ends.items settled.ends.items (logged begun) (logged settled.book) hands children.unsettled.items empty
           are_opened
           (all_then desk.ends.items turned.ends.items settled.ends.items (logged begun) (logged turned.book) (logged settled.book) c.turn_all.ensures.heard c.settle_all.ensures.heard) c.in_ok-settled.ensures.settled),
@@ -86,7 +87,7 @@ returns-then-stopped g c =
     let hands = c.open_all-outcome.new.opened.hands.items in
     let part = c.in_ok-give_up.field-0 in
     let first = ap (λ (b : Book). b.log) c.new-desk.ensures.book ∙ c.new-book.ensures.log in
-    let empty = ap put_items first ∙ c.requires.1 in
+    let empty = ap ring_log first ∙ ap events_in c.requires.1 in
     let are_opened = subst (λ es. AreOpened workers worker keepers es hands) (sym c.new-desk.ensures.ends) c.in_default.ensures.opened in (
       is_work workers worker c.args.seat.team desk.lines.items turned.lines.items desk.ends.items turned.ends.items turned.ends.items begun turned.book turned.book part
           c.requires.0
@@ -99,7 +100,7 @@ returns-then-stopped g c =
           (λ running. absurd (let h : ◌≡◌ {A = Bool} true false = sym c.in_ok-give_up.ensures.stopped ∙ running in cc))
           (all_still turned.lines.items turned.ends.items turned.ends.items turned.book turned.book (leaves_all turned.book) (no_hand_same turned.ends.items))
           c.in_ok-give_up.ensures.shown
-          (ap put_items c.in_ok-give_up.ensures.log)
+          c.in_ok-give_up.ensures.log
           (λ i index keeper e xs qs got here among small apart.
           let within = slice_get_within keepers i keeper got in
           let count = c.in_default.ensures.opened.1 in

@@ -1,4 +1,4 @@
-use Rattle.std.proofs.Common.{◌≡◌, ◌-◌, ◌<◌, ◌++◌, List, length, take, drop, length-drop, ap, ◌∙◌, arith, rules}
+use Rattle.std.proofs.Common.{◌≡◌, ◌-◌, ◌<◌, ◌++◌, List, length, take, length-drop, ap, ◌∙◌, arith, rules}
 use Rattle.child_events.specs.declared.event.HallEvent.{HallEvent}
 use Rattle.course_texts.specs.Show.{shown_log}
 use Rattle.course_texts.proofs.LogLines.{stopped_between, stopped_within, shown_more, still_all}

@@ -1,24 +1,10 @@
-use Rattle.std.proofs.Common.{ℕ, List, subst}
-use Rattle.std.specs.Io.KnownBytes.{Appends}
-use Rattle.report_texts.specs.Devices.{WasPut}
-use Rattle.script_runs.proofs.Drives.{all_fit, was_served}
+use Rattle.std.proofs.Common.{length, map}
+use Rattle.child_serve.specs.Whole.{keeping_of}
+use Rattle.script_runs.proofs.Drives.{records_of}
 use Rattle.script_runs.proofs.driving.drive_early.Goals as goal
 
-pub log_text-requires : goal.log_text-requires
-log_text-requires g c = all_fit _ _ _ _ _ c.args.recorded c.in_ok-served.served c.in_ok-served.ensures
-
-pub returns-in-Ok-clause-answers : goal.returns-in-Ok-clause-answers
-returns-in-Ok-clause-answers g c = record {
-  served = c.in_ok-served.served;
-  text = c.in_ok-text.text;
-  was = was_served _ _ _ _ _ c.args.recorded c.in_ok-served.served c.in_ok-text.text c.in_ok-served.ensures c.in_ok-text.ensures;
-  logged = subst (λ (bs : List ℕ). Appends (g.L.Write.contents c.args.log.now.device) (g.L.Write.contents c.write_all.new.writer.device) bs) c.as_slice.ensures c.in-Ok.ensures.0;
-}
-
 pub returns-clause-answers : goal.returns-clause-answers
-returns-clause-answers g c = record {
-  served = c.in_ok-served.served;
-  text = c.in_ok-text.text;
-  was = was_served _ _ _ _ _ c.args.recorded c.in_ok-served.served c.in_ok-text.text c.in_ok-served.ensures c.in_ok-text.ensures;
-  logged = subst (λ (bs : List ℕ). WasPut (g.L.Write.contents c.args.log.now.device) (g.L.Write.contents c.write_all.new.writer.device) bs) c.as_slice.ensures c.in-Err.ensures.0;
-}
+returns-clause-answers g c = (records_of g.K.Keeper.told g.K.Keeper.gives c.args.recorded (length c.args.clocks.items) (map (keeping_of g.K.Keeper.named g.K.Keeper.made) c.args.keepers.items) c.args.scripts.items (g.L.Write.contents c.args.log.device) (g.L.Write.contents c.serve_and_log-outcome.result.1.device) c.serve_and_log-outcome.result.1.failures c.serve_and_log-outcome.result.1.calls c.serve_and_log-outcome.result.0 c.without_reports.result c.without_reports.ensures c.serve_and_log-outcome.ensures).0
+
+pub returns-clause-log : goal.returns-clause-log
+returns-clause-log g c = (records_of g.K.Keeper.told g.K.Keeper.gives c.args.recorded (length c.args.clocks.items) (map (keeping_of g.K.Keeper.named g.K.Keeper.made) c.args.keepers.items) c.args.scripts.items (g.L.Write.contents c.args.log.device) (g.L.Write.contents c.serve_and_log-outcome.result.1.device) c.serve_and_log-outcome.result.1.failures c.serve_and_log-outcome.result.1.calls c.serve_and_log-outcome.result.0 c.without_reports.result c.without_reports.ensures c.serve_and_log-outcome.ensures).1

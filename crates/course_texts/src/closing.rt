@@ -1,0 +1,55 @@
+//! Whether exprun itself closed a child's output.
+
+ghost use Rattle.std.specs.Prelude.{◌≡◌};
+ghost use Rattle.std.specs.List.{list_any};
+ghost use Rattle.course_texts.specs.Closing.{is_over as is_over_of, is_close as is_close_of, is_loss as is_loss_of, closes as closes_of, is_closed as is_closed_of};
+
+use child_events::{HallEvent, What};
+use expect_core::Act;
+use session::{Ending, Request};
+
+/// Whether a script has ended.
+fn is_over(ending: Ending) -> bool
+    ensures { result ≡ is_over_of ending }
+{
+    !matches!(&ending, Ending::Waiting)
+}
+
+fn is_close(act: &Act) -> bool
+    ensures { result ≡ is_close_of act.now }
+{
+    matches!(act, Act::Close)
+}
+
+/// Whether reading a child's output failed.
+fn is_loss(what: &What) -> bool
+    ensures { result ≡ is_loss_of what.now }
+{
+    matches!(what, What::ReadFail(_))
+}
+
+/// Whether a request closes a child.
+fn closes(child: u8, request: &Request) -> bool
+    ensures { result ≡ closes_of child request.now }
+{
+    request.child == child && is_close(&request.act)
+}
+
+/// Whether one of the requests closes a child.
+fn has_closed(requests: &[Request], child: u8) -> bool
+    ensures { result ≡ list_any (closes_of child) requests.now }
+{
+    requests.iter().any(|request| closes(child, request))
+}
+
+/// Whether an event tells of an output that exprun itself closed: reading it failed, and the script has ended, or asked to close the child.
+pub(crate) fn is_closed(requests: &[Request], ending: Ending, event: &HallEvent) -> bool
+    ensures { result ≡ is_closed_of requests.now ending event.now }
+{
+    match event {
+        HallEvent::Child { child, what, .. } => {
+            is_loss(what) && (is_over(ending) || has_closed(requests, *child))
+        }
+        HallEvent::Tick { .. } => false,
+    }
+}

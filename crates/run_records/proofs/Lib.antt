@@ -1,0 +1,9 @@
+pub mod Ticking
+pub mod Merging
+pub mod Sorting
+pub mod Rows
+pub mod Parting
+pub mod Moving
+pub mod Keeping
+pub mod Resting
+pub mod Handing
