@@ -5,3 +5,4 @@ pub mod Lining
 pub mod Coming
 pub mod Kept
 pub mod Hears
+pub mod Limiting

@@ -4,3 +4,4 @@ pub mod Line
 pub mod Ends
 pub mod Heard
 pub mod Turn
+pub mod Limits

@@ -7,11 +7,13 @@ mod desk;
 mod ends;
 mod entering;
 mod hearing;
+mod laws;
 mod line;
 mod readers;
 
 pub use book::Book;
 pub use desk::{Desk, Outcome};
 pub use ends::Ends;
+pub use laws::limits;
 pub use line::Line;
 pub use readers::Readers;

@@ -21,7 +21,7 @@ pub struct Started {
 /// The system's programs and processes.
 pub trait Programs {
     /// Starts a program with pipes for its input and output, this process's standard error, and a session of its own. It is looked for in the
-    /// folders of `PATH` if its name has no slash. A word that isn't UTF-8 is an error.
+    /// folders of `PATH` if its name has no slash. Words that aren't UTF-8 go through sh(1); without setsid(1) they are an error.
     fn start(&self, alloc: Global, program: &str, words: &[Text]) -> io::Result<Started>;
 
     /// Starts what ends children if this process is killed.
@@ -45,6 +45,80 @@ fn command_of(rt: &HostRuntime, alloc: Global, program: &str) -> io::Result<Comm
     let mut command = Command::new(alloc, SETSID)?;
     command.arg("--")?;
     command.arg(program)?;
+    Ok(command)
+}
+
+/// What sh(1) does with words whose bytes are written as printf(1) reads them with `%b`: it becomes the program with these words.
+const DECODE: &str = "\
+    exprun_left=$#
+    while [ \"$exprun_left\" -gt 0 ]; do
+        exprun_word=$(printf '%b.' \"$1\")
+        shift
+        set -- \"$@\" \"${exprun_word%.}\"
+        exprun_left=$((exprun_left - 1))
+    done
+    exec \"$0\" \"$@\"";
+
+/// The bytes of a word, each written as printf(1) reads it with `%b`.
+fn encoded(alloc: Global, word: &[u8]) -> Result<String, AllocError> {
+    let mut text = String::new(alloc);
+    for byte in word {
+        text.push_str("\\0")?;
+        for shift in [6, 3, 0] {
+            text.push(char::from(b'0' + (byte >> shift & 7)))?;
+        }
+    }
+    Ok(text)
+}
+
+/// Whether all words are UTF-8, as the arguments of a command have to be.
+fn are_texts(words: &[Text]) -> bool {
+    for word in words {
+        if std::str::from_utf8(word.as_slice()).is_err() {
+            return false;
+        }
+    }
+    true
+}
+
+/// The command of a program with words of any bytes, which sh(1) makes of text.
+fn command_by_shell(
+    rt: &HostRuntime,
+    alloc: Global,
+    program: &str,
+    words: &[Text],
+) -> io::Result<Command> {
+    if !is_led_by_setsid(rt, alloc, program)? {
+        return Err(io::Error::from(ErrorKind::InvalidInput));
+    }
+    let mut command = command_of(rt, alloc, "/bin/sh")?;
+    command.arg("-c")?;
+    command.arg(DECODE)?;
+    command.arg(program)?;
+    for word in words {
+        if word.as_slice().contains(&0) {
+            return Err(io::Error::from(ErrorKind::InvalidInput));
+        }
+        let text = encoded(alloc, word.as_slice())?;
+        command.arg(text.as_str())?;
+    }
+    Ok(command)
+}
+
+/// The command of a program with these words.
+fn command_with(
+    rt: &HostRuntime,
+    alloc: Global,
+    program: &str,
+    words: &[Text],
+) -> io::Result<Command> {
+    if !are_texts(words) {
+        return command_by_shell(rt, alloc, program, words);
+    }
+    let mut command = command_of(rt, alloc, program)?;
+    for word in words {
+        command.arg(std::str::from_utf8(word.as_slice()).unwrap_or(""))?;
+    }
     Ok(command)
 }
 
@@ -75,13 +149,7 @@ fn kill(rt: &HostRuntime, alloc: Global, signal: &str, ids: &[u32]) -> io::Resul
 
 impl Programs for HostRuntime {
     fn start(&self, alloc: Global, program: &str, words: &[Text]) -> io::Result<Started> {
-        let mut command = command_of(self, alloc, program)?;
-        for word in words {
-            let Ok(text) = std::str::from_utf8(word.as_slice()) else {
-                return Err(io::Error::from(ErrorKind::InvalidInput));
-            };
-            command.arg(text)?;
-        }
+        let mut command = command_with(self, alloc, program, words)?;
         command.stdout(Stdio::piped());
         start_with_input(self, command)
     }

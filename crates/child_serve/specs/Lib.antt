@@ -3,6 +3,7 @@ pub mod Turns
 pub mod Given
 pub mod Opened
 pub mod Over
+pub mod Rests
 pub mod Served
 pub mod Whole
 pub mod Teams

@@ -2,9 +2,10 @@
 
 ghost use Rattle.std.specs.Prelude.{◌≡◌, ◌≤◌, ◌+◌, length, false, IfOk, IfSome};
 ghost use Rattle.child_desk.specs.Book.{logged};
-ghost use Rattle.child_desk.specs.Line.{KeepsAll, HearsNoHand, AllOver};
+ghost use Rattle.child_desk.specs.Line.{KeepsAll, Leaves, HearsNoHand, AllOver};
 ghost use Rattle.child_desk.specs.Heard.{HearsAll};
 ghost use Rattle.child_serve.specs.Over.{is_end as is_end_of};
+ghost use Rattle.child_serve.specs.Rests.{woken_of};
 
 use crate::audience::Audience;
 use crate::stopping::Stopping;
@@ -19,6 +20,12 @@ use tcl_host::Ending;
 
 /// How many milliseconds a desk rests at most.
 const REST: u64 = 100;
+
+/// How many milliseconds after a deadline a desk may wake and still take what came as in time.
+const LATE: u64 = 1_000;
+
+/// The last moment.
+const LAST: u64 = 9_000_000_000_000_000;
 
 /// What an audience was told of a script.
 #[derive(Clone, Copy)]
@@ -110,6 +117,19 @@ fn turn<K: Keeper, C: Audience, W: Wait>(
     Ok(true)
 }
 
+/// Says that nothing more comes, as soon as the record has room for it.
+pub(crate) fn end_record<K: Keeper, W: Wait>(rt: &W, bell: &Bell, desk: &mut Desk<K>)
+    ensures lines { desk.new.lines.items ≡ desk.old.lines.items }
+    ensures ends { desk.new.ends.items ≡ desk.old.ends.items }
+    ensures book { Leaves desk.old.book desk.new.book }
+    ensures log { logged desk.new.book ≡ logged desk.old.book }
+{
+    if !desk.await_room(rt, bell) {
+        return;
+    }
+    desk.still(LAST);
+}
+
 /// Turns a desk for the last time, as it is given up.
 fn last_turn<K: Keeper, C: Clock + Audience, W: Wait>(
     rt: &W,
@@ -125,15 +145,16 @@ fn last_turn<K: Keeper, C: Clock + Audience, W: Wait>(
     let now = clock.now();
     turn(rt, bell, desk, now, clock, told)?;
     clock.leave(&desk.book.hall);
+    end_record(rt, bell, desk);
     Ok(())
 }
 
 /// Turns a desk until nothing more can come for any script, or the scripts are given up, and tells what they show as it comes. Returns whether
 /// they were given up.
 ///
-/// A turn gets the reading that was taken before the last one: what came in time is heard before the tick that would make it late, however
-/// long a script computed meanwhile. There is a turn only where something came or a script may time out. Where the record isn't taken any more, the
-/// scripts are given up.
+/// A turn behind another one gets the reading from before that one, and a turn behind a rest the reading from the rest's end: what came in time is
+/// heard before the tick that would make it late. So an event has a moment that is earlier than itself by one turn at most. There is a turn only
+/// where something came or a script may time out. Where the record isn't taken any more, the scripts are given up.
 pub fn turn_all<K: Keeper, C: Clock + Audience + Stopping, W: Wait + std::time::Clock>(
     rt: &W,
     alloc: Global,
@@ -161,12 +182,25 @@ pub fn turn_all<K: Keeper, C: Clock + Audience + Stopping, W: Wait + std::time::
         let reading = clock.now();
         if desk.has_come() || desk.is_due(held) {
             is_taken = turn(rt, bell, desk, held, clock, &mut told)?;
-        } else if !desk.is_due(reading) {
+            held = reading;
+        } else if desk.is_due(reading) {
+            held = reading;
+        } else {
             stand_by(rt, bell, desk, reading);
+            held = woken_at(desk.book.hall.deadline(), clock.now());
         }
-        held = reading;
     }
     unreachable!()
+}
+
+/// The moment of what came while a desk rested, which woke at this moment. If the deadline passed no longer than a second before, what came is in time.
+fn woken_at(deadline: Option<u64>, woken: u64) -> u64
+    ensures { result ≡ woken_of deadline woken }
+{
+    match deadline {
+        Some(last) if last < woken && woken - last <= LATE => last,
+        _ => woken,
+    }
 }
 
 /// Says that nothing earlier than a moment comes, and rests until something comes.

@@ -12,7 +12,7 @@ ghost use Rattle.child_serve.specs.Teams.{IsSeated, IsWork, AreFirst};
 
 use crate::audience::Audience;
 use crate::hands::{Hand, start};
-use crate::rounds::turn_all;
+use crate::rounds::{end_record, turn_all};
 use crate::served::{Part, Served, Unsettled};
 use crate::stopping::Stopping;
 use child_desk::{Book, Desk, Ends, Line, Outcome};
@@ -368,7 +368,7 @@ fn settle_script<K: Keeper, W: Wait>(
     Ok(())
 }
 
-/// Waits for each hand, and takes what is left of its children.
+/// Waits for each hand, and takes what is left of its children. Nothing more comes then.
 fn settle_all<K: Keeper, W: Threads + Wait>(
     rt: &W,
     alloc: Global,
@@ -397,6 +397,7 @@ fn settle_all<K: Keeper, W: Threads + Wait>(
         settle_script(rt, bell, desk, at, number, end, &mut settled)?;
         at += 1;
     }
+    end_record(rt, bell, desk);
     Ok(settled)
 }
 

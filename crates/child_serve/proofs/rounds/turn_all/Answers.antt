@@ -25,8 +25,8 @@ returns-in_err-is_taken-2-clause-heard g c =
     hears_then was.ends.items desk.ends.items left.ends.items (logged was.book) (logged desk.book) (logged left.book)
     (hears_then was.ends.items now.ends.items desk.ends.items (logged was.book) (logged now.book) (logged desk.book) c.loop.invariant.heard c.has_come.ensures.heard) c.turn-then-is_due.ensures.heard
 
-pub loop-preserved-in_ok-is_taken-2 : goal.loop-preserved-in_ok-is_taken-2
-loop-preserved-in_ok-is_taken-2 g c =
+pub loop-preserved-then-is_due : goal.loop-preserved-then-is_due
+loop-preserved-then-is_due g c =
     let was = c.args.desk.now in
     let now = c.loop.desk in
     let desk = c.has_come.new.self in
@@ -38,8 +38,8 @@ loop-preserved-in_ok-is_taken-2 g c =
           (hears_then was.ends.items now.ends.items desk.ends.items (logged was.book) (logged now.book) (logged desk.book) c.loop.invariant.heard c.has_come.ensures.heard) c.turn-then-is_due.ensures.heard;
     }
 
-pub loop-preserved-then-not-is_due : goal.loop-preserved-then-not-is_due
-loop-preserved-then-not-is_due g c =
+pub loop-preserved : goal.loop-preserved
+loop-preserved g c =
     let was = c.args.desk.now in
     let now = c.loop.desk in
     let desk = c.has_come.new.self in
@@ -51,8 +51,8 @@ loop-preserved-then-not-is_due g c =
           (hears_then was.ends.items now.ends.items desk.ends.items (logged was.book) (logged now.book) (logged desk.book) c.loop.invariant.heard c.has_come.ensures.heard) c.stand_by.ensures.heard;
     }
 
-pub loop-preserved : goal.loop-preserved
-loop-preserved g c =
+pub loop-preserved-then-is_due-2 : goal.loop-preserved-then-is_due-2
+loop-preserved-then-is_due-2 g c =
     let was = c.args.desk.now in
     let now = c.loop.desk in
     let desk = c.has_come.new.self in

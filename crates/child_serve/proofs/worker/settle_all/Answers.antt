@@ -1,9 +1,11 @@
 use Rattle.child_desk.specs.Book.{logged}
-use Rattle.std.proofs.Common.{◌≡◌, ℕ, ◌+◌, length, refl, ap, subst, ◌∙◌, arith}
+use Rattle.std.proofs.Common.{◌≡◌, ℕ, ◌+◌, length, refl, sym, ap, subst, ◌∙◌, arith}
 use Rattle.child_desk.proofs.Hears.{all_same, all_then}
 use Rattle.child_desk.proofs.Kept.{leaves_all, leaves_then, no_hand_same, no_hand_then, same_rings}
 use Rattle.run_records.specs.Joined.{script_of}
-use Rattle.child_serve.specs.Opened.{AreTakenIn, AreClosedIn}
+use Rattle.child_desk.specs.Line.{HearsNoHand}
+use Rattle.child_serve.specs.Opened.{AreTakenIn, AreClosedIn, AreSettled}
+use Rattle.child_serve.proofs.Rounding.{heard_left}
 use Rattle.child_serve.proofs.Opening.{rest_whole, rest_first, rest_next}
 use Rattle.child_serve.proofs.Settling.{linked_still, left_of, end_of, settled_of, settled_next, settled_all}
 use Rattle.child_serve.proofs.worker.settle_all.Goals as goal
@@ -95,8 +97,25 @@ loop-hand-preserved g c =
           (settled_of at (script_of workers worker (at + 1)) hand end hands was.ends.items left.ends.items listed c.requires.linked mine c.join-end.ensures taken closed) c.loop-hand.invariant.settled;
     }
 
+pub returns-clause-lines : goal.returns-clause-lines
+returns-clause-lines g c = c.end_record.ensures.lines ∙ c.loop-hand.invariant.lines
+
+pub returns-clause-book : goal.returns-clause-book
+returns-clause-book g c = leaves_then c.args.desk.now.book c.loop-hand.desk.book c.end_record.new.desk.book c.loop-hand.invariant.book c.end_record.ensures.book
+
+pub returns-clause-heard : goal.returns-clause-heard
+returns-clause-heard g c =
+    let was = c.args.desk.now in
+    let now = c.loop-hand.desk in
+    let left = c.end_record.new.desk in
+    all_then was.ends.items now.ends.items left.ends.items (logged was.book) (logged now.book) (logged left.book) c.loop-hand.invariant.heard (heard_left now.ends.items left.ends.items now.book left.book c.end_record.ensures.ends c.end_record.ensures.log)
+
+pub returns-clause-hands : goal.returns-clause-hands
+returns-clause-hands g c = subst (HearsNoHand c.args.desk.now.ends.items) (sym c.end_record.ensures.ends) c.loop-hand.invariant.hands
+
 pub returns-clause-settled : goal.returns-clause-settled
 returns-clause-settled g c =
     let size = c.loop-hand.invariant.count in
     let all : c.loop-hand.at ≡ length c.args.hands.items = omega (arith, c.loop-hand.hand-iterator.rest.ok.0, c.in-None.ensures.steps.0, size) in
-    settled_all c.loop-hand.at c.args.place.workers c.args.place.worker c.args.hands.items c.loop-hand.desk.ends.items c.loop-hand.settled.unsettled.items all c.loop-hand.invariant.settled
+    subst (λ es. AreSettled c.args.place.workers c.args.place.worker c.args.hands.items es c.loop-hand.settled.unsettled.items) (sym c.end_record.ensures.ends)
+    (settled_all c.loop-hand.at c.args.place.workers c.args.place.worker c.args.hands.items c.loop-hand.desk.ends.items c.loop-hand.settled.unsettled.items all c.loop-hand.invariant.settled)
