@@ -1,6 +1,7 @@
 //! The children of one script, over pipes.
 
 use crate::cancellation::Cancellation;
+use crate::errors::{ErrorPipe, ErrorPipes};
 use crate::held::{Held, Name};
 use crate::output::Output;
 use crate::programs::{Programs, Started};
@@ -11,7 +12,7 @@ use libc::net::POLLOUT;
 use std::alloc::{AllocError, Global};
 use std::io::{ErrorKind, PipeWriter, Write};
 use std::os::fd::AsRawFd;
-use std::process::{Child, ExitStatus, SystemProcess};
+use std::process::{Child, ChildStderr, ExitStatus, SystemProcess};
 use std::sync::{Arc, Wait};
 use std::time::{Clock, Duration};
 use std::{io, mem, thread};
@@ -72,6 +73,8 @@ pub(crate) struct Children<R: Programs + Wait + Clock + Drop> {
     script: u64,
     places: Vec<Option<Place>>,
     reaper: Reaper,
+    /// Takes the standard errors of children, where each has its own.
+    errors: Option<ErrorPipes>,
     cancellation: Arc<Cancellation>,
 }
 
@@ -108,6 +111,7 @@ impl<R: Programs + Wait + Clock + Drop> Children<R> {
         alloc: Global,
         script: u64,
         reaper: Reaper,
+        errors: Option<ErrorPipes>,
         cancellation: Arc<Cancellation>,
     ) -> Result<Children<R>, AllocError> {
         let mut places = Vec::with_capacity(alloc, CHILDREN)?;
@@ -120,6 +124,7 @@ impl<R: Programs + Wait + Clock + Drop> Children<R> {
             script,
             places,
             reaper,
+            errors,
             cancellation,
         })
     }
@@ -155,6 +160,15 @@ impl<R: Programs + Wait + Clock + Drop> Children<R> {
         Ok((held, theirs))
     }
 
+    /// Keeps a child's standard error for who reads it, where it has one of its own.
+    fn put_errors(&self, out: Option<ChildStderr>) -> Result<(), AllocError> {
+        let (Some(errors), Some(out)) = (&self.errors, out) else {
+            return Ok(());
+        };
+        let script = self.script;
+        errors.put(&self.rt, ErrorPipe { script, out })
+    }
+
     /// Starts a child: the program and its words.
     pub(crate) fn start(&mut self, child: u8, argv: &Texts) -> Result<Output, Cause> {
         let Some((program, words)) = split(argv) else {
@@ -166,7 +180,10 @@ impl<R: Programs + Wait + Clock + Drop> Children<R> {
         if index >= self.places.len() {
             return Err(Cause::Other);
         }
-        let started = match self.rt.start(self.alloc, program, words) {
+        let started = match self
+            .rt
+            .start(self.alloc, program, words, self.errors.is_some())
+        {
             Ok(started) => started,
             Err(e) => return Err(cause_of(&e)),
         };
@@ -177,9 +194,14 @@ impl<R: Programs + Wait + Clock + Drop> Children<R> {
         let Some(out) = process.stdout.take() else {
             return Err(Cause::Other);
         };
+        let errors = process.stderr.take();
         let Ok((held, theirs)) = self.share(child, process) else {
             return Err(Cause::Memory);
         };
+        if self.put_errors(errors).is_err() {
+            held.kill(&self.rt);
+            return Err(Cause::Memory);
+        }
         let place = Place {
             input: Some(input),
             held,
@@ -256,6 +278,7 @@ impl<R: Programs + Wait + Clock + Drop> Drop for Children<R> {
             script: _,
             places: _,
             reaper: _,
+            errors: _,
             cancellation: _,
         } = self;
     }

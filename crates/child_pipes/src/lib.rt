@@ -4,6 +4,7 @@
 mod cancellation;
 mod children;
 mod counts;
+mod errors;
 mod free;
 mod guard;
 mod held;
@@ -20,6 +21,7 @@ mod wall;
 mod watch;
 
 pub use cancellation::Cancellation;
+pub use errors::{ErrorPipe, ErrorPipes};
 pub use free::Free;
 pub use guard::Guard;
 pub use output::Output;

@@ -5,6 +5,7 @@ ghost use Rattle.std.specs.Prelude.{◌≡◌, ◌+◌, ◌^◌, ◌<◌, ◌≤
 use crate::cancellation::Cancellation;
 use crate::children::Children;
 use crate::counts::Counts;
+use crate::errors::ErrorPipes;
 use crate::output::Output;
 use crate::programs::Programs;
 use crate::reaper::Reaper;
@@ -18,7 +19,7 @@ use tcl_words::{Text, Texts};
 /// A keeper of the system's processes, over pipes. When it goes, the input of each child ends.
 ///
 /// A program is looked for in the folders of `PATH` where its name has no slash. It gets a pipe for its input and one for its output, and this
-/// process's standard error, environment and folder. No contract can say what becomes of it: `told` and `gives` say nothing.
+/// process's environment and folder. Its standard error is this process's, or a pipe that `errors` takes. No contract can say what becomes of it: `told` and `gives` say nothing.
 #[derive(Drop)]
 pub struct Pipes<R: Programs + Wait + Clock + Drop> {
     name: u64,
@@ -34,12 +35,20 @@ impl<R: Programs + Wait + Clock + Drop> Pipes<R> {
         alloc: Global,
         name: u64,
         reaper: Reaper,
+        errors: Option<ErrorPipes>,
         cancellation: Arc<Cancellation>,
     ) -> Result<Pipes<R>, AllocError> {
         Ok(Pipes {
             name,
             counts: Counts::new(),
-            children: Children::new(rt, alloc, name.saturating_add(1), reaper, cancellation)?,
+            children: Children::new(
+                rt,
+                alloc,
+                name.saturating_add(1),
+                reaper,
+                errors,
+                cancellation,
+            )?,
         })
     }
 }

@@ -20,9 +20,15 @@ pub struct Started {
 
 /// The system's programs and processes.
 pub trait Programs {
-    /// Starts a program with pipes for its input and output, this process's standard error, and a session of its own. It is looked for in the
-    /// folders of `PATH` if its name has no slash. Words that aren't UTF-8 go through sh(1); without setsid(1) they are an error.
-    fn start(&self, alloc: Global, program: &str, words: &[Text]) -> io::Result<Started>;
+    /// Starts a program with pipes for its input and output, and a session of its own. Its standard error is a pipe too, or this process's. It is
+    /// looked for in the folders of `PATH` if its name has no slash. Words that aren't UTF-8 go through sh(1); without setsid(1) they are an error.
+    fn start(
+        &self,
+        alloc: Global,
+        program: &str,
+        words: &[Text],
+        has_error_pipe: bool,
+    ) -> io::Result<Started>;
 
     /// Starts what ends children if this process is killed.
     fn start_guard(&self, alloc: Global) -> io::Result<Guard>;
@@ -148,9 +154,18 @@ fn kill(rt: &HostRuntime, alloc: Global, signal: &str, ids: &[u32]) -> io::Resul
 }
 
 impl Programs for HostRuntime {
-    fn start(&self, alloc: Global, program: &str, words: &[Text]) -> io::Result<Started> {
+    fn start(
+        &self,
+        alloc: Global,
+        program: &str,
+        words: &[Text],
+        has_error_pipe: bool,
+    ) -> io::Result<Started> {
         let mut command = command_with(self, alloc, program, words)?;
         command.stdout(Stdio::piped());
+        if has_error_pipe {
+            command.stderr(Stdio::piped());
+        }
         start_with_input(self, command)
     }
 

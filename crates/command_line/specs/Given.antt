@@ -1,5 +1,5 @@
 -- What the words of the command line ask for.
-use Rattle.std.specs.Prelude.{ℕ, List, [], map, Option, Some, None, unwrap_or, option_map, codes, Bool, if◌then◌else◌}
+use Rattle.std.specs.Prelude.{ℕ, List, [], map, Option, Some, None, unwrap_or, option_map, codes, Bool, false, if◌then◌else◌}
 use Rattle.std.specs.Str.{bytes_eq}
 use Rattle.std.specs.Borrow.{Bor}
 use Rattle.clap.specs.Matches.{found_of, matched_of, raw_values}
@@ -28,6 +28,10 @@ format_named name = if bytes_eq name (codes "json") then Json else if bytes_eq n
 -- a summary, or what is for terminals, where it is asked for, and else the format of a name, or whole reports
 abbrev pub format_given : Bool → Bool → Option (List ℕ) → Format
 format_given summary escape name = if summary then Summary else if escape then Escaped else unwrap_or (option_map format_named name) Text
+
+-- whether the lines of programs on standard error are labelled: only where that word is given
+abbrev pub labels_given : Option (List ℕ) → Bool
+labels_given word = unwrap_or (option_map (λ w. bytes_eq w (codes "label")) word) false
 
 -- the file of which lines are bad: the timing's, where there is one, or else the timeline's
 abbrev pub file_of_lines : Bor (List ℕ) → Option (Bor (List ℕ)) → Bor (List ℕ)

@@ -135,7 +135,8 @@ pub const RUN: &str = "\
 Each script spawns its own programs, over pipes: a program is looked for in the
 folders of PATH, and is told that it has no terminal. What it writes on standard
 error goes to the standard error of exprun; `spawn sh -c {exec 2>&1; ..}` joins
-it to the dialogue.
+it to the dialogue. With --stderr label each program has a standard error of its
+own, and its lines are told on that of exprun, behind its script's number.
 
 The scripts run side by side, and none changes another. With --workers they are
 shared out among threads in turn: of two workers the first has scripts 1, 3, ..
@@ -159,7 +160,7 @@ and doesn't wait is given three seconds; then the run is killed.
 With --record the log is written to FILE.part while the run goes on, at most 0.2
 seconds late, and is sent to the disk about once a second. When it is whole it
 gets the name FILE, in the place of what stood there. `exprun replay --cut
-FILE.part` reads it after a run that was killed. What is a link or no file, as
+FILE.part` reads it after a run that was killed. A pipe or a device, as
 /dev/stdout, is written under its own name.
 
 With --follow what the scripts show is also told on standard error, as it comes:

@@ -15,7 +15,10 @@ const GRACE_LIMIT: i64 = 86_400;
 const MANY: i64 = 64;
 
 /// The names of formats.
-const FORMATS: [&str; 4] = ["text", "json", "jsonl", "tap"];
+static FORMATS: [&str; 4] = ["text", "json", "jsonl", "tap"];
+
+/// What becomes of the standard errors of programs.
+static ERRORS: [&str; 2] = ["share", "label"];
 
 /// What an option or a file takes. Help names the value by the word that stands here.
 #[derive(Clone, Copy)]
@@ -28,6 +31,8 @@ enum Takes {
     Number(&'static str, i64, i64),
     /// An option with the name of a format.
     Format(&'static str),
+    /// An option that says what becomes of standard errors.
+    Errors(&'static str),
     /// A file.
     File(&'static str),
     /// One file or more.
@@ -138,6 +143,12 @@ const GUARD: Offer = Offer {
     help: "Hang up programs if exprun is killed, too",
 };
 
+const STDERR: Offer = Offer {
+    name: "stderr",
+    takes: Takes::Errors("HOW"),
+    help: "Share standard error with programs, or label its lines",
+};
+
 const FOLLOW: Offer = Offer {
     name: "follow",
     takes: Takes::Nothing,
@@ -180,7 +191,7 @@ const TIMELINE: Offer = Offer {
     help: "The file of what its children say, or /dev/stdin",
 };
 
-static RUN: [Offer; 16] = [
+static RUN: [Offer; 17] = [
     WORKERS,
     LIMIT,
     STEPS,
@@ -188,6 +199,7 @@ static RUN: [Offer; 16] = [
     GRACE,
     HANGUP,
     GUARD,
+    STDERR,
     FOLLOW,
     ACCOUNT,
     VARS,
@@ -224,6 +236,14 @@ static CHECK: [Offer; 1] = [SOURCES];
 /// The names of the commands, in the order of the help.
 const COMMANDS: [&str; 6] = ["run", "replay", "show", "explain", "plan", "check"];
 
+/// An option whose value is one of these words.
+fn one_of<'a>(option: Arg<'a>, value: &'static str, words: &'static [&'static str]) -> Arg<'a> {
+    option
+        .value_name(value)
+        .value_parser(words)
+        .hide_possible_values(true)
+}
+
 /// The argument of an option or a file.
 fn arg_of<'a>(alloc: Global, offer: &Offer) -> Arg<'a> {
     let arg = Arg::new(alloc, offer.name).help(offer.help);
@@ -234,11 +254,8 @@ fn arg_of<'a>(alloc: Global, offer: &Offer) -> Arg<'a> {
             .long(offer.name)
             .value_name(value)
             .value_parser(value_parser!(u64).range(least..=most)),
-        Takes::Format(value) => arg
-            .long(offer.name)
-            .value_name(value)
-            .value_parser(FORMATS.as_slice())
-            .hide_possible_values(true),
+        Takes::Format(value) => one_of(arg.long(offer.name), value, FORMATS.as_slice()),
+        Takes::Errors(value) => one_of(arg.long(offer.name), value, ERRORS.as_slice()),
         Takes::File(value) => arg.value_name(value).required(true),
         Takes::Files(value) => arg
             .value_name(value)

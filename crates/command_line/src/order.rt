@@ -55,6 +55,8 @@ pub struct Run<'a> {
     pub terms: Terms,
     /// Whether children are ended also if this program is killed.
     pub guard: bool,
+    /// Whether the lines that children write on standard error are told behind their scripts' numbers.
+    pub labels: bool,
     /// The file that what they did is told in.
     pub explain: Option<&'a str>,
 }

@@ -1,7 +1,7 @@
 //! What the words of the command line ask for.
 
 ghost use Rattle.std.specs.Prelude.{◌≡◌, ◌≤◌, ◌*◌, option_map, IfOk, IfSome, Some, None};
-ghost use Rattle.command_line.specs.Given.{steps_given, grace_seconds, names_of, files_told, format_given};
+ghost use Rattle.command_line.specs.Given.{steps_given, grace_seconds, names_of, files_told, format_given, labels_given};
 
 use crate::offers::command;
 use crate::order::{Check, Explain, Order, Plan, Replay, Run, Scripts, Show};
@@ -123,6 +123,13 @@ fn byte_of(number: u64) -> u8
     u8::try_from(number).unwrap_or(1)
 }
 
+/// Whether the lines on standard errors are to be labelled, by the word that is given.
+fn is_label(word: Option<&str>) -> bool
+    ensures { result ≡ labels_given (option_map (λ w. w.now) word.entry) }
+{
+    matches!(word, Some("label"))
+}
+
 fn run_of<'a>(alloc: Global, matches: &ArgMatches<'a>) -> Result<Order<'a>, AllocError> {
     Ok(Order::Run(Run {
         scripts: scripts_of(alloc, matches)?,
@@ -134,6 +141,7 @@ fn run_of<'a>(alloc: Global, matches: &ArgMatches<'a>) -> Result<Order<'a>, Allo
             hangs_up: matches.get_flag("hangup"),
         },
         guard: matches.get_flag("guard"),
+        labels: is_label(matches.get_str("stderr")),
         explain: matches.get_str("explain"),
     }))
 }

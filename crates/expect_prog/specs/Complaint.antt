@@ -93,7 +93,7 @@ ExplainLine log files explain.Memory c = c ≡ line.Memory
 
 -- what can't be written is named by its file
 abbrev pub IsNotWritten : Bor (List ℕ) → Complaint → Type 0
-IsNotWritten file (line.NotWritten path) = path ≡ file
+IsNotWritten file (line.NotWritten path reason) = path ≡ file
 IsNotWritten file c = ⊥
 
 -- the line where an account of a run can't be told in a file
@@ -147,6 +147,4 @@ abbrev pub DriveLine : List (Bor (List ℕ)) → DriveFault → Complaint → Ty
 DriveLine files (drive.Serve (serve.New f)) c = OpeningLine files f c
 DriveLine files (drive.Serve serve.NoThread) c = c ≡ line.NoThread
 DriveLine files (drive.Serve serve.Memory) c = c ≡ line.Memory
-DriveLine files drive.WriteLog c = c ≡ line.Unwritten
-DriveLine files drive.Write c = c ≡ line.Unwritten
 DriveLine files drive.Memory c = c ≡ line.Memory

@@ -3,19 +3,19 @@
 ghost use Rattle.std.specs.Prelude.{◌≡◌, IfOk};
 
 use crate::complaint::Complaint;
+use crate::part::{Careful, Target, given};
 use child_events::Counted;
 use course_texts::explain;
 use dialogue_sched::Script;
 use std::alloc::{AllocError, Global};
-use std::fs;
 use std::io::Write;
 use std::rt::Files;
 
 /// A file that the courses of scripts are to be told in.
 #[derive(Drop)]
 pub struct Account<'a, F: Drop> {
-    path: &'a str,
-    file: F,
+    target: Target<'a>,
+    file: Careful<F>,
     scripts: Vec<Script>,
 }
 
@@ -42,7 +42,7 @@ fn all_copied(alloc: Global, scripts: &[Script]) -> Result<Vec<Script>, AllocErr
     Ok(made)
 }
 
-/// Makes the file of an account of scripts that are to be run, in the place of what was there.
+/// Makes the file of an account of scripts that are to be run.
 pub fn opened_account<'a, R: Files>(
     rt: &R,
     alloc: Global,
@@ -50,29 +50,48 @@ pub fn opened_account<'a, R: Files>(
     scripts: &[Script],
 ) -> Result<Account<'a, R::File>, Complaint<'a>> {
     let scripts = all_copied(alloc, scripts)?;
-    let Ok(file) = fs::File::create(rt, path) else {
-        return Err(Complaint::NotWritten(path));
-    };
-    Ok(Account {
-        path,
-        file,
-        scripts,
-    })
+    let target = Target::asked(rt, alloc, path)?;
+    match target.create(rt) {
+        Ok(file) => Ok(Account {
+            target,
+            file: Careful::new(file),
+            scripts,
+        }),
+        Err(reason) => Err(Complaint::NotWritten { path, reason }),
+    }
 }
 
-impl<'a, F: Write + Drop> Account<'a, F> {
-    /// Tells the courses of the scripts over the record of their run.
-    pub fn tell(self, alloc: Global, record: &[u8]) -> Result<(), Complaint<'a>> {
-        let Account {
-            path,
-            file,
-            scripts,
-        } = self;
-        let mut log = Counted::new(record);
-        let mut out = Counted::new(file);
-        match explain(alloc, None, &mut log, scripts, &mut out) {
-            Ok(()) => Ok(()),
-            Err(fault) => Err(Complaint::of_account(fault, path)),
-        }
+/// Removes the file of an account that isn't told.
+pub fn remove_account<R: Files>(rt: &R, account: Option<Account<'_, R::File>>) {
+    if let Some(account) = account {
+        account.target.remove(rt);
     }
+}
+
+/// Tells the courses of scripts over the record of their run. The file gets its name if it is whole, and else is removed.
+pub fn tell_account<'a, R: Files>(
+    rt: &R,
+    alloc: Global,
+    account: Account<'a, R::File>,
+    record: &[u8],
+) -> Result<(), Complaint<'a>> {
+    let Account {
+        target,
+        file,
+        scripts,
+    } = account;
+    let path = target.path();
+    let mut log = Counted::new(record);
+    let mut out = Counted::new(file);
+    let told = match explain(alloc, None, &mut log, scripts, &mut out) {
+        Ok(()) => match given(rt, &target, out.device.whole()) {
+            Ok(()) => Ok(()),
+            Err(reason) => Err(Complaint::NotWritten { path, reason }),
+        },
+        Err(fault) => Err(Complaint::of_account(fault, path)),
+    };
+    if told.is_err() {
+        target.remove(rt);
+    }
+    told
 }

@@ -10,8 +10,11 @@ use command_line::{Explain, Plan, Replay, Run, Show};
 use course_texts::{ExplainFault, ShowFault};
 use dialogue_sched::{HallFault, HallRefusal, RunFault};
 use log_plan::PlanFault;
+use report_texts::{Place, push_text};
 use script_runs::{DriveFault, PlanLogFault, ReplayFault};
-use std::alloc::{AllocError, AllocFailed};
+use std::alloc::{AllocError, AllocFailed, Global};
+use std::io;
+use tcl_words::Text;
 use thiserror::Error;
 
 /// What is wrong with a line of a timeline, or of a recording.
@@ -73,8 +76,44 @@ pub enum Complaint<'a> {
     SourceTooLong(&'a str),
     #[error("cannot write")]
     Unwritten,
-    #[error("cannot write {0}")]
-    NotWritten(&'a str),
+    #[error("cannot write {path}: {reason}")]
+    NotWritten {
+        path: &'a str,
+        reason: io::Error,
+    },
+    #[error("cannot write {path}: {reason}; what there is of it stays in {path}.part, for replay --cut")]
+    CutRecord {
+        path: &'a str,
+        reason: io::Error,
+    },
+    #[error("cannot write {path}: it is {kind}")]
+    NoFile {
+        path: &'a str,
+        kind: &'static str,
+    },
+    #[error("{0}")]
+    Clash(String),
+    #[error("cannot write {path}: {reason}")]
+    PageNotWritten {
+        path: String,
+        reason: io::Error,
+    },
+    #[error("{path} isn't {what}, so it isn't replaced: name another file after {option}")]
+    NotReplaced {
+        path: &'a str,
+        what: &'static str,
+        option: &'static str,
+    },
+    #[error("{path} isn't {what}, so it isn't replaced: write {option} FILE {path} if {path} is a script to run")]
+    ScriptNotReplaced {
+        path: &'a str,
+        what: &'static str,
+        option: &'static str,
+    },
+    #[error("{0} is empty")]
+    EmptyLog(&'a str),
+    #[error("{0} has more than 4294967296 bytes")]
+    LongLog(&'a str),
     #[error("cannot start a thread")]
     NoThread,
     #[error("out of memory")]
@@ -103,9 +142,25 @@ impl<T: Drop> From<AllocFailed<T>> for Complaint<'_> {
     }
 }
 
-/// Writes a complaint's line on standard error.
-pub fn tell(rt: &impl Eprint, complaint: &Complaint<'_>) {
-    let _ = eprintln!(rt; "exprun: {complaint}");
+/// A complaint's line, with what a terminal would not show as itself escaped.
+fn line(alloc: Global, complaint: &Complaint<'_>) -> Result<Text, AllocError> {
+    let raw = complaint.to_string(alloc)?;
+    let mut line = Text::new(alloc);
+    push_text(alloc, &mut line, Place::Quotes, raw.as_bytes())?;
+    Ok(line)
+}
+
+/// Writes a complaint's line on standard error. If memory for it is refused, that is said in its place.
+pub fn tell(rt: &impl Eprint, alloc: Global, complaint: &Complaint<'_>) {
+    match line(alloc, complaint) {
+        Ok(line) => {
+            let line = std::str::from_utf8(line.as_slice()).unwrap_or("");
+            let _ = eprintln!(rt; "exprun: {line}");
+        }
+        Err(_) => {
+            let _ = eprintln!(rt; "exprun: out of memory");
+        }
+    }
 }
 
 /// The number of a refusal.
@@ -211,12 +266,13 @@ impl<'a> Complaint<'a> {
     pub fn of_account(fault: ExplainFault, path: &'a str) -> Complaint<'a>
         ensures { AccountLine path.entry fault result }
     {
+        let reason = io::Error::other("the record can't be told");
         match fault {
-            ExplainFault::Read => Complaint::NotWritten(path),
-            ExplainFault::Log(_) => Complaint::NotWritten(path),
-            ExplainFault::TooManyScripts => Complaint::NotWritten(path),
-            ExplainFault::SourceTooLong(_) => Complaint::NotWritten(path),
-            ExplainFault::Write => Complaint::NotWritten(path),
+            ExplainFault::Read => Complaint::NotWritten { path, reason },
+            ExplainFault::Log(_) => Complaint::NotWritten { path, reason },
+            ExplainFault::TooManyScripts => Complaint::NotWritten { path, reason },
+            ExplainFault::SourceTooLong(_) => Complaint::NotWritten { path, reason },
+            ExplainFault::Write => Complaint::NotWritten { path, reason },
             ExplainFault::Memory => Complaint::Memory,
         }
     }
@@ -274,8 +330,6 @@ impl<'a> Complaint<'a> {
             }
             DriveFault::Serve(ServeFault::NoThread) => Complaint::NoThread,
             DriveFault::Serve(ServeFault::Memory) => Complaint::Memory,
-            DriveFault::WriteLog => Complaint::Unwritten,
-            DriveFault::Write => Complaint::Unwritten,
             DriveFault::Memory => Complaint::Memory,
         }
     }

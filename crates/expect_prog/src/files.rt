@@ -4,8 +4,11 @@ ghost use Rattle.std.specs.Prelude.{◌≡◌, ◌≤◌, ℕ, List, IfOk, OnOk}
 ghost use Rattle.expect_prog.specs.Given.{script_given, scripts_given, vars_told, AreHeld, AreOfFiles};
 
 use crate::complaint::Complaint;
-use crate::folder::{Folder, Pages};
+use crate::folder::{Folder, Pages, paths_of};
+use crate::names::{Names, Role};
 use crate::outcome::Outcome;
+use crate::sized::{Bounded, LONGEST_LOG};
+use crate::standard::Patient;
 use child_events::Counted;
 use command_line::{Check, Explain, Plan, Replay, Scripts, Show};
 use course_texts::{explain, show_log};
@@ -14,7 +17,7 @@ use report_texts::{Form, Format, ReadFault, read_all};
 use script_runs::{CheckFault, NoShelf, Shelf, check_source, plan_log, replay};
 use session::{Pairs, SOURCE_LIMIT, Settings};
 use std::alloc::{AllocError, Global};
-use std::fs;
+use std::fs::{self, OpenFile};
 use std::io::{self, ErrorKind, Read, Write};
 use std::rt::Files;
 use tcl_words::{Text, Texts};
@@ -30,6 +33,32 @@ pub fn opened<'a, R: Files>(rt: &R, path: &'a str) -> Result<R::File, Complaint<
             Err(Complaint::Unreadable(path))
         }
     }
+}
+
+/// A log's file that is opened to be read. One that is empty, or too long, is complained of. The last line of one that was cut off has no bound.
+fn opened_log<'a, R: Files>(
+    rt: &R,
+    path: &'a str,
+    cut: bool,
+) -> Result<Bounded<R::File>, Complaint<'a>> {
+    let file = opened(rt, path)?;
+    match file.metadata() {
+        Ok(it) if it.is_file() && it.len() == 0 => Err(Complaint::EmptyLog(path)),
+        Ok(it) if it.is_file() && it.len() > LONGEST_LOG => Err(Complaint::LongLog(path)),
+        _ => Ok(Bounded::new(file, !cut)),
+    }
+}
+
+/// The complaint of a fault in reading a log, unless the log is too long.
+fn unless_long<'a, D: Drop>(
+    log: &Bounded<D>,
+    path: &'a str,
+    complaint: Complaint<'a>,
+) -> Complaint<'a> {
+    if log.is_over() {
+        return Complaint::LongLog(path);
+    }
+    complaint
 }
 
 /// The bytes that are read of the file of a path.
@@ -173,11 +202,11 @@ fn replay_order<'a, R: Files + Print, L: Read + Drop, S: Shelf>(
     alloc: Global,
     order: &Replay<'a>,
     scripts: Vec<Script>,
-    log: L,
+    log: Bounded<L>,
     shelf: &mut S,
 ) -> Result<bool, Complaint<'a>> {
     let mut log = Counted::new(log);
-    let mut out = Counted::new(io::writer(rt));
+    let mut out = Counted::new(Patient(io::writer(rt)));
     match replay(
         alloc,
         &mut log,
@@ -188,8 +217,28 @@ fn replay_order<'a, R: Files + Print, L: Read + Drop, S: Shelf>(
         &mut out,
     ) {
         Ok(well) => Ok(well),
-        Err(fault) => Err(Complaint::of(fault, order)),
+        Err(fault) => {
+            let complaint = Complaint::of(fault, order);
+            Err(unless_long(&log.device, order.log, complaint))
+        }
     }
+}
+
+/// Complains of the first transcript of a replay that is one of its sources, or its log.
+fn judge_replay<'a, R: Files>(
+    rt: &R,
+    alloc: Global,
+    order: &Replay<'a>,
+    folder: &'a str,
+    paths: &Texts,
+) -> Result<(), Complaint<'a>> {
+    let mut names = Names::new(alloc);
+    for path in &order.scripts.sources {
+        names.push_read(rt, alloc, Role::Script, path)?;
+    }
+    names.push_read(rt, alloc, Role::Log, order.log)?;
+    names.push_transcripts(rt, alloc, folder, paths.as_slice())?;
+    names.judged(alloc)
 }
 
 /// Replays the files of an order, keeps their transcripts where that is asked for, and prints the reports.
@@ -201,12 +250,14 @@ pub fn replay_files<'a, R: Files + Print + Eprint + Pages + Copy + Drop>(
     order: &Replay<'a>,
 ) -> Result<Outcome, Complaint<'a>> {
     let scripts = scripts(&Disk { rt }, alloc, &order.scripts)?;
-    let log = opened(rt, order.log)?;
+    let log = opened_log(rt, order.log, order.cut)?;
     let Some(path) = order.scripts.transcripts else {
         let well = replay_order(rt, alloc, order, scripts, log, &mut NoShelf)?;
         return Ok(Outcome::of(well, true));
     };
-    let mut folder = Folder::new(*rt, alloc, path, order.scripts.sources.as_slice())?;
+    let paths = paths_of(alloc, path, order.scripts.sources.as_slice())?;
+    judge_replay(rt, alloc, order, path, &paths)?;
+    let mut folder = Folder::new(*rt, alloc, path, paths)?;
     let well = replay_order(rt, alloc, order, scripts, log, &mut folder)?;
     Ok(Outcome::of(well, folder.is_whole()))
 }
@@ -217,11 +268,14 @@ pub fn show_file<'a, R: Files + Print>(
     alloc: Global,
     order: &Show<'a>,
 ) -> Result<Outcome, Complaint<'a>> {
-    let mut log = Counted::new(opened(rt, order.log)?);
-    let mut out = Counted::new(io::writer(rt));
+    let mut log = Counted::new(opened_log(rt, order.log, false)?);
+    let mut out = Counted::new(Patient(io::writer(rt)));
     match show_log(alloc, order.script, &mut log, &mut out) {
         Ok(()) => Ok(Outcome::Well),
-        Err(fault) => Err(Complaint::of_show(fault, order)),
+        Err(fault) => {
+            let complaint = Complaint::of_show(fault, order);
+            Err(unless_long(&log.device, order.log, complaint))
+        }
     }
 }
 
@@ -234,11 +288,14 @@ pub fn explain_files<'a, R: Files + Print>(
     order: &Explain<'a>,
 ) -> Result<Outcome, Complaint<'a>> {
     let scripts = scripts(&Disk { rt }, alloc, &order.scripts)?;
-    let mut log = Counted::new(opened(rt, order.log)?);
-    let mut out = Counted::new(io::writer(rt));
+    let mut log = Counted::new(opened_log(rt, order.log, false)?);
+    let mut out = Counted::new(Patient(io::writer(rt)));
     match explain(alloc, order.only, &mut log, scripts, &mut out) {
         Ok(()) => Ok(Outcome::Well),
-        Err(fault) => Err(Complaint::of_explain(fault, order)),
+        Err(fault) => {
+            let complaint = Complaint::of_explain(fault, order);
+            Err(unless_long(&log.device, order.log, complaint))
+        }
     }
 }
 
@@ -251,7 +308,7 @@ fn timing<'a, R: Files>(
     let Some(path) = path else {
         return Ok(None);
     };
-    let text = read_whole(alloc, opened(rt, path)?, path)?;
+    let text = read_whole(alloc, opened(rt, path)?.take(LONGEST_LOG), path)?;
     Ok(Some(text))
 }
 
@@ -264,11 +321,14 @@ pub fn plan_file<'a, R: Files + Print>(
     let source = source(rt, alloc, order.source)?;
     let script = script_of(alloc, order.steps, order.limit_ms, false, source);
     let timing = timing(rt, alloc, order.timing)?;
-    let mut timeline = Counted::new(opened(rt, order.timeline)?);
-    let mut out = Counted::new(io::writer(rt));
+    let mut timeline = Counted::new(Bounded::new(opened(rt, order.timeline)?, false));
+    let mut out = Counted::new(Patient(io::writer(rt)));
     match plan_log(alloc, script, &mut timeline, &timing, &mut out) {
         Ok(()) => Ok(Outcome::Well),
-        Err(fault) => Err(Complaint::of_plan(fault, order)),
+        Err(fault) => {
+            let complaint = Complaint::of_plan(fault, order);
+            Err(unless_long(&timeline.device, order.timeline, complaint))
+        }
     }
 }
 
@@ -302,7 +362,7 @@ pub fn check_files<'a, R: Files + Print>(
     alloc: Global,
     order: &Check<'a>,
 ) -> Result<Outcome, Complaint<'a>> {
-    let mut out = Counted::new(io::writer(rt));
+    let mut out = Counted::new(Patient(io::writer(rt)));
     let mut well = true;
     for path in &order.sources {
         well &= check_file(rt, alloc, path, &mut out)?;

@@ -4,12 +4,14 @@ ghost use Rattle.std.specs.Prelude.{◌≡◌, ◌++◌, IfOk, OnOk, None};
 ghost use Rattle.expect_prog.specs.Folder.{number_text, transcript_path};
 
 use crate::complaint::{Complaint, tell};
+use crate::part::{Careful, Target, given};
 use child_events::Counted;
 use report_texts::write_all;
 use script_runs::Shelf;
 use std::alloc::{AllocError, Global};
-use std::fs;
-use std::io::ErrorKind;
+use std::fs::{self, DirBuilder};
+use std::io::{self, ErrorKind};
+use std::os::unix::fs::DirBuilderExt;
 use std::path::Path;
 use std::rt::Files;
 use tcl_words::{Text, Texts};
@@ -24,10 +26,10 @@ pub trait Pages {
 impl Pages for HostRuntime {
     fn write_page(&self, path: &[u8], transcript: &[u8]) -> bool {
         let path = std::str::from_utf8(path).unwrap_or("");
-        match write_file(self, path, transcript) {
+        match write_file(self, self.alloc(), path, transcript) {
             Ok(()) => true,
-            Err(complaint) => {
-                tell(self, &complaint);
+            Err(reason) => {
+                tell(self, self.alloc(), &Complaint::NotWritten { path, reason });
                 false
             }
         }
@@ -80,19 +82,41 @@ fn path_of(
     Ok(path)
 }
 
-/// Writes a transcript to a file, in the place of what was there.
-fn write_file<'p, R: Files>(rt: &R, path: &'p str, transcript: &[u8]) -> Result<(), Complaint<'p>> {
-    let Ok(file) = fs::File::create(rt, path) else {
-        return Err(Complaint::NotWritten(path));
+/// Writes a transcript to a file, which gets its name if it is whole, and else is removed.
+fn write_file<R: Files>(rt: &R, alloc: Global, path: &str, transcript: &[u8]) -> io::Result<()> {
+    let target = Target::page(rt, alloc, path)?;
+    let mut out = Counted::new(Careful::new(target.create(rt)?));
+    let written = match write_all(&mut out, transcript) {
+        Ok(()) => given(rt, &target, out.device.whole()),
+        Err(_) => Err(io::Error::from(ErrorKind::Other)),
     };
-    match write_all(&mut Counted::new(file), transcript) {
-        Ok(()) => Ok(()),
-        Err(_) => Err(Complaint::NotWritten(path)),
+    if written.is_err() {
+        target.remove(rt);
+    }
+    written
+}
+
+/// Makes a folder, which its owner alone may use, unless there is one.
+fn make_folder<R: Files>(rt: &R, path: &str) -> io::Result<()> {
+    let Err(e) = DirBuilder::new().mode(0o700).create(rt, path) else {
+        return Ok(());
+    };
+    match fs::metadata(rt, path) {
+        Ok(it) if it.is_dir() => Ok(()),
+        _ => Err(e),
     }
 }
 
+/// Whether files can be made in the folder of a file, by making the file's part and removing it again.
+fn try_folder<R: Files>(rt: &R, alloc: Global, path: &str) -> io::Result<()> {
+    let target = Target::page(rt, alloc, path)?;
+    drop(target.create(rt)?);
+    target.remove(rt);
+    Ok(())
+}
+
 /// The paths of the transcripts of scripts of these files, in a folder.
-fn paths_of(alloc: Global, folder: &str, files: &[&str]) -> Result<Texts, AllocError> {
+pub fn paths_of(alloc: Global, folder: &str, files: &[&str]) -> Result<Texts, AllocError> {
     let mut paths = Texts::new(alloc);
     for at in 0..files.len() {
         paths.push(path_of(alloc, folder, files.len(), at + 1, files[at])?)?;
@@ -101,27 +125,29 @@ fn paths_of(alloc: Global, folder: &str, files: &[&str]) -> Result<Texts, AllocE
 }
 
 impl<R: Pages + Drop> Folder<R> {
-    /// A folder at a path, for the transcripts of scripts of these files. Where it isn't there, it is made.
+    /// A folder at a path, for the transcripts of these paths. Where it isn't there, it is made.
     pub fn new<'a>(
         rt: R,
         alloc: Global,
         path: &'a str,
-        files: &[&str],
+        paths: Texts,
     ) -> Result<Folder<R>, Complaint<'a>>
     where
         R: Files,
     {
-        if let Err(e) = fs::create_dir(&rt, path) {
-            if e.kind() == ErrorKind::OutOfMemory {
-                return Err(Complaint::Memory);
-            }
-            if !fs::metadata(&rt, path).map_or(false, |it| it.is_dir()) {
-                return Err(Complaint::NotWritten(path));
+        if let Err(reason) = make_folder(&rt, path) {
+            return Err(Complaint::NotWritten { path, reason });
+        }
+        for page in &paths.list {
+            let page = std::str::from_utf8(page.as_slice()).unwrap_or("");
+            if let Err(reason) = try_folder(&rt, alloc, page) {
+                let path = page.to_string(alloc)?;
+                return Err(Complaint::PageNotWritten { path, reason });
             }
         }
         Ok(Folder {
             rt,
-            paths: paths_of(alloc, path, files)?,
+            paths,
             is_whole: true,
         })
     }

@@ -5,21 +5,25 @@ mod account;
 mod complaint;
 mod files;
 mod folder;
+mod names;
 mod outcome;
 mod part;
 mod running;
+mod sized;
 mod standard;
 
 use crate::complaint::{Complaint, tell};
 use crate::files::{check_files, explain_files, plan_file, replay_files, show_file};
 use crate::running::run_files;
-use crate::standard::{is_unread, open_closed};
+use crate::standard::{Patient, is_unread, open_closed};
 use command_line::{Order, read_words};
-use std::alloc::Global;
+use report_texts::{Place, push_text};
+use std::alloc::{AllocError, Global};
 use std::env;
 use std::env::Env;
 use std::io::ErrorKind;
 use std::process::ExitCode;
+use tcl_words::Text;
 
 /// The status of a fault.
 const FAULT: u8 = 2;
@@ -27,8 +31,8 @@ const FAULT: u8 = 2;
 /// The status where nobody reads standard output: that of a program that SIGPIPE ended.
 const UNREAD: u8 = 141;
 
-fn complain(rt: &impl Eprint, complaint: &Complaint<'_>) -> ExitCode {
-    tell(rt, complaint);
+fn complain(rt: &impl Eprint, alloc: Global, complaint: &Complaint<'_>) -> ExitCode {
+    tell(rt, alloc, complaint);
     ExitCode::from(FAULT)
 }
 
@@ -44,14 +48,29 @@ fn words(rt: &(impl Env + AllocGlobal), alloc: Global) -> Result<Vec<String>, Co
     }
 }
 
+/// Tells a usage fault, with what a terminal would not show as itself escaped.
+fn told_usage(rt: &impl Eprint, alloc: Global, error: &clap::Error) -> Result<(), AllocError> {
+    let raw = error.to_string(alloc)?;
+    let mut text = Text::new(alloc);
+    push_text(alloc, &mut text, Place::Lines, raw.as_bytes())?;
+    let _ = eprint!(rt; "{}", std::str::from_utf8(text.as_slice()).unwrap_or(""));
+    Ok(())
+}
+
 /// Shows the help that was asked for, or a usage fault.
-fn show(rt: &(impl Print + Eprint), error: &clap::Error) -> ExitCode {
+fn show(rt: &(impl Print + Eprint), alloc: Global, error: &clap::Error) -> ExitCode {
     if error.kind() == clap::error::ErrorKind::OutOfMemory {
-        return complain(rt, &Complaint::Memory);
+        return complain(rt, alloc, &Complaint::Memory);
+    }
+    if error.use_stderr() {
+        return match told_usage(rt, alloc, error) {
+            Ok(()) => ExitCode::from(FAULT),
+            Err(_) => complain(rt, alloc, &Complaint::Memory),
+        };
     }
     match error.print(rt) {
         Ok(()) => ExitCode::from(u8::try_from(error.exit_code()).unwrap_or(FAULT)),
-        Err(_) => complain(rt, &Complaint::Unwritten),
+        Err(_) => complain(rt, alloc, &Complaint::Unwritten),
     }
 }
 
@@ -59,15 +78,15 @@ fn main(rt: HostRuntime) -> ExitCode {
     open_closed(&rt);
     let words = match words(&rt, rt.alloc()) {
         Ok(words) => words,
-        Err(complaint) => return complain(&rt, &complaint),
+        Err(complaint) => return complain(&rt, rt.alloc(), &complaint),
     };
     let order = match read_words(rt.alloc(), words.as_slice()) {
         Ok(order) => order,
-        Err(error) => return show(&rt, &error),
+        Err(error) => return show(&rt, rt.alloc(), &error),
     };
     let outcome = match &order {
         Order::Replay(replay) => replay_files(&rt, rt.alloc(), replay),
-        Order::Run(run) => run_files(rt, rt.alloc(), run, rt.stderr(), rt.stdout()),
+        Order::Run(run) => run_files(rt, rt.alloc(), run, rt.stderr(), Patient(rt.stdout())),
         Order::Show(show) => show_file(&rt, rt.alloc(), show),
         Order::Plan(plan) => plan_file(&rt, rt.alloc(), plan),
         Order::Check(check) => check_files(&rt, rt.alloc(), check),
@@ -76,6 +95,6 @@ fn main(rt: HostRuntime) -> ExitCode {
     match outcome {
         Ok(outcome) => ExitCode::from(outcome.status()),
         Err(Complaint::Unwritten) if is_unread() => ExitCode::from(UNREAD),
-        Err(complaint) => complain(&rt, &complaint),
+        Err(complaint) => complain(&rt, rt.alloc(), &complaint),
     }
 }

@@ -2,20 +2,24 @@
 
 ghost use Rattle.std.specs.Prelude.{◌≡◌, ◌≤◌, length, vec_len, IfOk};
 
-use crate::account::{Account, opened_account};
+use crate::account::{Account, opened_account, remove_account, tell_account};
 use crate::complaint::{Complaint, tell};
 use crate::files::{Disk, scripts};
-use crate::folder::{Folder, Pages};
+use crate::folder::{Folder, Pages, paths_of};
+use crate::names::{Names, Role, judge_old};
 use crate::outcome::Outcome;
-use crate::part::{Name, SyncedFile};
+use crate::part::{SyncedFile, Target, given};
 use child_events::Counted;
-use child_pipes::{Cancellation, Free, Pipes, Programs, Reaper, Stop, Wall, Watch};
+use child_pipes::{Cancellation, ErrorPipes, Free, Pipes, Programs, Reaper, Stop, Wall, Watch};
 use command_line::Run;
 use dialogue_sched::Script;
-use report_texts::Format;
-use script_runs::{DriveFault, Early, NoShelf, Record, Telling, Told, clocks, drive, drive_early};
+use report_texts::{Format, Unwritten};
+use script_runs::{
+    DriveFault, Early, LogWriteFault, NoShelf, Record, Telling, Told, Written, clocks, drive,
+    drive_early,
+};
 use std::alloc::{AllocError, Global};
-use std::io::{IsTerminal, Write};
+use std::io::{self, ErrorKind, IsTerminal, Write};
 use std::rt::Files;
 use std::sync::{Arc, Wait};
 use std::thread::Threads;
@@ -44,6 +48,7 @@ fn keepers<R: Programs + Wait + Clock + Copy + Drop>(
     rt: R,
     alloc: Global,
     reaper: &Reaper,
+    errors: &Option<ErrorPipes>,
     cancellations: &[Arc<Cancellation>],
 ) -> Result<Vec<Pipes<R>>, AllocError>
     ensures { IfOk result (λ ks. length ks.items ≡ length cancellations.now) }
@@ -51,8 +56,12 @@ fn keepers<R: Programs + Wait + Clock + Copy + Drop>(
     let mut keepers = Vec::new(alloc);
     for at in 0..cancellations.len() {
         let cancellation = Arc::try_clone(&cancellations[at])?;
-        let Ok(()) = keepers.push(Pipes::new(rt, alloc, at as u64, reaper.shared()?, cancellation)?)
-        else {
+        let errors = match errors {
+            Some(errors) => Some(errors.shared()?),
+            None => None,
+        };
+        let keeper = Pipes::new(rt, alloc, at as u64, reaper.shared()?, errors, cancellation)?;
+        let Ok(()) = keepers.push(keeper) else {
             return Err(AllocError);
         };
     }
@@ -74,26 +83,31 @@ fn workers(asked: u8) -> u8
     asked
 }
 
-/// What a run told as its scripts ended, and what came of the rest: whether each script ended with status 0, and all was written.
+/// How a run ended whose reports were written, by what was told as its scripts ended.
 fn outcome_of<R: Pages + Drop>(
-    driven: Result<bool, DriveFault>,
+    reports: Result<bool, Unwritten>,
     told: Told<Folder<R>>,
-) -> Result<Outcome, DriveFault> {
-    let all_well = driven?;
+) -> Result<Outcome, Unwritten> {
     let Told { outcome, shelf } = told;
-    let Ok(well) = outcome else {
-        return Err(DriveFault::Write);
-    };
     let is_whole = match &shelf {
         Some(folder) => folder.is_whole(),
         None => true,
     };
-    Ok(Outcome::of(all_well && well, is_whole))
+    Ok(Outcome::of(reports? && outcome?, is_whole))
+}
+
+/// What came of scripts that were served.
+#[derive(Drop)]
+struct Driven<L: Drop> {
+    /// How the run ended, unless a write of the reports failed.
+    outcome: Result<Outcome, Unwritten>,
+    /// Why not all of the record was written, if it wasn't.
+    log: Option<LogWriteFault>,
+    record: L,
 }
 
 /// Runs scripts over processes. Transcripts go to `folder` as scripts end, the record goes to `record` as it comes, and the reports go to `out`; what
-/// is to be told of them while they run is told on `errors`. Where the run can't begin, a fault says why. Else what came of it is given, and `record`
-/// is given back.
+/// is to be told of them while they run is told on `errors`. If the scripts can't be served, a fault says why.
 fn run_scripts<
     R: Files + Eprint + Pages + Threads + Wait + Clock + Programs + Copy + Send + Drop + 'static,
     E: Write + IsTerminal + Copy + Send + Drop + 'static,
@@ -109,7 +123,7 @@ fn run_scripts<
     folder: Option<Folder<R>>,
     record: L,
     stop: &Arc<Stop>,
-) -> Result<(Result<Outcome, DriveFault>, L), DriveFault> {
+) -> Result<Driven<L>, DriveFault> {
     let guard = match order.guard {
         true => rt.start_guard(alloc).ok(),
         false => None,
@@ -117,8 +131,12 @@ fn run_scripts<
     let (count, workers) = (scripts.len(), workers(order.workers));
     let reaper = Reaper::new(alloc, order.terms, guard)?;
     let cancellations = cancellations(&rt, alloc, count)?;
-    let keepers = keepers(rt, alloc, &reaper, cancellations.as_slice())?;
-    let mut telling = Telling::new(rt, alloc, errors, order.follow, count, workers)?;
+    let pipes = match order.labels {
+        true => Some(ErrorPipes::new(alloc)?),
+        false => None,
+    };
+    let keepers = keepers(rt, alloc, &reaper, &pipes, cancellations.as_slice())?;
+    let telling = Telling::new(rt, alloc, errors, order.follow, pipes, count, workers)?;
     let wall = Wall::new(rt);
     let form = &order.scripts.form;
     let is_early = matches!(form.format, Format::JsonLines);
@@ -144,10 +162,16 @@ fn run_scripts<
     let watch = Watch::start(rt, alloc, &wall, reaper, Arc::try_clone(stop)?, errors)?;
     let recorded = order.record.is_some() || order.explain.is_some();
     let log = Counted::new(record);
-    let (driven, log) = if is_early {
+    let (written, log) = if is_early {
         let (outcome, log) = drive_early(rt, alloc, scripts, keepers, clocks, Free, recorded, log);
         match outcome {
-            Ok(()) => (Ok(true), log),
+            Ok(fault) => (
+                Ok(Written {
+                    reports: Ok(true),
+                    log: fault,
+                }),
+                log,
+            ),
             Err(fault) => (Err(fault), log),
         }
     } else {
@@ -158,41 +182,124 @@ fn run_scripts<
         )
     };
     let told = early.end(&rt);
-    telling.end();
     watch.stop(rt, alloc, errors);
-    Ok((outcome_of(driven, told), log.device))
+    telling.end(&rt);
+    let Written {
+        reports,
+        log: fault,
+    } = written?;
+    Ok(Driven {
+        outcome: outcome_of(reports, told),
+        log: fault,
+        record: log.device,
+    })
 }
 
-/// Runs an order's scripts over real children, keeps their transcripts where that is asked for, hands their record to `record`, and prints the
-/// reports. Where the run can't begin, a complaint says why.
-fn run_order<
-    'a,
-    R: Files + Eprint + Pages + Threads + Wait + Clock + Programs + Copy + Send + Drop + 'static,
-    E: Write + IsTerminal + Copy + Send + Drop + 'static,
-    O: Write + Copy + Send + Drop + 'static,
-    L: Write + Drop,
->(
-    rt: R,
+/// What came of a run.
+#[derive(Drop)]
+struct Ran {
+    /// How it ended, unless a write of the reports failed.
+    outcome: Result<Outcome, Unwritten>,
+    /// Whether the file of its record, if there is one, has its name.
+    is_recorded: bool,
+    /// Its record, if it was to be kept and memory for it was not refused.
+    kept: Option<Text>,
+}
+
+/// The file of a record.
+#[derive(Drop)]
+struct RecordFile<'a, F: Drop> {
+    target: Target<'a>,
+    file: F,
+}
+
+/// Opens the file of a record, where one is asked for.
+fn opened_record<'a, R: Files>(
+    rt: &R,
     alloc: Global,
     order: &Run<'a>,
-    errors: E,
-    out: O,
-    scripts: Vec<Script>,
-    record: L,
-    stop: &Arc<Stop>,
-) -> Result<(Result<Outcome, DriveFault>, L), Complaint<'a>> {
-    let folder = match order.scripts.transcripts {
-        Some(path) => Some(Folder::new(rt, alloc, path, order.scripts.sources.as_slice())?),
-        None => None,
+) -> Result<Option<RecordFile<'a, R::File>>, Complaint<'a>> {
+    let Some(path) = order.record else {
+        return Ok(None);
     };
-    match run_scripts(rt, alloc, scripts, order, errors, out, folder, record, stop) {
-        Ok(ran) => Ok(ran),
-        Err(fault) => Err(Complaint::of_drive(fault, order)),
+    let target = Target::asked(rt, alloc, path)?;
+    match target.create(rt) {
+        Ok(file) => Ok(Some(RecordFile { target, file })),
+        Err(reason) => Err(Complaint::NotWritten { path, reason }),
     }
 }
 
-/// Runs an order's scripts, and writes their record to a file, which has its name when all of the record is written. Gives what came of the run, and
-/// what was kept of the record behind `kept`.
+/// Makes the folder of transcripts, where one is asked for.
+fn opened_folder<'a, R: Files + Pages + Drop>(
+    rt: R,
+    alloc: Global,
+    order: &Run<'a>,
+) -> Result<Option<Folder<R>>, Complaint<'a>> {
+    let Some(path) = order.scripts.transcripts else {
+        return Ok(None);
+    };
+    let paths = paths_of(alloc, path, order.scripts.sources.as_slice())?;
+    Ok(Some(Folder::new(rt, alloc, path, paths)?))
+}
+
+/// Complains of the first two names of a run's files that clash, and of what stands under the name of a product and is none.
+fn judge_run<'a, R: Files>(rt: &R, alloc: Global, order: &Run<'a>) -> Result<(), Complaint<'a>> {
+    let mut names = Names::new(alloc);
+    for path in &order.scripts.sources {
+        names.push_read(rt, alloc, Role::Script, path)?;
+    }
+    if let Some(path) = order.record {
+        names.push_product(rt, alloc, Role::Record, path)?;
+    }
+    if let Some(path) = order.explain {
+        names.push_product(rt, alloc, Role::Account, path)?;
+    }
+    if let Some(path) = order.scripts.transcripts {
+        let paths = paths_of(alloc, path, order.scripts.sources.as_slice())?;
+        names.push_transcripts(rt, alloc, path, paths.as_slice())?;
+    }
+    names.judged(alloc)?;
+    if let Some(path) = order.record {
+        judge_old(rt, alloc, path, Role::Record)?;
+    }
+    if let Some(path) = order.explain {
+        judge_old(rt, alloc, path, Role::Account)?;
+    }
+    Ok(())
+}
+
+/// Gives the file of a record its name, if all of the record is in it. The answer says whether it has the name; why not, is told.
+fn give_record<R: Files + Eprint>(
+    rt: &R,
+    alloc: Global,
+    target: &Target<'_>,
+    whole: io::Result<&R::File>,
+) -> bool {
+    let Err(reason) = given(rt, target, whole) else {
+        return true;
+    };
+    let path = target.path();
+    if target.has_part() {
+        tell(rt, alloc, &Complaint::CutRecord { path, reason });
+    } else {
+        tell(rt, alloc, &Complaint::NotWritten { path, reason });
+    }
+    false
+}
+
+/// The file of a record, if all of the record is in it, or why not.
+fn whole<R: Clock + Drop, F: Drop>(
+    file: &SyncedFile<R, F>,
+    log: Option<LogWriteFault>,
+) -> io::Result<&F> {
+    match log {
+        Some(LogWriteFault::Memory) => Err(io::Error::from(ErrorKind::OutOfMemory)),
+        _ => file.whole(),
+    }
+}
+
+/// Runs an order's scripts, and writes their record to its file. Gives what came of the run, and what was kept of the record behind `kept`.
+/// If the scripts weren't served, a complaint says why; unless it is for want of memory, the file is removed.
 fn run_to_file<
     'a,
     R: Files + Eprint + Pages + Threads + Wait + Clock + Programs + Copy + Send + Drop + 'static,
@@ -205,33 +312,37 @@ fn run_to_file<
     errors: E,
     out: O,
     scripts: Vec<Script>,
-    path: &'a str,
+    folder: Option<Folder<R>>,
+    record: RecordFile<'a, R::File>,
     kept: Option<Text>,
     stop: &Arc<Stop>,
-) -> Result<(Outcome, Option<Text>), Complaint<'a>> {
-    let name = Name::new(&rt, alloc, path)?;
-    let file = SyncedFile::new(rt, name.create(&rt)?);
-    let record = Record::new(Some(file), kept);
-    let (driven, record) = match run_order(rt, alloc, order, errors, out, scripts, record, stop) {
-        Ok(ran) => ran,
-        Err(complaint) => {
-            name.remove(&rt);
-            return Err(complaint);
+) -> Result<Ran, Complaint<'a>> {
+    let RecordFile { target, file } = record;
+    let record = Record::new(Some(SyncedFile::new(rt, file)), kept);
+    let ran = run_scripts(rt, alloc, scripts, order, errors, out, folder, record, stop);
+    let Driven {
+        outcome,
+        log,
+        record,
+    } = match ran {
+        Ok(driven) => driven,
+        Err(fault) => {
+            if let DriveFault::Serve(_) = fault {
+                target.remove(&rt);
+            }
+            return Err(Complaint::of_drive(fault, order));
         }
     };
     let (file, kept) = record.into_parts();
-    let is_whole = matches!(driven, Ok(_) | Err(DriveFault::Write));
-    let named = match &file {
-        Some(file) if is_whole => name.give(&rt, file.file()),
-        _ => Ok(()),
+    let is_recorded = match &file {
+        Some(file) => give_record(&rt, alloc, &target, whole(file, log)),
+        None => true,
     };
-    match driven {
-        Ok(outcome) => {
-            named?;
-            Ok((outcome, kept))
-        }
-        Err(fault) => Err(Complaint::of_drive(fault, order)),
-    }
+    Ok(Ran {
+        outcome,
+        is_recorded,
+        kept: if log.is_none() { kept } else { None },
+    })
 }
 
 /// Runs an order's scripts, and writes their record where that is asked for. Gives what came of the run, and what was kept of the record behind `kept`.
@@ -247,42 +358,60 @@ fn run_recorded<
     errors: E,
     out: O,
     scripts: Vec<Script>,
+    folder: Option<Folder<R>>,
+    record: Option<RecordFile<'a, R::File>>,
     kept: Option<Text>,
     stop: &Arc<Stop>,
-) -> Result<(Outcome, Option<Text>), Complaint<'a>> {
-    if let Some(path) = order.record {
-        return run_to_file(rt, alloc, order, errors, out, scripts, path, kept, stop);
+) -> Result<Ran, Complaint<'a>> {
+    if let Some(record) = record {
+        return run_to_file(
+            rt, alloc, order, errors, out, scripts, folder, record, kept, stop,
+        );
     }
     let record = Record::<R::File>::new(None, kept);
-    let (driven, record) = run_order(rt, alloc, order, errors, out, scripts, record, stop)?;
-    match driven {
-        Ok(outcome) => Ok((outcome, record.into_parts().1)),
+    match run_scripts(rt, alloc, scripts, order, errors, out, folder, record, stop) {
+        Ok(
+            Driven {
+                outcome,
+                log,
+                record,
+            },
+        ) => Ok(Ran {
+            outcome,
+            is_recorded: true,
+            kept: if log.is_none() {
+                record.into_parts().1
+            } else {
+                None
+            },
+        }),
         Err(fault) => Err(Complaint::of_drive(fault, order)),
     }
 }
 
 /// Tells an account over a record, of which memory for keeping it may have been refused. The answer says whether it is told.
-fn tell_account<'a, R: Eprint, F: Write + Drop>(
+fn tell_kept<R: Files + Eprint>(
     rt: &R,
     alloc: Global,
-    account: Account<'a, F>,
+    account: Account<'_, R::File>,
     record: Option<Text>,
 ) -> bool {
     let Some(record) = record else {
-        tell(rt, &Complaint::Memory);
+        remove_account(rt, Some(account));
+        tell(rt, alloc, &Complaint::Memory);
         return false;
     };
-    match account.tell(alloc, record.as_slice()) {
+    match tell_account(rt, alloc, account, record.as_slice()) {
         Ok(()) => true,
         Err(complaint) => {
-            tell(rt, &complaint);
+            tell(rt, alloc, &complaint);
             false
         }
     }
 }
 
-/// Runs scripts over real children, prints the reports, and then tells what the scripts did, where that is asked for.
-fn run_and_tell<
+/// Runs scripts whose record's and account's files are open, prints the reports, and tells the account. The answer is what came of all.
+fn run_open<
     'a,
     R: Files + Eprint + Pages + Threads + Wait + Clock + Programs + Copy + Send + Drop + 'static,
     E: Write + IsTerminal + Copy + Send + Drop + 'static,
@@ -294,16 +423,37 @@ fn run_and_tell<
     errors: E,
     out: O,
     scripts: Vec<Script>,
+    folder: Option<Folder<R>>,
+    record: Option<RecordFile<'a, R::File>>,
+    account: Option<Account<'a, R::File>>,
     stop: &Arc<Stop>,
 ) -> Result<Outcome, Complaint<'a>> {
-    let Some(path) = order.explain else {
-        let (outcome, _) = run_recorded(rt, alloc, order, errors, out, scripts, None, stop)?;
-        return Ok(outcome);
+    let kept = match &account {
+        Some(_) => Some(Text::new(alloc)),
+        None => None,
     };
-    let account = opened_account(&rt, alloc, path, scripts.as_slice())?;
-    let kept = Some(Text::new(alloc));
-    let (outcome, record) = run_recorded(rt, alloc, order, errors, out, scripts, kept, stop)?;
-    Ok(outcome.and(tell_account(&rt, alloc, account, record)))
+    let ran = run_recorded(
+        rt, alloc, order, errors, out, scripts, folder, record, kept, stop,
+    );
+    let Ran {
+        outcome,
+        is_recorded,
+        kept,
+    } = match ran {
+        Ok(ran) => ran,
+        Err(complaint) => {
+            remove_account(&rt, account);
+            return Err(complaint);
+        }
+    };
+    let is_told = match account {
+        Some(account) => tell_kept(&rt, alloc, account, kept),
+        None => true,
+    };
+    match outcome {
+        Ok(outcome) => Ok(outcome.and(is_recorded).and(is_told)),
+        Err(Unwritten) => Err(Complaint::Unwritten),
+    }
 }
 
 /// Runs the files of an order over real children, keeps their transcripts where that is asked for, prints the reports, and then tells what
@@ -316,7 +466,31 @@ pub fn run_files<
     O: Write + Copy + Send + Drop + 'static,
 >(rt: R, alloc: Global, order: &Run<'a>, errors: E, out: O) -> Result<Outcome, Complaint<'a>> {
     let scripts = scripts(&Disk { rt: &rt }, alloc, &order.scripts)?;
+    judge_run(&rt, alloc, order)?;
     let stop = Arc::new(alloc, Stop::new(&rt))?;
-    let outcome = run_and_tell(rt, alloc, order, errors, out, scripts, &stop)?;
+    let account = match order.explain {
+        Some(path) => Some(opened_account(&rt, alloc, path, scripts.as_slice())?),
+        None => None,
+    };
+    let record = match opened_record(&rt, alloc, order) {
+        Ok(record) => record,
+        Err(complaint) => {
+            remove_account(&rt, account);
+            return Err(complaint);
+        }
+    };
+    let folder = match opened_folder(rt, alloc, order) {
+        Ok(folder) => folder,
+        Err(complaint) => {
+            remove_account(&rt, account);
+            if let Some(record) = record {
+                record.target.remove(&rt);
+            }
+            return Err(complaint);
+        }
+    };
+    let outcome = run_open(
+        rt, alloc, order, errors, out, scripts, folder, record, account, &stop,
+    )?;
     Ok(outcome.unless_stopped(stop.signal()))
 }

@@ -1,8 +1,9 @@
 -- A run over children, and a replay of the record that it wrote.
-use Rattle.std.proofs.Common.{◌≡◌, ◌≢◌, ◌⊎◌, inl, inr, ◌<◌, ◌^◌, ℕ, ◌+◌, List, [], ◌∷◌, length, true, false, Option, Some, None, Ok, Err, refl, sym, ap, subst, ◌∙◌}
+use Rattle.std.proofs.Common.{◌≡◌, ◌≢◌, ◌⊎◌, inl, inr, ◌<◌, ◌^◌, ℕ, ◌+◌, List, [], ◌∷◌, length, false, Option, Some, None, Ok, Err, refl, sym, ap, subst, ◌∙◌}
 use Rattle.child_events.specs.declared.event.Answer.{Answer}
 use Rattle.child_events.specs.declared.event.HallEvent.{HallEvent}
 use Rattle.child_events.specs.declared.faults.LogFault.{LogFault}
+use Rattle.child_events.specs.Log.{LogText2, counted_text}
 use Rattle.child_events.specs.Reading.{Refused}
 use Rattle.expect_core.specs.declared.request.Request.{Request}
 use Rattle.session.specs.declared.report.Report.{Report}
@@ -22,10 +23,10 @@ use Rattle.report_texts.specs.declared.form.Form.{Form}
 use Rattle.report_texts.specs.Written.{StandsFor, AllStandFor}
 use Rattle.script_runs.specs.declared.fault.ReplayFault.{ReplayFault}
 use Rattle.script_runs.specs.declared.fault.ReplayFault.TheVariants.{Read, Log, Run, Write, Memory}
-use Rattle.script_runs.specs.Drive.{WasServed}
+use Rattle.child_serve.specs.Whole.{WasServed}
 use Rattle.script_runs.specs.Replay.{RunOver, Replays, IsNoWant}
 use Rattle.script_runs.proofs.Rewritten.{text_longer, below, one_written_list}
-use Rattle.script_runs.specs.Again.{AgreesWith, AllAgree, AreSpared, IsOfDevices, SameReports, ReplaysSame, ReplaysPart, ReplaysCut, ReplaysUnrefused}
+use Rattle.script_runs.specs.Again.{AgreesWith, AllAgree, AreSpared, IsOfDevices, SameReports, ReplaysSame, ReplaysPart, ReplaysUnrefused}
 
 -- reports that agree
 
@@ -91,11 +92,11 @@ same_reports rs ts rs' ts' agree stand stand' =
     let printed = seconds_stand ts rs' ts' (firsts_stand rs rs' ts agree stand) stand' in
     record { reports = agree; printed = printed; same = all_same ts ts' printed }
 
-module _ (told : ℕ → ℕ → Request → Answer → Type 0) (gives : ℕ → ℕ → Option (List ℕ) → Type 0) (workers : ℕ) (keepers : List Keeping) (scripts : List Script) (size : length keepers ≡ length scripts) (served : Served) where
-  runs_again : (text : List ℕ) (rs : List Report) → served.stopped ≡ false → WasServed told gives true workers keepers scripts served text → RunOver scripts text (Ok rs) → AllAgree served.reports rs
-  runs_again text rs running was over =
-      let is = one_written_list text was.es over.events was.log over.log in
-      all_agree 1 was.es scripts served.reports rs (serving_is_run told gives workers keepers scripts was.es served size was.serves running).2 (subst (λ (es : List HallEvent). AllMean 1 es scripts rs) is over.runs.2)
+module _ (told : ℕ → ℕ → Request → Answer → Type 0) (gives : ℕ → ℕ → Option (List ℕ) → Type 0) (workers : ℕ) (keepers : List Keeping) (scripts : List Script) (size : length keepers ≡ length scripts) (served : Served) (es : List HallEvent) (was : WasServed told gives workers keepers scripts es served) where
+  runs_again : (text : List ℕ) (rs : List Report) → served.stopped ≡ false → LogText2 text es → RunOver scripts text (Ok rs) → AllAgree served.reports rs
+  runs_again text rs running log over =
+      let is = one_written_list text es over.events log over.log in
+      all_agree 1 es scripts served.reports rs (serving_is_run told gives workers keepers scripts es served size was running).2 (subst (λ (es : List HallEvent). AllMean 1 es scripts rs) is over.runs.2)
 
   no_new : (f : HallFault) → ◌≡◌ {A = Option HallFault} None (Some f) → ⊥
   no_new f h = cc
@@ -103,43 +104,42 @@ module _ (told : ℕ → ℕ → Request → Answer → Type 0) (gives : ℕ →
   no_refusal : (r : ℕ × HallRefusal) → ◌≡◌ {A = Option (ℕ × HallRefusal)} None (Some r) → ⊥
   no_refusal r h = cc
 
-  runs_unrefused : (es : List HallEvent) (f : RunFault) → opening_fault scripts ≡ None → first_refusal (length scripts) 0 es ≡ None → Runs scripts es (Err f) → f ≡ run.Memory
-  runs_unrefused es (run.New fault) opens taken failed = absurd (no_new fault (sym opens ∙ failed))
-  runs_unrefused es (run.Refused at r) opens taken failed = absurd (no_refusal (at, r) (sym taken ∙ failed.1))
-  runs_unrefused es run.Memory opens taken failed = refl
+  runs_unrefused : (f : RunFault) → opening_fault scripts ≡ None → first_refusal (length scripts) 0 es ≡ None → Runs scripts es (Err f) → f ≡ run.Memory
+  runs_unrefused (run.New fault) opens taken failed = absurd (no_new fault (sym opens ∙ failed))
+  runs_unrefused (run.Refused at r) opens taken failed = absurd (no_refusal (at, r) (sym taken ∙ failed.1))
+  runs_unrefused run.Memory opens taken failed = refl
 
-  run_unrefused : (text : List ℕ) (f : RunFault) → WasServed told gives true workers keepers scripts served text → RunOver scripts text (Err f) → f ≡ run.Memory
-  run_unrefused text f was over =
-      let is = one_written_list text was.es over.events was.log over.log in
-      runs_unrefused was.es f was.serves.opens was.serves.whole.taken (subst (λ (es : List HallEvent). Runs scripts es (Err f)) is over.runs)
+  run_unrefused : (text : List ℕ) (f : RunFault) → LogText2 text es → RunOver scripts text (Err f) → f ≡ run.Memory
+  run_unrefused text f log over =
+      let is = one_written_list text es over.events log over.log in
+      runs_unrefused f was.opens was.whole.taken (subst (λ (es : List HallEvent). Runs scripts es (Err f)) is over.runs)
 
-  log_unrefused : (text : List ℕ) (f : LogFault) → WasServed told gives true workers keepers scripts served text → length text < 10 ^ 16 → Refused text f → ⊥
-  log_unrefused text f was few refused = refused.1 was.es (inr (was.log, below (length was.es) (length text) (10 ^ 16) (text_longer text was.es was.log) few))
+  log_unrefused : (text : List ℕ) (f : LogFault) → LogText2 text es → length text < 10 ^ 16 → Refused text f → ⊥
+  log_unrefused text f log few refused = refused.1 es (inr (log, below (length es) (length text) (10 ^ 16) (text_longer text es log) few))
 
   unrefused : (form : Form) (text : List ℕ) (shelf shelf' : Option (List (List ℕ))) (old new : Option (List ℕ)) (fault : ReplayFault) →
-      WasServed told gives true workers keepers scripts served text → IsNoWant fault → Replays scripts form text shelf shelf' old new (Err fault) → IsOfDevices text fault
-  unrefused form text shelf shelf' old new Read was sound says = tt
-  unrefused form text shelf shelf' old new (Log f) was sound says = λ few. log_unrefused text f was few says
-  unrefused form text shelf shelf' old new (Run f) was sound says = sound.0 (run_unrefused text f was says)
-  unrefused form text shelf shelf' old new Write was sound says = tt
-  unrefused form text shelf shelf' old new Memory was sound says = tt
+      LogText2 text es → IsNoWant fault → Replays scripts form text shelf shelf' old new (Err fault) → IsOfDevices text fault
+  unrefused form text shelf shelf' old new Read log sound says = tt
+  unrefused form text shelf shelf' old new (Log f) log sound says = λ few. log_unrefused text f log few says
+  unrefused form text shelf shelf' old new (Run f) log sound says = sound.0 (run_unrefused text f log says)
+  unrefused form text shelf shelf' old new Write log sound says = tt
+  unrefused form text shelf shelf' old new Memory log sound says = tt
+
+-- what is read again is the text that was written
+is_log : (bytes : List ℕ) (es : List HallEvent) → bytes ≡ counted_text es → LogText2 (counted_text es) es → LogText2 bytes es
+is_log bytes es is log = (is, log.1)
 
 module _ (told : ℕ → ℕ → Request → Answer → Type 0) (gives : ℕ → ℕ → Option (List ℕ) → Type 0) where
   pub replays_same : ReplaysSame told gives
-  replays_same workers keepers scripts form form' well well' kept kept' shelf shelf' bytes log log' out out' old new size ran running is again =
-      same_reports ran.served.reports ran.printed again.reports again.printed
-      (runs_again told gives workers keepers scripts size ran.served bytes again.reports running (subst (WasServed told gives true workers keepers scripts ran.served) (sym is) ran.was) again.run) ran.stand again.stand
+  replays_same workers keepers scripts form form' written well' kept kept' shelf shelf' bytes log log' log_failures log_calls out out' out_failures out_calls old new size ran whole running is again =
+      same_reports ran.served.reports ran.reported.told again.reports again.printed
+      (runs_again told gives workers keepers scripts size ran.served ran.logged.es ran.logged.serves bytes again.reports running (is_log bytes ran.logged.es is (ran.logged.means refl whole)) again.run) ran.reported.stand again.stand
 
   pub replays_part : ReplaysPart told gives
-  replays_part workers keepers scripts form form' well kept kept' shelf shelf' bytes log log' out out' old new size ran running is again =
-      same_reports ran.served.reports ran.printed again.reports again.printed
-      (runs_again told gives workers keepers scripts size ran.served bytes again.reports running (subst (WasServed told gives true workers keepers scripts ran.served) (sym is) ran.was) again.run) ran.stand again.stand
-
-  pub replays_cut : ReplaysCut told gives
-  replays_cut workers keepers scripts form form' well' kept kept' shelf shelf' bytes log log' out out' old new size ran running is again =
-      same_reports ran.served.reports ran.printed again.reports again.printed
-      (runs_again told gives workers keepers scripts size ran.served bytes again.reports running (subst (WasServed told gives true workers keepers scripts ran.served) (sym is) ran.was) again.run) ran.stand again.stand
+  replays_part workers keepers scripts form form' written kept kept' shelf shelf' bytes log log' log_failures log_calls out out' out_failures out_calls old new size ran whole running is again =
+      same_reports ran.served.reports ran.reported.told again.reports again.printed
+      (runs_again told gives workers keepers scripts size ran.served ran.logged.es ran.logged.serves bytes again.reports running (is_log bytes ran.logged.es is (ran.logged.means refl whole)) again.run) ran.reported.stand again.stand
 
   pub replays_unrefused : ReplaysUnrefused told gives
-  replays_unrefused workers keepers scripts form form' well kept kept' shelf shelf' bytes log log' out out' old new fault size ran is sound says =
-      unrefused told gives workers keepers scripts size ran.served form' bytes shelf shelf' old new fault (subst (WasServed told gives true workers keepers scripts ran.served) (sym is) ran.was) sound says
+  replays_unrefused workers keepers scripts form form' written kept kept' shelf shelf' bytes log log' log_failures log_calls out out' out_failures out_calls old new fault size ran whole is sound says =
+      unrefused told gives workers keepers scripts size ran.served ran.logged.es ran.logged.serves form' bytes shelf shelf' old new fault (is_log bytes ran.logged.es is (ran.logged.means refl whole)) sound says

@@ -1,5 +1,5 @@
 -- The lines that tell what is wrong with a source, and what telling them answers and writes.
-use Rattle.std.specs.Prelude.{◌≡◌, ◌≤◌, ℕ, Bool, true, false, List, [], ◌∷◌, ◌++◌, codes, Option, Result, Ok, Err}
+use Rattle.std.specs.Prelude.{◌≡◌, ◌≤◌, ℕ, Bool, true, false, List, [], ◌∷◌, ◌++◌, codes, nat_lt, if◌then◌else◌, Option, Result, Ok, Err}
 use Rattle.std.specs.Io.KnownBytes.{Appends}
 use Rattle.tcl_words.specs.Bytes as ascii
 use Rattle.script_check.specs.declared.problem.Finding.{Finding}
@@ -9,12 +9,32 @@ use Rattle.script_check.specs.Texts.{text_of}
 use Rattle.script_runs.specs.declared.checking.CheckFault.{CheckFault}
 use Rattle.script_runs.specs.declared.checking.CheckFault.TheVariants.{Write, Memory}
 use Rattle.report_texts.specs.Report.{labelled}
-use Rattle.report_texts.specs.Line.{line_text}
+use Rattle.report_texts.specs.declared.escape.Place.TheVariants.{Lines, Quotes}
+use Rattle.report_texts.specs.Escape.{escaped}
 use Rattle.report_texts.specs.Devices.{WasPut, GaveUp}
 
--- the line of a finding: the file, the line of it on which the command begins, and what is wrong
+-- a control character of ASCII, but DEL
+abbrev pub is_control : ℕ → Bool
+is_control b = nat_lt b ascii.space
+
+-- a byte of a text that ends no line
+abbrev pub within_line : ℕ → List ℕ
+within_line b = if is_control b then escaped Quotes (b ∷ []) else b ∷ []
+
+abbrev pub lines_within : List ℕ → List ℕ
+lines_within [] = []
+lines_within (b ∷ bs) = within_line b ++ lines_within bs
+
+-- bytes as text that does nothing on a terminal and ends no line
+abbrev pub in_line : List ℕ → List ℕ
+in_line bytes = lines_within (escaped Lines bytes)
+
+-- what is told of a finding: the file, the line of it on which the command begins, and what is wrong
+unfoldable pub finding_text : List ℕ → List ℕ → Finding → List ℕ
+finding_text file source f = file ++ labelled (codes ":") (line_of source f.at) ++ codes ": " ++ text_of f.what
+
 unfoldable pub finding_line : List ℕ → List ℕ → Finding → List ℕ
-finding_line file source f = line_text file ++ labelled (codes ":") (line_of source f.at) ++ codes ": " ++ line_text (text_of f.what) ++ ascii.newline ∷ []
+finding_line file source f = in_line (finding_text file source f) ++ ascii.newline ∷ []
 
 abbrev pub finding_lines : List ℕ → List ℕ → List Finding → List ℕ
 finding_lines file source [] = []

@@ -8,3 +8,4 @@ pub mod Follow
 pub mod Progress
 pub mod Check
 pub mod Again
+pub mod Voice

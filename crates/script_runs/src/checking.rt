@@ -2,10 +2,10 @@
 
 ghost use Rattle.std.specs.Prelude.{◌≡◌, ◌≤◌, ◌++◌, ℕ, List, IfOk, OnOk};
 ghost use Rattle.script_check.specs.Lines.{line_of as line_at};
-ghost use Rattle.script_runs.specs.Check.{finding_line, finding_lines, checked as checked_text, is_nothing as is_nothing_of, Checks};
+ghost use Rattle.script_runs.specs.Check.{is_control as is_control_of, within_line, lines_within, in_line, finding_text, finding_line, finding_lines, checked as checked_text, is_nothing as is_nothing_of, Checks};
 
 use child_events::Counted;
-use report_texts::{push_labelled, push_line, write_all};
+use report_texts::{Place, push_labelled, push_text, write_all};
 use script_check::{Finding, Span, check, line_of, newlines};
 use std::alloc::{AllocError, Global};
 use std::io::Write;
@@ -37,6 +37,56 @@ fn line_from(source: &[u8], known: usize, line: usize, at: usize) -> usize
     )
 }
 
+/// Whether a byte is a control character of ASCII, but DEL.
+fn is_control(byte: u8) -> bool
+    ensures { result ≡ is_control_of byte }
+{
+    byte < b' '
+}
+
+/// Puts a byte behind a text so that it ends no line.
+fn push_within(alloc: Global, text: &mut Text, byte: u8) -> Result<(), AllocError>
+    ensures { OnOk result (text.new ≡ text.old ++ within_line byte) }
+{
+    if is_control(byte) {
+        return push_text(alloc, text, Place::Quotes, &[byte]);
+    }
+    text.push(byte)
+}
+
+/// Puts bytes behind a text so that they end no line.
+fn push_lines_within(alloc: Global, text: &mut Text, bytes: &[u8]) -> Result<(), AllocError>
+    ensures { OnOk result (text.new ≡ text.old ++ lines_within bytes.now) }
+{
+    for byte in bytes {
+        push_within(alloc, text, *byte)?;
+    }
+    Ok(())
+}
+
+/// Puts bytes behind a text so that they do nothing on a terminal and end no line.
+fn push_in_line(alloc: Global, text: &mut Text, bytes: &[u8]) -> Result<(), AllocError>
+    ensures { OnOk result (text.new ≡ text.old ++ in_line bytes.now) }
+{
+    let mut lines = Text::new(alloc);
+    push_text(alloc, &mut lines, Place::Lines, bytes)?;
+    push_lines_within(alloc, text, lines.as_slice())
+}
+
+/// What is told of a finding, which stands on this line of the source.
+#[tactic(auto, unfolding(crate::specs::Check::finding_text))]
+fn text_of(alloc: Global, file: &[u8], line: usize, finding: &Finding) -> Result<Text, AllocError>
+    ensures { (source : List ℕ) → line ≡ line_at source finding.now.at → IfOk result (λ text. text ≡ finding_text file.now source finding.now) }
+{
+    let mut text = Text::new(alloc);
+    text.extend(file)?;
+    push_labelled(alloc, &mut text, b":", line as u128)?;
+    text.extend(b": ")?;
+    let what = finding.what.text(alloc)?;
+    text.extend(what.as_slice())?;
+    Ok(text)
+}
+
 /// Puts the line of a finding, which stands on this line of the source, behind a text.
 #[tactic(auto, unfolding(crate::specs::Check::finding_line))]
 fn push_finding(
@@ -48,11 +98,8 @@ fn push_finding(
 ) -> Result<(), AllocError>
     ensures { (source : List ℕ) → line ≡ line_at source finding.now.at → OnOk result (text.new ≡ text.old ++ finding_line file.now source finding.now) }
 {
-    push_line(alloc, text, file)?;
-    push_labelled(alloc, text, b":", line as u128)?;
-    text.extend(b": ")?;
-    let what = finding.what.text(alloc)?;
-    push_line(alloc, text, what.as_slice())?;
+    let told = text_of(alloc, file, line, finding)?;
+    push_in_line(alloc, text, told.as_slice())?;
     text.push(b'\n')
 }
 

@@ -2,25 +2,16 @@
 
 use crate::driving::DriveFault;
 use crate::shelf::Shelf;
+use crate::teller::{Post, Teller, Tells};
 use child_events::Counted;
-use child_serve::ServeFault;
-use feed_rings::{Bell, Ringer};
 use report_texts::{Form, Spares, Unwritten, is_done, made_spares, write_all};
 use session::Report;
 use std::alloc::{AllocError, Global};
 use std::io::Write;
-use std::sync::atomic::{AtomicBool, Ordering};
-use std::sync::{Arc, Mutex, Wait};
-use std::thread;
-use std::thread::{JoinHandle, Threads};
+use std::sync::{Arc, Wait};
+use std::thread::Threads;
 use std::time::Clock;
 use tcl_words::Text;
-
-/// How many milliseconds the thread rests at most.
-const REST: u64 = 1_000;
-
-/// How many bytes of stack the thread has.
-const STACK: usize = 262_144;
 
 /// A script that has ended.
 #[derive(Drop)]
@@ -29,41 +20,13 @@ struct Ended {
     report: Report,
 }
 
-/// The scripts that have ended and aren't told yet.
-#[derive(Drop)]
-struct Queue {
-    ended: Mutex<Vec<Ended>>,
-    /// Whether no more come.
-    is_over: AtomicBool,
-    /// Whether something is done with them.
-    are_told: bool,
-    ringer: Ringer,
-}
-
-impl Queue {
-    /// With room for so many scripts.
-    fn new(
-        alloc: Global,
-        count: usize,
-        are_told: bool,
-        ringer: Ringer,
-    ) -> Result<Arc<Queue>, AllocError> {
-        let queue = Queue {
-            ended: Mutex::new(Vec::with_capacity(alloc, count)?),
-            is_over: AtomicBool::new(false),
-            are_told,
-            ringer,
-        };
-        Ok(Arc::new(alloc, queue)?)
+/// The first of the scripts that have ended and aren't told yet.
+fn next(post: &Post<Vec<Ended>>, rt: &impl Wait) -> Option<Ended> {
+    let mut ended = post.held.lock(rt);
+    if ended.is_empty() {
+        return None;
     }
-
-    fn next(&self, rt: &impl Wait) -> Option<Ended> {
-        let mut ended = self.ended.lock(rt);
-        if ended.is_empty() {
-            return None;
-        }
-        Some(ended.remove(0))
-    }
+    Some(ended.remove(0))
 }
 
 /// The lines of reports.
@@ -132,22 +95,17 @@ impl<O: Write + Copy + Drop, S: Shelf + Drop> Writer<O, S> {
             lines.write(self.alloc, ended);
         }
     }
+}
 
-    /// Tells of the scripts of a queue as they come, until no more do.
-    fn tell_all<R: Wait + Clock>(mut self, rt: &R, queue: &Queue, bell: &Bell) -> Writer<O, S> {
-        for _ in rt.forever() {
-            let is_over = queue.is_over.load(Ordering::SeqCst);
-            match queue.next(rt) {
-                Some(ended) => self.tell(&ended),
-                None => {
-                    if is_over {
-                        return self;
-                    }
-                    bell.rest_at_most(rt, REST);
-                }
+impl<O: Write + Copy + Drop, S: Shelf + Drop> Tells<Vec<Ended>> for Writer<O, S> {
+    fn tell_next<R: Wait + Clock>(&mut self, rt: &R, post: &Post<Vec<Ended>>) -> bool {
+        match next(post, rt) {
+            Some(ended) => {
+                self.tell(&ended);
+                true
             }
+            None => false,
         }
-        unreachable!()
     }
 }
 
@@ -157,13 +115,15 @@ pub struct Ends<R: Drop> {
     rt: R,
     /// The numbers of the scripts, by their places.
     numbers: Vec<u8>,
-    queue: Arc<Queue>,
+    /// Whether something is done with them.
+    are_told: bool,
+    post: Arc<Post<Vec<Ended>>>,
 }
 
 impl<R: Wait + Drop> Ends<R> {
     /// Whether reports are wanted.
     pub fn are_told(&self) -> bool {
-        self.queue.are_told
+        self.are_told
     }
 
     /// The script at a place has ended, with this report.
@@ -172,11 +132,11 @@ impl<R: Wait + Drop> Ends<R> {
             return;
         };
         let number = usize::from(*number);
-        let mut ended = self.queue.ended.lock(&self.rt);
+        let mut ended = self.post.held.lock(&self.rt);
         // there is room for all scripts
         let _ = ended.push(Ended { number, report });
         drop(ended);
-        self.queue.ringer.ring();
+        self.post.ring();
     }
 }
 
@@ -192,8 +152,8 @@ pub struct Told<S: Drop> {
 /// The thread that writes reports and keeps transcripts as scripts end.
 #[derive(Drop)]
 pub struct Early<O: Drop, S: Drop> {
-    queue: Arc<Queue>,
-    thread: JoinHandle<Writer<O, S>>,
+    are_told: bool,
+    teller: Teller<Vec<Ended>, Writer<O, S>>,
 }
 
 impl<O: Write + Copy + Send + Drop + 'static, S: Shelf + Send + Drop + 'static> Early<O, S> {
@@ -207,10 +167,7 @@ impl<O: Write + Copy + Send + Drop + 'static, S: Shelf + Send + Drop + 'static> 
         out: O,
         shelf: Option<S>,
     ) -> Result<Early<O, S>, DriveFault> {
-        let bell = Bell::new(alloc)?;
         let are_told = form.is_some() || shelf.is_some();
-        let queue = Queue::new(alloc, count, are_told, bell.ringer()?)?;
-        let theirs = Arc::try_clone(&queue)?;
         let lines = match form {
             Some(form) => Some(Lines::new(alloc, form, count, out)?),
             None => None,
@@ -220,13 +177,9 @@ impl<O: Write + Copy + Send + Drop + 'static, S: Shelf + Send + Drop + 'static> 
             lines,
             shelf,
         };
-        let started = thread::Builder::new()
-            .stack_size(STACK)
-            .spawn(&rt, move || writer.tell_all(&rt, &theirs, &bell));
-        match started {
-            Ok(thread) => Ok(Early { queue, thread }),
-            Err(_) => Err(DriveFault::Serve(ServeFault::NoThread)),
-        }
+        let ended = Vec::with_capacity(alloc, count)?;
+        let teller = Teller::start(rt, alloc, ended, writer)?;
+        Ok(Early { are_told, teller })
     }
 
     /// What a worker's scripts are told to, which have these numbers.
@@ -243,16 +196,14 @@ impl<O: Write + Copy + Send + Drop + 'static, S: Shelf + Send + Drop + 'static> 
         Ok(Ends {
             rt,
             numbers: own,
-            queue: Arc::try_clone(&self.queue)?,
+            are_told: self.are_told,
+            post: Arc::try_clone(&self.teller.post)?,
         })
     }
 
     /// Waits until all that was told is written.
     pub fn end<R: Threads>(self, rt: &R) -> Told<S> {
-        let Early { queue, thread } = self;
-        queue.is_over.store(true, Ordering::SeqCst);
-        queue.ringer.ring();
-        let Writer { lines, shelf, .. } = thread.join(rt);
+        let Writer { lines, shelf, .. } = self.teller.end(rt);
         let outcome = match lines {
             Some(lines) => lines.outcome,
             None => Ok(true),

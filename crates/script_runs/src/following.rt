@@ -5,6 +5,7 @@ ghost use Rattle.script_runs.specs.Follow.{mark_of, marked_byte, marked, told_so
 
 use crate::early::Ends;
 use crate::progress::Progress;
+use crate::voice::Voice;
 use child_keeper::Clock;
 use child_pipes::{Cancellation, Stop, Wall};
 use child_serve::{Audience, Stopping};
@@ -12,13 +13,18 @@ use dialogue_sched::Hall;
 use report_texts::{Place, push_labelled, push_text};
 use session::Ending;
 use std::alloc::{AllocError, Global};
-use std::io::Write;
 use std::sync::{Arc, Wait};
 use std::time::Clock as SystemClock;
 use tcl_words::Text;
 
 /// How many bytes of a line are held back, at most, until the line is whole.
 const LONGEST: usize = 4_096;
+
+/// For how many milliseconds a script has shown nothing when what is held back is told all the same.
+const QUIET: u64 = 1_000;
+
+/// How many milliseconds lie between two looks at what is held back, at least.
+const PAUSE: u64 = 250;
 
 /// How a script's output is told.
 #[derive(Clone, Copy)]
@@ -152,6 +158,8 @@ fn end_line(text: &mut Text) -> Result<(), AllocError> {
 pub struct Tale {
     manner: Manner,
     held: Text,
+    /// The moment at which it showed something for the last time.
+    since: u64,
 }
 
 impl Tale {
@@ -160,6 +168,7 @@ impl Tale {
         Tale {
             manner,
             held: Text::new(alloc),
+            since: 0,
         }
     }
 
@@ -177,83 +186,146 @@ impl Tale {
         Ok(text)
     }
 
-    /// What is told where a script shows these bytes.
-    fn heard(&mut self, alloc: Global, bytes: &[u8]) -> Result<Text, AllocError> {
-        self.held.extend(bytes)?;
-        let count = told_len(self.manner, self.held.as_slice());
-        self.told(alloc, count)
+    /// Tells the first bytes that are held. For want of memory it tells nothing.
+    fn tell<R: Wait + Copy + Drop>(&mut self, alloc: Global, voice: &Voice<R>, count: usize)
+        requires { count ≤ length self.old.held }
+    {
+        if let Ok(text) = self.told(alloc, count) {
+            voice.tell(text.as_slice(), count);
+        }
     }
 
-    /// What is told at the end.
-    fn left(&mut self, alloc: Global) -> Result<Text, AllocError> {
+    /// A script shows these bytes at a moment.
+    pub fn hear<R: Wait + Copy + Drop>(
+        &mut self,
+        alloc: Global,
+        voice: &Voice<R>,
+        bytes: &[u8],
+        moment: u64,
+    ) {
+        self.since = moment;
+        if self.held.extend(bytes).is_ok() {
+            let count = told_len(self.manner, self.held.as_slice());
+            self.tell(alloc, voice, count);
+        }
+    }
+
+    /// Tells all that is held.
+    pub fn tell_held<R: Wait + Copy + Drop>(&mut self, alloc: Global, voice: &Voice<R>) {
         let count = self.held.len();
-        self.told(alloc, count)
+        if count > 0 {
+            self.tell(alloc, voice, count);
+        }
+    }
+
+    /// Tells all that is held if the script has been quiet at a moment.
+    pub fn look<R: Wait + Copy + Drop>(&mut self, alloc: Global, voice: &Voice<R>, moment: u64) {
+        if moment.saturating_sub(self.since) >= QUIET {
+            self.tell_held(alloc, voice);
+        }
     }
 }
 
-/// Where scripts are followed. What can't be told, for want of memory or where a write fails, is passed over.
+/// The scripts of a worker that are followed. What can't be told for want of memory is passed over.
 #[derive(Drop)]
-pub struct Live<E: Write + Drop> {
+pub struct Live<R: Drop> {
     alloc: Global,
-    to: E,
+    voice: Voice<R>,
     tales: Vec<Tale>,
+    moment: u64,
+    /// The moment from which on it looks at what is held back.
+    next: u64,
 }
 
-/// Writes a text, where there is one.
-fn put<E: Write>(to: &mut E, text: Result<Text, AllocError>) {
-    if let Ok(text) = text {
-        drop(to.write_all(text.as_slice()));
-    }
-}
-
-impl<E: Write + Drop> Live<E> {
-    /// Scripts that are followed, by their places, each told to the same writer.
-    pub fn new(alloc: Global, to: E, tales: Vec<Tale>) -> Live<E> {
-        Live { alloc, to, tales }
+impl<R: Wait + Copy + Drop> Live<R> {
+    /// Scripts that are followed, by their places.
+    pub fn new(alloc: Global, voice: Voice<R>, tales: Vec<Tale>) -> Live<R> {
+        Live {
+            alloc,
+            voice,
+            tales,
+            moment: 0,
+            next: QUIET,
+        }
     }
 
     fn hear(&mut self, place: usize, bytes: &[u8]) {
         if let Some(tale) = self.tales.get_mut(place) {
-            put(&mut self.to, tale.heard(self.alloc, bytes));
+            tale.hear(self.alloc, &self.voice, bytes, self.moment);
+        }
+    }
+
+    /// It is this moment now.
+    fn look(&mut self, moment: u64) {
+        self.moment = moment;
+        if moment < self.next {
+            return;
+        }
+        self.next = moment.saturating_add(PAUSE);
+        for tale in &mut self.tales {
+            tale.look(self.alloc, &self.voice, moment);
         }
     }
 
     fn leave(&mut self) {
         for tale in &mut self.tales {
-            put(&mut self.to, tale.left(self.alloc));
+            tale.tell_held(self.alloc, &self.voice);
         }
     }
 }
 
 /// What a worker tells while its scripts run.
 #[derive(Drop)]
-pub enum Told<R: Drop, E: Write + Drop> {
+pub enum Told<R: Drop> {
     /// What its scripts show.
-    Shown(Live<E>),
+    Shown(Live<R>),
     /// How far they are.
-    Far(Progress<R, E>),
+    Far(Progress<R>),
     Nothing,
+}
+
+impl<R: Wait + SystemClock + Copy + Drop> Told<R> {
+    /// It is this moment now.
+    fn look(&mut self, moment: u64) {
+        match self {
+            Told::Shown(live) => live.look(moment),
+            Told::Far(progress) => progress.look(moment),
+            Told::Nothing => {}
+        }
+    }
+
+    /// Nothing more comes of the worker's scripts. Waits until all is told, unless nobody reads: reports come next.
+    fn leave(&mut self) {
+        match self {
+            Told::Shown(live) => {
+                live.leave();
+                live.voice.await_told();
+            }
+            Told::Far(progress) => progress.leave(),
+            Told::Nothing => {}
+        }
+    }
 }
 
 /// A worker's clock, which tells what is to be told while its scripts run, and cancels those that are over or given up.
 #[derive(Drop)]
-pub struct Follower<R: SystemClock + Drop, E: Write + Drop> {
+pub struct Follower<R: SystemClock + Drop> {
     wall: Wall<R>,
-    told: Told<R, E>,
+    told: Told<R>,
     ends: Ends<R>,
     /// Of each script that goes on.
     cancellations: Vec<Option<Arc<Cancellation>>>,
     stop: Arc<Stop>,
 }
 
-impl<R: SystemClock + Drop, E: Write + Drop> Follower<R, E> {
+impl<R: SystemClock + Drop> Follower<R> {
     pub fn new(
         wall: Wall<R>,
-        told: Told<R, E>,
+        told: Told<R>,
         ends: Ends<R>,
         cancellations: Vec<Option<Arc<Cancellation>>>,
         stop: Arc<Stop>,
-    ) -> Follower<R, E> {
+    ) -> Follower<R> {
         stop.enter();
         Follower {
             wall,
@@ -265,7 +337,7 @@ impl<R: SystemClock + Drop, E: Write + Drop> Follower<R, E> {
     }
 }
 
-impl<R: SystemClock + Wait + Copy + Drop, E: Write + Copy + Drop> Follower<R, E> {
+impl<R: SystemClock + Wait + Copy + Drop> Follower<R> {
     /// The report of the script at a place of a hall is its last.
     fn tell_end(&self, place: usize, hall: &Hall) {
         if self.ends.are_told() {
@@ -274,23 +346,21 @@ impl<R: SystemClock + Wait + Copy + Drop, E: Write + Copy + Drop> Follower<R, E>
     }
 }
 
-impl<R: SystemClock + Wait + Copy + Drop, E: Write + Copy + Drop> Clock for Follower<R, E> {
+impl<R: SystemClock + Wait + Copy + Drop> Clock for Follower<R> {
     fn now(&mut self) -> u64 {
         let moment = self.stop.lowered(self.wall.now());
-        if let Told::Far(progress) = &mut self.told {
-            progress.look(moment);
-        }
+        self.told.look(moment);
         moment
     }
 }
 
-impl<R: SystemClock + Wait + Copy + Drop, E: Write + Copy + Drop> Stopping for Follower<R, E> {
+impl<R: SystemClock + Wait + Copy + Drop> Stopping for Follower<R> {
     fn is_stopped(&mut self) -> bool {
         self.stop.is_due(self.wall.now())
     }
 }
 
-impl<R: SystemClock + Wait + Copy + Drop, E: Write + Copy + Drop> Audience for Follower<R, E> {
+impl<R: SystemClock + Wait + Copy + Drop> Audience for Follower<R> {
     fn hear(&mut self, place: usize, bytes: &[u8]) {
         match &mut self.told {
             Told::Shown(live) => live.hear(place, bytes),
@@ -320,10 +390,6 @@ impl<R: SystemClock + Wait + Copy + Drop, E: Write + Copy + Drop> Audience for F
             }
         }
         self.stop.leave();
-        match &mut self.told {
-            Told::Shown(live) => live.leave(),
-            Told::Far(progress) => progress.leave(),
-            Told::Nothing => {}
-        }
+        self.told.leave();
     }
 }

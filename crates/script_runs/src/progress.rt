@@ -3,10 +3,11 @@
 ghost use Rattle.std.specs.Prelude.{◌≡◌, ◌++◌, ◌-◌, ◌/◌, None, OnOk, IfOk};
 ghost use Rattle.script_runs.specs.Progress.{quieter as quieter_of, quietest as quietest_of, quiet_of, over_among, failed_among, quietest_among, quiet_words, quiet_part, progress_line};
 
+use crate::voice::Voice;
 use report_texts::{push_labelled, total};
 use std::alloc::{AllocError, Global};
-use std::io::Write;
 use std::sync::{Arc, Mutex, Wait};
+use std::time::Clock;
 use tcl_words::Text;
 
 /// Goes to the start of a terminal's line and erases it.
@@ -247,85 +248,90 @@ impl Board {
         line_of(alloc, over, self.all as u128, failed, moment, quiet)
     }
 
-    /// Writes the line at a moment, if it is another than the last one and it may be written. What can't be written is passed over.
-    fn show<E: Write>(&mut self, alloc: Global, to: &mut E, moment: u64) {
+    /// The line at a moment, if it is another than the last one and it may be written. `None` also for want of memory.
+    fn next_line(&mut self, alloc: Global, moment: u64) -> Option<Text> {
         if moment < self.next {
-            return;
+            return None;
         }
         self.next = moment.saturating_add(PAUSE);
-        let Ok(line) = self.line(alloc, moment) else {
-            return;
-        };
-        if line.as_slice() != self.last.as_slice() {
-            drop(to.write_all(line.as_slice()));
-            self.last = line;
+        let line = self.line(alloc, moment).ok()?;
+        if line.as_slice() == self.last.as_slice() {
+            return None;
         }
+        self.last = Text::from_slice(alloc, line.as_slice()).ok()?;
+        Some(line)
     }
 
-    /// Erases the line, if there is one.
-    fn erase<E: Write>(&mut self, alloc: Global, to: &mut E) {
-        if self.last.len() > 0 {
-            drop(to.write_all(ERASED));
-            self.last = Text::new(alloc);
+    /// What erases the line, if there is one.
+    fn erased(&mut self, alloc: Global) -> Option<Text> {
+        if self.last.len() == 0 {
+            return None;
         }
+        let erased = Text::from_slice(alloc, ERASED).ok()?;
+        self.last = Text::new(alloc);
+        Some(erased)
     }
 }
 
 /// The line of a run, which its workers share.
 #[derive(Drop)]
-pub struct Line<R: Drop, E: Drop> {
+pub struct Line<R: Drop> {
     rt: R,
     alloc: Global,
-    to: E,
+    voice: Voice<R>,
     board: Arc<Mutex<Board>>,
 }
 
-impl<R: Wait + Copy + Drop, E: Write + Copy + Drop> Line<R, E> {
+impl<R: Wait + Copy + Drop> Line<R> {
     /// The line of a run of so many scripts by so many workers, which isn't written yet.
     pub fn new(
         rt: R,
         alloc: Global,
-        to: E,
+        voice: Voice<R>,
         scripts: usize,
         workers: u8,
-    ) -> Result<Line<R, E>, AllocError> {
+    ) -> Result<Line<R>, AllocError> {
         let board = Arc::new(alloc, Mutex::new(Board::new(alloc, scripts, workers)?))?;
         Ok(Line {
             rt,
             alloc,
-            to,
+            voice,
             board,
         })
     }
 
     /// The same line, for another holder.
-    pub fn shared(&self) -> Result<Line<R, E>, AllocError> {
+    pub fn shared(&self) -> Result<Line<R>, AllocError> {
         Ok(Line {
             rt: self.rt,
             alloc: self.alloc,
-            to: self.to,
+            voice: self.voice.shared()?,
             board: Arc::try_clone(&self.board)?,
         })
     }
 
-    /// Notes how far the scripts of a worker are at a moment, and writes the line.
-    fn tell(&mut self, worker: usize, standing: Standing, moment: u64) {
+    /// Notes how far the scripts of a worker are at a moment, and tells the line. It is told under the lock, so that the last one stands.
+    fn tell(&self, worker: usize, standing: Standing, moment: u64) {
         let mut board = self.board.lock(&self.rt);
         board.note(worker, standing);
-        board.show(self.alloc, &mut self.to, moment);
+        if let Some(line) = board.next_line(self.alloc, moment) {
+            self.voice.put_line(line);
+        }
     }
 
-    /// Erases the line. It is written again where somebody tells more.
-    pub fn erase(&mut self) {
+    /// Erases the line. It is told again if somebody tells more.
+    pub fn erase(&self) {
         let mut board = self.board.lock(&self.rt);
-        board.erase(self.alloc, &mut self.to);
+        if let Some(erased) = board.erased(self.alloc) {
+            self.voice.put_line(erased);
+        }
     }
 }
 
 /// What one worker tells of its scripts on the line of a run.
 #[derive(Drop)]
-pub struct Progress<R: Drop, E: Drop> {
-    line: Line<R, E>,
+pub struct Progress<R: Drop> {
+    line: Line<R>,
     worker: usize,
     scripts: Vec<Course>,
     moment: u64,
@@ -333,14 +339,14 @@ pub struct Progress<R: Drop, E: Drop> {
     next: u64,
 }
 
-impl<R: Wait + Copy + Drop, E: Write + Copy + Drop> Progress<R, E> {
+impl<R: Wait + Copy + Drop> Progress<R> {
     /// A worker's part of a line, with the numbers of its scripts.
     pub fn new(
         alloc: Global,
-        line: Line<R, E>,
+        line: Line<R>,
         worker: u8,
         numbers: &[u8],
-    ) -> Result<Progress<R, E>, AllocError> {
+    ) -> Result<Progress<R>, AllocError> {
         let mut scripts = Vec::new(alloc);
         for number in numbers {
             scripts.push(Course {
@@ -381,11 +387,14 @@ impl<R: Wait + Copy + Drop, E: Write + Copy + Drop> Progress<R, E> {
             self.line.tell(self.worker, standing, moment);
         }
     }
+}
 
-    /// Nothing more comes of these scripts: the line is gone, until somebody else tells more.
+impl<R: Wait + Clock + Copy + Drop> Progress<R> {
+    /// Nothing more comes of these scripts: the line is gone until somebody else tells more. Waits until it is, unless nobody reads.
     pub fn leave(&mut self) {
         let standing = standing_of(self.scripts.as_slice());
         self.line.tell(self.worker, standing, self.moment);
         self.line.erase();
+        self.line.voice.await_told();
     }
 }

@@ -2,14 +2,19 @@
 
 ghost use Rattle.std.specs.Prelude.{◌≡◌, length, IfOk};
 
+use crate::driving::DriveFault;
 use crate::early::Early;
 use crate::following::{Follower, Live, Manner, Tale, Told};
+use crate::labelling::Listener;
 use crate::progress::{Line, Progress};
 use crate::shelf::Shelf;
-use child_pipes::{Cancellation, Stop, Wall};
+use crate::teller::Teller;
+use crate::voice::Speaking;
+use child_pipes::{Cancellation, ErrorPipes, Stop, Wall};
 use std::alloc::{AllocError, Global};
 use std::io::{IsTerminal, Write};
 use std::sync::{Arc, Wait};
+use std::thread::Threads;
 use std::time::Clock;
 
 /// How the script of a number among so many is told where it is followed.
@@ -60,32 +65,63 @@ fn tales_of(
 
 /// What is told while scripts run.
 #[derive(Drop)]
-pub enum Telling<R: Drop, E: Drop> {
-    /// What they show.
-    Shown(E),
+enum Matter<R: Drop> {
+    /// What they show, on a terminal or not.
+    Shown(bool),
     /// How far they are.
-    Far(Line<R, E>),
+    Far(Line<R>),
     Nothing,
 }
 
-impl<R: Wait + Copy + Drop, E: Write + IsTerminal + Copy + Drop> Telling<R, E> {
-    /// What is told of so many scripts of so many workers on `to`: what they show, if that is asked for, or else on a terminal how far they
-    /// are.
+/// What is told while scripts run, if anything is, by a thread of its own.
+#[derive(Drop)]
+pub struct Telling<R: Clock + Drop, E: Drop> {
+    told: Option<(Matter<R>, Speaking<R, E>)>,
+    /// What tells the lines that children write on standard errors of their own.
+    listening: Option<Teller<(), Listener<R>>>,
+}
+
+impl<
+    R: Threads + Wait + Clock + Copy + Send + Drop + 'static,
+    E: Write + IsTerminal + Copy + Send + Drop + 'static,
+> Telling<R, E> {
+    /// What is told of so many scripts of so many workers on `to`: what they show, if that is asked for; otherwise, on a terminal, how far they are;
+    /// and the lines of these standard errors, if there are any.
     pub fn new(
         rt: R,
         alloc: Global,
         to: E,
         follow: bool,
+        errors: Option<ErrorPipes>,
         scripts: usize,
         workers: u8,
-    ) -> Result<Telling<R, E>, AllocError> {
-        if follow {
-            return Ok(Telling::Shown(to));
+    ) -> Result<Telling<R, E>, DriveFault> {
+        let is_terminal = to.is_terminal();
+        if !follow && !is_terminal && errors.is_none() {
+            return Ok(Telling {
+                told: None,
+                listening: None,
+            });
         }
-        if to.is_terminal() {
-            return Ok(Telling::Far(Line::new(rt, alloc, to, scripts, workers)?));
-        }
-        Ok(Telling::Nothing)
+        let speaking = Speaking::start(rt, alloc, to)?;
+        let matter = if follow {
+            Matter::Shown(is_terminal)
+        } else if is_terminal {
+            Matter::Far(Line::new(rt, alloc, speaking.voice.shared()?, scripts, workers)?)
+        } else {
+            Matter::Nothing
+        };
+        let listening = match errors {
+            Some(pipes) => {
+                let listener = Listener::new(rt, alloc, speaking.voice.shared()?, pipes);
+                Some(Teller::start(rt, alloc, (), listener)?)
+            }
+            None => None,
+        };
+        Ok(Telling {
+            told: Some((matter, speaking)),
+            listening,
+        })
     }
 
     /// Returns what a worker tells of its scripts, which have these numbers. `scripts` counts those of all workers.
@@ -95,25 +131,33 @@ impl<R: Wait + Copy + Drop, E: Write + IsTerminal + Copy + Drop> Telling<R, E> {
         scripts: usize,
         worker: u8,
         numbers: &[u8],
-    ) -> Result<Told<R, E>, AllocError> {
-        match self {
-            Telling::Shown(to) => {
-                let tales = tales_of(alloc, numbers, scripts == 1, to.is_terminal())?;
-                Ok(Told::Shown(Live::new(alloc, *to, tales)))
+    ) -> Result<Told<R>, AllocError> {
+        match &self.told {
+            Some((Matter::Shown(is_terminal), speaking)) => {
+                let tales = tales_of(alloc, numbers, scripts == 1, *is_terminal)?;
+                Ok(Told::Shown(Live::new(alloc, speaking.voice.shared()?, tales)))
             }
-            Telling::Far(line) => {
+            Some((Matter::Far(line), _)) => {
                 let progress = Progress::new(alloc, line.shared()?, worker, numbers)?;
                 Ok(Told::Far(progress))
             }
-            Telling::Nothing => Ok(Told::Nothing),
+            Some((Matter::Nothing, _)) | None => Ok(Told::Nothing),
         }
     }
 
-    /// Nothing more is told.
-    pub fn end(&mut self) {
-        if let Telling::Far(line) = self {
+    /// Nothing more is told. Waits until all is, unless nobody reads.
+    pub fn end(self, rt: &R) {
+        let Telling { told, listening } = self;
+        if let Some(teller) = listening {
+            drop(teller.end(rt));
+        }
+        let Some((matter, speaking)) = told else {
+            return;
+        };
+        if let Matter::Far(line) = &matter {
             line.erase();
         }
+        speaking.end(rt);
     }
 }
 
@@ -139,8 +183,8 @@ fn cancellations_of(
 /// A clock for each of so many workers. They tell the same moments, from 0 on, tell what is to be told of the worker's scripts, and cancel those
 /// that are over. There is a cancellation for each script. Reports are told as scripts end, if there is something to tell them to.
 pub fn clocks<
-    R: Clock + Wait + Copy + Drop,
-    E: Write + IsTerminal + Copy + Drop,
+    R: Threads + Wait + Clock + Copy + Send + Drop + 'static,
+    E: Write + IsTerminal + Copy + Send + Drop + 'static,
     O: Write + Copy + Send + Drop + 'static,
     S: Shelf + Send + Drop + 'static,
 >(
@@ -152,7 +196,7 @@ pub fn clocks<
     early: &Early<O, S>,
     cancellations: &[Arc<Cancellation>],
     stop: &Arc<Stop>,
-) -> Result<Vec<Follower<R, E>>, AllocError>
+) -> Result<Vec<Follower<R>>, AllocError>
     ensures { IfOk result (λ cs. length cs.items ≡ count) }
 {
     let scripts = cancellations.len();

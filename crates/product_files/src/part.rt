@@ -1,0 +1,16 @@
+//! The name of a file that isn't whole yet.
+
+ghost use Rattle.std.specs.Prelude.{◌≡◌, IfOk};
+ghost use Rattle.product_files.specs.Part.{part_of};
+
+use std::alloc::{AllocError, Global};
+
+/// The name that a file has until it is whole: its own with `.part` behind it.
+pub fn part_name(alloc: Global, name: &str) -> Result<String, AllocError>
+    ensures { IfOk result (λ part. part.bytes.items ≡ part_of name.now) }
+{
+    let mut part = String::new(alloc);
+    part.push_str(name)?;
+    part.push_str(".part")?;
+    Ok(part)
+}

@@ -1,0 +1,164 @@
+//! What children write on standard errors of their own, told by lines, each behind the number of its script.
+
+use crate::following::{Manner, Tale};
+use crate::teller::{Post, Tells};
+use crate::voice::Voice;
+use child_keeper::Clock;
+use child_pipes::{ErrorPipe, ErrorPipes, Wall};
+use libc::net::{POLLIN, poll};
+use libc::types::pollfd;
+use std::alloc::{AllocError, Global};
+use std::io::{ErrorKind, Read};
+use std::os::fd::AsRawFd;
+use std::process::ChildStderr;
+use std::sync::Wait;
+use std::time::Clock as SystemClock;
+
+/// How many milliseconds pass at most until the pipe of a new child is seen.
+const LOOK: i32 = 50;
+
+/// How many bytes are read of a pipe at once.
+const PIECE: usize = 4_096;
+
+/// How often pipes are read once all scripts are over, at most: a program that was left alone may write on and on.
+const LAST: u32 = 1_024;
+
+/// The standard error of a child.
+#[derive(Drop)]
+struct Source {
+    out: ChildStderr,
+    tale: Tale,
+}
+
+impl Source {
+    /// Reads a piece and tells its lines. Returns whether more may come.
+    fn read<R: Wait + Copy + Drop>(
+        &mut self,
+        alloc: Global,
+        voice: &Voice<R>,
+        moment: u64,
+    ) -> bool {
+        let mut piece = [0u8; PIECE];
+        match self.out.read(&mut piece) {
+            Ok(0) => {
+                self.tale.tell_held(alloc, voice);
+                false
+            }
+            Ok(count) => {
+                let bytes = piece.get(..count).unwrap_or(&[]);
+                self.tale.hear(alloc, voice, bytes, moment);
+                true
+            }
+            Err(e) => e.kind() == ErrorKind::Interrupted,
+        }
+    }
+}
+
+/// Reads the standard errors of children and tells their lines. What can't be told for want of memory is passed over.
+#[derive(Drop)]
+pub struct Listener<R: SystemClock + Drop> {
+    rt: R,
+    alloc: Global,
+    wall: Wall<R>,
+    voice: Voice<R>,
+    pipes: ErrorPipes,
+    sources: Vec<Source>,
+    /// How often pipes may still be read once all scripts are over.
+    left: u32,
+}
+
+impl<R: Wait + SystemClock + Copy + Drop> Listener<R> {
+    /// Listens to children that come.
+    pub fn new(rt: R, alloc: Global, voice: Voice<R>, pipes: ErrorPipes) -> Listener<R> {
+        Listener {
+            rt,
+            alloc,
+            wall: Wall::new(rt),
+            voice,
+            pipes,
+            sources: Vec::new(alloc),
+            left: LAST,
+        }
+    }
+
+    /// Takes the pipes of new children.
+    fn take_new(&mut self) {
+        for pipe in self.pipes.take(&self.rt) {
+            let ErrorPipe { script, out } = pipe;
+            let number = u8::try_from(script).unwrap_or(u8::MAX);
+            let tale = Tale::new(self.alloc, Manner::Numbered(number));
+            let _ = self.sources.push(Source { out, tale });
+        }
+    }
+
+    /// Waits for so many milliseconds until a pipe can be read, and says for each what poll(2) tells of it.
+    fn polled(&self, wait: i32) -> Result<Vec<pollfd>, AllocError> {
+        let mut asked = Vec::new(self.alloc);
+        for source in &self.sources {
+            let Ok(()) = asked.push(pollfd {
+                fd: source.out.as_raw_fd(),
+                events: POLLIN,
+                revents: 0,
+            }) else {
+                return Err(AllocError);
+            };
+        }
+        let _ = poll(asked.as_mut_slice(), wait);
+        Ok(asked)
+    }
+
+    /// Reads a piece of each pipe that has one, and tells what is held back for long. Returns whether any had.
+    fn read_all(&mut self, asked: &[pollfd]) -> bool {
+        let moment = self.wall.now();
+        let Listener {
+            alloc,
+            voice,
+            sources,
+            ..
+        } = self;
+        let mut at: usize = 0;
+        let mut has_read = false;
+        sources.retain_mut(|source| {
+            let is_ready = asked.get(at).is_some_and(|it| it.revents != 0);
+            at = at.saturating_add(1);
+            has_read |= is_ready;
+            if is_ready {
+                return source.read(*alloc, voice, moment);
+            }
+            source.tale.look(*alloc, voice, moment);
+            true
+        });
+        has_read
+    }
+
+    /// Listens once, for so many milliseconds at most. Returns whether there was something.
+    fn listen(&mut self, wait: i32) -> bool {
+        self.take_new();
+        match self.polled(wait) {
+            Ok(asked) => self.read_all(asked.as_slice()),
+            Err(_) => false,
+        }
+    }
+
+    /// Tells what is held back.
+    fn tell_held(&mut self) {
+        for source in &mut self.sources {
+            source.tale.tell_held(self.alloc, &self.voice);
+        }
+    }
+}
+
+impl<R: Wait + SystemClock + Copy + Drop> Tells<()> for Listener<R> {
+    fn tell_next<W: Wait + SystemClock>(&mut self, _rt: &W, post: &Post<()>) -> bool {
+        if !post.is_over() {
+            self.listen(LOOK);
+            return true;
+        }
+        if self.left > 0 && self.listen(0) {
+            self.left = self.left.saturating_sub(1);
+            return true;
+        }
+        self.tell_held();
+        false
+    }
+}
