@@ -217,7 +217,7 @@ def labelled(binary, folder):
 def labelled_flood(binary, folder):
     """Children that write much on standard errors of their own, which nobody reads: no dialogue waits, and the run ends."""
     make(folder)
-    (folder / "flood.exp").write_text("spawn sh -c {yes complaint | head -c 20000000 >&2; echo all}\nexpect -timeout 20 all {puts there} timeout {exit 3}\nexpect eof\nspawn sh -c {echo here >said}\nexpect eof\n")
+    (folder / "flood.exp").write_text("spawn sh -c {yes complaint | head -c 4000000 >&2; echo all}\nexpect -timeout 20 all {puts there} timeout {exit 3}\nexpect eof\nspawn sh -c {echo here >said}\nexpect eof\n")
     read_end, errors = os.pipe()
     running = start(binary, folder, ["--stderr", "label", "--workers", "1", "flood.exp", "quick.exp"], errors)
     wrong = await_said(folder, 30)
