@@ -192,6 +192,21 @@ def impatient_output(binary, folder):
     return [] if (running.wait(), count, said) == (0, 300_000, b"") else [f"status {running.returncode}, printed {count} lines, said {said!r}"]
 
 
+def followed_at_home(binary, folder):
+    """One script that is followed on the terminal of its report: its transcript stands there once, unless a format is asked for."""
+    (folder / "1.exp").write_text("spawn sh -c {echo shown}\nexpect eof\nerror late\n")
+    for more, count in ([], 1), (["--format", "text"], 2), (["--vars"], 1):
+        read_end, end = os.openpty()
+        running = subprocess.Popen([binary, "run", "--follow", *more, "1.exp"], cwd=folder, stdin=subprocess.DEVNULL, stdout=end, stderr=end)
+        os.close(end)
+        told = all_of(read_end)
+        status = running.wait()
+        fine = told.count(b"\nshown\r") == count and told.count(b"script 1 end=error") == 1 and b"\nerror 4\r\nlate\r\n" in told
+        if not fine or status != 1 or (more and b"var " not in told and count == 1):
+            return [f"{more}: status {status}, told {told!r}"]
+    return []
+
+
 LABELLED = """spawn sh -c {echo one >&2; printf two >&2; echo shown; sleep 0.2; printf '\\033[2J\\n' >&2}
 expect eof
 spawn sh -c {echo three >&2}
@@ -247,6 +262,7 @@ CASES = {
     "follow an unfinished line": unfinished_line,
     "follow into a pipe that doesn't wait": impatient_pipe,
     "output into a pipe that doesn't wait": impatient_output,
+    "followed on the terminal of the report": followed_at_home,
     "labelled standard errors": labelled,
     "labelled standard errors that nobody reads": labelled_flood,
     "labelled standard errors without end": labelled_for_ever,

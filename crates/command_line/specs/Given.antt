@@ -5,7 +5,7 @@ use Rattle.std.specs.Borrow.{Bor}
 use Rattle.clap.specs.Matches.{found_of, matched_of, raw_values}
 use Rattle.clap.specs.declared.parser.matches.ArgMatches.{ArgMatches}
 use Rattle.report_texts.specs.declared.form.Format.{Format}
-use Rattle.report_texts.specs.declared.form.Format.TheVariants.{Text, Escaped, Summary, Json, JsonLines, Tap}
+use Rattle.report_texts.specs.declared.form.Format.TheVariants.{Text, Bare, Escaped, Summary, Json, JsonLines, Tap}
 
 -- as many steps as are asked for, or a million
 abbrev pub steps_given : Option ℕ → ℕ
@@ -32,6 +32,16 @@ format_given summary escape name = if summary then Summary else if escape then E
 -- whether the lines of programs on standard error are labelled: only where that word is given
 abbrev pub labels_given : Option (List ℕ) → Bool
 labels_given word = unwrap_or (option_map (λ w. bytes_eq w (codes "label")) word) false
+
+-- the format of whole reports whose transcripts were shown before; others stay
+abbrev pub format_behind_shown : Format → Format
+format_behind_shown Text = Bare
+format_behind_shown Bare = Bare
+format_behind_shown Escaped = Escaped
+format_behind_shown Summary = Summary
+format_behind_shown Json = Json
+format_behind_shown JsonLines = JsonLines
+format_behind_shown Tap = Tap
 
 -- the file of which lines are bad: the timing's, where there is one, or else the timeline's
 abbrev pub file_of_lines : Bor (List ℕ) → Option (Bor (List ℕ)) → Bor (List ℕ)

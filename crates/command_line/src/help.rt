@@ -166,7 +166,8 @@ FILE.part` reads it after a run that was killed. A pipe or a device, as
 With --follow what the scripts show is also told on standard error, as it comes:
 of one script on a terminal as it is, else so that it does nothing there; of
 several scripts by lines, behind each script's number. The reports stay as they
-are.
+are; but if standard output is a terminal too, the report of a single script has
+no transcript, which stands there by then. --format text asks for it.
 
 With --explain, when all are over, FILE gets what each script did at each event
 and what it waited for then: `exprun explain --help` says how it is told. If

@@ -1,10 +1,10 @@
 //! What may be asked for.
 
 ghost use Rattle.std.specs.Prelude.{◌≡◌};
-ghost use Rattle.command_line.specs.Given.{file_of_lines};
+ghost use Rattle.command_line.specs.Given.{file_of_lines, format_behind_shown};
 
 use child_pipes::Terms;
-use report_texts::Form;
+use report_texts::{Form, Format};
 
 /// What is asked for.
 #[derive(Drop)]
@@ -51,6 +51,8 @@ pub struct Run<'a> {
     pub record: Option<&'a str>,
     /// Whether what the scripts show is told as it comes.
     pub follow: bool,
+    /// Whether a format was asked for by its name.
+    pub has_format: bool,
     /// When children are ended.
     pub terms: Terms,
     /// Whether children are ended also if this program is killed.
@@ -59,6 +61,27 @@ pub struct Run<'a> {
     pub labels: bool,
     /// The file that what they did is told in.
     pub explain: Option<&'a str>,
+}
+
+/// The format of reports that were to be whole, where their transcripts were shown before.
+fn behind_shown(format: Format) -> Format
+    ensures { result ≡ format_behind_shown format }
+{
+    match format {
+        Format::Text => Format::Bare,
+        _ => format,
+    }
+}
+
+impl Run<'_> {
+    /// Leaves the transcript out of the report of a single script that is followed, unless a format was asked for. It is shown on the terminal
+    /// that the report goes to, if there is one.
+    pub fn show_once(&mut self, is_one_terminal: bool) {
+        let is_shown = is_one_terminal && self.follow && self.scripts.sources.len() == 1;
+        if is_shown && !self.has_format {
+            self.scripts.form.format = behind_shown(self.scripts.form.format);
+        }
+    }
 }
 
 /// A log's file that is to be shown.

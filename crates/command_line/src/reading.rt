@@ -136,6 +136,7 @@ fn run_of<'a>(alloc: Global, matches: &ArgMatches<'a>) -> Result<Order<'a>, Allo
         workers: matches.get_one::<u64>("workers").map_or(1, byte_of),
         record: matches.get_str("record"),
         follow: matches.get_flag("follow"),
+        has_format: matches.get_str("format").is_some(),
         terms: Terms {
             grace: grace_of(matches.get_one::<u64>("grace")),
             hangs_up: matches.get_flag("hangup"),

@@ -2,7 +2,7 @@
 use Rattle.std.specs.Prelude.{◌≡◌, ℕ, List, [], map, Option, Bool, false}
 use Rattle.std.specs.Borrow.{Bor}
 use Rattle.report_texts.specs.declared.form.Format.{Format}
-use Rattle.report_texts.specs.declared.form.Format.TheVariants.{Text, Escaped, Summary, Json, JsonLines, Tap}
+use Rattle.report_texts.specs.declared.form.Format.TheVariants.{Text, Bare, Escaped, Summary, Json, JsonLines, Tap}
 use Rattle.expect_core.specs.declared.settings.Settings.{Settings}
 use Rattle.dialogue_sched.specs.declared.script.Script.{Script}
 use Rattle.dialogue_sched.specs.Pairs.{Paired}
@@ -10,6 +10,7 @@ use Rattle.dialogue_sched.specs.Pairs.{Paired}
 -- whether reports in a format have the variables in them, where that is asked for: a summary and TAP never do
 abbrev pub vars_told : Format → Bool → Bool
 vars_told Text asked = asked
+vars_told Bare asked = asked
 vars_told Escaped asked = asked
 vars_told Summary asked = false
 vars_told Json asked = asked

@@ -168,6 +168,7 @@ fn tells_vars(form: &Form) -> bool
 {
     match form.format {
         Format::Text => form.shown.vars,
+        Format::Bare => form.shown.vars,
         Format::Escaped => form.shown.vars,
         Format::Summary => false,
         Format::Json => form.shown.vars,

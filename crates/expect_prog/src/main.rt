@@ -21,7 +21,7 @@ use report_texts::{Place, push_text};
 use std::alloc::{AllocError, Global};
 use std::env;
 use std::env::Env;
-use std::io::ErrorKind;
+use std::io::{ErrorKind, IsTerminal};
 use std::process::ExitCode;
 use tcl_words::Text;
 
@@ -80,10 +80,13 @@ fn main(rt: HostRuntime) -> ExitCode {
         Ok(words) => words,
         Err(complaint) => return complain(&rt, rt.alloc(), &complaint),
     };
-    let order = match read_words(rt.alloc(), words.as_slice()) {
+    let mut order = match read_words(rt.alloc(), words.as_slice()) {
         Ok(order) => order,
         Err(error) => return show(&rt, rt.alloc(), &error),
     };
+    if let Order::Run(run) = &mut order {
+        run.show_once(rt.stdout().is_terminal() && rt.stderr().is_terminal());
+    }
     let outcome = match &order {
         Order::Replay(replay) => replay_files(&rt, rt.alloc(), replay),
         Order::Run(run) => run_files(rt, rt.alloc(), run, rt.stderr(), Patient(rt.stdout())),

@@ -5,8 +5,8 @@ use Rattle.session.specs.declared.report.Report.{Report}
 use Rattle.report_texts.specs.declared.texts.Shown.{Shown}
 use Rattle.report_texts.specs.declared.form.Form.{Form}
 use Rattle.report_texts.specs.declared.form.Format.{Format}
-use Rattle.report_texts.specs.declared.form.Format.TheVariants.{Text, Escaped, Summary, Json, JsonLines, Tap}
-use Rattle.report_texts.specs.Report.{report_bytes, escaped_report}
+use Rattle.report_texts.specs.declared.form.Format.TheVariants.{Text, Bare, Escaped, Summary, Json, JsonLines, Tap}
+use Rattle.report_texts.specs.Report.{report_bytes, bare_report, escaped_report}
 use Rattle.report_texts.specs.Line.{summary_line, counts_line}
 use Rattle.report_texts.specs.Json.{array_item, object_line}
 use Rattle.report_texts.specs.Tap.{plan, tap_test}
@@ -18,6 +18,7 @@ file_of files n = unwrap_or (slice_get files (n - 1)) []
 -- the part of script n, whose file this is
 abbrev pub part_of : Format → Shown → List ℕ → ℕ → Report → List ℕ
 part_of Text shown file n r = report_bytes shown n r
+part_of Bare shown file n r = bare_report shown n r
 part_of Escaped shown file n r = escaped_report shown n r
 part_of Summary shown file n r = summary_line file n r
 part_of Json shown file n r = array_item shown file n r
@@ -35,6 +36,7 @@ parts_bytes form n (r ∷ rs) = part_bytes form n r ++ parts_bytes form (n + 1) 
 -- what of a transcript is told as it is
 abbrev pub middle : Format → List ℕ → List ℕ
 middle Text transcript = transcript
+middle Bare transcript = []
 middle Escaped transcript = []
 middle Summary transcript = []
 middle Json transcript = []
@@ -44,6 +46,7 @@ middle Tap transcript = []
 -- what stands before the parts of so many reports
 abbrev pub opening : Format → ℕ → List ℕ
 opening Text count = []
+opening Bare count = []
 opening Escaped count = []
 opening Summary count = []
 opening Json count = codes "["
@@ -53,6 +56,7 @@ opening Tap count = plan count
 -- what stands behind the parts of reports with these endings
 abbrev pub closing : Format → List Ending → List ℕ
 closing Text es = []
+closing Bare es = []
 closing Escaped es = []
 closing Summary es = counts_line es
 closing Json es = codes "\n]\n"

@@ -78,6 +78,10 @@ tail_part shown told r = ascii.newline ∷ [] ++ fault_part r.ending (length r.f
 abbrev pub report_bytes : Shown → ℕ → Report → List ℕ
 report_bytes shown n r = head_line n r ++ r.transcript ++ tail_part shown r.fault r
 
+-- the same without the transcript
+abbrev pub bare_report : Shown → ℕ → Report → List ℕ
+bare_report shown n r = head_line n r ++ tail_part shown r.fault r
+
 -- the same for a terminal
 abbrev pub escaped_report : Shown → ℕ → Report → List ℕ
 escaped_report shown n r = head_line n r ++ escaped Lines r.transcript ++ tail_part shown (escaped Lines r.fault) r

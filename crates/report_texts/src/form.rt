@@ -8,7 +8,7 @@ ghost use Rattle.report_texts.specs.Written.{AreParts, AreSpares};
 use crate::json::{item_text, line_text};
 use crate::line::summary_text;
 use crate::tap::{plan_text, test_text};
-use crate::texts::{Shown, escaped_text, report_text};
+use crate::texts::{Shown, bare_text, escaped_text, report_text};
 use session::{Ending, Report};
 use std::alloc::{AllocError, Global};
 use tcl_words::{Text, Texts};
@@ -18,6 +18,8 @@ use tcl_words::{Text, Texts};
 pub enum Format {
     /// Whole reports.
     Text,
+    /// The same without the transcripts, which were shown before.
+    Bare,
     /// The same for terminals: what would do something there, or isn't seen, is escaped.
     Escaped,
     /// The first line of each report, with its script's file, and a last line of counts.
@@ -67,6 +69,7 @@ impl Form {
     {
         match self.format {
             Format::Text => report_text(alloc, self.shown, number, report),
+            Format::Bare => bare_text(alloc, self.shown, number, report),
             Format::Escaped => escaped_text(alloc, self.shown, number, report),
             Format::Summary => summary_text(alloc, self.file(number), number, report),
             Format::Json => item_text(alloc, self.shown, self.file(number), number, report),
@@ -93,6 +96,7 @@ fn opening_text(alloc: Global, format: Format, count: usize) -> Result<Text, All
 {
     match format {
         Format::Text => Ok(Text::new(alloc)),
+        Format::Bare => Ok(Text::new(alloc)),
         Format::Escaped => Ok(Text::new(alloc)),
         Format::Summary => Ok(Text::new(alloc)),
         Format::Json => Text::from_slice(alloc, b"["),

@@ -29,6 +29,7 @@ fn middle(format: Format, transcript: &[u8]) -> &[u8]
 {
     match format {
         Format::Text => transcript,
+        Format::Bare => &transcript[..0],
         Format::Escaped => &transcript[..0],
         Format::Summary => &transcript[..0],
         Format::Json => &transcript[..0],
@@ -47,11 +48,15 @@ impl Around {
                 head: head_text(alloc, number, report)?,
                 tail: tail_text(alloc, form.shown, report.fault.as_slice(), report)?,
             }),
-            Format::Escaped | Format::Summary | Format::Json | Format::JsonLines | Format::Tap =>
-                Ok(Around {
-                    head: form.part(alloc, number, report)?,
-                    tail: Text::new(alloc),
-                }),
+            Format::Bare
+            | Format::Escaped
+            | Format::Summary
+            | Format::Json
+            | Format::JsonLines
+            | Format::Tap => Ok(Around {
+                head: form.part(alloc, number, report)?,
+                tail: Text::new(alloc),
+            }),
         }
     }
 
@@ -145,6 +150,7 @@ fn write_closing<W: Write>(
 {
     match format {
         Format::Text => write_all(out, b""),
+        Format::Bare => write_all(out, b""),
         Format::Escaped => write_all(out, b""),
         Format::Summary => write_counts(endings, out),
         Format::Json => write_all(out, b"\n]\n"),

@@ -3,7 +3,7 @@
 ghost use Rattle.std.specs.Prelude.{◌≡◌, ◌++◌, ◌∷◌, [], sum, Bool, true, IfOk, OnOk};
 ghost use Rattle.std.specs.Fmt.{decimal};
 ghost use Rattle.child_events.specs.Log.{hex_text};
-ghost use Rattle.report_texts.specs.Report.{labelled, ended_text, ending_text, head_words, head_line, tail_part, fault_part, var_line, vars_lines, vars_part, report_bytes, escaped_report, is_done as is_done_of};
+ghost use Rattle.report_texts.specs.Report.{labelled, ended_text, ending_text, head_words, head_line, tail_part, fault_part, var_line, vars_lines, vars_part, report_bytes, bare_report, escaped_report, is_done as is_done_of};
 
 use crate::asks::push_shown_asks;
 use crate::escape::{Place, push_text};
@@ -197,6 +197,21 @@ pub fn report_text(
 {
     let mut text = head_text(alloc, number, report)?;
     text.extend(report.transcript.as_slice())?;
+    let tail = tail_text(alloc, shown, report.fault.as_slice(), report)?;
+    text.extend(tail.as_slice())?;
+    Ok(text)
+}
+
+/// The text of the report of script `number` without its transcript, with what is shown of it.
+pub fn bare_text(
+    alloc: Global,
+    shown: Shown,
+    number: usize,
+    report: &Report,
+) -> Result<Text, AllocError>
+    ensures { IfOk result (λ t. t ≡ bare_report shown number report.now) }
+{
+    let mut text = head_text(alloc, number, report)?;
     let tail = tail_text(alloc, shown, report.fault.as_slice(), report)?;
     text.extend(tail.as_slice())?;
     Ok(text)
