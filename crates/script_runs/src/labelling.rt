@@ -20,8 +20,8 @@ const LOOK: i32 = 50;
 /// How many bytes are read of a pipe at once.
 const PIECE: usize = 4_096;
 
-/// How often pipes are read once all scripts are over, at most: a program that was left alone may write on and on.
-const LAST: u32 = 1_024;
+/// For how many milliseconds pipes are read once all scripts are over, at most: a program that was left alone may write on and on.
+const LAST: u64 = 1_000;
 
 /// The standard error of a child.
 #[derive(Drop)]
@@ -63,8 +63,8 @@ pub struct Listener<R: SystemClock + Drop> {
     voice: Voice<R>,
     pipes: ErrorPipes,
     sources: Vec<Source>,
-    /// How often pipes may still be read once all scripts are over.
-    left: u32,
+    /// The moment at which it stops, once all scripts are over.
+    end: Option<u64>,
 }
 
 impl<R: Wait + SystemClock + Copy + Drop> Listener<R> {
@@ -77,7 +77,7 @@ impl<R: Wait + SystemClock + Copy + Drop> Listener<R> {
             voice,
             pipes,
             sources: Vec::new(alloc),
-            left: LAST,
+            end: None,
         }
     }
 
@@ -140,6 +140,18 @@ impl<R: Wait + SystemClock + Copy + Drop> Listener<R> {
         }
     }
 
+    /// Whether it was to stop by now. All scripts are over.
+    fn is_due(&mut self) -> bool {
+        let now = self.wall.now();
+        match self.end {
+            Some(end) => end <= now,
+            None => {
+                self.end = Some(now.saturating_add(LAST));
+                false
+            }
+        }
+    }
+
     /// Tells what is held back.
     fn tell_held(&mut self) {
         for source in &mut self.sources {
@@ -154,8 +166,7 @@ impl<R: Wait + SystemClock + Copy + Drop> Tells<()> for Listener<R> {
             self.listen(LOOK);
             return true;
         }
-        if self.left > 0 && self.listen(0) {
-            self.left = self.left.saturating_sub(1);
+        if !self.is_due() && self.listen(0) {
             return true;
         }
         self.tell_held();
