@@ -29,10 +29,8 @@ enum Takes {
     Word(&'static str),
     /// An option with a number, from the least to the most.
     Number(&'static str, i64, i64),
-    /// An option with the name of a format.
-    Format(&'static str),
-    /// An option that says what becomes of standard errors.
-    Errors(&'static str),
+    /// An option with one of a few words.
+    OneOf(&'static str),
     /// A file.
     File(&'static str),
     /// One file or more.
@@ -73,7 +71,7 @@ const REQUESTS: Offer = Offer {
 
 const FORMAT: Offer = Offer {
     name: "format",
-    takes: Takes::Format("F"),
+    takes: Takes::OneOf("F"),
     help: "Print reports as text, json, jsonl or tap [default: text]",
 };
 
@@ -145,7 +143,7 @@ const GUARD: Offer = Offer {
 
 const STDERR: Offer = Offer {
     name: "stderr",
-    takes: Takes::Errors("HOW"),
+    takes: Takes::OneOf("HOW"),
     help: "Share standard error with programs, or label its lines",
 };
 
@@ -236,12 +234,12 @@ static CHECK: [Offer; 1] = [SOURCES];
 /// The names of the commands, in the order of the help.
 const COMMANDS: [&str; 6] = ["run", "replay", "show", "explain", "plan", "check"];
 
-/// An option whose value is one of these words.
-fn one_of<'a>(option: Arg<'a>, value: &'static str, words: &'static [&'static str]) -> Arg<'a> {
-    option
-        .value_name(value)
-        .value_parser(words)
-        .hide_possible_values(true)
+/// The words that the option of a name takes.
+fn words_of(name: &str) -> &'static [&'static str] {
+    match name {
+        "format" => FORMATS.as_slice(),
+        _ => ERRORS.as_slice(),
+    }
 }
 
 /// The argument of an option or a file.
@@ -254,8 +252,11 @@ fn arg_of<'a>(alloc: Global, offer: &Offer) -> Arg<'a> {
             .long(offer.name)
             .value_name(value)
             .value_parser(value_parser!(u64).range(least..=most)),
-        Takes::Format(value) => one_of(arg.long(offer.name), value, FORMATS.as_slice()),
-        Takes::Errors(value) => one_of(arg.long(offer.name), value, ERRORS.as_slice()),
+        Takes::OneOf(value) => arg
+            .long(offer.name)
+            .value_name(value)
+            .value_parser(words_of(offer.name))
+            .hide_possible_values(true),
         Takes::File(value) => arg.value_name(value).required(true),
         Takes::Files(value) => arg
             .value_name(value)
