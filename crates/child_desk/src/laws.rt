@@ -2,8 +2,8 @@
 
 ghost use Rattle.child_desk.specs.Limits.{LinesEnd, TurnsPass};
 
-/// A limit ends scripts: where the greatest moment of a script's own part of the record is past its limit, what its session reports isn't that it waits.
-/// One turn at a moment past the limit is enough, where that moment is behind the stamp. It does nothing when it runs.
+/// A limit on time ends a script. Its session doesn't report that it waits once a moment of the script's own part of the record is past its limit.
+/// One turn is enough, at a moment that is past the limit and not before the stamp. The function itself does nothing: only its contract counts.
 pub fn limits()
     ensures lines { LinesEnd }
     ensures turns { TurnsPass }

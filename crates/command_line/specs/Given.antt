@@ -1,5 +1,5 @@
 -- What the words of the command line ask for.
-use Rattle.std.specs.Prelude.{ℕ, List, [], map, Option, Some, None, unwrap_or, option_map, codes, Bool, false, if◌then◌else◌}
+use Rattle.std.specs.Prelude.{ℕ, List, [], map, Option, Some, None, unwrap_or, option_map, codes, Bool, false, not, ◌&&◌, ◌==◌, if◌then◌else◌}
 use Rattle.std.specs.Str.{bytes_eq}
 use Rattle.std.specs.Borrow.{Bor}
 use Rattle.clap.specs.Matches.{found_of, matched_of, raw_values}
@@ -42,6 +42,10 @@ format_behind_shown Summary = Summary
 format_behind_shown Json = Json
 format_behind_shown JsonLines = JsonLines
 format_behind_shown Tap = Tap
+
+-- the format of reports where so many scripts may be followed, maybe on the terminal that the reports go to: one script's transcript is shown once, unless a format was asked for by its name
+abbrev pub format_on_terminal : Bool → Bool → ℕ → Bool → Format → Format
+format_on_terminal one follow count named format = if one && (follow && ((count == 1) && not named)) then format_behind_shown format else format
 
 -- the file of which lines are bad: the timing's, where there is one, or else the timeline's
 abbrev pub file_of_lines : Bor (List ℕ) → Option (Bor (List ℕ)) → Bor (List ℕ)

@@ -1,7 +1,7 @@
 //! What may be asked for.
 
-ghost use Rattle.std.specs.Prelude.{◌≡◌};
-ghost use Rattle.command_line.specs.Given.{file_of_lines, format_behind_shown};
+ghost use Rattle.std.specs.Prelude.{◌≡◌, length};
+ghost use Rattle.command_line.specs.Given.{file_of_lines, format_behind_shown, format_on_terminal};
 
 use child_pipes::Terms;
 use report_texts::{Form, Format};
@@ -74,13 +74,28 @@ fn behind_shown(format: Format) -> Format
 }
 
 impl Run<'_> {
-    /// Leaves the transcript out of the report of a single script that is followed, unless a format was asked for. It is shown on the terminal
-    /// that the report goes to, if there is one.
-    pub fn show_once(&mut self, is_one_terminal: bool) {
+    /// The format of the reports, where what scripts show and the reports go to one terminal, or not.
+    fn format_on(&self, is_one_terminal: bool) -> Format
+        ensures { result ≡ format_on_terminal is_one_terminal self.now.follow (length self.now.scripts.sources.items) self.now.has_format self.now.scripts.form.format }
+    {
         let is_shown = is_one_terminal && self.follow && self.scripts.sources.len() == 1;
         if is_shown && !self.has_format {
-            self.scripts.form.format = behind_shown(self.scripts.form.format);
+            return behind_shown(self.scripts.form.format);
         }
+        self.scripts.form.format
+    }
+
+    /// Leaves the transcript out of the report of a single script that is followed on the terminal that the report goes to. If a format was asked
+    /// for by its name, the report stays whole.
+    pub fn show_once(&mut self, is_one_terminal: bool)
+        ensures format { self.new.scripts.form.format ≡ format_on_terminal is_one_terminal self.old.follow (length self.old.scripts.sources.items) self.old.has_format self.old.scripts.form.format }
+        ensures form { (self.new.scripts.form.shown ≡ self.old.scripts.form.shown) × (self.new.scripts.form.files ≡ self.old.scripts.form.files) }
+        ensures limits { (self.new.scripts.steps ≡ self.old.scripts.steps) × (self.new.scripts.limit_ms ≡ self.old.scripts.limit_ms) }
+        ensures files { (self.new.scripts.transcripts ≡ self.old.scripts.transcripts) × (self.new.scripts.sources ≡ self.old.scripts.sources) }
+        ensures products { (self.new.record ≡ self.old.record) × (self.new.explain ≡ self.old.explain) }
+        ensures rest { (self.new.workers ≡ self.old.workers) × (self.new.follow ≡ self.old.follow) × (self.new.has_format ≡ self.old.has_format) × (self.new.terms ≡ self.old.terms) × (self.new.guard ≡ self.old.guard) × (self.new.labels ≡ self.old.labels) }
+    {
+        self.scripts.form.format = self.format_on(is_one_terminal);
     }
 }
 

@@ -298,54 +298,8 @@ fn whole<R: Clock + Drop, F: Drop>(
     }
 }
 
-/// Runs an order's scripts, and writes their record to its file. Gives what came of the run, and what was kept of the record behind `kept`.
+/// Runs an order's scripts, and writes their record where it has a file. Gives what came of the run, and what was kept of the record behind `kept`.
 /// If the scripts weren't served, a complaint says why; unless it is for want of memory, the file is removed.
-fn run_to_file<
-    'a,
-    R: Files + Eprint + Pages + Threads + Wait + Clock + Programs + Copy + Send + Drop + 'static,
-    E: Write + IsTerminal + Copy + Send + Drop + 'static,
-    O: Write + Copy + Send + Drop + 'static,
->(
-    rt: R,
-    alloc: Global,
-    order: &Run<'a>,
-    errors: E,
-    out: O,
-    scripts: Vec<Script>,
-    folder: Option<Folder<R>>,
-    record: RecordFile<'a, R::File>,
-    kept: Option<Text>,
-    stop: &Arc<Stop>,
-) -> Result<Ran, Complaint<'a>> {
-    let RecordFile { target, file } = record;
-    let record = Record::new(Some(SyncedFile::new(rt, file)), kept);
-    let ran = run_scripts(rt, alloc, scripts, order, errors, out, folder, record, stop);
-    let Driven {
-        outcome,
-        log,
-        record,
-    } = match ran {
-        Ok(driven) => driven,
-        Err(fault) => {
-            if let DriveFault::Serve(_) = fault {
-                target.remove(&rt);
-            }
-            return Err(Complaint::of_drive(fault, order));
-        }
-    };
-    let (file, kept) = record.into_parts();
-    let is_recorded = match &file {
-        Some(file) => give_record(&rt, alloc, &target, whole(file, log)),
-        None => true,
-    };
-    Ok(Ran {
-        outcome,
-        is_recorded,
-        kept: if log.is_none() { kept } else { None },
-    })
-}
-
-/// Runs an order's scripts, and writes their record where that is asked for. Gives what came of the run, and what was kept of the record behind `kept`.
 fn run_recorded<
     'a,
     R: Files + Eprint + Pages + Threads + Wait + Clock + Programs + Copy + Send + Drop + 'static,
@@ -363,30 +317,35 @@ fn run_recorded<
     kept: Option<Text>,
     stop: &Arc<Stop>,
 ) -> Result<Ran, Complaint<'a>> {
-    if let Some(record) = record {
-        return run_to_file(
-            rt, alloc, order, errors, out, scripts, folder, record, kept, stop,
-        );
-    }
-    let record = Record::<R::File>::new(None, kept);
-    match run_scripts(rt, alloc, scripts, order, errors, out, folder, record, stop) {
-        Ok(
-            Driven {
-                outcome,
-                log,
-                record,
-            },
-        ) => Ok(Ran {
-            outcome,
-            is_recorded: true,
-            kept: if log.is_none() {
-                record.into_parts().1
-            } else {
-                None
-            },
-        }),
-        Err(fault) => Err(Complaint::of_drive(fault, order)),
-    }
+    let (target, file) = match record {
+        Some(RecordFile { target, file }) => (Some(target), Some(SyncedFile::new(rt, file))),
+        None => (None, None),
+    };
+    let record = Record::new(file, kept);
+    let ran = run_scripts(rt, alloc, scripts, order, errors, out, folder, record, stop);
+    let Driven {
+        outcome,
+        log,
+        record,
+    } = match ran {
+        Ok(driven) => driven,
+        Err(fault) => {
+            if let (DriveFault::Serve(_), Some(target)) = (&fault, &target) {
+                target.remove(&rt);
+            }
+            return Err(Complaint::of_drive(fault, order));
+        }
+    };
+    let (file, kept) = record.into_parts();
+    let is_recorded = match (&target, &file) {
+        (Some(target), Some(file)) => give_record(&rt, alloc, target, whole(file, log)),
+        _ => true,
+    };
+    Ok(Ran {
+        outcome,
+        is_recorded,
+        kept: if log.is_none() { kept } else { None },
+    })
 }
 
 /// Tells an account over a record, of which memory for keeping it may have been refused. The answer says whether it is told.

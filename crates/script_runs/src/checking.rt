@@ -20,7 +20,7 @@ pub enum CheckFault {
     Memory,
 }
 
-/// The line of a place, where that of another place is known: no more is read than what stands between them, unless the place is before it.
+/// The line of a place, by the line of an earlier place. Only what stands between the two is read. If the place comes first, all before it is.
 fn line_from(source: &[u8], known: usize, line: usize, at: usize) -> usize
     requires { line ≡ line_at source.now known }
     ensures { result ≡ line_at source.now at }
@@ -73,7 +73,7 @@ fn push_in_line(alloc: Global, text: &mut Text, bytes: &[u8]) -> Result<(), Allo
     push_lines_within(alloc, text, lines.as_slice())
 }
 
-/// What is told of a finding, which stands on this line of the source.
+/// What is told of a finding. `line` is the finding's line in the source.
 #[tactic(auto, unfolding(crate::specs::Check::finding_text))]
 fn text_of(alloc: Global, file: &[u8], line: usize, finding: &Finding) -> Result<Text, AllocError>
     ensures { (source : List ℕ) → line ≡ line_at source finding.now.at → IfOk result (λ text. text ≡ finding_text file.now source finding.now) }
@@ -87,7 +87,7 @@ fn text_of(alloc: Global, file: &[u8], line: usize, finding: &Finding) -> Result
     Ok(text)
 }
 
-/// Puts the line of a finding, which stands on this line of the source, behind a text.
+/// Puts the line of a finding behind a text. `line` is the finding's line in the source.
 #[tactic(auto, unfolding(crate::specs::Check::finding_line))]
 fn push_finding(
     alloc: Global,

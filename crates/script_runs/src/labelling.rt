@@ -20,7 +20,7 @@ const LOOK: i32 = 50;
 /// How many bytes are read of a pipe at once.
 const PIECE: usize = 4_096;
 
-/// For how many milliseconds pipes are read once all scripts are over, at most: a program that was left alone may write on and on.
+/// For how many milliseconds pipes are read once all scripts are over, at most. A program that was left alone may write on and on.
 const LAST: u64 = 1_000;
 
 /// The standard error of a child.
@@ -91,7 +91,7 @@ impl<R: Wait + SystemClock + Copy + Drop> Listener<R> {
         }
     }
 
-    /// Waits for so many milliseconds until a pipe can be read, and says for each what poll(2) tells of it.
+    /// Waits until a pipe can be read, for so many milliseconds at most. Returns what poll(2) tells of each.
     fn polled(&self, wait: i32) -> Result<Vec<pollfd>, AllocError> {
         let mut asked = Vec::new(self.alloc);
         for source in &self.sources {
@@ -107,7 +107,7 @@ impl<R: Wait + SystemClock + Copy + Drop> Listener<R> {
         Ok(asked)
     }
 
-    /// Reads a piece of each pipe that has one, and tells what is held back for long. Returns whether any had.
+    /// Reads a piece of each pipe that has one, and tells what is held back for long. Returns whether any pipe had one.
     fn read_all(&mut self, asked: &[pollfd]) -> bool {
         let moment = self.wall.now();
         let Listener {
@@ -140,7 +140,7 @@ impl<R: Wait + SystemClock + Copy + Drop> Listener<R> {
         }
     }
 
-    /// Whether it was to stop by now. All scripts are over.
+    /// Whether it stops now. All scripts are over.
     fn is_due(&mut self) -> bool {
         let now = self.wall.now();
         match self.end {

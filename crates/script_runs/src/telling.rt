@@ -85,8 +85,8 @@ impl<
     R: Threads + Wait + Clock + Copy + Send + Drop + 'static,
     E: Write + IsTerminal + Copy + Send + Drop + 'static,
 > Telling<R, E> {
-    /// What is told of so many scripts of so many workers on `to`: what they show, if that is asked for; otherwise, on a terminal, how far they are;
-    /// and the lines of these standard errors, if there are any.
+    /// Starts to tell on `to` what so many scripts of so many workers show, if that is asked for. Otherwise, on a terminal, it tells how far they are.
+    /// It also tells the lines of these standard errors, if there are any.
     pub fn new(
         rt: R,
         alloc: Global,
@@ -145,7 +145,7 @@ impl<
         }
     }
 
-    /// Nothing more is told. Waits until all is, unless nobody reads.
+    /// Ends the telling. Waits until all is told, unless nobody reads.
     pub fn end(self, rt: &R) {
         let Telling { told, listening } = self;
         if let Some(teller) = listening {
@@ -180,8 +180,8 @@ fn cancellations_of(
     Ok(cancellations)
 }
 
-/// A clock for each of so many workers. They tell the same moments, from 0 on, tell what is to be told of the worker's scripts, and cancel those
-/// that are over. There is a cancellation for each script. Reports are told as scripts end, if there is something to tell them to.
+/// A clock for each of so many workers. They give the same moments, in milliseconds from 0 on. They also tell what is to be told of their worker's
+/// scripts, and cancel those that are over; there is a cancellation for each script. If there is an `Early`, it gets the reports as scripts end.
 pub fn clocks<
     R: Threads + Wait + Clock + Copy + Send + Drop + 'static,
     E: Write + IsTerminal + Copy + Send + Drop + 'static,

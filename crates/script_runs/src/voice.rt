@@ -1,7 +1,7 @@
 //! What is told on standard error while scripts run. A thread of its own writes it, so that no dialogue waits for a reader.
 
-ghost use Rattle.std.specs.Prelude.{◌≡◌, IfOk};
-ghost use Rattle.script_runs.specs.Voice.{Puts, Keeps, notice as notice_of};
+ghost use Rattle.std.specs.Prelude.{◌≡◌, ◌↔◌, IsTrue, IfOk, OnOk, IsErr};
+ghost use Rattle.script_runs.specs.Voice.{HasRoom, Drops, Keeps, notice as notice_of};
 
 use crate::driving::DriveFault;
 use crate::teller::{Post, Teller, Tells};
@@ -15,7 +15,7 @@ use std::thread::Threads;
 use std::time::{Clock, Duration};
 use tcl_words::Text;
 
-/// How many bytes are kept for a reader when more are kept behind them, at most.
+/// How many bytes may be kept for a reader before a text that is kept behind them.
 const MOST: usize = 262_144;
 
 /// How many bytes are written at once, at most.
@@ -54,24 +54,35 @@ impl Speech {
         }
     }
 
-    /// Keeps a text behind the others if these aren't too many and nothing was dropped behind them. Returns whether it does.
-    fn put(&mut self, text: &[u8]) -> bool
-        ensures { Puts self.old text.now self.new result }
+    /// Whether there is room for more: what is kept isn't too long, and nothing was dropped behind it.
+    fn has_room(&self) -> bool
+        ensures { IsTrue result ↔ HasRoom self.now }
     {
-        if self.lost > 0 || self.text.len() > MOST {
-            return false;
-        }
-        self.text.extend(text).is_ok()
+        self.lost == 0 && self.text.len() <= MOST
     }
 
-    /// Keeps the text of so many bytes that a script showed, or counts them as lost.
-    fn keep(&mut self, text: &[u8], shown: usize)
-        ensures { Keeps self.old text.now shown self.new }
+    /// Counts bytes that are dropped.
+    fn drop_bytes(&mut self, shown: usize)
+        ensures { Drops self.old shown self.new }
+    {
+        self.lost = self.lost.saturating_add(shown as u64);
+    }
+
+    /// Keeps the text of so many bytes that a script showed if there is room, and drops it otherwise. If memory is refused, it is dropped too.
+    fn keep(&mut self, text: &[u8], shown: usize) -> Result<(), AllocError>
+        ensures kept { OnOk result (Keeps self.old text.now shown self.new) }
+        ensures refused { IsErr result → HasRoom self.old × Drops self.old shown self.new }
     {
         self.is_told = false;
-        if !self.put(text) {
-            self.lost = self.lost.saturating_add(shown as u64);
+        if !self.has_room() {
+            self.drop_bytes(shown);
+            return Ok(());
         }
+        let Ok(()) = self.text.extend(text) else {
+            self.drop_bytes(shown);
+            return Err(AllocError);
+        };
+        Ok(())
     }
 
     /// Keeps what is to stand on the line of the run, in place of what was to.
@@ -209,18 +220,18 @@ impl<R: Copy + Drop> Voice<R> {
 }
 
 impl<R: Wait + Copy + Drop> Voice<R> {
-    /// Tells the text of so many bytes that a script showed. If there is no room for it, it is dropped, and they are counted.
+    /// Tells the text of so many bytes that a script showed. If there is no room or no memory for it, it is dropped, and the bytes are counted.
     pub fn tell(&self, text: &[u8], shown: usize) {
         if text.is_empty() {
             return;
         }
         let mut held = self.post.held.lock(&self.rt);
-        held.keep(text, shown);
+        let _ = held.keep(text, shown);
         drop(held);
         self.post.ring();
     }
 
-    /// Tells what is to stand on the line of the run. What was to and isn't written yet never is.
+    /// Tells what is to stand on the line of the run. What was told before and isn't written yet is dropped.
     pub fn put_line(&self, line: Text) {
         let mut held = self.post.held.lock(&self.rt);
         held.put_line(line);
