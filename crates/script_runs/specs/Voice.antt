@@ -1,5 +1,5 @@
 -- What is kept of what scripts show until somebody reads it.
-use Rattle.std.specs.Prelude.{◌≡◌, ¬◌, ◌≤◌, ℕ, ◌+◌, min, List, ◌++◌, length, codes}
+use Rattle.std.specs.Prelude.{◌≡◌, ◌≤◌, ℕ, ◌+◌, min, List, ◌++◌, length, codes}
 use Rattle.script_runs.specs.declared.voice.Speech.{Speech}
 use Rattle.report_texts.specs.Report.{labelled}
 
