@@ -8,7 +8,7 @@ use Rattle.tcl_expr.specs.Tree.{Tree as Expression}
 use Rattle.tcl_subst.specs.Filling.{Full, fill}
 use Rattle.tcl_subst.specs.Variables.{Variables}
 use Rattle.tcl_eval.specs.Evaluated.{fresh}
-use Rattle.tcl_eval.specs.Halted.{worth}
+use Rattle.tcl_eval.specs.Worth.{worth}
 use Rattle.tcl_eval.specs.Tree.{State, Tree}
 use Rattle.tcl_eval.specs.Meaning.{Next, Eval, on_bool, tested, condition, expression, fill_parts}
 use Rattle.tcl_eval.proofs.Told.{needs_worth}

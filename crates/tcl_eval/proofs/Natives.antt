@@ -1,52 +1,37 @@
 -- What functions that evaluate come to.
-use Rattle.std.proofs.Common.{◌≡◌, ℕ, zero, suc, ◌==◌, ◌+◌, ◌-◌, ◌^◌, ◌<◌, ◌≤◌, Bool, true, false, List, [], ◌∷◌, ◌++◌, drop, length, length-append, append_assoc, refl, sym, ◌∙◌, ap, arith}
+use Rattle.std.proofs.Common.{◌≡◌, ℕ, zero, suc, ◌==◌, ◌+◌, ◌-◌, ◌^◌, ◌<◌, Bool, false, Option, Result, List, [], ◌∷◌, ◌++◌, drop, length, append_assoc, refl, sym, ◌∙◌, ap, arith}
 use Rattle.std.proofs.Math.Path.{fun_ext}
 use Rattle.std.proofs.lemmas.List.{append-nil}
 use Rattle.tcl_words.specs.Pieces.{Spelled}
-use Rattle.tcl_expr.specs.Tree.{Tree as Expression}
-use Rattle.tcl_expr.specs.Value.{outcome, needs, operands_in}
+use Rattle.tcl_commands.specs.Arms.{Arms}
+use Rattle.tcl_scripts.specs.Commands.{commands}
 use Rattle.tcl_scripts.specs.Literals.{AreLiterals}
-use Rattle.tcl_subst.specs.Filling.{Fill}
-use Rattle.tcl_eval.specs.Alone.{WaitsAlone, asks_alone}
-use Rattle.tcl_subst.specs.Recipes.{Filling}
-use Rattle.tcl_subst.specs.Variables.{Variables}
-use Rattle.tcl_eval.specs.declared.halt.Halt.{Halt}
-use Rattle.tcl_eval.specs.declared.halt.Halt.TheVariants.{Value as HaltValue, Alone as HaltAlone, Script as HaltScript, Failed as HaltFailed, Fault as HaltFault}
-use Rattle.tcl_eval.specs.declared.out.Worked.{Worked}
-use Rattle.tcl_eval.specs.declared.out.Worked.TheVariants.{More as MoreWork, Full as FullWork, Gone as GoneWork, Stopped as StoppedWork}
-use Rattle.tcl_eval.specs.Halted.{HaltsAt, HasGrown}
-use Rattle.tcl_eval.specs.declared.out.Stop.{Stop}
-use Rattle.tcl_eval.specs.declared.out.Part.{Part}
-use Rattle.tcl_eval.specs.declared.out.Part.TheVariants.{Full, Script, Gone, Stopped}
-use Rattle.tcl_eval.specs.declared.out.Truth.{Truth}
-use Rattle.tcl_eval.specs.declared.out.Truth.TheVariants.{Holds, Gone as GoneTruth, Stopped as StoppedTruth}
-use Rattle.tcl_eval.specs.declared.frame.Then.{Then}
-use Rattle.tcl_eval.specs.declared.frame.Goal.{Goal}
-use Rattle.tcl_eval.specs.declared.frame.Onward.TheVariants.{Fill as FillOn, Operand}
+use Rattle.tcl_commands.specs.declared.code.Code.{Code}
+use Rattle.tcl_commands.specs.declared.code.Code.TheVariants.{Ok, Error, Return, Break, Continue, Again, AgainLater}
+use Rattle.tcl_subst.specs.declared.fill_step.FillStep.{FillStep}
+use Rattle.tcl_subst.specs.declared.fill_step.FillStep.TheVariants.{Value, NeedScript, Fault}
+use Rattle.tcl_subst.specs.Filling.{Fill, Full as Filled, Asks, Failed as Unfilled}
+use Rattle.tcl_subst.specs.Recipes.{Filling, given}
+use Rattle.tcl_subst.specs.Rests.{rest}
+use Rattle.tcl_eval.specs.Alone.{WaitsAlone, alone}
+use Rattle.tcl_eval.specs.declared.out.Leave.{Leave}
+use Rattle.tcl_eval.specs.declared.out.Exception.{Exception}
+use Rattle.tcl_eval.specs.declared.out.Exception.TheVariants as x
+use Rattle.tcl_eval.specs.declared.engine.Engine.{Engine}
+use Rattle.tcl_eval.specs.declared.meter.Meter.{Meter}
 use Rattle.tcl_eval.specs.declared.frame.Frame.{Frame}
-use Rattle.tcl_eval.specs.declared.frame.Frame.TheVariants.{Onward as OnwardFrame}
 use Rattle.tcl_eval.specs.declared.frame.End.TheVariants.{StepLimit}
-use Rattle.tcl_eval.specs.Evaluated.{Evaluated}
 use Rattle.tcl_eval.specs.Tree.{State, Tree, Over}
 use Rattle.tcl_eval.specs.Potential.{bodies, frame_weight}
-use Rattle.tcl_eval.specs.Meaning.{Next, Eval, eval, on_ok, on_said, spread, stepped, fill_word, fill_parts, fill_words, each}
-use Rattle.tcl_eval.specs.Rest.{frame_rest, frames_rest, goal_rest, then_rest}
-use Rattle.tcl_eval.specs.Native.{laid_rest, stop_rest, operand_on, word_on, HasMore, OneMore, FewerLeft}
-use Rattle.tcl_eval.specs.Advanced.{NeedsFilled}
+use Rattle.tcl_eval.specs.Meaning.{Next, Eval, on_ok, on_said, tree_of, condition, arms, spread, stepped, fill_word, fill_parts, fill_words, each, eval, sequence}
+use Rattle.tcl_eval.specs.Rest.{frames_rest, arm_rest}
+use Rattle.tcl_eval.specs.Native.{Spent, at_ok, code_of, ended, flow, laid_rest}
 
--- so many turns are left of filling a word
-abbrev pub parts_left : Part → ℕ → ℕ
-parts_left (Full v) at = 0
-parts_left (Script n) at = suc (2 ^ 64 - at)
-parts_left (Gone c v) at = 0
-parts_left (Stopped s) at = 0
-
--- so many conditions are left
-abbrev pub arms_left : Truth → List (List ℕ × List ℕ) → ℕ
-arms_left (Holds true) arms = 0
-arms_left (Holds false) arms = suc (length arms)
-arms_left (GoneTruth c v) arms = 0
-arms_left (StoppedTruth s h) arms = 0
+-- so many scripts are left of filling a word
+abbrev pub scripts_left : FillStep → ℕ → ℕ
+scripts_left (NeedScript n) at = suc (2 ^ 64 - at)
+scripts_left (Value v) at = 0
+scripts_left (Fault f) at = 0
 
 -- one frame from the laid ones to the stack
 pub lay_step : (l m s r : List Frame) (f : Frame) (k : Next) → l ≡ f ∷ m → r ≡ f ∷ s → laid_rest l (frames_rest s) ≡ k → laid_rest m (frames_rest r) ≡ k
@@ -60,45 +45,71 @@ lay_even l m s r f n e h i =
     let b : bodies r ≡ frame_weight f + bodies s = ap bodies h in
     omega arith
 
--- behind a script of an operand
-pub operand_below : (depth : ℕ) (e : Evaluated) (f f' : Filling) (goal goal' : Goal) (frame : Frame) (s : Stop) (k : Next) (st : State) → frame ≡ OnwardFrame (Operand e f' goal' depth) → f' ≡ f → goal' ≡ goal
-    → stop_rest s (frame_rest frame k) st ≡ stop_rest s (operand_on (eval depth) f e k (goal_rest depth goal k)) st
-operand_below depth e f f' goal goal' frame s k st is same for =
-    ap (λ (x : Frame). stop_rest s (frame_rest x k) st) is
-    ∙ ap (λ (x : Filling). stop_rest s (operand_on (eval depth) x e k (goal_rest depth goal' k)) st) same
-    ∙ ap (λ (x : Goal). stop_rest s (operand_on (eval depth) f e k (goal_rest depth x k)) st) for
+-- ---- what follows a script
+
+-- an exception passes what goes on at `Ok`
+pub code_passes : (x : Exception) (go : List ℕ → State → Tree) (k : Next) (v : List ℕ) (st : State) → on_ok go k (code_of x) v st ≡ k (code_of x) v st
+code_passes x.Error go k v st = refl
+code_passes x.Return go k v st = refl
+code_passes x.Break go k v st = refl
+code_passes x.Continue go k v st = refl
+code_passes x.Again go k v st = refl
+code_passes x.AgainLater go k v st = refl
+
+-- other codes pass what goes on at `Ok`
+passes : (f g on : List ℕ → State → Tree) (k : Next) (c : Code) (v : List ℕ) (st : State) → ((v : List ℕ) (st : State) → f v st ≡ g v st) → on_ok f (on_ok on k) c v st ≡ on_ok g k c v st
+passes f g on k Ok v st same = same v st
+passes f g on k Error v st same = refl
+passes f g on k Return v st same = refl
+passes f g on k Break v st same = refl
+passes f g on k Continue v st same = refl
+passes f g on k Again v st same = refl
+passes f g on k AgainLater v st same = refl
+
+pub passed_on : (f g on : List ℕ → State → Tree) (k : Next) → ((v : List ℕ) (st : State) → f v st ≡ g v st) → on_ok f (on_ok on k) ≡ on_ok g k
+passed_on f g on k same = fun_ext (λ c. fun_ext (λ v. fun_ext (λ st. passes f g on k c v st same)))
+
+each_code : (k : Next) (c : Code) (v : List ℕ) (st : State) → on_ok (at_ok k) k c v st ≡ k c v st
+each_code k Ok v st = refl
+each_code k Error v st = refl
+each_code k Return v st = refl
+each_code k Break v st = refl
+each_code k Continue v st = refl
+each_code k Again v st = refl
+each_code k AgainLater v st = refl
+
+-- what follows a script is what follows it at `Ok` and at other codes
+any_code : (k : Next) → on_ok (at_ok k) k ≡ k
+any_code k = fun_ext (λ c. fun_ext (λ v. fun_ext (λ st. each_code k c v st)))
+
+-- a value within a command that is the command's
+pub word_came : (r : Result (List ℕ) Leave) (st : State) (k : Next) → flow r st (on_ok (at_ok k) k) (at_ok k) ≡ ended r st k
+word_came r st k = ap (λ (n : Next). flow r st n (at_ok k)) (any_code k)
+
+-- one part behind another
+pub spent_on : (a b c : Engine) (m n o : Meter) (paid : ℕ) → Spent a b m n 0 0 → Spent b c n o 0 paid → Spent a c m o 0 paid
+spent_on a b c m n o paid p q = record { kept = q.kept ∙ p.kept; down = omega (arith, p.down, q.down); bound = q.bound ∙ p.bound }
+
+-- ---- conditions of `if`
+
+-- the first condition, and the arms behind it
+pub arms_some : (depth : ℕ) (l m : Arms) (test body : List ℕ) (k : Next) (st : State) → l.0 ≡ (test, body) ∷ m.0 → m.1 ≡ l.1
+    → on_said (tree_of test) k (λ t st. condition (eval depth) t k (arm_rest depth body m k) st) st ≡ arms (eval depth) l.0 l.1 k st
+arms_some depth l m test body k st first same =
+    ap (λ (x : List (List ℕ × List ℕ)). arms (eval depth) x m.1 k st) (sym first) ∙ ap (λ (o : Option (List ℕ)). arms (eval depth) l.0 o k st) same
+
+-- ---- words
+
+-- what is behind a word passes its errors and codes on
+pub word_passes : (ev : Eval) (p : Fill) (k : Next) (on go : List ℕ → State → Tree) (st : State) → fill_word ev p (on_ok on k) go st ≡ fill_word ev p k go st
+word_passes ev (Filled v) k on go st = refl
+word_passes ev (Asks text more) k on go st = ap (λ (x : Next). ev text x st) (passed_on _ _ on k (λ v st. word_passes ev (more v st.vars) k on go st))
+word_passes ev (Unfilled f name) k on go st = refl
 
 -- behind a script of a word
-pub word_below : (depth next : ℕ) (expand : Bool) (words words' : List Spelled) (f f' : Filling) (done done' : List (List ℕ)) (then : Then) (s : Stop) (k : Next) (st : State) → words' ≡ words → f' ≡ f → done' ≡ done
-    → stop_rest s (frame_rest (OnwardFrame (FillOn words' next expand f' done' then depth)) k) st
-    ≡ stop_rest s (word_on (eval depth) f k (λ v st. on_said (spread expand v done) k (λ done st. fill_words (eval depth) (drop next words) done k (then_rest depth then k) st) st)) st
-word_below depth next expand words words' f f' done done' then s k st same filler values =
-    ap (λ (x : List Spelled). stop_rest s (frame_rest (OnwardFrame (FillOn x next expand f' done' then depth)) k) st) same
-    ∙ ap (λ (x : Filling). stop_rest s (frame_rest (OnwardFrame (FillOn words next expand x done' then depth)) k) st) filler
-    ∙ ap (λ (x : List (List ℕ)). stop_rest s (frame_rest (OnwardFrame (FillOn words next expand f x then depth)) k) st) values
-
--- an operand that was needed and has its value is one less to be worked out
-one_less : (vars : Variables) (p : Fill) (old mid new : Evaluated) → ((t : Expression) (given : List (List ℕ)) (x : Spelled) → outcome t given ≡ needs x → length given < operands_in t)
-    → HasGrown old mid → NeedsFilled vars p mid → HasMore MoreWork mid new → FewerLeft MoreWork old new
-one_less vars p old mid new law g t m =
-    let less : length mid.given < operands_in mid.tree = law mid.tree mid.given t.word t.is in
-    let more : length new.given ≡ length mid.given + 1 = ap (λ (x : Evaluated). length x.given) m.1 ∙ length-append mid.given (m.0 ∷ []) in
-    let now : operands_in new.tree ≡ operands_in mid.tree = ap (λ (x : Evaluated). operands_in x.tree) m.1 in
-    let same : operands_in mid.tree ≡ operands_in old.tree = ap operands_in g.0 in
-    let grown : length old.given ≤ length mid.given = g.1 in
-    omega arith
-
--- an operand that was needed and has its value isn't needed again
-pub fewer_left : (w : Worked) (h : Halt) (vars : Variables) (old mid new : Evaluated) → ((t : Expression) (given : List (List ℕ)) (x : Spelled) → outcome t given ≡ needs x → length given < operands_in t)
-    → HasGrown old mid → HaltsAt vars h mid → OneMore h w mid new → FewerLeft w old new
-fewer_left MoreWork (HaltAlone script) vars old mid new law g t m = one_less vars _ old mid new law g t m
-fewer_left MoreWork (HaltScript f n) vars old mid new law g t m = one_less vars _ old mid new law g t m
-fewer_left MoreWork (HaltValue v) vars old mid new law g t m = absurd m
-fewer_left MoreWork (HaltFailed f fault) vars old mid new law g t m = absurd m
-fewer_left MoreWork (HaltFault f) vars old mid new law g t m = absurd m
-fewer_left (FullWork v) h vars old mid new law g t m = tt
-fewer_left (GoneWork c v) h vars old mid new law g t m = tt
-fewer_left (StoppedWork s f) h vars old mid new law g t m = tt
+pub word_frame : (ev : Eval) (f : Filling) (k : Next) (on : List ℕ → State → Tree)
+    → on_ok (λ v st. fill_word ev (rest (given v f) st.vars) (on_ok on k) on st) (on_ok on k) ≡ on_ok (λ v st. fill_word ev (rest (given v f) st.vars) k on st) k
+word_frame ev f k on = passed_on _ _ on k (λ v st. word_passes ev (rest (given v f) st.vars) k on on st)
 
 -- the word at a place, and the words behind it
 pub words_some : (ev : Eval) (to next : ℕ) (w : Spelled) (words : List Spelled) (done : List (List ℕ)) (k : Next) (go : List (List ℕ) → State → Tree) (st : State) → drop next words ≡ w ∷ drop to words
@@ -126,9 +137,15 @@ literals_fill ev (w ∷ words) (v ∷ values) done k go st a =
     ∙ literals_fill ev words values (done ++ v ∷ []) k go st a.1
     ∙ ap (λ (l : List (List ℕ)). go l st) (append_assoc done (v ∷ []) values)
 
--- a word that is one script alone, where that stands still
-pub alone_below : (ev : Eval) (script : List ℕ) (f : Filling) (s : Stop) (k : Next) (go : List ℕ → State → Tree) (st now : State)
-    → WaitsAlone f → ((k : Next) → stop_rest s k now ≡ ev script k st) → stop_rest s (word_on ev f k go) now ≡ fill_word ev (asks_alone script) k go st
-alone_below ev script f s k go st now waits run =
-    run (word_on ev f k go)
-    ∙ ap (λ (h : List ℕ → State → Tree). ev script (on_ok h k) st) (fun_ext (λ v. fun_ext (λ (st : State). ap (λ (x : Fill). fill_word ev x k go st) (waits v st.vars))))
+-- what follows the script that a word is
+pub alone_frame : (ev : Eval) (f : Filling) (k : Next) (on : List ℕ → State → Tree) → WaitsAlone f
+    → on_ok (λ v st. fill_word ev (rest (given v f) st.vars) (on_ok on k) on st) (on_ok on k) ≡ on_ok (λ v st. fill_word ev (alone v) k on st) k
+alone_frame ev f k on waits =
+    passed_on _ _ on k (λ v st. ap (λ (x : Fill). fill_word ev x (on_ok on k) on st) (waits v st.vars) ∙ word_passes ev _ k on on st)
+
+-- ---- scripts
+
+-- a script, one level deeper
+pub deeper : (n : ℕ) (script : List ℕ) (k : Next) (st : State) → 0 < n → sequence (eval (n - 1)) script (commands script) k [] st ≡ eval n script k st
+deeper zero script k st some = absurd (omega arith)
+deeper (suc n) script k st some = let e : suc n - 1 ≡ n = omega arith in ap (λ (m : ℕ). sequence (eval m) script (commands script) k [] st) e

@@ -1,8 +1,8 @@
 -- What scripts mean, and what is left of a run. To read first: Tree (a meaning is a tree that names the calls of the host, one after
 -- another), Meaning (the tree of a script), Unrolled (what loops mean, with no bound) and Suspended (a run that stops and goes on). Asked, Steps,
 -- Evaluated and Advanced have the words of single contracts. Rest says what is left of a machine's frames, Native and Standings what is
--- left where a function has returned, Halted where an expression halts, and Potential that a run comes to an end: these are about the machine
--- alone, and can be passed over.
+-- left where a function has returned, Worth what is left of an expression, and Potential that a run comes to an end: these are about the
+-- machine alone, and can be passed over.
 pub mod Tree
 pub mod Meaning
 pub mod Unrolled
@@ -13,7 +13,7 @@ pub mod Evaluated
 pub mod Advanced
 pub mod Rest
 pub mod Potential
-pub mod Halted
+pub mod Worth
 pub mod Handed
 pub mod Alone
 pub mod Native

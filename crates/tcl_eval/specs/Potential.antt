@@ -28,7 +28,7 @@ then_weight Command = 0
 then_weight (HostList fault) = 5
 
 abbrev pub onward_weight : Onward → ℕ
-onward_weight (Fill words next expand filler done to depth) = then_weight to
+onward_weight (Fill words next expand done to depth) = then_weight to
 onward_weight _ = 0
 
 abbrev pub frame_weight : Frame → ℕ

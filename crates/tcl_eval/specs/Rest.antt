@@ -5,27 +5,27 @@ use Rattle.tcl_subst.specs.Rests.{rest}
 use Rattle.tcl_subst.specs.Variables.{Variables}
 use Rattle.tcl_commands.specs.declared.code.Code.{Code}
 use Rattle.tcl_commands.specs.declared.code.Code.TheVariants.{Ok}
+use Rattle.tcl_commands.specs.Arms.{Arms}
 use Rattle.tcl_scripts.specs.Commands.{commands}
 use Rattle.tcl_eval.specs.declared.frame.End.TheVariants.{Finished}
 use Rattle.tcl_eval.specs.declared.frame.Then.{Then}
 use Rattle.tcl_eval.specs.declared.frame.Then.TheVariants.{Command, List as HostList}
 use Rattle.tcl_eval.specs.declared.frame.Turning.{Turning}
-use Rattle.tcl_eval.specs.declared.frame.Goal.{Goal}
-use Rattle.tcl_eval.specs.declared.frame.Goal.TheVariants.{Result as ResultGoal, Turn as TurnGoal, Arm}
 use Rattle.tcl_eval.specs.declared.frame.Frame.{Frame}
 use Rattle.tcl_eval.specs.declared.frame.Frame.TheVariants.{Sequence, Onward as OnwardFrame, Catch, Turn, Each, Scope, HostBody}
 use Rattle.tcl_eval.specs.declared.frame.Onward.{Onward}
-use Rattle.tcl_eval.specs.declared.frame.Onward.TheVariants.{Fill, Operand, Arms, Next as NextTurn, Start}
+use Rattle.tcl_eval.specs.declared.frame.Onward.TheVariants.{Word, Fill, Operand, Test, Arm, Next as NextTurn, Start}
 use Rattle.tcl_eval.specs.declared.frame.Mode.{Mode}
 use Rattle.tcl_eval.specs.declared.frame.Mode.TheVariants.{Give, Run, Begin, AfterWords, AfterBody, Define, Ended}
 use Rattle.tcl_eval.specs.declared.engine.Engine.{Engine}
 use Rattle.tcl_eval.specs.declared.trail.Origin.TheVariants as origin
 use Rattle.tcl_eval.specs.declared.meter.Meter.{Meter}
-use Rattle.tcl_eval.specs.Evaluated.{Evaluated, with_operand}
+use Rattle.tcl_eval.specs.Evaluated.{with_operand}
+use Rattle.tcl_eval.specs.Worth.{worth}
 use Rattle.tcl_eval.specs.Steps.{left_of}
 use Rattle.tcl_host.specs.Calls.{Call, Begin as BeginCall, AfterWords as WordsCall, AfterBody as AfterCall, Knows, Resume, known_of}
 use Rattle.tcl_eval.specs.Tree.{State, Tree, Over, Ask}
-use Rattle.tcl_eval.specs.Meaning.{Next, noting, on_ok, on_said, tested, turn_end, stepped, fill_word, fill_parts, fill_words, spread, value_from, tree_of, arms, decided, advanced, turned, turns, loop, each, caught, scope_end, defined, after_script_by, next_body, after_body, worded_by, host_words, begun_by, invoke, sequence, eval}
+use Rattle.tcl_eval.specs.Meaning.{Next, noting, on_ok, on_said, tested, turn_end, stepped, fill_word, fill_words, spread, tree_of, arms, decided, advanced, turned, turns, loop, each, caught, scope_end, defined, after_script_by, next_body, after_body, worded_by, host_words, begun_by, invoke, sequence, eval}
 
 -- what follows the words
 abbrev pub then_rest : ℕ → Then → Next → List (List ℕ) → State → Tree
@@ -36,35 +36,28 @@ then_rest depth (HostList fault) k words st = host_words (eval depth) fault k wo
 abbrev pub turns_left : ℕ → Turning → Next → Bool → State → Tree
 turns_left depth t k b st = decided b k (turned (eval depth) t.test t.body t.next k t.bound) st
 
--- what follows the value of an expression
-abbrev pub goal_rest : ℕ → Goal → Next → List ℕ → State → Tree
-goal_rest depth ResultGoal k v st = k Ok v st
-goal_rest depth (TurnGoal t) k v st = tested v k (turns_left depth t k) st
-goal_rest depth (Arm body arms') k v st =
-    tested v k (λ b st. if b then eval depth body k st else arms (eval depth) arms'.0 arms'.1 k st) st
-
--- an expression that was evaluated so far
-abbrev pub evaluated : ℕ → Evaluated → Goal → Next → State → Tree
-evaluated depth e goal k st = value_from (fill_parts (eval depth)) e.tree e.given k (λ v vs st. goal_rest depth goal k v st) st
+-- an `if` whose condition is known
+abbrev pub arm_rest : ℕ → List ℕ → Arms → Next → Bool → State → Tree
+arm_rest depth body left k b st = if b then eval depth body k st else arms (eval depth) left.0 left.1 k st
 
 -- a loop: its condition, and then its turns
 abbrev pub looped : ℕ → Turning → Next → State → Tree
 looped depth t k st = turns (eval depth) t.test t.body t.next k t.bound st
 
 -- what goes on behind `Ok`
-abbrev pub onward_rest : Onward → Next → List ℕ → State → Tree
-onward_rest (Fill words next expand filler done to depth) k v st =
-    fill_word (eval depth) (rest (given v filler) st.vars) k
-    (λ v st. on_said (spread expand v done) k (λ done st. fill_words (eval depth) (drop next words) done k (then_rest depth to k) st) st) st
-onward_rest (Operand evaluation filler goal depth) k v st =
-    fill_word (eval depth) (rest (given v filler) st.vars) k (λ v st. evaluated depth (with_operand v evaluation) goal k st) st
-onward_rest (Arms arms' depth) k v st = arms (eval depth) arms'.0 arms'.1 k st
+unfoldable pub onward_rest : Onward → Next → List ℕ → State → Tree
+onward_rest (Word filler depth) k v st = fill_word (eval depth) (rest (given v filler) st.vars) k (λ v st. k Ok v st) st
+onward_rest (Fill words next expand done to depth) k v st =
+    on_said (spread expand v done) k (λ done st. fill_words (eval depth) (drop next words) done k (then_rest depth to k) st) st
+onward_rest (Operand evaluation depth) k v st = worth (eval depth) (with_operand v evaluation) k (λ v st. k Ok v st) st
+onward_rest (Test t depth) k v st = tested v k (turns_left depth t k) st
+onward_rest (Arm body left depth) k v st = tested v k (arm_rest depth body left k) st
 onward_rest (NextTurn t depth) k v st = looped depth t k st
 onward_rest (Start test next body depth) k v st =
     on_said (tree_of test) k (λ t st. loop (eval depth) t body (Some next) k st) st
 
 -- what a frame does with the code and the value that it is handed
-abbrev pub frame_rest : Frame → Next → Next
+unfoldable pub frame_rest : Frame → Next → Next
 frame_rest (Sequence script at next depth) k =
     on_ok (λ v st. sequence (eval depth) script (drop next (commands script)) k v st) (noting (origin.Command script at) k)
 frame_rest (OnwardFrame o) k = on_ok (onward_rest o k) k

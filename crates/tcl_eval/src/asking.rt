@@ -11,6 +11,7 @@ ghost use Rattle.tcl_eval.specs.Potential.{potential, bodies, credit, again};
 use crate::engine::Engine;
 use crate::frame::{Asked, Mode};
 use crate::meter::Meter;
+use crate::out::came;
 use crate::replies::on;
 use std::alloc::AllocError;
 use tcl_commands::Code;
@@ -27,11 +28,11 @@ impl Engine {
     {
         match mode {
             Mode::Give(code, value) => {
-                let mode = self.hand(meter, code, value)?;
+                let mode = self.settle_by(meter, came(code, value))?;
                 Ok(mode)
             }
             Mode::Run { script, depth } => {
-                let out = self.script(meter, &script, depth)?;
+                let out = self.script(meter, &script, depth);
                 let mode = self.settle_by(meter, out)?;
                 Ok(mode)
             }

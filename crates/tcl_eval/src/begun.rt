@@ -74,17 +74,13 @@ fn part_script(part: &Part) -> Option<&Text>
 
 /// What fills a word that is one script alone, where it waits for the value of that.
 #[cold]
-pub(crate) fn waiting(
-    alloc: Global,
-    alone: &Script,
-    vars: &mut Vars,
-) -> Result<Box<Filler>, AllocError>
-    ensures waits { IfOk result (λ f. WaitsAlone f.value) }
+pub(crate) fn waiting(alloc: Global, alone: &Script, vars: &mut Vars) -> Result<Filler, AllocError>
+    ensures waits { IfOk result (λ f. WaitsAlone f) }
     ensures same { vars.new ≡ vars.old }
 {
     let mut filler = alone_filler(alloc, alone)?;
     match advanced(alloc, &mut filler, vars)? {
-        FillStep::NeedScript(_) => Ok(Box::new(alloc, filler)?),
+        FillStep::NeedScript(_) => Ok(filler),
         FillStep::Value(_) => Err(AllocError),
         FillStep::Fault(_) => Err(AllocError),
     }

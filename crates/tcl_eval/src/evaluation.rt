@@ -12,16 +12,14 @@ ghost use Rattle.tcl_expr.specs.Value.{outcome, faulty};
 ghost use Rattle.tcl_subst.specs.Filling.{fill};
 ghost use Rattle.tcl_eval.specs.Advanced.{IsTold, begun_fill};
 ghost use Rattle.tcl_eval.specs.Evaluated.{fresh, with_operand};
-ghost use Rattle.tcl_eval.specs.Halted.{HaltsAt, Alike, HasGrown};
 
 use crate::advance::Advance;
 use crate::begun::{Begun, begin_operand};
-use crate::halt::Halt;
 use crate::read_texts::ReadTexts;
 use std::alloc::{AllocError, Global};
 use std::marker::Model;
 use std::rc::Rc;
-use tcl_expr::{Expr, ExprFault, Operands, Readings, Step, operands_are_bounded, parse};
+use tcl_expr::{Expr, ExprFault, Operands, Readings, Step, parse};
 use tcl_subst::Vars;
 use tcl_values::Value;
 
@@ -128,35 +126,8 @@ impl Evaluation {
         self.log.give(value)
     }
 
-    /// Goes on until the value is known, a fault is met, or an operand needs a script or can't be filled.
-    pub(crate) fn advance(
-        &mut self,
-        alloc: Global,
-        read: &mut ReadTexts,
-        vars: &mut Vars,
-    ) -> Result<Halt, AllocError>
-        ensures halts { IfOk result (λ h. HaltsAt vars.old h self.new) }
-        ensures alike { OnOk result (Alike vars.old self.old self.new) }
-        ensures grown { OnOk result (HasGrown self.old self.new) }
-        ensures same { vars.new ≡ vars.old }
-    {
-        operands_are_bounded();
-        'operands: loop {
-            match self.step(alloc, read, vars)? {
-                Advance::Value(value) => return Ok(Halt::Value(value)),
-                Advance::Fault(fault) => return Ok(Halt::Fault(fault)),
-                Advance::Operand(begun) => match begun {
-                    Begun::Full(value) => self.give(value)?,
-                    Begun::Alone(script) => return Ok(Halt::Alone(script)),
-                    Begun::Script(filler, number) => return Ok(Halt::Script(filler, number)),
-                    Begun::Failed(filler, fault) => return Ok(Halt::Failed(filler, fault)),
-                },
-            }
-        }
-    }
-
     /// Goes on until the value is known, a fault is met or an operand is needed, and begins to fill that.
-    fn step(
+    pub(crate) fn step(
         &mut self,
         alloc: Global,
         read: &mut ReadTexts,

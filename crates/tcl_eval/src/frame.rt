@@ -73,39 +73,36 @@ fn shared_next(next: &Option<Script>) -> Result<Option<Script>, AllocError>
     }
 }
 
-/// What is done with the value of an expression.
-#[derive(Drop)]
-pub enum Goal {
-    /// It is the result.
-    Result,
-    /// It decides on a turn of a loop.
-    Turn(Turning),
-    /// It decides between a body and what stands behind it in an `if`.
-    Arm { body: Value, arms: Arms },
-}
-
 /// What is still to be done behind the code `Ok`.
 #[derive(Drop)]
 pub enum Onward {
-    /// Words to be filled: the words and the place behind the current one, the current one, and the values that are done.
+    /// The rest of a word, of which this was a script.
+    Word {
+        filler: Filler,
+        depth: u32,
+    },
+    /// The words behind one that is filled: the words and the place behind it, whether it stands behind `{*}`, and the values that are done.
     Fill {
         words: Words,
         next: usize,
         expand: bool,
-        filler: Filler,
         done: Values,
         then: Then,
         depth: u32,
     },
-    /// An operand of an expression to be filled.
+    /// The rest of an expression, of which this was an operand.
     Operand {
         evaluation: Evaluation,
-        filler: Filler,
-        goal: Goal,
         depth: u32,
     },
-    /// The conditions of an `if` that are left.
-    Arms {
+    /// The turns of a loop, of which this was the condition.
+    Test {
+        turning: Turning,
+        depth: u32,
+    },
+    /// A body whose condition this was, and what stands behind it in an `if`.
+    Arm {
+        body: Value,
         arms: Arms,
         depth: u32,
     },

@@ -14,7 +14,6 @@ mod engine;
 mod evaluation;
 mod exprs;
 mod frame;
-mod halt;
 mod laws;
 mod loops;
 mod machine;

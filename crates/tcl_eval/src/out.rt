@@ -1,13 +1,16 @@
 //! What came of a function that evaluates.
 
-ghost use Rattle.std.specs.Prelude.{◌≡◌};
+ghost use Rattle.std.specs.Prelude.{◌≡◌, ◌≤◌, ℕ, List};
+ghost use Rattle.tcl_eval.specs.Meaning.{Next, on_ok};
+ghost use Rattle.tcl_eval.specs.Native.{Known, code_of, ended, flow, owed};
+ghost use Rattle.tcl_eval.specs.Potential.{again};
 ghost use Rattle.tcl_eval.specs.Standings.{mode_of};
+ghost use Rattle.tcl_eval.specs.Tree.{State, Tree};
 
-use crate::evaluation::Evaluation;
 use crate::frame::{End, Frame, Mode};
+use std::alloc::{AllocError, AllocFailed};
 use tcl_commands::Code;
 use tcl_host::{Pile, Values};
-use tcl_subst::Filler;
 use tcl_values::Value;
 
 /// Where a run can stand still.
@@ -90,99 +93,81 @@ pub struct Stop {
     pub laid: Pile<Frame>,
 }
 
-/// What came of a script or a command.
+/// A code other than `Ok` (Tcl(n) calls it exceptional).
+#[derive(Clone, Copy)]
+pub enum Exception {
+    Error,
+    Return,
+    Break,
+    Continue,
+    Again,
+    AgainLater,
+}
+
+impl Exception {
+    /// Its code.
+    pub(crate) fn code(self) -> Code
+        ensures { result ≡ code_of self }
+    {
+        match self {
+            Exception::Error => Code::Error,
+            Exception::Return => Code::Return,
+            Exception::Break => Code::Break,
+            Exception::Continue => Code::Continue,
+            Exception::Again => Code::Again,
+            Exception::AgainLater => Code::AgainLater,
+        }
+    }
+}
+
+/// Why a function that evaluates has no value.
 #[derive(Drop)]
-pub enum Out {
-    /// A code and a value.
-    Came(Code, Value),
+pub enum Leave {
+    /// A code other than `Ok` and its value, which are the whole command's.
+    Gone(Exception, Value),
     /// It stands still.
     Stopped(Box<Stop>),
+    /// No memory was left.
+    Memory,
 }
 
-/// What came of a word, or of an expression.
-#[derive(Drop)]
-pub enum Word {
-    /// Its value.
-    Full(Value),
-    /// A code and a value that are the whole command's.
-    Gone(Code, Value),
-    /// One of its scripts stands still, and this fills the rest of the word.
-    Stopped(Box<Stop>, Box<Filler>),
+impl From<AllocError> for Leave {
+    ghost use Rattle.std.specs.Prelude.{◌≡◌};
+    ghost use Rattle.tcl_eval.specs.declared.out.Leave.TheVariants.{Memory};
+
+    ghost from_gives = { λ _ l. l ≡ Memory };
+
+    fn from(_e: AllocError) -> Leave {
+        Leave::Memory
+    }
 }
 
-/// What came of a word, up to one of its scripts.
-#[derive(Drop)]
-pub enum Part {
-    /// The word's value.
-    Full(Value),
-    /// The value of a script is needed: of the step of that number.
-    Script(usize),
-    /// A code and a value that are the whole command's.
-    Gone(Code, Value),
-    /// The script stands still.
-    Stopped(Box<Stop>),
+impl<T: Drop> From<AllocFailed<T>> for Leave {
+    ghost use Rattle.std.specs.Prelude.{◌≡◌};
+    ghost use Rattle.tcl_eval.specs.declared.out.Leave.TheVariants.{Memory};
+
+    ghost from_gives = { λ _ l. l ≡ Memory };
+
+    fn from(_e: AllocFailed<T>) -> Leave {
+        Leave::Memory
+    }
 }
 
-/// What came of the words of a command.
-#[derive(Drop)]
-pub enum Filled {
-    /// Each has its value.
-    Full,
-    /// A code and a value that are the whole command's.
-    Gone(Code, Value),
-    /// A script in them stands still.
-    Stopped(Box<Stop>),
-}
-
-/// What came of an expression, up to one of its operands.
-#[derive(Drop)]
-pub enum Worked {
-    /// The operand has its value.
-    More,
-    /// The expression's value.
-    Full(Value),
-    /// A code and a value that are the whole command's.
-    Gone(Code, Value),
-    /// A script in the operand stands still, and this fills the rest of the operand.
-    Stopped(Box<Stop>, Box<Filler>),
-}
-
-/// An expression with an operand that is being filled.
-#[derive(Drop)]
-pub struct Held {
-    pub evaluation: Evaluation,
-    pub filler: Box<Filler>,
-}
-
-/// What came of a condition.
-#[derive(Drop)]
-pub enum Truth {
-    /// Whether it holds.
-    Holds(bool),
-    /// A code and a value that are the whole command's.
-    Gone(Code, Value),
-    /// A script in an operand stands still.
-    Stopped(Box<Stop>, Box<Held>),
-}
-
-/// What came of a turn of a loop.
-#[derive(Drop)]
-pub enum Turned {
-    /// The next one follows.
-    More,
-    /// A code and a value that are the whole loop's.
-    Gone(Code, Value),
-    /// It stands still.
-    Stopped(Box<Stop>),
-}
-
-/// What came of a command of a script.
-#[derive(Drop)]
-pub enum Stepped {
-    /// A value, behind which the next one follows.
-    Next(Value),
-    /// A code and a value that are the whole script's.
-    Gone(Code, Value),
-    /// It stands still.
-    Stopped(Box<Stop>),
+/// What a code and a value come to.
+pub(crate) fn came(code: Code, value: Value) -> Result<Value, Leave>
+    ensures known { Known result }
+    ensures rest { (k : Next) (st : State) → ended result st k ≡ k code value st }
+    ensures within { (k : Next) (go : List ℕ → State → Tree) (st : State) → flow result st k go ≡ on_ok go k code value st }
+    ensures weight { owed 0 result ≤ again code }
+{
+    let exception = match code {
+        Code::Ok => return Ok(value),
+        Code::Error => Exception::Error,
+        Code::Return => Exception::Return,
+        Code::Break => Exception::Break,
+        Code::Continue => Exception::Continue,
+        Code::Again => Exception::Again,
+        Code::AgainLater => Exception::AgainLater,
+    };
+    Err(Leave::Gone(exception, value))
 }

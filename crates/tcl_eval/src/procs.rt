@@ -3,14 +3,15 @@
 ghost use Rattle.std.specs.Prelude.{◌≡◌, ◌+◌, ◌≤◌, [], drop, IfOk, ◌≢◌, ℕ};
 ghost use Rattle.tcl_commands.specs.Texts.{quoted, not_set};
 ghost use Rattle.tcl_eval.specs.Meaning.{eval, caught, digit, Next, no_command, passed, scope_end, outside_loop, reserved, defined};
-ghost use Rattle.tcl_eval.specs.Rest.{AnyRestIs, state_of};
-ghost use Rattle.tcl_eval.specs.Native.{entry_rest, other_command, out_weight, AnyCameIs};
+ghost use Rattle.tcl_eval.specs.Rest.{AnyRestIs, frame_rest, state_of};
+ghost use Rattle.tcl_eval.specs.Native.{ended, entry_rest, other_command, owed, AnyCameIs, Known};
 ghost use Rattle.tcl_eval.specs.Potential.{bodies, credit, again};
 
 use crate::engine::Engine;
-use crate::frame::Mode;
-use crate::out::Out;
+use crate::frame::{Frame, Mode};
+use crate::out::{Exception, Leave, came};
 use crate::procedure::Procedure;
+use crate::stops::below;
 use crate::task::Entry;
 use crate::trail::Origin;
 use std::alloc::{AllocError, Global};
@@ -54,44 +55,74 @@ fn named(alloc: Global, front: &[u8], name: &[u8]) -> Result<Value, AllocError>
 
 impl Engine {
     /// What follows the script of a `catch` that came to this.
+    #[tactic(auto, unfolding(crate::specs::Rest::frame_rest))]
     pub(crate) fn caught_as(
         &mut self,
         name: Option<Value>,
-        code: Code,
-        value: Value,
-    ) -> Result<Out, AllocError>
+        out: Result<Value, Leave>,
+    ) -> Result<Value, Leave>
+        ensures kept { self.new.stack ≡ self.old.stack }
+        ensures known { Known result → Known out }
+        ensures rest { AnyCameIs self.old result self.new (λ k st. ended out st (frame_rest (Frame.Catch name) k)) }
+        ensures weight { owed 0 result ≤ owed 0 out }
+    {
+        match out {
+            Ok(value) => self.caught_by(name, Code::Ok, value),
+            Err(Leave::Gone(exception, value)) => self.caught_by(name, exception.code(), value),
+            Err(Leave::Stopped(stop)) => Err(below(stop, Frame::Catch { name })),
+            Err(Leave::Memory) => Err(Leave::Memory),
+        }
+    }
+
+    /// What follows the script of a `catch`, by its code.
+    fn caught_by(&mut self, name: Option<Value>, code: Code, value: Value) -> Result<Value, Leave>
         ensures kept { self.new.stack ≡ self.old.stack }
         ensures rest { AnyCameIs self.old result self.new (λ k st. caught name k code value st) }
-        ensures weight { IfOk result (λ out. out_weight out ≡ 0) }
+        ensures weight { owed 0 result ≡ 0 }
     {
         self.trail.clear();
         let Some(name) = name else {
-            return Ok(Out::Came(Code::Ok, self.value(digit(code))?));
+            return Ok(self.value(digit(code))?);
         };
         match self.vars.set(name.as_slice(), value) {
-            Ok(()) => Ok(Out::Came(Code::Ok, self.value(digit(code))?)),
+            Ok(()) => Ok(self.value(digit(code))?),
             Err(fault) => {
                 let text = not_set_text(self.alloc, name.as_slice(), fault)?;
-                Ok(Out::Came(Code::Error, text))
+                Err(Leave::Gone(Exception::Error, text))
             }
         }
     }
 
     /// Goes on behind the body of a procedure that these words called.
+    #[tactic(auto, unfolding(crate::specs::Rest::frame_rest))]
     pub(crate) fn leave_scope(
         &mut self,
         words: Values,
-        code: Code,
-        value: Value,
-    ) -> Result<Out, AllocError>
+        out: Result<Value, Leave>,
+    ) -> Result<Value, Leave>
+        ensures kept { self.new.stack ≡ self.old.stack }
+        ensures known { Known result → Known out }
+        ensures rest { AnyCameIs self.old result self.new (λ k st. ended out st (frame_rest (Frame.Scope words) k)) }
+        ensures weight { owed 0 result ≤ owed 0 out }
+    {
+        match out {
+            Ok(value) => self.leave_by(words, Code::Ok, value),
+            Err(Leave::Gone(exception, value)) => self.leave_by(words, exception.code(), value),
+            Err(Leave::Stopped(stop)) => Err(below(stop, Frame::Scope { words })),
+            Err(Leave::Memory) => Err(Leave::Memory),
+        }
+    }
+
+    /// Leaves the scope of a procedure that these words called, by the code of its body.
+    fn leave_by(&mut self, words: Values, code: Code, value: Value) -> Result<Value, Leave>
         ensures kept { self.new.stack ≡ self.old.stack }
         ensures rest { AnyCameIs self.old result self.new (λ k st. scope_end words k code value st) }
-        ensures weight { IfOk result (λ out. out_weight out ≤ again code) }
+        ensures weight { owed 0 result ≤ again code }
     {
         self.leave();
         match code {
             Code::Error => self.error_out(words, value),
-            Code::Return => Ok(Out::Came(Code::Ok, value)),
+            Code::Return => Ok(value),
             Code::Break => {
                 let text = outside_loop(self.alloc, b"break")?;
                 self.error_out(words, text)
@@ -100,18 +131,18 @@ impl Engine {
                 let text = outside_loop(self.alloc, b"continue")?;
                 self.error_out(words, text)
             }
-            _ => Ok(Out::Came(code, value)),
+            _ => came(code, value),
         }
     }
 
     /// An error leaves a procedure that these words called.
-    fn error_out(&mut self, words: Values, text: Value) -> Result<Out, AllocError>
+    fn error_out(&mut self, words: Values, text: Value) -> Result<Value, Leave>
         ensures kept { self.new.stack ≡ self.old.stack }
         ensures rest { AnyCameIs self.old result self.new (λ k st. k Code.Error text (passed (Origin.Procedure words) st)) }
-        ensures weight { IfOk result (λ out. out_weight out ≡ 0) }
+        ensures weight { owed 0 result ≡ 0 }
     {
         self.trail.push(Origin::Procedure { words })?;
-        Ok(Out::Came(Code::Error, text))
+        Err(Leave::Gone(Exception::Error, text))
     }
 
     /// Ends the current scope, where it isn't the outermost one.

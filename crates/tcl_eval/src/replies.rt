@@ -30,6 +30,7 @@ pub(crate) fn on(mode: Mode) -> Asked
 
 impl Engine {
     /// Begins a script that the host asked for, with at most so many more.
+    #[tactic(auto, unfolding(crate::specs::Rest::frame_rest))]
     fn host_body(&mut self, text: Value, bound: u64, depth: u32) -> Result<Mode, AllocError>
         ensures rest { AnyRestIs self.old result self.new (λ k st. eval depth text (after_body (eval depth) k bound) st) }
         ensures potential { IfOk result (λ mode. bodies self.new.stack + credit mode ≤ bodies self.old.stack + 4) }
@@ -47,10 +48,8 @@ impl Engine {
     {
         let script = self.read.script_of(self.alloc, &text)?;
         let (words, fault) = script.all_words(self.alloc)?;
-        let mut done = Values::new(self.alloc);
-        let then = Then::List(fault);
-        let filled = self.words(meter, &words, 0, &mut done, then, depth)?;
-        let out = self.worded(meter, filled, done, then, depth)?;
+        let done = Values::new(self.alloc);
+        let out = self.words_from(meter, &words, 0, done, Then::List(fault), depth);
         let mode = self.settle_by(meter, out)?;
         Ok(mode)
     }

@@ -1,95 +1,68 @@
-//! A code and a value handed to a frame, which goes on by calls of functions.
+//! What came of a script or a command, handed to a frame, which goes on by calls of functions.
 
-ghost use Rattle.std.specs.Prelude.{◌≡◌, ℕ, ◌+◌, ◌≤◌, ◌*◌, List, drop, IfOk};
-ghost use Rattle.tcl_subst.specs.Recipes.{given};
-ghost use Rattle.tcl_subst.specs.Rests.{rest};
+ghost use Rattle.std.specs.Prelude.{◌≡◌, ◌+◌, ◌≤◌, ◌*◌, [], drop, IfOk};
 ghost use Rattle.tcl_eval.specs.Asked.{IsSettled};
-ghost use Rattle.tcl_eval.specs.Evaluated.{with_operand};
-ghost use Rattle.tcl_eval.specs.Halted.{worth};
 ghost use Rattle.tcl_eval.specs.Steps.{left_of};
-ghost use Rattle.tcl_eval.specs.Tree.{State, Tree};
-ghost use Rattle.tcl_eval.specs.Meaning.{Next, eval, fill_word, fill_words, on_said, spread};
-ghost use Rattle.tcl_eval.specs.Native.{out_rest, word_rest, words_rest, worth_rest, worked_rest, turn_rest, each_rest, word_weight, words_weight, worked_weight, turn_weight, out_weight, CameIs, WordIs};
-ghost use Rattle.tcl_eval.specs.Rest.{frame_rest, goal_rest, onward_rest, then_rest, state_of, RestIs};
-ghost use Rattle.tcl_eval.specs.Potential.{again, bodies, frame_weight, onward_weight, potential, then_weight};
+ghost use Rattle.tcl_eval.specs.Meaning.{Next, eval, fill_words};
+ghost use Rattle.tcl_eval.specs.Native.{ended, left, leave_weight, owed, CameIs, Known, Knows, Spent};
+ghost use Rattle.tcl_eval.specs.Rest.{engine_rest, frame_rest, frames_rest, onward_rest, then_rest, state_of};
+ghost use Rattle.tcl_eval.specs.Potential.{bodies, frame_weight, onward_weight, potential, then_weight};
+ghost use Rattle.tcl_eval.specs.Tree.{State};
 
 use crate::engine::Engine;
 use crate::evaluation::Evaluation;
-use crate::exprs::{decided, operand_done, resulted};
-use crate::frame::{End, Frame, Goal, Mode, Onward, Then, Turning};
-use crate::loops::each_below;
+use crate::exprs::truth_of;
+use crate::frame::{End, Frame, Mode, Onward, Then, Turning};
+use crate::loops::each_end;
 use crate::meter::Meter;
-use crate::out::{Filled, Out, Standing, Stepped, Turned, Word, Worked};
-use crate::stops::stopped;
+use crate::out::{Exception, Leave, Standing, came};
+use crate::stops::{below, onward_below, stopped};
 use crate::values::Handed;
-use crate::words::{behind, part_of, resumed};
-use std::alloc::AllocError;
-use tcl_commands::{Code, Groups, word_fault};
+use crate::words::{resumed, spread_onto};
+use std::alloc::{AllocError, Global};
+use tcl_commands::{Code, word_fault};
 use tcl_host::Values;
-use tcl_scripts::{Script, Words};
+use tcl_scripts::Words;
 use tcl_subst::Filler;
 use tcl_values::Value;
 
 impl Engine {
-    /// Goes on with what came of a script or a command, until the run stands still.
-    pub(crate) fn settle_by(&mut self, meter: &mut Meter, out: Out) -> Result<Mode, AllocError>
-        ensures rest { RestIs self.old meter.old result self.new meter.new (λ k st. out_rest out k st) }
-        ensures potential { IfOk result (λ mode. potential self.new (left_of meter.new) mode ≤ 8 * left_of meter.old + bodies self.old.stack + out_weight out) }
-        ensures settled { IfOk result IsSettled }
-        ensures bound { meter.new.bound ≡ meter.old.bound }
-    {
-        match out {
-            Out::Came(code, value) => {
-                let mode = self.hand(meter, code, value)?;
-                Ok(mode)
-            }
-            Out::Stopped(stop) => self.lay(stop),
-        }
-    }
-
-    /// Hands a code and a value to the frames, until the run stands still.
-    pub(crate) fn hand(
+    /// Hands what came of a script or a command to the frames, until the run stands still.
+    pub(crate) fn settle_by(
         &mut self,
         meter: &mut Meter,
-        code: Code,
-        value: Value,
+        out: Result<Value, Leave>,
     ) -> Result<Mode, AllocError>
-        ensures rest { RestIs self.old meter.old result self.new meter.new (λ k st. k code value st) }
-        ensures potential { IfOk result (λ mode. potential self.new (left_of meter.new) mode ≤ 8 * left_of meter.old + bodies self.old.stack + again code) }
+        ensures rest { IfOk result (λ mode. Known out × (engine_rest self.new (left_of meter.new) mode ≡ ended out (state_of self.old (left_of meter.old)) (frames_rest self.old.stack))) }
+        ensures potential { IfOk result (λ mode. potential self.new (left_of meter.new) mode ≤ 8 * left_of meter.old + bodies self.old.stack + owed 0 out) }
         ensures settled { IfOk result IsSettled }
         ensures bound { meter.new.bound ≡ meter.old.bound }
     {
-        let mut now = code;
-        let mut given = value;
+        let mut now = out;
         'frames: loop {
-            let Some(frame) = self.stack.pop() else {
-                return Ok(Mode::Ended(End::Finished(now, given)));
+            let (code, value) = match now {
+                Ok(value) => (Code::Ok, value),
+                Err(Leave::Gone(exception, value)) => (exception.code(), value),
+                Err(Leave::Stopped(stop)) => return self.lay(stop),
+                Err(Leave::Memory) => return Err(AllocError),
             };
-            match self.resume(meter, frame, now, given)? {
-                Out::Came(code, value) => {
-                    now = code;
-                    given = value;
-                }
-                Out::Stopped(stop) => {
-                    let mode = self.lay(stop)?;
-                    return Ok(mode);
-                }
-            }
+            let Some(frame) = self.stack.pop() else {
+                return Ok(Mode::Ended(End::Finished(code, value)));
+            };
+            now = self.resume(meter, frame, came(code, value));
         }
     }
 
-    /// Hands a code and a value to a frame.
+    /// Hands what came of a script or a command to a frame.
     pub(crate) fn resume(
         &mut self,
         meter: &mut Meter,
         frame: Frame,
-        code: Code,
-        value: Value,
-    ) -> Result<Out, AllocError>
-        ensures kept { self.new.stack ≡ self.old.stack }
-        ensures rest { CameIs self.old meter.old result self.new meter.new (λ k st. frame_rest frame k code value st) }
-        ensures potential { IfOk result (λ out. 8 * left_of meter.new + out_weight out ≤ 8 * left_of meter.old + frame_weight frame + again code) }
-        ensures bound { meter.new.bound ≡ meter.old.bound }
+        out: Result<Value, Leave>,
+    ) -> Result<Value, Leave>
+        ensures measures { Spent self.old self.new meter.old meter.new (frame_weight frame + owed 0 out) (owed 0 result) }
+        ensures known { Known result → Known out }
+        ensures rest { CameIs self.old meter.old result self.new meter.new (λ k st. ended out st (frame_rest frame k)) }
     {
         match frame {
             Frame::Sequence {
@@ -98,247 +71,140 @@ impl Engine {
                 next,
                 depth,
             } => {
-                let out = self.resume_sequence(meter, &script, at, next, depth, code, value)?;
-                Ok(out)
+                let value = self.behind_command(out, &script, at, next, depth)?;
+                self.sequence(meter, &script, next, depth, value)
             }
-            Frame::Onward(onward) => {
-                let out = self.resume_onward(meter, onward, code, value)?;
-                Ok(out)
-            }
-            Frame::Catch { name } => {
-                let out = self.caught_as(name, code, value)?;
-                Ok(out)
-            }
+            Frame::Onward(onward) => self.resume_onward(meter, onward, out),
+            Frame::Catch { name } => self.caught_as(name, out),
             Frame::Turn { turning, depth } => {
-                let turned = self.turn_end_by(meter, &turning, code, value, depth)?;
-                let out = self.turns_on(meter, turned, turning, depth)?;
-                Ok(out)
+                if self.turn_end(meter, out, &turning, depth)? {
+                    return self.turns(meter, turning, depth);
+                }
+                Ok(Value::new(self.alloc))
             }
             Frame::Each {
                 groups,
                 body,
                 depth,
-            } => {
-                let turned = self.each_end_by(code, value)?;
-                let out = self.each_on(meter, turned, groups, body, depth)?;
-                Ok(out)
-            }
-            Frame::Scope { words } => {
-                let out = self.leave_scope(words, code, value)?;
-                Ok(out)
-            }
-            Frame::HostBody { bound, depth } => {
-                let at = Standing::AfterBody {
-                    code,
-                    value,
-                    bound,
-                    depth,
-                };
-                let out = stopped(self.alloc, at)?;
-                Ok(out)
-            }
+            } => match each_end(out, groups, &body, depth)? {
+                Some(groups) => self.each_turns(meter, groups, &body, depth),
+                None => Ok(Value::new(self.alloc)),
+            },
+            Frame::Scope { words } => self.leave_scope(words, out),
+            Frame::HostBody { bound, depth } => Err(told_host(self.alloc, out, bound, depth)),
         }
     }
 
-    /// Goes on behind a command that was read from a place of a script on, and notes that it handed on an error.
-    fn resume_sequence(
-        &mut self,
-        meter: &mut Meter,
-        script: &Script,
-        at: usize,
-        next: usize,
-        depth: u32,
-        code: Code,
-        value: Value,
-    ) -> Result<Out, AllocError>
-        ensures kept { self.new.stack ≡ self.old.stack }
-        ensures rest { CameIs self.old meter.old result self.new meter.new (λ k st. frame_rest (Frame.Sequence script.now at next depth) k code value st) }
-        ensures potential { IfOk result (λ out. 8 * left_of meter.new + out_weight out ≤ 8 * left_of meter.old + again code) }
-        ensures bound { meter.new.bound ≡ meter.old.bound }
-    {
-        match self.behind_command(Out::Came(code, value), script, at, next, depth)? {
-            Stepped::Next(value) => {
-                let out = self.sequence(meter, script, next, depth, value)?;
-                Ok(out)
-            }
-            Stepped::Gone(code, value) => Ok(Out::Came(code, value)),
-            Stepped::Stopped(stop) => Ok(Out::Stopped(stop)),
-        }
-    }
-
-    /// Goes on at `Ok`, and hands any other code on.
+    /// Goes on where there is a value.
+    #[tactic(auto, unfolding(crate::specs::Rest::frame_rest))]
     fn resume_onward(
         &mut self,
         meter: &mut Meter,
         onward: Onward,
-        code: Code,
-        value: Value,
-    ) -> Result<Out, AllocError>
-        ensures kept { self.new.stack ≡ self.old.stack }
-        ensures rest { CameIs self.old meter.old result self.new meter.new (λ k st. frame_rest (Frame.Onward onward) k code value st) }
-        ensures potential { IfOk result (λ out. 8 * left_of meter.new + out_weight out ≤ 8 * left_of meter.old + onward_weight onward + again code) }
-        ensures bound { meter.new.bound ≡ meter.old.bound }
+        out: Result<Value, Leave>,
+    ) -> Result<Value, Leave>
+        ensures measures { Spent self.old self.new meter.old meter.new (onward_weight onward + owed 0 out) (owed 0 result) }
+        ensures known { Known result → Known out }
+        ensures rest { CameIs self.old meter.old result self.new meter.new (λ k st. ended out st (frame_rest (Frame.Onward onward) k)) }
     {
-        match code {
-            Code::Ok => {
-                let out = self.onward_with(meter, onward, value)?;
-                Ok(out)
-            }
-            _ => {
-                drop(onward);
-                Ok(Out::Came(code, value))
-            }
+        match out {
+            Ok(value) => self.onward_with(meter, onward, value),
+            Err(leave) => Err(onward_below(leave, onward)),
         }
     }
 
     /// Goes on behind the code `Ok` with a value.
+    #[tactic(auto, unfolding(crate::specs::Rest::onward_rest))]
     fn onward_with(
         &mut self,
         meter: &mut Meter,
         onward: Onward,
         value: Value,
-    ) -> Result<Out, AllocError>
-        ensures kept { self.new.stack ≡ self.old.stack }
+    ) -> Result<Value, Leave>
+        ensures measures { Spent self.old self.new meter.old meter.new (onward_weight onward) (owed 0 result) }
         ensures rest { CameIs self.old meter.old result self.new meter.new (λ k st. onward_rest onward k value st) }
-        ensures potential { IfOk result (λ out. 8 * left_of meter.new + out_weight out ≤ 8 * left_of meter.old + onward_weight onward) }
-        ensures bound { meter.new.bound ≡ meter.old.bound }
     {
         match onward {
+            Onward::Word { filler, depth } => self.word_with(meter, filler, value, depth),
             Onward::Fill {
                 words,
                 next,
                 expand,
-                filler,
                 done,
-                then,
+                then: to,
                 depth,
-            } => {
-                let word = self.word_on(meter, value, filler, depth)?;
-                let out = self.words_behind(meter, word, &words, next, expand, done, then, depth)?;
-                Ok(out)
+            } => self.words_with(meter, &words, next, expand, value, done, to, depth),
+            Onward::Operand { evaluation, depth } => {
+                self.operand_with(meter, evaluation, value, depth)
             }
-            Onward::Operand {
-                evaluation,
-                filler,
-                goal,
-                depth,
-            } => {
-                let word = self.word_on(meter, value, filler, depth)?;
-                let out = self.worth_behind(meter, word, evaluation, goal, depth)?;
-                Ok(out)
+            Onward::Test { turning, depth } => self.test_with(meter, turning, &value, depth),
+            Onward::Arm { body, arms, depth } => {
+                if truth_of(self.alloc, &value)? {
+                    return self.text(meter, &body, depth);
+                }
+                self.choose(meter, arms, depth)
             }
-            Onward::Arms { arms, depth } => {
-                let out = self.choose(meter, arms, depth)?;
-                Ok(out)
-            }
-            Onward::Next { turning, depth } => {
-                let out = self.turns(meter, turning, depth)?;
-                Ok(out)
-            }
+            Onward::Next { turning, depth } => self.turns(meter, turning, depth),
             Onward::Start {
                 test,
                 next,
                 body,
                 depth,
-            } => {
-                let out = self.started(meter, &test, &next, &body, depth)?;
-                Ok(out)
-            }
+            } => self.started(meter, &test, &next, &body, depth),
         }
     }
 
     /// Fills a word on, with the value of its script.
-    fn word_on(
+    #[tactic(auto, unfolding(crate::specs::Rest::onward_rest))]
+    fn word_with(
         &mut self,
         meter: &mut Meter,
-        value: Value,
         mut filler: Filler,
+        value: Value,
         depth: u32,
-    ) -> Result<Word, AllocError>
-        ensures kept { self.new.stack ≡ self.old.stack }
-        ensures rest { WordIs (eval depth) self.old meter.old result self.new meter.new (λ k go st. fill_word (eval depth) (rest (given value filler) st.vars) k go st) }
-        ensures potential { IfOk result (λ w. 8 * left_of meter.new + word_weight w ≤ 8 * left_of meter.old) }
-        ensures bound { meter.new.bound ≡ meter.old.bound }
+    ) -> Result<Value, Leave>
+        ensures measures { Spent self.old self.new meter.old meter.new 0 (owed 0 result) }
+        ensures rest { CameIs self.old meter.old result self.new meter.new (λ k st. onward_rest (Onward.Word filler depth) k value st) }
     {
         let step = resumed(self.alloc, value, &mut filler, &mut self.vars)?;
-        let part = part_of(self.alloc, step, &filler)?;
-        let word = self.fill_on(meter, filler, part, depth)?;
-        Ok(word)
+        self.fill_on(meter, filler, step, depth)
     }
 
-    /// Goes on behind a word that came to this, with the words behind it.
-    fn words_behind(
+    /// Fills words on behind one with this value, and goes on behind them.
+    #[tactic(auto, unfolding(crate::specs::Rest::onward_rest))]
+    fn words_with(
         &mut self,
         meter: &mut Meter,
-        word: Word,
         words: &Words,
         next: usize,
         expand: bool,
+        value: Value,
         mut done: Values,
-        then: Then,
+        to: Then,
         depth: u32,
-    ) -> Result<Out, AllocError>
-        ensures kept { self.new.stack ≡ self.old.stack }
-        ensures rest { CameIs self.old meter.old result self.new meter.new (λ k st. word_rest (eval depth) word k (λ v st. on_said (spread expand v done) k (λ done st. fill_words (eval depth) (drop next words.now) done k (then_rest depth then k) st) st) st) }
-        ensures potential { IfOk result (λ out. 8 * left_of meter.new + out_weight out ≤ 8 * left_of meter.old + word_weight word + then_weight then) }
-        ensures bound { meter.new.bound ≡ meter.old.bound }
+    ) -> Result<Value, Leave>
+        ensures measures { Spent self.old self.new meter.old meter.new (then_weight to) (owed 0 result) }
+        ensures rest { CameIs self.old meter.old result self.new meter.new (λ k st. onward_rest (Onward.Fill words.now next expand done to depth) k value st) }
     {
-        let filled = behind(
-            self.alloc, word, words, next, expand, &mut done, then, depth,
-        )?;
-        let filled = self.words_on(meter, filled, words, next, &mut done, then, depth)?;
-        let out = self.worded(meter, filled, done, then, depth)?;
-        Ok(out)
+        spread_onto(self.alloc, expand, value, &mut done)?;
+        self.words_from(meter, words, next, done, to, depth)
     }
 
-    /// Fills words from a place on, where the one before it is filled.
-    fn words_on(
+    /// Fills words from a place on, and goes on behind them.
+    pub(crate) fn words_from(
         &mut self,
         meter: &mut Meter,
-        filled: Filled,
         words: &Words,
-        next: usize,
-        done: &mut Values,
-        then: Then,
+        start: usize,
+        mut done: Values,
+        to: Then,
         depth: u32,
-    ) -> Result<Filled, AllocError>
-        ensures kept { self.new.stack ≡ self.old.stack }
-        ensures rest { IfOk result (λ f. (k : Next) → words_rest (then_rest depth then k) f done.new k (state_of self.new (left_of meter.new)) ≡ words_rest (λ done st. fill_words (eval depth) (drop next words.now) done k (then_rest depth then k) st) filled done.old k (state_of self.old (left_of meter.old))) }
-        ensures potential { IfOk result (λ f. 8 * left_of meter.new + words_weight then f ≤ 8 * left_of meter.old + words_weight then filled) }
-        ensures bound { meter.new.bound ≡ meter.old.bound }
+    ) -> Result<Value, Leave>
+        ensures measures { Spent self.old self.new meter.old meter.new (then_weight to) (owed 0 result) }
+        ensures rest { CameIs self.old meter.old result self.new meter.new (λ k st. fill_words (eval depth) (drop start words.now) done k (then_rest depth to k) st) }
     {
-        match filled {
-            Filled::Full => {
-                let filled = self.words(meter, words, next, done, then, depth)?;
-                Ok(filled)
-            }
-            Filled::Gone(code, value) => Ok(Filled::Gone(code, value)),
-            Filled::Stopped(stop) => Ok(Filled::Stopped(stop)),
-        }
-    }
-
-    /// Goes on behind words that came to this.
-    pub(crate) fn worded(
-        &mut self,
-        meter: &mut Meter,
-        filled: Filled,
-        done: Values,
-        then: Then,
-        depth: u32,
-    ) -> Result<Out, AllocError>
-        ensures kept { self.new.stack ≡ self.old.stack }
-        ensures rest { CameIs self.old meter.old result self.new meter.new (λ k st. words_rest (then_rest depth then k) filled done k st) }
-        ensures potential { IfOk result (λ out. 8 * left_of meter.new + out_weight out ≤ 8 * left_of meter.old + words_weight then filled) }
-        ensures bound { meter.new.bound ≡ meter.old.bound }
-    {
-        match filled {
-            Filled::Full => {
-                let out = self.words_done(meter, done, then, depth)?;
-                Ok(out)
-            }
-            Filled::Gone(code, value) => Ok(Out::Came(code, value)),
-            Filled::Stopped(stop) => Ok(Out::Stopped(stop)),
-        }
+        self.words(meter, words, start, &mut done, to, depth)?;
+        self.words_done(meter, done, to, depth)
     }
 
     /// Goes on behind words that are filled.
@@ -346,152 +212,79 @@ impl Engine {
         &mut self,
         meter: &mut Meter,
         done: Values,
-        then: Then,
+        to: Then,
         depth: u32,
-    ) -> Result<Out, AllocError>
-        ensures kept { self.new.stack ≡ self.old.stack }
-        ensures rest { CameIs self.old meter.old result self.new meter.new (λ k st. then_rest depth then k done st) }
-        ensures potential { IfOk result (λ out. 8 * left_of meter.new + out_weight out ≤ 8 * left_of meter.old + then_weight then) }
-        ensures bound { meter.new.bound ≡ meter.old.bound }
+    ) -> Result<Value, Leave>
+        ensures measures { Spent self.old self.new meter.old meter.new (then_weight to) (owed 0 result) }
+        ensures rest { CameIs self.old meter.old result self.new meter.new (λ k st. then_rest depth to k done st) }
     {
-        match then {
-            Then::Command => {
-                let out = self.begun(meter, Handed::Own(done), depth)?;
-                Ok(out)
+        match to {
+            Then::Command => self.begun(meter, Handed::Own(done), depth),
+            Then::List(Some(fault)) => {
+                let text = self.value(word_fault(fault))?;
+                Err(Leave::Gone(Exception::Error, text))
             }
-            Then::List(Some(fault)) => Ok(Out::Came(Code::Error, self.value(word_fault(fault))?)),
             Then::List(None) => {
                 let at = Standing::AfterWords { words: done, depth };
-                let out = stopped(self.alloc, at)?;
-                Ok(out)
+                Err(stopped(self.alloc, at))
             }
         }
     }
 
-    /// Goes on behind an operand that came to this.
-    fn worth_behind(
+    /// Evaluates an expression on, with the value of an operand.
+    #[tactic(auto, unfolding(crate::specs::Rest::onward_rest))]
+    fn operand_with(
         &mut self,
         meter: &mut Meter,
-        word: Word,
         mut evaluation: Evaluation,
-        goal: Goal,
+        value: Value,
         depth: u32,
-    ) -> Result<Out, AllocError>
-        ensures kept { self.new.stack ≡ self.old.stack }
-        ensures rest { CameIs self.old meter.old result self.new meter.new (λ k st. word_rest (eval depth) word k (λ v st. worth (eval depth) (with_operand v evaluation) k (goal_rest depth goal k) st) st) }
-        ensures potential { IfOk result (λ out. 8 * left_of meter.new + out_weight out ≤ 8 * left_of meter.old + word_weight word) }
-        ensures bound { meter.new.bound ≡ meter.old.bound }
+    ) -> Result<Value, Leave>
+        ensures measures { Spent self.old self.new meter.old meter.new 0 (owed 0 result) }
+        ensures rest { CameIs self.old meter.old result self.new meter.new (λ k st. onward_rest (Onward.Operand evaluation depth) k value st) }
     {
-        let worked = operand_done(word, &mut evaluation)?;
-        let word = self.worth_on(meter, worked, &mut evaluation, depth)?;
-        let out = self.reach(meter, word, evaluation, goal, depth)?;
-        Ok(out)
+        evaluation.give(value)?;
+        self.worth(meter, evaluation, depth)
     }
 
-    /// Evaluates an expression on, whose operand came to this.
-    fn worth_on(
+    /// The turns of a loop that are left, behind the value of its condition.
+    #[tactic(auto, unfolding(crate::specs::Rest::onward_rest))]
+    fn test_with(
         &mut self,
         meter: &mut Meter,
-        worked: Worked,
-        evaluation: &mut Evaluation,
+        mut turning: Turning,
+        value: &Value,
         depth: u32,
-    ) -> Result<Word, AllocError>
-        ensures kept { self.new.stack ≡ self.old.stack }
-        ensures rest { IfOk result (λ w. (k : Next) (go : List ℕ → State → Tree) → worth_rest (eval depth) w evaluation.new k go (state_of self.new (left_of meter.new)) ≡ worked_rest (eval depth) worked evaluation.old k go (state_of self.old (left_of meter.old))) }
-        ensures potential { IfOk result (λ w. 8 * left_of meter.new + word_weight w ≤ 8 * left_of meter.old + worked_weight worked) }
-        ensures bound { meter.new.bound ≡ meter.old.bound }
+    ) -> Result<Value, Leave>
+        ensures measures { Spent self.old self.new meter.old meter.new 0 (owed 0 result) }
+        ensures rest { CameIs self.old meter.old result self.new meter.new (λ k st. onward_rest (Onward.Test turning depth) k value.now st) }
     {
-        match worked {
-            Worked::More => {
-                let word = self.worth(meter, evaluation, depth)?;
-                Ok(word)
-            }
-            Worked::Full(value) => Ok(Word::Full(value)),
-            Worked::Gone(code, value) => Ok(Word::Gone(code, value)),
-            Worked::Stopped(stop, filler) => Ok(Word::Stopped(stop, filler)),
+        let holds = truth_of(self.alloc, value)?;
+        if self.turn_if(meter, holds, &mut turning, depth)? {
+            return self.turns(meter, turning, depth);
         }
+        Ok(Value::new(self.alloc))
     }
+}
 
-    /// Goes on behind an expression that came to this.
-    fn reach(
-        &mut self,
-        meter: &mut Meter,
-        word: Word,
-        evaluation: Evaluation,
-        goal: Goal,
-        depth: u32,
-    ) -> Result<Out, AllocError>
-        ensures kept { self.new.stack ≡ self.old.stack }
-        ensures rest { CameIs self.old meter.old result self.new meter.new (λ k st. worth_rest (eval depth) word evaluation k (goal_rest depth goal k) st) }
-        ensures potential { IfOk result (λ out. 8 * left_of meter.new + out_weight out ≤ 8 * left_of meter.old + word_weight word) }
-        ensures bound { meter.new.bound ≡ meter.old.bound }
-    {
-        match goal {
-            Goal::Result => {
-                let out = resulted(word, evaluation, depth)?;
-                Ok(out)
-            }
-            Goal::Turn(mut turning) => {
-                let truth = decided(self.alloc, word, evaluation)?;
-                let turned = self.turn_by(meter, truth, &mut turning, depth)?;
-                let out = self.turns_on(meter, turned, turning, depth)?;
-                Ok(out)
-            }
-            Goal::Arm { body, arms } => {
-                let truth = decided(self.alloc, word, evaluation)?;
-                let out = self.choose_by(meter, truth, body, arms, depth)?;
-                Ok(out)
-            }
-        }
-    }
-
-    /// Goes on behind a turn of a loop that came to this.
-    fn turns_on(
-        &mut self,
-        meter: &mut Meter,
-        turned: Turned,
-        turning: Turning,
-        depth: u32,
-    ) -> Result<Out, AllocError>
-        ensures kept { self.new.stack ≡ self.old.stack }
-        ensures rest { CameIs self.old meter.old result self.new meter.new (λ k st. turn_rest depth turning turned k st) }
-        ensures potential { IfOk result (λ out. 8 * left_of meter.new + out_weight out ≤ 8 * left_of meter.old + turn_weight turned) }
-        ensures bound { meter.new.bound ≡ meter.old.bound }
-    {
-        match turned {
-            Turned::More => {
-                let out = self.turns(meter, turning, depth)?;
-                Ok(out)
-            }
-            Turned::Gone(code, value) => Ok(Out::Came(code, value)),
-            Turned::Stopped(stop) => Ok(Out::Stopped(stop)),
-        }
-    }
-
-    /// Goes on behind a turn of a `foreach` that came to this.
-    fn each_on(
-        &mut self,
-        meter: &mut Meter,
-        turned: Turned,
-        groups: Groups,
-        body: Script,
-        depth: u32,
-    ) -> Result<Out, AllocError>
-        ensures kept { self.new.stack ≡ self.old.stack }
-        ensures rest { CameIs self.old meter.old result self.new meter.new (λ k st. each_rest depth groups body turned k st) }
-        ensures potential { IfOk result (λ out. 8 * left_of meter.new + out_weight out ≤ 8 * left_of meter.old + turn_weight turned) }
-        ensures bound { meter.new.bound ≡ meter.old.bound }
-    {
-        match turned {
-            Turned::More => {
-                let out = self.each_turns(meter, groups, body, depth)?;
-                Ok(out)
-            }
-            Turned::Gone(code, value) => Ok(Out::Came(code, value)),
-            Turned::Stopped(stop) => {
-                let out = each_below(stop, groups, body, depth)?;
-                Ok(out)
-            }
-        }
-    }
+/// The host is told how a script that it asked for ended.
+#[tactic(auto, unfolding(crate::specs::Rest::frame_rest))]
+fn told_host(alloc: Global, out: Result<Value, Leave>, bound: u64, depth: u32) -> Leave
+    ensures known { Knows result → Known out }
+    ensures rest { Knows result → (k : Next) (st : State) → left result st k ≡ ended out st (frame_rest (Frame.HostBody bound depth) k) }
+    ensures weight { leave_weight result ≤ 3 + owed 0 out }
+{
+    let (code, value) = match out {
+        Ok(value) => (Code::Ok, value),
+        Err(Leave::Gone(exception, value)) => (exception.code(), value),
+        Err(Leave::Stopped(stop)) => return below(stop, Frame::HostBody { bound, depth }),
+        Err(Leave::Memory) => return Leave::Memory,
+    };
+    let at = Standing::AfterBody {
+        code,
+        value,
+        bound,
+        depth,
+    };
+    stopped(alloc, at)
 }

@@ -1,24 +1,24 @@
 //! Scripts evaluated by calls of functions: what is still to be done is laid down only where a run stands still.
 
-ghost use Rattle.std.specs.Prelude.{◌≡◌, ℕ, ◌+◌, ◌++◌, ◌≤◌, ◌*◌, ◌∷◌, List, [], drop, take, IfOk, OnOk, if◌then◌else◌};
+ghost use Rattle.std.specs.Prelude.{◌≡◌, ℕ, ◌+◌, ◌++◌, ◌≤◌, ◌∷◌, List, [], drop, take, OnOk};
 ghost use Rattle.tcl_scripts.specs.Commands.{commands};
 ghost use Rattle.tcl_eval.specs.Handed.{handed_words};
 ghost use Rattle.tcl_eval.specs.Steps.{left_of};
-ghost use Rattle.tcl_eval.specs.Meaning.{Next, eval, command, invoke, invoked, noting, on_ok, sequence, caught, scope_end, arms};
-ghost use Rattle.tcl_eval.specs.Native.{other_command, step_rest, task_rest, out_rest, out_weight, step_weight, task_weight, CameIs};
-ghost use Rattle.tcl_eval.specs.Rest.{frame_rest, then_rest, state_of};
+ghost use Rattle.tcl_eval.specs.Meaning.{Next, eval, command, invoke, invoked, on_ok, sequence, caught, scope_end};
+ghost use Rattle.tcl_eval.specs.Native.{other_command, task_rest, task_weight, ended, flow, owed, CameIs, Comes, Known, Spent};
+ghost use Rattle.tcl_eval.specs.Rest.{frame_rest, onward_rest, then_rest, state_of};
 
 use crate::engine::Engine;
 use crate::frame::{End, Frame, Onward, Then};
 use crate::meter::Meter;
-use crate::out::{Filled, Out, Standing, Stepped};
-use crate::stops::{below, laid_on, stopped};
+use crate::out::{Exception, Leave, Standing, came};
+use crate::stops::{below, onward_below, stopped};
 use crate::task::{Entry, Task};
 use crate::trail::Origin;
 use crate::values::Handed;
 use std::alloc::AllocError;
 use std::mem;
-use tcl_commands::{Code, Verb, plain, too_deep, verb_of, word_fault};
+use tcl_commands::{Verb, plain, too_deep, verb_of, word_fault};
 use tcl_host::Values;
 use tcl_scripts::{Reading, Script, Words};
 use tcl_values::Value;
@@ -31,19 +31,16 @@ impl Engine {
         meter: &mut Meter,
         script: &Script,
         depth: u32,
-    ) -> Result<Out, AllocError>
-        ensures kept { self.new.stack ≡ self.old.stack }
+    ) -> Result<Value, Leave>
+        ensures measures { Spent self.old self.new meter.old meter.new 0 (owed 0 result) }
         ensures rest { CameIs self.old meter.old result self.new meter.new (λ k st. eval depth script.now k st) }
-        ensures potential { IfOk result (λ out. 8 * left_of meter.new + out_weight out ≤ 8 * left_of meter.old) }
-        ensures bound { meter.new.bound ≡ meter.old.bound }
     {
         if depth == 0 {
             let text = self.value(too_deep())?;
-            return Ok(Out::Came(Code::Error, text));
+            return Err(Leave::Gone(Exception::Error, text));
         }
         let value = Value::new(self.alloc);
-        let out = self.sequence(meter, script, 0, depth - 1, value)?;
-        Ok(out)
+        self.sequence(meter, script, 0, depth - 1, value)
     }
 
     /// Evaluates the commands of a script from a place on, behind one with this value.
@@ -55,31 +52,25 @@ impl Engine {
         start: usize,
         depth: u32,
         last: Value,
-    ) -> Result<Out, AllocError>
-        ensures kept { self.new.stack ≡ self.old.stack }
+    ) -> Result<Value, Leave>
+        ensures measures { Spent self.old self.new meter.old meter.new 0 (owed 0 result) }
         ensures rest { CameIs self.old meter.old result self.new meter.new (λ k st. sequence (eval depth) script.now (drop start (commands script.now)) k last st) }
-        ensures potential { IfOk result (λ out. 8 * left_of meter.new + out_weight out ≤ 8 * left_of meter.old) }
-        ensures bound { meter.new.bound ≡ meter.old.bound }
     {
         let mut next = start;
         let mut value = last;
         'commands: loop {
             let Some((reading, to)) = script.next(next) else {
-                return Ok(Out::Came(Code::Ok, value));
+                return Ok(value);
             };
-            match self.step(meter, script, reading, to, depth)? {
-                Stepped::Next(given) => {
-                    drop(mem::replace(&mut value, given));
-                    next = to;
-                }
-                Stepped::Gone(code, value) => return Ok(Out::Came(code, value)),
-                Stepped::Stopped(stop) => return Ok(Out::Stopped(stop)),
-            }
+            let given = self.step(meter, script, reading, to, depth)?;
+            drop(mem::replace(&mut value, given));
+            next = to;
         }
     }
 
     /// Evaluates a command of a script, and notes an error that it hands on.
     #[cycle(native)]
+    #[tactic(auto, unfolding(crate::specs::Rest::frame_rest))]
     fn step(
         &mut self,
         meter: &mut Meter,
@@ -87,22 +78,19 @@ impl Engine {
         reading: &Reading,
         to: usize,
         depth: u32,
-    ) -> Result<Stepped, AllocError>
-        ensures kept { self.new.stack ≡ self.old.stack }
-        ensures rest { IfOk result (λ s. (k : Next) (last : List ℕ) → step_rest depth script.now to s k (state_of self.new (left_of meter.new)) ≡ sequence (eval depth) script.now (reading.now ∷ drop to (commands script.now)) k last (state_of self.old (left_of meter.old))) }
-        ensures potential { IfOk result (λ s. 8 * left_of meter.new + step_weight s ≤ 8 * left_of meter.old) }
-        ensures bound { meter.new.bound ≡ meter.old.bound }
+    ) -> Result<Value, Leave>
+        ensures measures { Spent self.old self.new meter.old meter.new 0 (owed 0 result) }
+        ensures rest { (last : List ℕ) → Comes self.old meter.old result self.new meter.new (sequence (eval depth) script.now (drop to (commands script.now))) (λ k st. sequence (eval depth) script.now (reading.now ∷ drop to (commands script.now)) k last st) }
     {
         match reading {
             Reading::Malformed { at, fault } => {
                 let text = self.value(word_fault(*fault))?;
                 self.note(script, *at)?;
-                Ok(Stepped::Gone(Code::Error, text))
+                Err(Leave::Gone(Exception::Error, text))
             }
             Reading::Command { at, words } => {
-                let out = self.command(meter, words, depth)?;
-                let stepped = self.behind_command(out, script, *at, to, depth)?;
-                Ok(stepped)
+                let out = self.command(meter, words, depth);
+                self.behind_command(out, script, *at, to, depth)
             }
         }
     }
@@ -118,65 +106,51 @@ impl Engine {
     }
 
     /// Takes what came of a command of a script, which was read from a place on, and notes an error that it hands on.
-    #[inline(always)]
+    #[tactic(auto, using(crate::proofs::Natives::code_passes), unfolding(crate::specs::Rest::frame_rest))]
     pub(crate) fn behind_command(
         &mut self,
-        out: Out,
+        out: Result<Value, Leave>,
         script: &Script,
         at: usize,
         next: usize,
         depth: u32,
-    ) -> Result<Stepped, AllocError>
+    ) -> Result<Value, Leave>
         ensures kept { self.new.stack ≡ self.old.stack }
-        ensures rest { IfOk result (λ s. (k : Next) (left : ℕ) → step_rest depth script.now next s k (state_of self.new left) ≡ out_rest out (on_ok (λ v st. sequence (eval depth) script.now (drop next (commands script.now)) k v st) (noting (Origin.Command script.now at) k)) (state_of self.old left)) }
-        ensures weight { IfOk result (λ s. step_weight s ≤ out_weight out) }
+        ensures known { Known result → Known out }
+        ensures rest { Known result → (left : ℕ) (k : Next) → flow result (state_of self.new left) k (sequence (eval depth) script.now (drop next (commands script.now)) k) ≡ ended out (state_of self.old left) (frame_rest (Frame.Sequence script.now at next depth) k) }
+        ensures weight { owed 0 result ≤ owed 0 out }
     {
         match out {
-            Out::Stopped(stop) => {
-                let script = script.shared()?;
-                let stop = laid_on(
-                    stop,
-                    Frame::Sequence {
-                        script,
-                        at,
-                        next,
-                        depth,
-                    },
-                )?;
-                Ok(Stepped::Stopped(stop))
+            Err(Leave::Gone(Exception::Error, text)) => {
+                self.note(script, at)?;
+                Err(Leave::Gone(Exception::Error, text))
             }
-            Out::Came(code, value) => match code {
-                Code::Ok => Ok(Stepped::Next(value)),
-                Code::Error => {
-                    self.note(script, at)?;
-                    Ok(Stepped::Gone(Code::Error, value))
-                }
-                _ => Ok(Stepped::Gone(code, value)),
-            },
+            Err(Leave::Stopped(stop)) => {
+                let script = script.shared()?;
+                let frame = Frame::Sequence {
+                    script,
+                    at,
+                    next,
+                    depth,
+                };
+                Err(below(stop, frame))
+            }
+            out => out,
         }
     }
 
     /// Fills the words of a command, and carries it out.
     #[cycle(native)]
-    fn command(&mut self, meter: &mut Meter, words: &Words, depth: u32) -> Result<Out, AllocError>
-        ensures kept { self.new.stack ≡ self.old.stack }
+    fn command(&mut self, meter: &mut Meter, words: &Words, depth: u32) -> Result<Value, Leave>
+        ensures measures { Spent self.old self.new meter.old meter.new 0 (owed 0 result) }
         ensures rest { CameIs self.old meter.old result self.new meter.new (λ k st. command (eval depth) words.now k st) }
-        ensures potential { IfOk result (λ out. 8 * left_of meter.new + out_weight out ≤ 8 * left_of meter.old) }
-        ensures bound { meter.new.bound ≡ meter.old.bound }
     {
         if let Some(values) = words.literals() {
-            let out = self.begun(meter, Handed::Lent(values), depth)?;
-            return Ok(out);
+            return self.begun(meter, Handed::Lent(values), depth);
         }
         let mut done = Values::with_room(self.alloc, words.len())?;
-        match self.words(meter, words, 0, &mut done, Then::Command, depth)? {
-            Filled::Full => {
-                let out = self.begun(meter, Handed::Own(done), depth)?;
-                Ok(out)
-            }
-            Filled::Gone(code, value) => Ok(Out::Came(code, value)),
-            Filled::Stopped(stop) => Ok(Out::Stopped(stop)),
-        }
+        self.words(meter, words, 0, &mut done, Then::Command, depth)?;
+        self.begun(meter, Handed::Own(done), depth)
     }
 
     /// Begins a command whose words are filled, where a step is left, and carries it out.
@@ -186,18 +160,14 @@ impl Engine {
         meter: &mut Meter,
         words: Handed<'_>,
         depth: u32,
-    ) -> Result<Out, AllocError>
-        ensures kept { self.new.stack ≡ self.old.stack }
+    ) -> Result<Value, Leave>
+        ensures measures { Spent self.old self.new meter.old meter.new 0 (owed 0 result) }
         ensures rest { CameIs self.old meter.old result self.new meter.new (λ k st. then_rest depth Then.Command k (handed_words words.entry) st) }
-        ensures potential { IfOk result (λ out. 8 * left_of meter.new + out_weight out ≤ 8 * left_of meter.old) }
-        ensures bound { meter.new.bound ≡ meter.old.bound }
     {
         if !meter.begin() {
-            let out = stopped(self.alloc, Standing::Ended(End::StepLimit))?;
-            return Ok(out);
+            return Err(stopped(self.alloc, Standing::Ended(End::StepLimit)));
         }
-        let out = self.carry_out(meter, words, depth)?;
-        Ok(out)
+        self.carry_out(meter, words, depth)
     }
 
     /// Carries out a command that was begun.
@@ -207,74 +177,51 @@ impl Engine {
         meter: &mut Meter,
         words: Handed<'_>,
         depth: u32,
-    ) -> Result<Out, AllocError>
-        ensures kept { self.new.stack ≡ self.old.stack }
+    ) -> Result<Value, Leave>
+        ensures measures { Spent self.old self.new meter.old meter.new 6 (owed 0 result) }
         ensures rest { CameIs self.old meter.old result self.new meter.new (λ k st. invoke (eval depth) (handed_words words.entry) k st) }
-        ensures potential { IfOk result (λ out. 8 * left_of meter.new + out_weight out ≤ 8 * left_of meter.old + 6) }
-        ensures bound { meter.new.bound ≡ meter.old.bound }
     {
         let Some((name, args)) = words.as_slice().split_first() else {
-            return Ok(Out::Came(Code::Ok, Value::new(self.alloc)));
+            return Ok(Value::new(self.alloc));
         };
         match verb_of(name.as_slice()) {
             None => {
                 let words = words.own(self.alloc)?;
-                let out = self.other(meter, words, depth)?;
-                Ok(out)
+                self.other(meter, words, depth)
             }
-            Some(verb) => {
-                let out = self.verb(meter, verb, name.as_slice(), args, depth)?;
-                Ok(out)
-            }
+            Some(verb) => self.verb(meter, verb, name.as_slice(), args, depth),
         }
     }
 
     /// Calls a procedure where there is one of the command's name, and else needs the host.
     #[cycle(native)]
     #[inline(never)]
-    fn other(&mut self, meter: &mut Meter, words: Values, depth: u32) -> Result<Out, AllocError>
-        ensures kept { self.new.stack ≡ self.old.stack }
+    fn other(&mut self, meter: &mut Meter, words: Values, depth: u32) -> Result<Value, Leave>
+        ensures measures { Spent self.old self.new meter.old meter.new 6 (owed 0 result) }
         ensures rest { CameIs self.old meter.old result self.new meter.new (λ k st. other_command (eval depth) words k st) }
-        ensures potential { IfOk result (λ out. 8 * left_of meter.new + out_weight out ≤ 8 * left_of meter.old + 6) }
-        ensures bound { meter.new.bound ≡ meter.old.bound }
     {
         match self.enter(&words)? {
-            Entry::Host => {
-                let out = stopped(self.alloc, Standing::Begin { words, depth })?;
-                Ok(out)
-            }
-            Entry::Body(script) => {
-                let out = self.body(meter, words, &script, depth)?;
-                Ok(out)
-            }
-            Entry::Done(code, value) => Ok(Out::Came(code, value)),
+            Entry::Host => Err(stopped(self.alloc, Standing::Begin { words, depth })),
+            Entry::Body(script) => self.body(meter, words, &script, depth),
+            Entry::Done(code, value) => came(code, value),
         }
     }
 
     /// Evaluates the body of a procedure that these words called, and leaves its scope.
     #[cycle(native)]
+    #[tactic(auto, unfolding(crate::specs::Rest::frame_rest))]
     fn body(
         &mut self,
         meter: &mut Meter,
         words: Values,
         script: &Script,
         depth: u32,
-    ) -> Result<Out, AllocError>
-        ensures kept { self.new.stack ≡ self.old.stack }
+    ) -> Result<Value, Leave>
+        ensures measures { Spent self.old self.new meter.old meter.new 0 (owed 0 result) }
         ensures rest { CameIs self.old meter.old result self.new meter.new (λ k st. eval depth script.now (scope_end words k) st) }
-        ensures potential { IfOk result (λ out. 8 * left_of meter.new + out_weight out ≤ 8 * left_of meter.old) }
-        ensures bound { meter.new.bound ≡ meter.old.bound }
     {
-        match self.script(meter, script, depth)? {
-            Out::Stopped(stop) => {
-                let out = below(stop, Frame::Scope { words })?;
-                Ok(out)
-            }
-            Out::Came(code, value) => {
-                let out = self.leave_scope(words, code, value)?;
-                Ok(out)
-            }
-        }
+        let out = self.script(meter, script, depth);
+        self.leave_scope(words, out)
     }
 
     /// Carries out a command of the language.
@@ -286,18 +233,15 @@ impl Engine {
         name: &[u8],
         args: &[Value],
         depth: u32,
-    ) -> Result<Out, AllocError>
-        ensures kept { self.new.stack ≡ self.old.stack }
+    ) -> Result<Value, Leave>
+        ensures measures { Spent self.old self.new meter.old meter.new 6 (owed 0 result) }
         ensures rest { CameIs self.old meter.old result self.new meter.new (λ k st. invoked (eval depth) verb name.now args.now k st) }
-        ensures potential { IfOk result (λ out. 8 * left_of meter.new + out_weight out ≤ 8 * left_of meter.old + 6) }
-        ensures bound { meter.new.bound ≡ meter.old.bound }
     {
         if let Verb::Plain(kind) = verb {
             let (code, value) = plain(self.alloc, kind, name, args, &mut self.vars)?;
-            return Ok(Out::Came(code, value));
+            return came(code, value);
         }
-        let out = self.control(meter, verb, name, args, depth)?;
-        Ok(out)
+        self.control(meter, verb, name, args, depth)
     }
 
     /// Carries out a command of the language that may evaluate something.
@@ -310,95 +254,58 @@ impl Engine {
         name: &[u8],
         args: &[Value],
         depth: u32,
-    ) -> Result<Out, AllocError>
-        ensures kept { self.new.stack ≡ self.old.stack }
+    ) -> Result<Value, Leave>
+        ensures measures { Spent self.old self.new meter.old meter.new 6 (owed 0 result) }
         ensures rest { CameIs self.old meter.old result self.new meter.new (λ k st. invoked (eval depth) verb name.now args.now k st) }
-        ensures potential { IfOk result (λ out. 8 * left_of meter.new + out_weight out ≤ 8 * left_of meter.old + 6) }
-        ensures bound { meter.new.bound ≡ meter.old.bound }
     {
         let task = self.task(meter, verb, name, args)?;
-        let out = self.perform(meter, task, depth)?;
-        Ok(out)
+        self.perform(meter, task, depth)
     }
 
     /// Does what a command of the language still has to do.
     #[cycle(native)]
-    fn perform(&mut self, meter: &mut Meter, task: Task, depth: u32) -> Result<Out, AllocError>
-        ensures kept { self.new.stack ≡ self.old.stack }
+    fn perform(&mut self, meter: &mut Meter, task: Task, depth: u32) -> Result<Value, Leave>
+        ensures measures { Spent self.old self.new meter.old meter.new (task_weight task) (owed 0 result) }
         ensures rest { CameIs self.old meter.old result self.new meter.new (λ k st. task_rest depth task k st) }
-        ensures potential { IfOk result (λ out. 8 * left_of meter.new + out_weight out ≤ 8 * left_of meter.old + task_weight task) }
-        ensures bound { meter.new.bound ≡ meter.old.bound }
     {
         match task {
-            Task::Done(code, value) => Ok(Out::Came(code, value)),
-            Task::Stand(at) => {
-                let out = stopped(self.alloc, at)?;
-                Ok(out)
-            }
-            Task::Script(script) => {
-                let out = self.script(meter, &script, depth)?;
-                Ok(out)
-            }
-            Task::Expr(test) => {
-                let out = self.result(meter, test, depth)?;
-                Ok(out)
-            }
-            Task::Arms(arms) => {
-                let out = self.choose(meter, arms, depth)?;
-                Ok(out)
-            }
-            Task::Loop(turning) => {
-                let out = self.turns(meter, turning, depth)?;
-                Ok(out)
-            }
+            Task::Done(code, value) => came(code, value),
+            Task::Stand(at) => Err(stopped(self.alloc, at)),
+            Task::Script(script) => self.script(meter, &script, depth),
+            Task::Expr(test) => self.result(meter, test, depth),
+            Task::Arms(arms) => self.choose(meter, arms, depth),
+            Task::Loop(turning) => self.turns(meter, turning, depth),
             Task::For {
                 start,
                 test,
                 next,
                 body,
-            } => {
-                let out = self.start_loop(meter, &start, test, next, body, depth)?;
-                Ok(out)
-            }
-            Task::Each(groups, body) => {
-                let out = self.each_turns(meter, groups, body, depth)?;
-                Ok(out)
-            }
-            Task::Catch(name, script) => {
-                let out = self.catch(meter, name, &script, depth)?;
-                Ok(out)
-            }
+            } => self.start_loop(meter, &start, test, next, body, depth),
+            Task::Each(groups, body) => self.each_turns(meter, groups, &body, depth),
+            Task::Catch(name, script) => self.catch(meter, name, &script, depth),
         }
     }
 
     /// Evaluates a script, whose code is the value, and sets the variable to its value.
     #[cycle(native)]
+    #[tactic(auto, unfolding(crate::specs::Rest::frame_rest))]
     fn catch(
         &mut self,
         meter: &mut Meter,
         name: Option<Value>,
         script: &Script,
         depth: u32,
-    ) -> Result<Out, AllocError>
-        ensures kept { self.new.stack ≡ self.old.stack }
+    ) -> Result<Value, Leave>
+        ensures measures { Spent self.old self.new meter.old meter.new 0 (owed 0 result) }
         ensures rest { CameIs self.old meter.old result self.new meter.new (λ k st. eval depth script.now (caught name k) st) }
-        ensures potential { IfOk result (λ out. 8 * left_of meter.new + out_weight out ≤ 8 * left_of meter.old) }
-        ensures bound { meter.new.bound ≡ meter.old.bound }
     {
-        match self.script(meter, script, depth)? {
-            Out::Stopped(stop) => {
-                let out = below(stop, Frame::Catch { name })?;
-                Ok(out)
-            }
-            Out::Came(code, value) => {
-                let out = self.caught_as(name, code, value)?;
-                Ok(out)
-            }
-        }
+        let out = self.script(meter, script, depth);
+        self.caught_as(name, out)
     }
 
     /// Evaluates the start of a `for`, and then its loop.
     #[cycle(native)]
+    #[tactic(auto, unfolding(crate::specs::Rest::onward_rest))]
     fn start_loop(
         &mut self,
         meter: &mut Meter,
@@ -407,32 +314,21 @@ impl Engine {
         next: Value,
         body: Value,
         depth: u32,
-    ) -> Result<Out, AllocError>
-        ensures kept { self.new.stack ≡ self.old.stack }
-        ensures rest { CameIs self.old meter.old result self.new meter.new (λ k st. eval depth start.now (frame_rest (Frame.Onward (Onward.Start test next body depth)) k) st) }
-        ensures potential { IfOk result (λ out. 8 * left_of meter.new + out_weight out ≤ 8 * left_of meter.old) }
-        ensures bound { meter.new.bound ≡ meter.old.bound }
+    ) -> Result<Value, Leave>
+        ensures measures { Spent self.old self.new meter.old meter.new 0 (owed 0 result) }
+        ensures rest { CameIs self.old meter.old result self.new meter.new (λ k st. eval depth start.now (on_ok (onward_rest (Onward.Start test next body depth) k) k) st) }
     {
-        match self.script(meter, start, depth)? {
-            Out::Stopped(stop) => {
-                let out = below(
-                    stop,
-                    Frame::Onward(Onward::Start {
-                        test,
-                        next,
-                        body,
-                        depth,
-                    }),
-                )?;
-                Ok(out)
+        match self.script(meter, start, depth) {
+            Ok(_) => self.started(meter, &test, &next, &body, depth),
+            Err(leave) => {
+                let start = Onward::Start {
+                    test,
+                    next,
+                    body,
+                    depth,
+                };
+                Err(onward_below(leave, start))
             }
-            Out::Came(code, value) => match code {
-                Code::Ok => {
-                    let out = self.started(meter, &test, &next, &body, depth)?;
-                    Ok(out)
-                }
-                _ => Ok(Out::Came(code, value)),
-            },
         }
     }
 
@@ -443,14 +339,11 @@ impl Engine {
         meter: &mut Meter,
         text: &Value,
         depth: u32,
-    ) -> Result<Out, AllocError>
-        ensures kept { self.new.stack ≡ self.old.stack }
+    ) -> Result<Value, Leave>
+        ensures measures { Spent self.old self.new meter.old meter.new 0 (owed 0 result) }
         ensures rest { CameIs self.old meter.old result self.new meter.new (λ k st. eval depth text.now k st) }
-        ensures potential { IfOk result (λ out. 8 * left_of meter.new + out_weight out ≤ 8 * left_of meter.old) }
-        ensures bound { meter.new.bound ≡ meter.old.bound }
     {
         let script = self.read.script_of(self.alloc, text)?;
-        let out = self.script(meter, &script, depth)?;
-        Ok(out)
+        self.script(meter, &script, depth)
     }
 }

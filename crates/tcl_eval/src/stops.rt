@@ -1,22 +1,23 @@
 //! Runs that stand still, and the frames of what is still to be done behind them.
 
-ghost use Rattle.std.specs.Prelude.{◌≡◌, ℕ, ◌+◌, IfOk, OnOk};
+ghost use Rattle.std.specs.Prelude.{◌≡◌, ℕ, ◌+◌, ◌≤◌, IfOk, OnOk};
 ghost use Rattle.tcl_eval.specs.Asked.{IsSettled};
 ghost use Rattle.tcl_eval.specs.Standings.{mode_of};
 ghost use Rattle.tcl_eval.specs.Tree.{State};
-ghost use Rattle.tcl_eval.specs.Meaning.{Next};
-ghost use Rattle.tcl_eval.specs.Native.{laid_rest, stop_rest, out_rest, stop_weight, out_weight};
-ghost use Rattle.tcl_eval.specs.Rest.{frame_rest, frames_rest, mode_rest, engine_rest, state_of};
-ghost use Rattle.tcl_eval.specs.Potential.{bodies, credit, frame_weight};
+ghost use Rattle.tcl_eval.specs.Meaning.{Next, on_ok};
+ghost use Rattle.tcl_eval.specs.Native.{Knows, left, laid_rest, stop_rest, leave_weight, stop_weight};
+ghost use Rattle.tcl_eval.specs.Rest.{frame_rest, frames_rest, mode_rest, onward_rest, engine_rest, state_of};
+ghost use Rattle.tcl_eval.specs.Potential.{bodies, credit, frame_weight, onward_weight};
 
 use crate::engine::Engine;
-use crate::frame::{Frame, Mode};
-use crate::out::{Out, Standing, Stop};
+use crate::frame::{Frame, Mode, Onward};
+use crate::out::{Leave, Standing, Stop};
 use std::alloc::{AllocError, Global};
 use tcl_host::Pile;
 
 /// A run that stands still, with nothing to be done behind it yet.
 #[cold]
+#[tactic(auto, unfolding(crate::specs::Native::stop_rest))]
 pub(crate) fn stop(alloc: Global, at: Standing) -> Result<Box<Stop>, AllocError>
     ensures rest { IfOk result (λ s. (k : Next) (st : State) → stop_rest s.value k st ≡ mode_rest (mode_of at) k st) }
     ensures weight { IfOk result (λ s. stop_weight s.value ≡ credit (mode_of at)) }
@@ -33,16 +34,19 @@ pub(crate) fn stop(alloc: Global, at: Standing) -> Result<Box<Stop>, AllocError>
 
 /// The same, as what came of a script or a command.
 #[cold]
-pub(crate) fn stopped(alloc: Global, at: Standing) -> Result<Out, AllocError>
-    ensures rest { IfOk result (λ out. (k : Next) (st : State) → out_rest out k st ≡ mode_rest (mode_of at) k st) }
-    ensures weight { IfOk result (λ out. out_weight out ≡ credit (mode_of at)) }
+pub(crate) fn stopped(alloc: Global, at: Standing) -> Leave
+    ensures rest { Knows result → (k : Next) (st : State) → left result st k ≡ mode_rest (mode_of at) k st }
+    ensures weight { leave_weight result ≤ credit (mode_of at) }
 {
-    let stop = stop(alloc, at)?;
-    Ok(Out::Stopped(stop))
+    match stop(alloc, at) {
+        Ok(stop) => Leave::Stopped(stop),
+        Err(_) => Leave::Memory,
+    }
 }
 
 /// One frame more, behind those that were laid.
 #[cold]
+#[tactic(auto, unfolding(crate::specs::Native::stop_rest))]
 pub(crate) fn laid_on(stop: Box<Stop>, frame: Frame) -> Result<Box<Stop>, AllocError>
     ensures rest { IfOk result (λ s. (k : Next) (st : State) → stop_rest s.value k st ≡ stop_rest stop.value (frame_rest frame k) st) }
     ensures weight { IfOk result (λ s. stop_weight s.value ≡ frame_weight frame + stop_weight stop.value) }
@@ -52,14 +56,30 @@ pub(crate) fn laid_on(stop: Box<Stop>, frame: Frame) -> Result<Box<Stop>, AllocE
     Ok(stop)
 }
 
-/// The same, as what came of a script or a command.
+/// A run that stands still, with one frame more.
 #[cold]
-pub(crate) fn below(stop: Box<Stop>, frame: Frame) -> Result<Out, AllocError>
-    ensures rest { IfOk result (λ out. (k : Next) (st : State) → out_rest out k st ≡ stop_rest stop.value (frame_rest frame k) st) }
-    ensures weight { IfOk result (λ out. out_weight out ≡ frame_weight frame + stop_weight stop.value) }
+pub(crate) fn below(stop: Box<Stop>, frame: Frame) -> Leave
+    ensures rest { Knows result → (k : Next) (st : State) → left result st k ≡ stop_rest stop.value (frame_rest frame k) st }
+    ensures weight { leave_weight result ≤ frame_weight frame + stop_weight stop.value }
 {
-    let stop = laid_on(stop, frame)?;
-    Ok(Out::Stopped(stop))
+    match laid_on(stop, frame) {
+        Ok(stop) => Leave::Stopped(stop),
+        Err(_) => Leave::Memory,
+    }
+}
+
+/// Why there is no value, with what goes on behind `Ok` where it stands still.
+#[cold]
+#[tactic(auto, using(crate::proofs::Natives::code_passes), unfolding(crate::specs::Rest::frame_rest))]
+pub(crate) fn onward_below(leave: Leave, onward: Onward) -> Leave
+    ensures known { Knows result → Knows leave }
+    ensures rest { Knows result → (k : Next) (st : State) → left result st k ≡ left leave st (on_ok (onward_rest onward k) k) }
+    ensures weight { leave_weight result ≤ onward_weight onward + leave_weight leave }
+{
+    match leave {
+        Leave::Stopped(stop) => below(stop, Frame::Onward(onward)),
+        leave => leave,
+    }
 }
 
 /// Frames that were laid, on a stack: the outermost comes first.
@@ -76,6 +96,7 @@ fn lay_on(stack: &mut Pile<Frame>, laid: Pile<Frame>) -> Result<(), AllocError>
 
 impl Engine {
     /// Lays on the stack what is still to be done.
+    #[tactic(auto, unfolding(crate::specs::Native::stop_rest))]
     pub(crate) fn lay(&mut self, stop: Box<Stop>) -> Result<Mode, AllocError>
         ensures rest { IfOk result (λ mode. (left : ℕ) → engine_rest self.new left mode ≡ stop_rest stop.value (frames_rest self.old.stack) (state_of self.old left)) }
         ensures potential { IfOk result (λ mode. bodies self.new.stack + credit mode ≡ bodies self.old.stack + stop_weight stop.value) }

@@ -112,6 +112,7 @@ impl Engine {
     }
 
     /// The scripts of a `for`, and its condition.
+    #[tactic(auto, unfolding(crate::specs::Rest::onward_rest))]
     fn for_parts(
         &mut self,
         start: &Value,

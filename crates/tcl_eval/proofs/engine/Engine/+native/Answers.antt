@@ -1,123 +1,210 @@
-use Rattle.std.proofs.Common.{◌≡◌, ℕ, arith, Bool, List, [], Option, drop, refl, sym, ◌∙◌, ap}
-use Rattle.tcl_subst.specs.Recipes.{Filling}
+use Rattle.std.proofs.Common.{◌≡◌, ℕ, List, [], Bool, sym, ◌∙◌, ap, subst, arith}
+use Rattle.tcl_subst.specs.Filling.{Fill}
+use Rattle.tcl_subst.specs.Recipes.{Filling, given}
+use Rattle.tcl_subst.specs.Rests.{rest, told}
 use Rattle.tcl_subst.specs.Variables.{Variables}
-use Rattle.tcl_eval.specs.declared.frame.Frame.TheVariants.{Turn, Onward as OnwardFrame}
+use Rattle.tcl_subst.specs.declared.fill_step.FillStep.{FillStep}
+use Rattle.tcl_subst.specs.declared.fill_step.FillStep.TheVariants.{NeedScript}
+use Rattle.tcl_commands.specs.declared.code.Code.TheVariants.{Error}
+use Rattle.tcl_eval.specs.declared.advance.Advance.{Advance}
+use Rattle.tcl_eval.specs.declared.begun.Begun.{Begun}
+use Rattle.tcl_eval.specs.declared.engine.Engine.{Engine}
+use Rattle.tcl_eval.specs.declared.frame.Onward.TheVariants.{Operand}
 use Rattle.tcl_eval.specs.declared.frame.Then.TheVariants.{Command}
-use Rattle.tcl_eval.specs.declared.frame.Onward.TheVariants.{Next as NextTurn}
-use Rattle.tcl_eval.specs.declared.frame.Turning.{Turning}
-use Rattle.tcl_eval.specs.declared.meter.Meter.{Meter}
-use Rattle.tcl_eval.specs.declared.out.Filled.{Filled}
-use Rattle.tcl_eval.specs.declared.out.Out.{Out}
-use Rattle.tcl_eval.specs.declared.out.Part.{Part}
-use Rattle.tcl_eval.specs.Halted.{halted_worth}
-use Rattle.tcl_eval.specs.Meaning.{eval, on_said, spread, fill_parts, fill_words, advanced}
-use Rattle.tcl_eval.specs.Native.{out_rest, part_rest, stop_rest, word_on, words_rest, words_weight}
-use Rattle.tcl_eval.specs.Potential.{then_weight}
-use Rattle.tcl_eval.specs.Rest.{frame_rest, looped, then_rest, state_of}
+use Rattle.tcl_eval.specs.Advanced.{IsTold, NeedsFilled, begun_fill}
+use Rattle.tcl_eval.specs.Alone.{alone, asks_alone}
+use Rattle.tcl_eval.specs.Evaluated.{Evaluated, with_operand}
+use Rattle.tcl_eval.specs.Native.{at_ok, left}
+use Rattle.tcl_eval.specs.Meaning.{Next, eval, fill_word, fill_parts, on_ok}
+use Rattle.tcl_eval.specs.Worth.{worth}
+use Rattle.tcl_eval.specs.Rest.{arm_rest, onward_rest, then_rest, state_of}
 use Rattle.tcl_eval.specs.Steps.{left_of}
-use Rattle.tcl_eval.proofs.Natives.{each_spent, fewer_left, words_some, literals_fill, alone_below}
-use Rattle.tcl_eval.proofs.Told.{halted_worth_is}
+use Rattle.tcl_eval.proofs.Natives.{word_came, spent_on, arms_some, words_some, literals_fill, word_frame}
+use Rattle.tcl_eval.proofs.Passing.{operand_frame}
+use Rattle.tcl_eval.proofs.Told.{needs_worth, one_less}
+use Rattle.tcl_eval.proofs.Walked.{value_known, value_faulty}
 use Rattle.tcl_eval.proofs.engine.Engine.+native.Goals as goal
 
-pub each_once-returns-then-not-begin-clause-rest : goal.each_once-returns-then-not-begin-clause-rest
-each_once-returns-then-not-begin-clause-rest t c = λ k.
-    c.in_ok-stop.ensures.rest _ _
-    ∙ each_spent (eval c.args.depth) c.args.groups.now.names c.args.groups.now.left c.args.body.now k (state_of c.args.self.now (left_of c.args.meter.now)) _
-    (sym c.is_done.ensures ∙ c.if-is_done.false) c.if-not-begin.ensures.spent (ap (λ (m : Meter). state_of c.args.self.now (left_of m)) c.if-not-begin.ensures.same)
-
-pub fill_on-returns-in-Stopped-clause-rest : goal.fill_on-returns-in-Stopped-clause-rest
-fill_on-returns-in-Stopped-clause-rest t c = λ k go.
-    let ev = eval c.args.depth in
-    let st = state_of c.scripts.self (left_of c.scripts.meter) in
-    ap (λ (f : Filling). stop_rest c.in-Stopped.stop.value (word_on ev f k go) st) c.in_ok-filler-in-Stopped.ensures.ok
-    ∙ ap (λ (p : Part). part_rest ev p c.scripts.filler k go st) (sym c.in-Stopped.is)
-    ∙ c.scripts.invariant.same k go
-
-pub next_word-returns-clause-rest : goal.next_word-returns-clause-rest
-next_word-returns-clause-rest t c = λ k.
-    let ev = eval c.args.depth in
-    let st = state_of c.args.self.now (left_of c.args.meter.now) in
-    c.in_ok-filled-3.ensures.rest k _
-    ∙ c.in_ok-filled-2.ensures.rest k (λ v st. on_said (spread c.is_expanded-expand.result v c.args.done.now) k (λ done st. fill_words ev (drop c.args.to c.args.words.now) done k (then_rest c.args.depth c.args.then k) st) st)
-    ∙ ap (λ (vs : Variables). fill_parts ev c.args.word.now k (λ v st. on_said (spread c.is_expanded-expand.result v c.args.done.now) k (λ done st. fill_words ev (drop c.args.to c.args.words.now) done k (then_rest c.args.depth c.args.then k) st) st) (record { vars = vs; procs = st.procs; left = st.left; trail = st.trail })) c.in_ok-value.ensures.same
-    ∙ ap (λ (b : Bool). fill_parts ev c.args.word.now k (λ v st. on_said (spread b v c.args.done.now) k (λ done st. fill_words ev (drop c.args.to c.args.words.now) done k (then_rest c.args.depth c.args.then k) st) st) st) c.is_expanded-expand.ensures
-
-pub operand-returns-clause-rest : goal.operand-returns-clause-rest
-operand-returns-clause-rest t c = λ k go.
-    let ev = eval c.args.depth in
-    let st = state_of c.args.self.now (left_of c.args.meter.now) in
-    c.in_ok-worked.ensures.rest k go
-    ∙ ap (λ (vs : Variables). halted_worth ev c.in_ok-halt.halt c.advance.new.self k go (record { vars = vs; procs = c.args.self.now.procs; left = left_of c.args.meter.now; trail = c.args.self.now.trail })) c.in_ok-halt.ensures.same
-    ∙ halted_worth_is ev c.in_ok-halt.halt c.advance.new.self k go st c.in_ok-halt.ensures.halts
-    ∙ c.in_ok-halt.ensures.alike ev k go st refl
-
-pub operand-returns-clause-fewer : goal.operand-returns-clause-fewer
-operand-returns-clause-fewer t c =
-    fewer_left c.in_ok-worked.worked c.in_ok-halt.halt c.args.self.now.vars c.args.evaluation.now c.advance.new.self c.halted.new.evaluation c.operands_are_bounded.ensures c.in_ok-halt.ensures.grown c.in_ok-halt.ensures.halts c.in_ok-worked.ensures.fewer
-
-pub turn_body-returns-in_ok-stop-in-Stopped-clause-rest : goal.turn_body-returns-in_ok-stop-in-Stopped-clause-rest
-turn_body-returns-in_ok-stop-in-Stopped-clause-rest t c = λ k.
-    let st = state_of c.script.new.self (left_of c.script.new.meter) in
-    let after = frame_rest (Turn c.args.turning.now c.args.depth) k in
-    c.in_ok-stop-in-Stopped.ensures.rest k st
-    ∙ ap (λ (x : Turning). stop_rest c.in-Stopped.stop.value (frame_rest (Turn x c.args.depth) k) st) c.in_ok-turning-in-Stopped.ensures
-    ∙ ap (λ (o : Out). out_rest o after st) (sym c.in-Stopped.is)
-    ∙ c.in_ok-stop.ensures.rest after
-
-pub turn_next_script-returns-in_ok-stop-in-Stopped-clause-rest : goal.turn_next_script-returns-in_ok-stop-in-Stopped-clause-rest
-turn_next_script-returns-in_ok-stop-in-Stopped-clause-rest t c = λ k.
-    let st = state_of c.script.new.self (left_of c.script.new.meter) in
-    let after = frame_rest (OnwardFrame (NextTurn c.args.turning.now c.args.depth)) k in
-    c.in_ok-stop-in-Stopped.ensures.rest k st
-    ∙ ap (λ (x : Turning). stop_rest c.in-Stopped.stop.value (frame_rest (OnwardFrame (NextTurn x c.args.depth)) k) st) c.in_ok-turning-in-Stopped.ensures
-    ∙ ap (λ (o : Out). out_rest o after st) (sym c.in-Stopped.is)
-    ∙ c.in_ok-stop.ensures.rest after
-    ∙ ap (λ (o : Option (List ℕ)). advanced (eval c.args.depth) o k (λ st. looped c.args.depth c.args.turning.now k st) (state_of c.args.self.now (left_of c.args.meter.now))) (sym c.in-Some.is)
-
-pub words-words-preserved : goal.words-words-preserved
-words-words-preserved t c =
-    let ev = eval c.args.depth in
-    let w : words_weight c.args.then c.in_ok-next_word.field-0 ≡ then_weight c.args.then = ap (words_weight c.args.then) c.in-Full.is in
-    record {
-      same = λ k.
-          ap (λ (f : Filled). words_rest (λ done st. fill_words ev (drop c.in-Some.to c.args.words.now) done k (then_rest c.args.depth c.args.then k) st) f c.next_word.new.done k (state_of c.next_word.new.self (left_of c.next_word.new.meter))) (sym c.in-Full.is)
-          ∙ c.in_ok-next_word.ensures.rest k
-          ∙ words_some ev c.in-Some.to c.words.next c.in-Some.word.now c.args.words.now c.words.done k (then_rest c.args.depth c.args.then k) (state_of c.words.self (left_of c.words.meter)) c.in-Some.ensures
-          ∙ c.words.invariant.same k;
-      kept = c.in_ok-next_word.ensures.kept ∙ c.words.invariant.kept;
-      down = omega (arith, c.words.invariant.down, c.in_ok-next_word.ensures.potential);
-      bound = c.in_ok-next_word.ensures.bound ∙ c.words.invariant.bound;
-    }
-
-pub words-returns-in-Gone-clause-rest : goal.words-returns-in-Gone-clause-rest
-words-returns-in-Gone-clause-rest t c = λ k.
-    let ev = eval c.args.depth in
-    ap (λ (f : Filled). words_rest (λ done st. fill_words ev (drop c.in-Some.to c.args.words.now) done k (then_rest c.args.depth c.args.then k) st) f c.next_word.new.done k (state_of c.next_word.new.self (left_of c.next_word.new.meter))) (sym c.in-Gone.is)
-    ∙ c.in_ok-next_word.ensures.rest k
-    ∙ words_some ev c.in-Some.to c.words.next c.in-Some.word.now c.args.words.now c.words.done k (then_rest c.args.depth c.args.then k) (state_of c.words.self (left_of c.words.meter)) c.in-Some.ensures
-    ∙ c.words.invariant.same k
-
-pub words-returns-in-Stopped-clause-rest : goal.words-returns-in-Stopped-clause-rest
-words-returns-in-Stopped-clause-rest t c = λ k.
-    let ev = eval c.args.depth in
-    ap (λ (f : Filled). words_rest (λ done st. fill_words ev (drop c.in-Some.to c.args.words.now) done k (then_rest c.args.depth c.args.then k) st) f c.next_word.new.done k (state_of c.next_word.new.self (left_of c.next_word.new.meter))) (sym c.in-Stopped.is)
-    ∙ c.in_ok-next_word.ensures.rest k
-    ∙ words_some ev c.in-Some.to c.words.next c.in-Some.word.now c.args.words.now c.words.done k (then_rest c.args.depth c.args.then k) (state_of c.words.self (left_of c.words.meter)) c.in-Some.ensures
-    ∙ c.words.invariant.same k
+pub result-returns-clause-rest : goal.result-returns-clause-rest
+result-returns-clause-rest t c = λ known k.
+    sym (word_came c.worth.result (state_of c.worth.new.self (left_of c.worth.new.meter)) k)
+    ∙ c.worth.ensures.rest known k (at_ok k)
+    ∙ ap (λ (x : Evaluated). worth (eval c.args.depth) x k (at_ok k) (state_of c.args.self.now (left_of c.args.meter.now))) c.new.ensures
 
 pub command-returns-in-Some-clause-rest : goal.command-returns-in-Some-clause-rest
-command-returns-in-Some-clause-rest t c = λ k.
-    let ev = eval c.args.depth in
-    let st = state_of c.args.self.now (left_of c.args.meter.now) in
-    c.in_ok-out.ensures.rest k ∙ sym (literals_fill ev c.args.words.now c.in-Some.values.now [] k (then_rest c.args.depth Command k) st c.in-Some.ensures)
+command-returns-in-Some-clause-rest t c = λ known k.
+    c.begun.ensures.rest known k
+    ∙ sym (literals_fill (eval c.args.depth) c.args.words.now c.in-Some.values.now [] k (then_rest c.args.depth Command k) (state_of c.args.self.now (left_of c.args.meter.now)) c.in-Some.ensures)
 
-pub alone_script-returns-in_ok-filler-in-Stopped-clause-rest : goal.alone_script-returns-in_ok-filler-in-Stopped-clause-rest
-alone_script-returns-in_ok-filler-in-Stopped-clause-rest t c = λ k go.
+-- ---- words
+
+pub alone_script-returns-in-Err-clause-rest : goal.alone_script-returns-in-Err-clause-rest
+alone_script-returns-in-Err-clause-rest t c = λ known k go.
+    let after : Next = on_ok (λ v st. fill_word (eval c.args.depth) (alone v) k go st) k in
+    c.alone_below.ensures.rest known k go _
+    ∙ ap (λ (m : Engine). left c.in-Err.leave (state_of m (left_of c.script.new.meter)) after) c.alone_below.ensures.same
+    ∙ c.in-Err.ensures.rest (c.alone_below.ensures.known known) after
+
+pub fill_on-returns-in-Err-clause-rest : goal.fill_on-returns-in-Err-clause-rest
+unfolding onward_rest
+fill_on-returns-in-Err-clause-rest t c = λ known k go.
     let ev = eval c.args.depth in
+    let f = c.scripts.filler in
+    let st = state_of c.scripts.self (left_of c.scripts.meter) in
+    let now = state_of c.script-in-NeedScript.new.self (left_of c.script-in-NeedScript.new.meter) in
+    let after : Next = on_ok (λ v st. fill_word ev (rest (given v f) st.vars) k go st) k in
+    c.onward_below.ensures.rest known (on_ok go k) now
+    ∙ ap (λ (n : Next). left c.in-Err.leave now n) (word_frame ev f k go)
+    ∙ c.in-Err.ensures.rest (c.onward_below.ensures.known known) after
+    ∙ ap (λ (text : List ℕ). ev text after st) c.in_ok-script-in-NeedScript.ensures
+    ∙ ap (λ (s : FillStep). fill_word ev (told (s, f)) k go st) (sym c.in-NeedScript.is)
+    ∙ c.scripts.invariant.same k go
+
+pub word-returns-in-Some-clause-rest : goal.word-returns-in-Some-clause-rest
+word-returns-in-Some-clause-rest t c = λ known k go.
     let st = state_of c.args.self.now (left_of c.args.meter.now) in
-    let now = state_of c.script.new.self (left_of c.script.new.meter) in
-    let f = c.in_ok-filler-in-Stopped.filler.value in
-    let stop = c.in-Stopped.stop.value in
-    ap (λ (v : Variables). stop_rest stop (word_on ev f k go) (record now { vars = v })) c.waiting.ensures.same
-    ∙ alone_below ev c.args.script.now f stop k go st now c.in_ok-filler-in-Stopped.ensures.waits
-    (λ k. ap (λ (o : Out). out_rest o k now) (sym c.in-Stopped.is) ∙ c.in_ok-code.ensures.rest k)
+    c.alone_script.ensures.rest known k go
+    ∙ ap (λ (text : List ℕ). fill_word (eval c.args.depth) (asks_alone text) k go st) (c.in_ok-script.ensures ∙ c.as_slice.ensures)
+    ∙ ap (λ (p : Fill). fill_word (eval c.args.depth) p k go st) (sym (c.in-Some.ensures st.vars))
+
+pub words-words-preserved : goal.words-words-preserved
+unfolding onward_rest
+words-words-preserved t c = record {
+  same = λ k.
+      c.in-Ok.ensures.rest tt k
+      ∙ words_some (eval c.args.depth) c.in-Some.to c.words.next c.in-Some.word.now c.args.words.now c.words.done k (then_rest c.args.depth c.args.then k) (state_of c.words.self (left_of c.words.meter)) c.in-Some.ensures
+      ∙ c.words.invariant.same k;
+  spent = spent_on _ _ _ _ _ _ 0 c.words.invariant.spent (record { kept = c.in-Ok.ensures.measures.kept; down = omega (arith, c.in-Ok.ensures.measures.down); bound = c.in-Ok.ensures.measures.bound });
+}
+
+pub words-returns-in-Err-clause-rest : goal.words-returns-in-Err-clause-rest
+unfolding onward_rest
+words-returns-in-Err-clause-rest t c = λ known k.
+    c.in-Err.ensures.rest known k
+    ∙ words_some (eval c.args.depth) c.in-Some.to c.words.next c.in-Some.word.now c.args.words.now c.words.done k (then_rest c.args.depth c.args.then k) (state_of c.words.self (left_of c.words.meter)) c.in-Some.ensures
+    ∙ c.words.invariant.same k
+
+-- ---- expressions
+
+pub operand-returns-in-Alone-clause-rest : goal.operand-returns-in-Alone-clause-rest
+operand-returns-in-Alone-clause-rest t c = λ known k go.
+    c.alone_script.ensures.rest known k go
+    ∙ ap (λ (b : Begun). fill_word (eval c.args.depth) (begun_fill b) k go (state_of c.args.self.now (left_of c.args.meter.now))) (sym c.in-Alone.is)
+
+pub operand-returns-in-Script-clause-rest : goal.operand-returns-in-Script-clause-rest
+operand-returns-in-Script-clause-rest t c = λ known k go.
+    let st = state_of c.args.self.now (left_of c.args.meter.now) in
+    c.fill_on.ensures.rest known k go
+    ∙ ap (λ (f : Filling). fill_word (eval c.args.depth) (told (NeedScript c.in-Script.number, f)) k go st) c.into_inner-filler.ensures
+    ∙ ap (λ (b : Begun). fill_word (eval c.args.depth) (begun_fill b) k go st) (sym c.in-Script.is)
+
+pub worth-returns-in-Value-clause-rest : goal.worth-returns-in-Value-clause-rest
+worth-returns-in-Value-clause-rest t c = λ known k go.
+    let ev = eval c.args.depth in
+    let e = c.operands.evaluation in
+    let st = state_of c.operands.self (left_of c.operands.meter) in
+    ap (λ (vs : Variables). go c.in-Value.value (record { vars = vs; procs = st.procs; left = st.left; trail = st.trail })) c.in_ok-value.ensures.vars
+    ∙ sym (value_known (fill_parts ev) e.tree e.given k go st c.in-Value.value (subst (λ (a : Advance). IsTold st.vars a e) c.in-Value.is c.in_ok-value.ensures.told))
+    ∙ c.operands.invariant.same k go
+
+pub worth-returns-in-Fault-clause-rest : goal.worth-returns-in-Fault-clause-rest
+worth-returns-in-Fault-clause-rest t c = λ known k go.
+    let ev = eval c.args.depth in
+    let e = c.operands.evaluation in
+    let st = state_of c.operands.self (left_of c.operands.meter) in
+    ap (λ (vs : Variables). k Error c.in_ok-text-in-Fault.text (record { vars = vs; procs = st.procs; left = st.left; trail = st.trail })) c.in_ok-value.ensures.vars
+    ∙ ap (λ (text : List ℕ). k Error text st) c.in_ok-text-in-Fault.ensures
+    ∙ sym (value_faulty (fill_parts ev) e.tree e.given k go st c.in-Fault.fault (subst (λ (a : Advance). IsTold st.vars a e) c.in-Fault.is c.in_ok-value.ensures.told))
+    ∙ c.operands.invariant.same k go
+
+pub worth-operands-smaller : goal.worth-operands-smaller
+worth-operands-smaller t c =
+    let e = c.operands.evaluation in
+    let needed : NeedsFilled c.operands.self.vars (begun_fill c.in-Operand.begun) e = subst (λ (a : Advance). IsTold c.operands.self.vars a e) c.in-Operand.is c.in_ok-value.ensures.told in
+    one_less c.operands.self.vars (begun_fill c.in-Operand.begun) e c.give.new.self c.in-Ok.value c.operands_are_bounded.ensures needed
+    (c.in_ok-give-in-Ok.ensures ∙ ap (λ (x : Evaluated). with_operand c.in-Ok.value x) c.in_ok-value.ensures.same)
+
+pub worth-operands-preserved : goal.worth-operands-preserved
+worth-operands-preserved t c =
+    let ev = eval c.args.depth in
+    let e = c.operands.evaluation in
+    let st = state_of c.operands.self (left_of c.operands.meter) in
+    let needed : NeedsFilled st.vars (begun_fill c.in-Operand.begun) e = subst (λ (a : Advance). IsTold st.vars a e) c.in-Operand.is c.in_ok-value.ensures.told in
+    let given : c.give.new.self ≡ with_operand c.in-Ok.value e = c.in_ok-give-in-Ok.ensures ∙ ap (λ (x : Evaluated). with_operand c.in-Ok.value x) c.in_ok-value.ensures.same in
+    record {
+      same = λ k go.
+          ap (λ (x : Evaluated). worth ev x k go (state_of c.operand.new.self (left_of c.operand.new.meter))) given
+          ∙ c.in-Ok.ensures.rest tt k (λ v st. worth ev (with_operand v e) k go st)
+          ∙ ap (λ (vs : Variables). fill_word ev (begun_fill c.in-Operand.begun) k (λ v st. worth ev (with_operand v e) k go st) (record { vars = vs; procs = st.procs; left = st.left; trail = st.trail })) c.in_ok-value.ensures.vars
+          ∙ needs_worth (begun_fill c.in-Operand.begun) e ev k go st needed
+          ∙ c.operands.invariant.same k go;
+      spent = spent_on _ _ _ _ _ _ 0 c.operands.invariant.spent (record { kept = c.in-Ok.ensures.measures.kept; down = c.in-Ok.ensures.measures.down; bound = c.in-Ok.ensures.measures.bound });
+    }
+
+pub worth-returns-in-Err-clause-rest : goal.worth-returns-in-Err-clause-rest
+unfolding onward_rest
+worth-returns-in-Err-clause-rest t c = λ known k go.
+    let ev = eval c.args.depth in
+    let e = c.operands.evaluation in
+    let st = state_of c.operands.self (left_of c.operands.meter) in
+    let now = state_of c.operand.new.self (left_of c.operand.new.meter) in
+    let needed : NeedsFilled st.vars (begun_fill c.in-Operand.begun) e = subst (λ (a : Advance). IsTold st.vars a e) c.in-Operand.is c.in_ok-value.ensures.told in
+    c.onward_below.ensures.rest known (on_ok go k) now
+    ∙ ap (λ (x : Evaluated). left c.in-Err.leave now (on_ok (onward_rest (Operand x c.args.depth) (on_ok go k)) (on_ok go k))) c.in_ok-value.ensures.same
+    ∙ ap (λ (n : Next). left c.in-Err.leave now n) (operand_frame ev e k go)
+    ∙ c.in-Err.ensures.rest (c.onward_below.ensures.known known) k (λ v st. worth ev (with_operand v e) k go st)
+    ∙ ap (λ (vs : Variables). fill_word ev (begun_fill c.in-Operand.begun) k (λ v st. worth ev (with_operand v e) k go st) (record { vars = vs; procs = st.procs; left = st.left; trail = st.trail })) c.in_ok-value.ensures.vars
+    ∙ needs_worth (begun_fill c.in-Operand.begun) e ev k go st needed
+    ∙ c.operands.invariant.same k go
+
+-- ---- conditions of `if`
+
+pub choose-returns-in-Ok-true-clause-rest : goal.choose-returns-in-Ok-true-clause-rest
+choose-returns-in-Ok-true-clause-rest t c = λ known k.
+    let after = arm_rest c.args.depth c.in-Some.body c.take.new.self k in
+    c.text.ensures.rest known k
+    ∙ ap (λ (b : Bool). after b (state_of c.text_truth.new.self (left_of c.text_truth.new.meter))) (sym c.in-Ok-true.field-0-test)
+    ∙ c.in-Ok-true.ensures.rest tt k after
+    ∙ arms_some c.args.depth c.arms.left c.take.new.self c.in-Some.test c.in-Some.body k (state_of c.arms.self (left_of c.arms.meter)) c.in-Some.ensures.0 c.in-Some.ensures.1
+    ∙ c.arms.invariant.same k
+
+pub choose-returns-in-Err-clause-rest : goal.choose-returns-in-Err-clause-rest
+unfolding onward_rest
+choose-returns-in-Err-clause-rest t c = λ known k.
+    c.onward_below.ensures.rest known k _
+    ∙ c.in-Err.ensures.rest (c.onward_below.ensures.known known) k (arm_rest c.args.depth c.in-Some.body c.take.new.self k)
+    ∙ arms_some c.args.depth c.arms.left c.take.new.self c.in-Some.test c.in-Some.body k (state_of c.arms.self (left_of c.arms.meter)) c.in-Some.ensures.0 c.in-Some.ensures.1
+    ∙ c.arms.invariant.same k
+
+pub choose-arms-preserved-in-Ok-false : goal.choose-arms-preserved-in-Ok-false
+choose-arms-preserved-in-Ok-false t c = record {
+  same = λ k.
+      let after = arm_rest c.args.depth c.in-Some.body c.take.new.self k in
+      ap (λ (b : Bool). after b (state_of c.text_truth.new.self (left_of c.text_truth.new.meter))) (sym c.in-Ok-false.field-0-test)
+      ∙ c.in-Ok-false.ensures.rest tt k after
+      ∙ arms_some c.args.depth c.arms.left c.take.new.self c.in-Some.test c.in-Some.body k (state_of c.arms.self (left_of c.arms.meter)) c.in-Some.ensures.0 c.in-Some.ensures.1
+      ∙ c.arms.invariant.same k;
+  spent = spent_on _ _ _ _ _ _ 0 c.arms.invariant.spent c.in-Ok-false.ensures.measures;
+}
+
+pub choose-arms-preserved-in-Ok-false-2 : goal.choose-arms-preserved-in-Ok-false-2
+choose-arms-preserved-in-Ok-false-2 t c = record {
+  same = λ k.
+      let after = arm_rest c.args.depth c.in-Some.body c.take.new.self k in
+      ap (λ (b : Bool). after b (state_of c.text_truth.new.self (left_of c.text_truth.new.meter))) (sym c.in-Ok-false.field-0-test)
+      ∙ c.in-Ok-false.ensures.rest tt k after
+      ∙ arms_some c.args.depth c.arms.left c.take.new.self c.in-Some.test c.in-Some.body k (state_of c.arms.self (left_of c.arms.meter)) c.in-Some.ensures.0 c.in-Some.ensures.1
+      ∙ c.arms.invariant.same k;
+  spent = spent_on _ _ _ _ _ _ 0 c.arms.invariant.spent c.in-Ok-false.ensures.measures;
+}
+
+pub choose-arms-preserved : goal.choose-arms-preserved
+choose-arms-preserved t c = record {
+  same = λ k.
+      let after = arm_rest c.args.depth c.in-Some.body c.take.new.self k in
+      ap (λ (b : Bool). after b (state_of c.text_truth.new.self (left_of c.text_truth.new.meter))) (sym c.in-Ok-false.field-0-test)
+      ∙ c.in-Ok-false.ensures.rest tt k after
+      ∙ arms_some c.args.depth c.arms.left c.take.new.self c.in-Some.test c.in-Some.body k (state_of c.arms.self (left_of c.arms.meter)) c.in-Some.ensures.0 c.in-Some.ensures.1
+      ∙ c.arms.invariant.same k;
+  spent = spent_on _ _ _ _ _ _ 0 c.arms.invariant.spent c.in-Ok-false.ensures.measures;
+}

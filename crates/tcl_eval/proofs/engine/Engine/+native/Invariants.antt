@@ -1,146 +1,122 @@
-use Rattle.std.proofs.Common.{◌≡◌, ℕ, ◌+◌, ◌*◌, ◌≤◌, List, length, drop}
+use Rattle.std.proofs.Common.{◌≡◌, ℕ, ◌+◌, ◌*◌, List, length, drop}
 use Rattle.tcl_scripts.specs.Commands.{commands}
+use Rattle.tcl_subst.specs.Rests.{told}
 use Rattle.tcl_eval.specs.Steps.{left_of}
 use Rattle.tcl_eval.specs.Tree.{State, Tree}
-use Rattle.tcl_eval.specs.Meaning.{Next, sequence, eval, fill_words, each}
-use Rattle.tcl_eval.specs.Halted.{worth}
-use Rattle.tcl_eval.specs.Native.{arm_rest, part_rest, truth_rest, part_weight, truth_weight, operands_left}
+use Rattle.tcl_eval.specs.Meaning.{Next, sequence, eval, fill_word, fill_words, each, arms}
+use Rattle.tcl_eval.specs.Worth.{worth}
+use Rattle.tcl_eval.specs.Native.{Spent}
 use Rattle.tcl_eval.specs.Rest.{then_rest, looped, state_of}
-use Rattle.tcl_eval.proofs.Natives.{parts_left, arms_left}
+use Rattle.tcl_eval.proofs.Natives.{scripts_left}
+use Rattle.tcl_eval.proofs.Told.{operands_left}
 use Rattle.tcl_eval.proofs.engine.Engine.+native.Given as goal
 
 abbrev pub decreases-script : goal.decreases-script
 decreases-script l = 32 * l.depth
 
 abbrev pub decreases-text : goal.decreases-text
-decreases-text l = 32 * l.depth + 1
+decreases-text l = 32 * l.depth + 2
 
 abbrev pub decreases-catch : goal.decreases-catch
-decreases-catch l = 32 * l.depth + 1
+decreases-catch l = 32 * l.depth + 2
 
-abbrev pub decreases-turn_next_script : goal.decreases-turn_next_script
-decreases-turn_next_script l = 32 * l.depth + 1
+abbrev pub decreases-turn_next : goal.decreases-turn_next
+decreases-turn_next l = 32 * l.depth + 2
 
-abbrev pub decreases-turn_end_by : goal.decreases-turn_end_by
-decreases-turn_end_by l = 32 * l.depth + 2
+abbrev pub decreases-turn_end : goal.decreases-turn_end
+decreases-turn_end l = 32 * l.depth + 3
 
 abbrev pub decreases-turn_body : goal.decreases-turn_body
-decreases-turn_body l = 32 * l.depth + 3
+decreases-turn_body l = 32 * l.depth + 5
 
 abbrev pub decreases-turn_if : goal.decreases-turn_if
-decreases-turn_if l = 32 * l.depth + 4
-
-abbrev pub decreases-turn_by : goal.decreases-turn_by
-decreases-turn_by l = 32 * l.depth + 5
+decreases-turn_if l = 32 * l.depth + 6
 
 abbrev pub decreases-turn_once : goal.decreases-turn_once
-decreases-turn_once l = 32 * l.depth + 8
+decreases-turn_once l = 32 * l.depth + 9
 
 abbrev pub decreases-turns : goal.decreases-turns
-decreases-turns l = 32 * l.depth + 9
+decreases-turns l = 32 * l.depth + 10
 
 abbrev pub decreases-started : goal.decreases-started
-decreases-started l = 32 * l.depth + 10
+decreases-started l = 32 * l.depth + 11
 
 abbrev pub decreases-start_loop : goal.decreases-start_loop
-decreases-start_loop l = 32 * l.depth + 11
-
-abbrev pub decreases-each_body_by : goal.decreases-each_body_by
-decreases-each_body_by l = 32 * l.depth + 1
-
-abbrev pub decreases-each_once : goal.decreases-each_once
-decreases-each_once l = 32 * l.depth + 2
+decreases-start_loop l = 32 * l.depth + 12
 
 abbrev pub decreases-each_turns : goal.decreases-each_turns
-decreases-each_turns l = 32 * l.depth + 3
-
-abbrev pub decreases-bracket : goal.decreases-bracket
-decreases-bracket l = 32 * l.depth + 1
+decreases-each_turns l = 32 * l.depth + 4
 
 abbrev pub decreases-fill_on : goal.decreases-fill_on
-decreases-fill_on l = 32 * l.depth + 2
+decreases-fill_on l = 32 * l.depth + 3
 
 abbrev pub decreases-alone_script : goal.decreases-alone_script
-decreases-alone_script l = 32 * l.depth + 1
+decreases-alone_script l = 32 * l.depth + 2
 
 abbrev pub decreases-word : goal.decreases-word
-decreases-word l = 32 * l.depth + 3
+decreases-word l = 32 * l.depth + 4
 
 abbrev pub decreases-next_word : goal.decreases-next_word
-decreases-next_word l = 32 * l.depth + 4
+decreases-next_word l = 32 * l.depth + 5
 
 abbrev pub decreases-words : goal.decreases-words
-decreases-words l = 32 * l.depth + 5
-
-abbrev pub decreases-halted : goal.decreases-halted
-decreases-halted l = 32 * l.depth + 3
+decreases-words l = 32 * l.depth + 6
 
 abbrev pub decreases-operand : goal.decreases-operand
-decreases-operand l = 32 * l.depth + 4
+decreases-operand l = 32 * l.depth + 5
 
 abbrev pub decreases-worth : goal.decreases-worth
-decreases-worth l = 32 * l.depth + 5
-
-abbrev pub decreases-truth_by_operands : goal.decreases-truth_by_operands
-decreases-truth_by_operands l = 32 * l.depth + 6
+decreases-worth l = 32 * l.depth + 6
 
 abbrev pub decreases-truth : goal.decreases-truth
-decreases-truth l = 32 * l.depth + 7
-
-abbrev pub decreases-result_by_operands : goal.decreases-result_by_operands
-decreases-result_by_operands l = 32 * l.depth + 6
+decreases-truth l = 32 * l.depth + 8
 
 abbrev pub decreases-text_truth : goal.decreases-text_truth
-decreases-text_truth l = 32 * l.depth + 8
+decreases-text_truth l = 32 * l.depth + 9
 
 abbrev pub decreases-result : goal.decreases-result
-decreases-result l = 32 * l.depth + 7
+decreases-result l = 32 * l.depth + 8
 
 abbrev pub decreases-otherwise : goal.decreases-otherwise
-decreases-otherwise l = 32 * l.depth + 2
-
-abbrev pub decreases-choose_by : goal.decreases-choose_by
-decreases-choose_by l = 32 * l.depth + 9
+decreases-otherwise l = 32 * l.depth + 3
 
 abbrev pub decreases-choose : goal.decreases-choose
-decreases-choose l = 32 * l.depth + 10
+decreases-choose l = 32 * l.depth + 11
 
 abbrev pub decreases-perform : goal.decreases-perform
-decreases-perform l = 32 * l.depth + 12
+decreases-perform l = 32 * l.depth + 13
 
 abbrev pub decreases-control : goal.decreases-control
-decreases-control l = 32 * l.depth + 13
+decreases-control l = 32 * l.depth + 14
 
 abbrev pub decreases-body : goal.decreases-body
-decreases-body l = 32 * l.depth + 1
+decreases-body l = 32 * l.depth + 2
 
 abbrev pub decreases-other : goal.decreases-other
-decreases-other l = 32 * l.depth + 2
+decreases-other l = 32 * l.depth + 3
 
 abbrev pub decreases-verb : goal.decreases-verb
-decreases-verb l = 32 * l.depth + 14
+decreases-verb l = 32 * l.depth + 15
 
 abbrev pub decreases-carry_out : goal.decreases-carry_out
-decreases-carry_out l = 32 * l.depth + 15
+decreases-carry_out l = 32 * l.depth + 16
 
 abbrev pub decreases-begun : goal.decreases-begun
-decreases-begun l = 32 * l.depth + 16
+decreases-begun l = 32 * l.depth + 17
 
 abbrev pub decreases-command : goal.decreases-command
-decreases-command l = 32 * l.depth + 17
+decreases-command l = 32 * l.depth + 18
 
 abbrev pub decreases-step : goal.decreases-step
-decreases-step l = 32 * l.depth + 18
+decreases-step l = 32 * l.depth + 19
 
 abbrev pub decreases-sequence : goal.decreases-sequence
-decreases-sequence l = 32 * l.depth + 19
+decreases-sequence l = 32 * l.depth + 20
 
 abbrev pub invariant-sequence-commands : goal.invariant-sequence-commands
 invariant-sequence-commands l = record {
   same : (k : Next) → sequence (eval l.depth) l.script (drop l.next (commands l.script)) k l.value (state_of l.self (left_of l.meter)) ≡ sequence (eval l.fn.depth) l.fn.script (drop l.fn.start (commands l.fn.script)) k l.fn.last (state_of l.fn.self (left_of l.fn.meter));
-  kept : l.self.stack ≡ l.fn.self.stack;
-  down : left_of l.meter ≤ left_of l.fn.meter;
-  bound : l.meter.bound ≡ l.fn.meter.bound;
+  spent : Spent l.fn.self l.self l.fn.meter l.meter 0 0;
 }
 
 abbrev pub decreases-sequence-commands : goal.decreases-sequence-commands
@@ -149,9 +125,7 @@ decreases-sequence-commands l = length (drop l.next (commands l.script))
 abbrev pub invariant-words-words : goal.invariant-words-words
 invariant-words-words l = record {
   same : (k : Next) → fill_words (eval l.depth) (drop l.next l.words) l.done k (then_rest l.depth l.then k) (state_of l.self (left_of l.meter)) ≡ fill_words (eval l.fn.depth) (drop l.fn.start l.fn.words) l.fn.done k (then_rest l.fn.depth l.fn.then k) (state_of l.fn.self (left_of l.fn.meter));
-  kept : l.self.stack ≡ l.fn.self.stack;
-  down : left_of l.meter ≤ left_of l.fn.meter;
-  bound : l.meter.bound ≡ l.fn.meter.bound;
+  spent : Spent l.fn.self l.self l.fn.meter l.meter 0 0;
 }
 
 abbrev pub decreases-words-words : goal.decreases-words-words
@@ -159,21 +133,17 @@ decreases-words-words l = length (drop l.next l.words)
 
 abbrev pub invariant-fill_on-scripts : goal.invariant-fill_on-scripts
 invariant-fill_on-scripts l = record {
-  same : (k : Next) (go : List ℕ → State → Tree) → part_rest (eval l.depth) l.part l.filler k go (state_of l.self (left_of l.meter)) ≡ part_rest (eval l.fn.depth) l.fn.first l.fn.filler k go (state_of l.fn.self (left_of l.fn.meter));
-  kept : l.self.stack ≡ l.fn.self.stack;
-  down : 8 * left_of l.meter + part_weight l.part ≤ 8 * left_of l.fn.meter + part_weight l.fn.first;
-  bound : l.meter.bound ≡ l.fn.meter.bound;
+  same : (k : Next) (go : List ℕ → State → Tree) → fill_word (eval l.depth) (told (l.step, l.filler)) k go (state_of l.self (left_of l.meter)) ≡ fill_word (eval l.fn.depth) (told (l.fn.first, l.fn.filler)) k go (state_of l.fn.self (left_of l.fn.meter));
+  spent : Spent l.fn.self l.self l.fn.meter l.meter 0 0;
 }
 
 abbrev pub decreases-fill_on-scripts : goal.decreases-fill_on-scripts
-decreases-fill_on-scripts l = parts_left l.part l.filler.at
+decreases-fill_on-scripts l = scripts_left l.step l.filler.at
 
 abbrev pub invariant-worth-operands : goal.invariant-worth-operands
 invariant-worth-operands l = record {
-  same : (k : Next) (go : List ℕ → State → Tree) → worth (eval l.depth) l.evaluation k go (state_of l.self (left_of l.meter)) ≡ worth (eval l.fn.depth) l.fn.evaluation k go (state_of l.fn.self (left_of l.fn.meter));
-  kept : l.self.stack ≡ l.fn.self.stack;
-  down : left_of l.meter ≤ left_of l.fn.meter;
-  bound : l.meter.bound ≡ l.fn.meter.bound;
+  same : (k : Next) (go : List ℕ → State → Tree) → worth (eval l.depth) l.evaluation k go (state_of l.self (left_of l.meter)) ≡ worth (eval l.fn.depth) l.fn.first k go (state_of l.fn.self (left_of l.fn.meter));
+  spent : Spent l.fn.self l.self l.fn.meter l.meter 0 0;
 }
 
 abbrev pub decreases-worth-operands : goal.decreases-worth-operands
@@ -182,9 +152,7 @@ decreases-worth-operands l = operands_left l.evaluation
 abbrev pub invariant-turns-turns : goal.invariant-turns-turns
 invariant-turns-turns l = record {
   same : (k : Next) → looped l.depth l.now k (state_of l.self (left_of l.meter)) ≡ looped l.fn.depth l.fn.turning k (state_of l.fn.self (left_of l.fn.meter));
-  kept : l.self.stack ≡ l.fn.self.stack;
-  down : left_of l.meter ≤ left_of l.fn.meter;
-  bound : l.meter.bound ≡ l.fn.meter.bound;
+  spent : Spent l.fn.self l.self l.fn.meter l.meter 0 0;
 }
 
 abbrev pub decreases-turns-turns : goal.decreases-turns-turns
@@ -193,21 +161,17 @@ decreases-turns-turns l = left_of l.meter
 abbrev pub invariant-each_turns-turns : goal.invariant-each_turns-turns
 invariant-each_turns-turns l = record {
   same : (k : Next) → each (eval l.depth) l.left.names l.left.left l.body k (state_of l.self (left_of l.meter)) ≡ each (eval l.fn.depth) l.fn.groups.names l.fn.groups.left l.fn.body k (state_of l.fn.self (left_of l.fn.meter));
-  kept : l.self.stack ≡ l.fn.self.stack;
-  down : left_of l.meter ≤ left_of l.fn.meter;
-  bound : l.meter.bound ≡ l.fn.meter.bound;
+  spent : Spent l.fn.self l.self l.fn.meter l.meter 0 0;
 }
 
 abbrev pub decreases-each_turns-turns : goal.decreases-each_turns-turns
 decreases-each_turns-turns l = left_of l.meter
 
-abbrev pub invariant-choose_by-arms : goal.invariant-choose_by-arms
-invariant-choose_by-arms l = record {
-  same : (k : Next) → truth_rest (eval l.depth) l.truth k (arm_rest l.depth l.body l.arms k) (state_of l.self (left_of l.meter)) ≡ truth_rest (eval l.fn.depth) l.fn.first k (arm_rest l.fn.depth l.fn.chosen l.fn.left k) (state_of l.fn.self (left_of l.fn.meter));
-  kept : l.self.stack ≡ l.fn.self.stack;
-  down : 8 * left_of l.meter + truth_weight l.truth ≤ 8 * left_of l.fn.meter + truth_weight l.fn.first;
-  bound : l.meter.bound ≡ l.fn.meter.bound;
+abbrev pub invariant-choose-arms : goal.invariant-choose-arms
+invariant-choose-arms l = record {
+  same : (k : Next) → arms (eval l.depth) l.left.0 l.left.1 k (state_of l.self (left_of l.meter)) ≡ arms (eval l.fn.depth) l.fn.arms.0 l.fn.arms.1 k (state_of l.fn.self (left_of l.fn.meter));
+  spent : Spent l.fn.self l.self l.fn.meter l.meter 0 0;
 }
 
-abbrev pub decreases-choose_by-arms : goal.decreases-choose_by-arms
-decreases-choose_by-arms l = arms_left l.truth l.arms.0
+abbrev pub decreases-choose-arms : goal.decreases-choose-arms
+decreases-choose-arms l = length l.left.0
