@@ -50,7 +50,7 @@ fn shown_pause(alloc: Global, pause: &Pause, is_spent: bool) -> Result<Text, Com
 
 /// Runs until it is over, and says how often it paused before.
 fn run_on(
-    machine: &mut Machine<SmallHost>,
+    machine: &mut Machine,
     host: &mut SmallHost,
     meter: &mut Meter,
 ) -> Result<(Pause, u64), Complaint>
@@ -73,7 +73,7 @@ fn shown_end(alloc: Global, pause: Pause, host: &SmallHost) -> Result<Text, Comp
 /// Runs a machine that is over once more, and says whether nothing but the same end came of it.
 fn stays(
     alloc: Global,
-    machine: &mut Machine<SmallHost>,
+    machine: &mut Machine,
     host: &mut SmallHost,
     meter: &mut Meter,
     end: &Text,
@@ -105,7 +105,7 @@ fn push_counts(
 /// Appends a line of what a machine comes to.
 fn push_run(
     text: &mut Text,
-    machine: &mut Machine<SmallHost>,
+    machine: &mut Machine,
     host: &mut SmallHost,
     meter: &mut Meter,
 ) -> Result<(), Complaint> {

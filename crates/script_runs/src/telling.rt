@@ -180,8 +180,8 @@ fn cancellations_of(
     Ok(cancellations)
 }
 
-/// A clock for each of so many workers. They give the same moments, in milliseconds from 0 on. They also tell what is to be told of their worker's
-/// scripts, and cancel those that are over; there is a cancellation for each script. If there is an `Early`, it gets the reports as scripts end.
+/// One clock per worker, all with the same origin, in milliseconds. Each also prints the progress of its worker's scripts, cancels those that have
+/// ended, and gives their reports to `early`. `cancellations` has one entry per script. Fails only if memory is refused.
 pub fn clocks<
     R: Threads + Wait + Clock + Copy + Send + Drop + 'static,
     E: Write + IsTerminal + Copy + Send + Drop + 'static,

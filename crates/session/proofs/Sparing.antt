@@ -39,7 +39,7 @@ use Rattle.tcl_eval.specs.declared.trail.Origin.{Origin}
 use Rattle.tcl_eval.specs.declared.trail.Origin.TheVariants as origin
 use Rattle.tcl_host.specs.Calls.{Call, Begin, Resume, AfterWords, AfterBody, Knows, Reply, Stepped, Known, step_of, vars_of, known_of}
 use Rattle.tcl_eval.specs.Tree.{State, Tree, Over, Ask}
-use Rattle.tcl_eval.specs.Meaning.{Next, Eval, passed, taken, noting, on_ok, on_said, after, on_bool, tested, computed, turn_end, stepped, fill_word, fill_parts, spread, fill_words, value_from, expression, tree_of as expression_of, condition, otherwise, arms, decided, advanced, turned, loop, each, digit, caught, left_scope, left_by_error, scope_end, no_command, called, called_or_begun, reserved, defined, after_script, next_body, after_body, host_body, worded, host_words, begun, while_command, for_command, new_proc, proc_command, catch_command, invoked, named, invoke, command, sequence, eval}
+use Rattle.tcl_eval.specs.Meaning.{Next, Eval, passed, taken, noting, on_ok, on_said, after, on_bool, tested, computed, turn_end, stepped, fill_word, fill_parts, spread, fill_words, value_from, expression, tree_of as expression_of, condition, otherwise, arms, decided, advanced, turned, loop, each, digit, caught, left_scope, left_by_error, scope_end, no_command, called, called_or_begun, reserved, defined, replied, once_more, told_end, next_body, after_body, host_body, host_words, words_in, begin, while_command, for_command, new_proc, proc_command, catch_command, invoked, named, invoke, command, sequence, eval}
 use Rattle.tcl_eval.specs.Suspended.{at_the_end}
 use Rattle.expect_core.specs.declared.dialogue.Dialogue.{Dialogue}
 use Rattle.expect_core.specs.declared.request.Request.{Request}
@@ -176,21 +176,28 @@ defined-spared name formals body false k st h =
     on_said-spared (formals_of formals) k (λ fs st. k Ok [] (record st { procs = with_entry name (record { formals = fs; body = body }) st.procs })) st h
     (λ fs st. h Ok [] (record st { procs = with_entry name (record { formals = fs; body = body }) st.procs }))
 
-after_script-spared : (c : Code) (s : HostStep) (k : Next) (more : List ℕ → State → Tree) (st : State) → SparedStep s → SparedNext k → SparedOn more → SparedTree (after_script c s k more st)
-after_script-spared c (Done code v) k more st s h g = elim c as (λ c. SparedTree (after_script c (Done code v) k more st)) [ Ok ↦ h code v st | _ ↦ h code v st ]
-after_script-spared c (Fail t) k more st s h g = elim c as (λ c. SparedTree (after_script c (Fail t) k more st)) [ Ok ↦ h Error t st | _ ↦ h Error t st ]
-after_script-spared Again (Body t) k more st s h g = g t st
-after_script-spared AgainLater (Body t) k more st s h g = g t st
-after_script-spared Ok (Body t) k more st s h g = h Error t st
-after_script-spared Error (Body t) k more st s h g = h Error t st
-after_script-spared Return (Body t) k more st s h g = h Error t st
-after_script-spared Break (Body t) k more st s h g = h Error t st
-after_script-spared Continue (Body t) k more st s h g = h Error t st
-after_script-spared c (Words t) k more st s h g = elim c as (λ c. SparedTree (after_script c (Words t) k more st)) [ Ok ↦ h Error t st | _ ↦ h Error t st ]
-after_script-spared c Wait k more st s h g = elim c as (λ c. SparedTree (after_script c Wait k more st)) [ Ok ↦ h Error [] st | _ ↦ h Error [] st ]
-after_script-spared c (Stop e) k more st s h g = elim c as (λ c. SparedTree (after_script c (Stop e) k more st)) [ Ok ↦ s | _ ↦ s ]
-after_script-spared c Unknown k more st s h g = elim c as (λ c. SparedTree (after_script c Unknown k more st)) [ Ok ↦ h Error [] st | _ ↦ h Error [] st ]
-after_script-spared c Memory k more st s h g = absurd s
+replied-spared : (k : Next) (body words : List ℕ → State → Tree) (fault : List ℕ) (s : HostStep) (st : State) → SparedStep s → SparedNext k → SparedOn body → SparedOn words → SparedTree (replied k body words fault s st)
+replied-spared k body words fault (Done c v) st s h b w = h c v st
+replied-spared k body words fault (Fail t) st s h b w = h Error t st
+replied-spared k body words fault (Body t) st s h b w = b t st
+replied-spared k body words fault (Words t) st s h b w = w t st
+replied-spared k body words fault Wait st s h b w = h Error [] st
+replied-spared k body words fault (Stop e) st s h b w = s
+replied-spared k body words fault Unknown st s h b w = h Error fault st
+replied-spared k body words fault Memory st s h b w = absurd s
+
+once_more-spared : (c : Code) (k : Next) (more : List ℕ → State → Tree) → SparedNext k → SparedOn more → SparedOn (once_more c more k)
+once_more-spared Again k more h g = g
+once_more-spared AgainLater k more h g = g
+once_more-spared Ok k more h g = h Error
+once_more-spared Error k more h g = h Error
+once_more-spared Return k more h g = h Error
+once_more-spared Break k more h g = h Error
+once_more-spared Continue k more h g = h Error
+
+told_end-spared : (k : Next) (more : List ℕ → State → Tree) → SparedNext k → SparedOn more → SparedNext (told_end k more)
+told_end-spared k more h g c v st = λ r s.
+    replied-spared k (once_more c more k) (k Error) [] (step_of r) (record st { vars = vars_of r }) s h (once_more-spared c k more h g) (h Error)
 
 module _ (ev : Eval) (evaluates : SparedEval ev) where
   word-spared : (f : Fill) (k : Next) (go : List ℕ → State → Tree) (st : State) → SparedNext k → SparedOn go → SparedTree (fill_word ev f k go st)
@@ -292,39 +299,27 @@ module _ (ev : Eval) (evaluates : SparedEval ev) where
   -- ---- commands of the host
 
   after_body-spared : (n : ℕ) (k : Next) → SparedNext k → SparedNext (after_body ev k n)
-  after_body-spared zero k h c v st = λ r s. after_script-spared c (step_of r) k (next_body ev k zero) (record st { vars = vars_of r }) s h (λ text st. tt)
-  after_body-spared (suc n) k h c v st = λ r s.
-      after_script-spared c (step_of r) k (next_body ev k (suc n)) (record st { vars = vars_of r }) s h
-      (λ text st. evaluates text (after_body ev k n) st (after_body-spared n k h))
+  after_body-spared zero k h = told_end-spared k (next_body ev k zero) h (λ text st. tt)
+  after_body-spared (suc n) k h =
+      told_end-spared k (next_body ev k (suc n)) h (λ text st. evaluates text (after_body ev k n) st (after_body-spared n k h))
 
-  host_body-spared : (text : List ℕ) (k : Next) (st : State) → SparedNext k → SparedTree (host_body ev k text st)
-  host_body-spared text k st h = evaluates text (after_body ev k st.left) st (after_body-spared st.left k h)
-
-  worded-spared : (s : HostStep) (k : Next) (st : State) → SparedStep s → SparedNext k → SparedTree (worded ev s k st)
-  worded-spared (Done c v) k st s h = h c v st
-  worded-spared (Fail t) k st s h = h Error t st
-  worded-spared (Body t) k st s h = host_body-spared t k st h
-  worded-spared (Words t) k st s h = h Error t st
-  worded-spared Wait k st s h = h Error [] st
-  worded-spared (Stop e) k st s h = s
-  worded-spared Unknown k st s h = h Error [] st
-  worded-spared Memory k st s h = absurd s
+  host_body-spared : (k : Next) → SparedNext k → SparedOn (host_body ev k)
+  host_body-spared k h text st = evaluates text (after_body ev k st.left) st (after_body-spared st.left k h)
 
   host_words-spared : (f : Option WordFault) (words : List (List ℕ)) (k : Next) (st : State) → SparedNext k → SparedTree (host_words ev f k words st)
   host_words-spared (Some f) words k st h = h Error (word_fault f) st
-  host_words-spared None words k st h = λ r s. worded-spared (step_of r) k (record st { vars = vars_of r }) s h
+  host_words-spared None words k st h = λ r s.
+      replied-spared k (host_body ev k) (k Error) [] (step_of r) (record st { vars = vars_of r }) s h (host_body-spared k h) (h Error)
 
-  begun-spared : (words : List (List ℕ)) (s : HostStep) (k : Next) (st : State) → SparedStep s → SparedNext k → SparedTree (begun ev words s k st)
-  begun-spared words (Done c v) k st s h = h c v st
-  begun-spared words (Fail t) k st s h = h Error t st
-  begun-spared words (Body t) k st s h = host_body-spared t k st h
-  begun-spared words (Words t) k st s h =
+  words_in-spared : (k : Next) → SparedNext k → SparedOn (words_in ev k)
+  words_in-spared k h t st =
       words-spared ((all_words (commands t)).0) [] k (λ ws st. host_words ev ((all_words (commands t)).1) k ws st) st h
       (λ ws st. host_words-spared ((all_words (commands t)).1) ws k st h)
-  begun-spared words Wait k st s h = h Error [] st
-  begun-spared words (Stop e) k st s h = s
-  begun-spared words Unknown k st s h = h Error (no_command words) st
-  begun-spared words Memory k st s h = absurd s
+
+  begin-spared : (words : List (List ℕ)) (k : Next) (st : State) → SparedNext k → SparedTree (begin ev words k st)
+  begin-spared words k st h = λ r s.
+      replied-spared k (host_body ev k) (words_in ev k) (no_command words) (step_of r) (record st { vars = vars_of r }) s h
+      (host_body-spared k h) (words_in-spared k h)
 
   -- ---- commands of the language
 
@@ -381,7 +376,7 @@ module _ (ev : Eval) (evaluates : SparedEval ev) where
   invoked-spared Exit name args k st h = on_said-spared (exit_status name args) k (λ n st. Over (end.Stopped (ending.Exit n)) st) st h (λ n st. tt)
 
   called_or_begun-spared : (o : Option Procedure) (name : List ℕ) (args : List (List ℕ)) (k : Next) (st : State) → SparedNext k → SparedTree (called_or_begun ev o name args k st)
-  called_or_begun-spared None name args k st h = λ r s. begun-spared (name ∷ args) (step_of r) k (record st { vars = vars_of r }) s h
+  called_or_begun-spared None name args k st h = begin-spared (name ∷ args) k st h
   called_or_begun-spared (Some p) name args k st h = called-spared p name args k st h
 
   named-spared : (o : Option Verb) (name : List ℕ) (args : List (List ℕ)) (k : Next) (st : State) → SparedNext k → SparedTree (named ev o name args k st)

@@ -9,7 +9,8 @@ use Rattle.tcl_host.specs.declared.ending.Ending.TheVariants as ending
 use Rattle.tcl_eval.specs.declared.engine.Engine.{Engine}
 use Rattle.tcl_eval.specs.declared.frame.End.{End}
 use Rattle.tcl_eval.specs.declared.frame.Mode.{Mode}
-use Rattle.tcl_eval.specs.declared.frame.Mode.TheVariants.{Begin as BeginMode, AfterWords as WordsMode, AfterBody as BodyMode, Ended}
+use Rattle.tcl_eval.specs.declared.frame.Call.TheVariants.{Begin as BeginCommand, AfterWords as HandWords, AfterBody as TellEnd}
+use Rattle.tcl_eval.specs.declared.frame.Mode.TheVariants.{Call as CallHost, Ended}
 use Rattle.tcl_host.specs.declared.host.HostStep.{HostStep}
 use Rattle.tcl_host.specs.declared.host.HostStep.TheVariants.{Done, Fail, Body, Words, Wait, Stop, Unknown, Memory}
 use Rattle.tcl_eval.specs.declared.machine.Pause.{Pause}
@@ -243,31 +244,23 @@ vars_in (Ask (Knows word) left go) = record { globals = []; locals = [] }
 
 left_asking : (engine : Engine) (mode : Mode) (n : ℕ) → IsAsking mode → left_in (engine_rest engine n mode) ≡ n
 unfolding left_in
-left_asking engine (BeginMode words depth r) n a = refl
-left_asking engine (WordsMode words depth r) n a = refl
-left_asking engine (BodyMode c v bound depth r) n a = refl
+left_asking engine (CallHost call depth r) n a = refl
 left_asking engine _ n a = absurd a
 
 vars_asking : (engine : Engine) (mode : Mode) (n : ℕ) → IsAsking mode → vars_in (engine_rest engine n mode) ≡ engine.vars
 unfolding vars_in
-vars_asking engine (BeginMode words depth true) n a = refl
-vars_asking engine (BeginMode words depth false) n a = refl
-vars_asking engine (WordsMode words depth true) n a = refl
-vars_asking engine (WordsMode words depth false) n a = refl
-vars_asking engine (BodyMode c v bound depth true) n a = refl
-vars_asking engine (BodyMode c v bound depth false) n a = refl
+vars_asking engine (CallHost call depth true) n a = refl
+vars_asking engine (CallHost (BeginCommand words) depth false) n a = refl
+vars_asking engine (CallHost (HandWords words) depth false) n a = refl
+vars_asking engine (CallHost (TellEnd c v bound) depth false) n a = refl
 vars_asking engine _ n a = absurd a
 
 shown_asking : (bound : ℕ) (engine : Engine) (mode : Mode) (n : ℕ) (d : Dialogue) → IsAsking mode → said ending.Waiting [] [] (bound - n) engine.vars d ≡ shown bound engine mode n d
-shown_asking bound engine (BeginMode words depth r) n d a = refl
-shown_asking bound engine (WordsMode words depth r) n d a = refl
-shown_asking bound engine (BodyMode c v b depth r) n d a = refl
+shown_asking bound engine (CallHost call depth r) n d a = refl
 shown_asking bound engine _ n d a = absurd a
 
 deadline_asking : (mode : Mode) (d : Dialogue) → IsAsking mode → deadline_in mode d ≡ deadline_of d
-deadline_asking (BeginMode words depth r) d a = refl
-deadline_asking (WordsMode words depth r) d a = refl
-deadline_asking (BodyMode c v b depth r) d a = refl
+deadline_asking (CallHost call depth r) d a = refl
 deadline_asking _ d a = absurd a
 
 shows_waiting : (bound : ℕ) (engine : Engine) (mode : Mode) (n : ℕ) (d : Dialogue) → IsAsking mode → Waiting (engine_rest engine n mode) d → play bound (engine_rest engine n mode) d ≡ shown bound engine mode n d

@@ -62,7 +62,7 @@ fn is_memory(pause: &Pause) -> bool
 }
 
 /// Runs on to the next pause, and says whether no memory was refused.
-fn run_on(machine: &mut Machine<Dialogue>, dialogue: &mut Dialogue, meter: &mut Meter) -> bool
+fn run_on(machine: &mut Machine, dialogue: &mut Dialogue, meter: &mut Meter) -> bool
     requires { IsTrue dialogue.old.lives → Good dialogue.old }
     ensures { IsTrue result → Ran machine.old.engine machine.old.mode (left_of meter.old) dialogue.old machine.new.engine machine.new.mode (left_of meter.new) dialogue.new }
 {
@@ -124,7 +124,7 @@ fn lay_behind(
 /// where some was, no request lies ready.
 fn go_on(
     alloc: Global,
-    machine: &mut Machine<Dialogue>,
+    machine: &mut Machine,
     dialogue: &mut Dialogue,
     meter: &mut Meter,
     ready: &mut VecDeque<Request>,
@@ -141,7 +141,7 @@ fn go_on(
 
 /// Runs on to the next pause, where a dialogue is watched, and says whether no memory was refused.
 fn run_over_watched<W: Watcher + Drop>(
-    machine: &mut Machine<Dialogue>,
+    machine: &mut Machine,
     watched: &mut Watched<W>,
     meter: &mut Meter,
 ) -> bool
@@ -149,7 +149,7 @@ fn run_over_watched<W: Watcher + Drop>(
     ensures ran { IsTrue result → Ran machine.old.engine machine.old.mode (left_of meter.old) watched.old.dialogue machine.new.engine machine.new.mode (left_of meter.new) watched.new.dialogue }
     ensures seen { IsTrue result → Sights W.sees (met_by_run machine.old.engine (left_of meter.old) machine.old.mode watched.old.dialogue) watched.old.watcher (met_by_run machine.new.engine (left_of meter.new) machine.new.mode watched.new.dialogue) watched.new.watcher }
 {
-    let pause = machine.run_over(watched, meter);
+    let pause = machine.run(watched, meter);
     if is_memory(&pause) {
         return false;
     }
@@ -170,7 +170,7 @@ fn nothing(alloc: Global) -> Result<Dialogue, AllocError> {
 /// Runs on as `run_on` does, and shows a watcher what is met on the way. The watcher is given back.
 fn run_watched<W: Watcher + Drop>(
     alloc: Global,
-    machine: &mut Machine<Dialogue>,
+    machine: &mut Machine,
     dialogue: &mut Dialogue,
     meter: &mut Meter,
     watcher: W,
@@ -198,7 +198,7 @@ fn run_watched<W: Watcher + Drop>(
 /// Runs on as `go_on` does, and shows a watcher what is met on the way. The watcher is given back.
 fn go_on_watched<W: Watcher + Drop>(
     alloc: Global,
-    machine: &mut Machine<Dialogue>,
+    machine: &mut Machine,
     dialogue: &mut Dialogue,
     meter: &mut Meter,
     ready: &mut VecDeque<Request>,
@@ -234,7 +234,7 @@ pub struct Session {
     bound: u64,
     /// Whether its report tells the variables.
     tells_vars: bool,
-    machine: Machine<Dialogue>,
+    machine: Machine,
     dialogue: Dialogue,
     meter: Meter,
     /// Copies of the requests that are to be handed out.

@@ -130,7 +130,7 @@ pub(crate) fn shown(
     alloc: Global,
     bound: u64,
     tells: bool,
-    machine: &Machine<Dialogue>,
+    machine: &Machine,
     left: u64,
     dialogue: &Dialogue,
 ) -> Result<Report, AllocError>
@@ -191,7 +191,7 @@ pub(crate) fn shown_last(
     alloc: Global,
     bound: u64,
     tells: bool,
-    machine: &Machine<Dialogue>,
+    machine: &Machine,
     left: u64,
     dialogue: &mut Dialogue,
 ) -> Result<Report, AllocError>

@@ -11,7 +11,7 @@ use Rattle.tcl_expr.specs.Tree.{Tree as Expression, number, word, operand, unary
 use Rattle.tcl_expr.specs.Value.{prefixed, combined, decides, on_truth, bit, bit_text}
 use Rattle.tcl_subst.specs.Entries.{find, with_entry}
 use Rattle.tcl_subst.specs.Filling.{Fill, Full, Asks, Failed, fill}
-use Rattle.tcl_subst.specs.Variables.{with_value}
+use Rattle.tcl_subst.specs.Variables.{Variables, with_value}
 use Rattle.tcl_subst.specs.Writes.{set_to}
 use Rattle.tcl_commands.specs.declared.code.Code.{Code}
 use Rattle.tcl_commands.specs.declared.code.Code.TheVariants.{Ok, Error, Return, Break, Continue, Again, AgainLater}
@@ -38,7 +38,7 @@ use Rattle.tcl_eval.specs.declared.trail.Origin.{Origin}
 use Rattle.tcl_eval.specs.declared.trail.Origin.TheVariants as origin
 use Rattle.tcl_host.specs.Calls.{Begin, AfterWords, AfterBody, Knows, step_of, vars_of, known_of}
 use Rattle.tcl_eval.specs.Tree.{State, Tree, Over, Ask}
-use Rattle.tcl_eval.specs.Meaning.{Next, Eval, passed, taken, noting, on_ok, on_said, after, on_bool, tested, computed, turn_end, stepped, fill_word, fill_parts, spread, fill_words, value_from, expression, tree_of, condition, otherwise, arms, decided, advanced, one_turn, turned, turns, loop, each, digit, caught, left_scope, left_by_error, scope_end, no_command, called, called_or_begun, reserved, defined, after_script, after_script_by, one_body, next_body, after_body, host_body, worded, host_words, begun, begin, while_command, for_command, new_proc, proc_command, catch_command, invoked, named, invoke, command, sequence, eval}
+use Rattle.tcl_eval.specs.Meaning.{Next, Eval, passed, taken, noting, on_ok, on_said, after, on_bool, tested, computed, turn_end, stepped, fill_word, fill_parts, spread, fill_words, value_from, expression, tree_of, condition, otherwise, arms, decided, advanced, one_turn, turned, turns, loop, each, digit, caught, left_scope, left_by_error, scope_end, no_command, called, called_or_begun, reserved, defined, replied, once_more, told_end, one_body, next_body, after_body, host_body, host_words, words_in, begin, while_command, for_command, new_proc, proc_command, catch_command, invoked, named, invoke, command, sequence, eval}
 use Rattle.tcl_eval.specs.Unrolled.{LoopsUnroll, BodiesUnroll}
 
 -- what a code has cost at least
@@ -173,22 +173,32 @@ defined-agree name formals body false k k' st h =
     (λ fs st. k' Ok [] (record st { procs = with_entry name (record { formals = fs; body = body }) st.procs })) st
     (with_cost st.left k k' h) (λ fs. h Ok [] (record st { procs = with_entry name (record { formals = fs; body = body }) st.procs }) (omega arith))
 
--- a reply: what comes after one more script matters at a code that has a cost alone
-after_script-agree : (c : Code) (s : HostStep) (k k' : Next) (more more' : List ℕ → State → Tree) (st : State) → AgreeAll st.left k k' → (0 < cost c → (t : List ℕ) → more t st ≡ more' t st) → after_script c s k more st ≡ after_script c s k' more' st
-after_script-agree c (Done code v) k k' more more' st h g = elim c as (λ c. after_script c (Done code v) k more st ≡ after_script c (Done code v) k' more' st) [ Ok ↦ h code v st (omega arith) | _ ↦ h code v st (omega arith) ]
-after_script-agree c (Fail t) k k' more more' st h g = elim c as (λ c. after_script c (Fail t) k more st ≡ after_script c (Fail t) k' more' st) [ Ok ↦ h Error t st (omega arith) | _ ↦ h Error t st (omega arith) ]
-after_script-agree Again (Body t) k k' more more' st h g = g (omega arith) t
-after_script-agree AgainLater (Body t) k k' more more' st h g = g (omega arith) t
-after_script-agree Ok (Body t) k k' more more' st h g = h Error t st (omega arith)
-after_script-agree Error (Body t) k k' more more' st h g = h Error t st (omega arith)
-after_script-agree Return (Body t) k k' more more' st h g = h Error t st (omega arith)
-after_script-agree Break (Body t) k k' more more' st h g = h Error t st (omega arith)
-after_script-agree Continue (Body t) k k' more more' st h g = h Error t st (omega arith)
-after_script-agree c (Words t) k k' more more' st h g = elim c as (λ c. after_script c (Words t) k more st ≡ after_script c (Words t) k' more' st) [ Ok ↦ h Error t st (omega arith) | _ ↦ h Error t st (omega arith) ]
-after_script-agree c Wait k k' more more' st h g = elim c as (λ c. after_script c Wait k more st ≡ after_script c Wait k' more' st) [ Ok ↦ h Error [] st (omega arith) | _ ↦ h Error [] st (omega arith) ]
-after_script-agree c (Stop n) k k' more more' st h g = elim c as (λ c. after_script c (Stop n) k more st ≡ after_script c (Stop n) k' more' st) [ Ok ↦ refl | _ ↦ refl ]
-after_script-agree c Unknown k k' more more' st h g = elim c as (λ c. after_script c Unknown k more st ≡ after_script c Unknown k' more' st) [ Ok ↦ h Error [] st (omega arith) | _ ↦ h Error [] st (omega arith) ]
-after_script-agree c Memory k k' more more' st h g = elim c as (λ c. after_script c Memory k more st ≡ after_script c Memory k' more' st) [ Ok ↦ refl | _ ↦ refl ]
+replied-agree : (k k' : Next) (body body' words words' : List ℕ → State → Tree) (fault : List ℕ) (s : HostStep) (st : State) → AgreeAll st.left k k' → ((t : List ℕ) → body t st ≡ body' t st) → ((t : List ℕ) → words t st ≡ words' t st) → replied k body words fault s st ≡ replied k' body' words' fault s st
+replied-agree k k' body body' words words' fault (Done c v) st h b w = h c v st (omega arith)
+replied-agree k k' body body' words words' fault (Fail t) st h b w = h Error t st (omega arith)
+replied-agree k k' body body' words words' fault (Body t) st h b w = b t
+replied-agree k k' body body' words words' fault (Words t) st h b w = w t
+replied-agree k k' body body' words words' fault Wait st h b w = h Error [] st (omega arith)
+replied-agree k k' body body' words words' fault (Stop e) st h b w = refl
+replied-agree k k' body body' words words' fault Unknown st h b w = h Error fault st (omega arith)
+replied-agree k k' body body' words words' fault Memory st h b w = refl
+
+-- what one more script does matters at a code that has a cost alone
+once_more-agree : (c : Code) (k k' : Next) (more more' : List ℕ → State → Tree) (t : List ℕ) (st : State) → AgreeAll st.left k k' → (0 < cost c → more t st ≡ more' t st) → once_more c more k t st ≡ once_more c more' k' t st
+once_more-agree Again k k' more more' t st h g = g (omega arith)
+once_more-agree AgainLater k k' more more' t st h g = g (omega arith)
+once_more-agree Ok k k' more more' t st h g = h Error t st (omega arith)
+once_more-agree Error k k' more more' t st h g = h Error t st (omega arith)
+once_more-agree Return k k' more more' t st h g = h Error t st (omega arith)
+once_more-agree Break k k' more more' t st h g = h Error t st (omega arith)
+once_more-agree Continue k k' more more' t st h g = h Error t st (omega arith)
+
+told_end-agree : (k k' : Next) (more more' : List ℕ → State → Tree) (c : Code) (v : List ℕ) (st : State) → AgreeAll st.left k k' → (0 < cost c → (t : List ℕ) (vars : Variables) → more t (record st { vars = vars }) ≡ more' t (record st { vars = vars })) → told_end k more c v st ≡ told_end k' more' c v st
+told_end-agree k k' more more' c v st h g =
+    ap (Ask (AfterBody c v st.vars) st.left) (fun_ext (λ r.
+    replied-agree k k' (once_more c more k) (once_more c more' k') (k Error) (k' Error) [] (step_of r) (record st { vars = vars_of r }) h
+    (λ t. once_more-agree c k k' more more' t (record st { vars = vars_of r }) h (λ p. g p t (vars_of r)))
+    (λ t. h Error t (record st { vars = vars_of r }) (omega arith))))
 
 module _ (ev : Eval) (bounded : IsBounded ev) where
   word-agree : (f : Fill) (k k' : Next) (go go' : List ℕ → State → Tree) (st : State) → Agree st.left k k' → AgreeOn st.left go go' → fill_word ev f k go st ≡ fill_word ev f k' go' st
@@ -345,16 +355,13 @@ module _ (ev : Eval) (bounded : IsBounded ev) where
 
   -- enough scripts of the host are enough
   after_body-agree : (n m : ℕ) (k k' : Next) (c : Code) (v : List ℕ) (st : State) → st.left + cost c ≤ n → st.left + cost c ≤ m → AgreeAll st.left k k' → after_body ev k n c v st ≡ after_body ev k' m c v st
-  after_body-agree zero zero k k' c v st l l' h =
-      ap (Ask (AfterBody c v st.vars) st.left) (fun_ext (λ r. after_script-agree c (step_of r) k k' (next_body ev k zero) (next_body ev k' zero) (record st { vars = vars_of r }) h (λ p t. refl)))
-  after_body-agree zero (suc m) k k' c v st l l' h =
-      ap (Ask (AfterBody c v st.vars) st.left) (fun_ext (λ r. after_script-agree c (step_of r) k k' (next_body ev k zero) (next_body ev k' (suc m)) (record st { vars = vars_of r }) h (λ p t. absurd (omega arith))))
-  after_body-agree (suc n) zero k k' c v st l l' h =
-      ap (Ask (AfterBody c v st.vars) st.left) (fun_ext (λ r. after_script-agree c (step_of r) k k' (next_body ev k (suc n)) (next_body ev k' zero) (record st { vars = vars_of r }) h (λ p t. absurd (omega arith))))
+  after_body-agree zero zero k k' c v st l l' h = told_end-agree k k' (next_body ev k zero) (next_body ev k' zero) c v st h (λ p t vars. refl)
+  after_body-agree zero (suc m) k k' c v st l l' h = told_end-agree k k' (next_body ev k zero) (next_body ev k' (suc m)) c v st h (λ p t vars. absurd (omega arith))
+  after_body-agree (suc n) zero k k' c v st l l' h = told_end-agree k k' (next_body ev k (suc n)) (next_body ev k' zero) c v st h (λ p t vars. absurd (omega arith))
   after_body-agree (suc n) (suc m) k k' c v st l l' h =
-      ap (Ask (AfterBody c v st.vars) st.left) (fun_ext (λ r. after_script-agree c (step_of r) k k' (next_body ev k (suc n)) (next_body ev k' (suc m)) (record st { vars = vars_of r }) h
-      (λ p t. bounded t (after_body ev k n) (after_body ev k' m) (record st { vars = vars_of r })
-      (λ c' v' st' d. after_body-agree n m k k' c' v' st' (omega arith) (omega arith) (λ c'' v'' st'' e. h c'' v'' st'' (omega arith))))))
+      told_end-agree k k' (next_body ev k (suc n)) (next_body ev k' (suc m)) c v st h
+      (λ p t vars. bounded t (after_body ev k n) (after_body ev k' m) (record st { vars = vars })
+      (λ c' v' st' d. after_body-agree n m k k' c' v' st' (omega arith) (omega arith) (λ c'' v'' st'' e. h c'' v'' st'' (omega arith))))
 
   host_body-agree : (text : List ℕ) (k k' : Next) (st : State) → AgreeAll st.left k k' → host_body ev k text st ≡ host_body ev k' text st
   host_body-agree text k k' st h =
@@ -371,40 +378,29 @@ module _ (ev : Eval) (bounded : IsBounded ev) where
     -- behind a script the host is told, and may ask for one more
     host_body_is : (text : List ℕ) (st : State) → host_body ev k text st ≡ one_body ev k (host_body ev k) text st
     host_body_is text st =
-        bounded text (after_body ev k st.left) (λ c v st. Ask (AfterBody c v st.vars) st.left (λ r. after_script_by c r k (host_body ev k) st)) st
-        (λ c v st' d. ap (Ask (AfterBody c v st'.vars) st'.left) (fun_ext (λ r. after_script-agree c (step_of r) k k (next_body ev k st.left) (host_body ev k) (record st' { vars = vars_of r }) (λ c' v' st'' e. refl)
-        (λ p t. next_body_is st.left t (record st' { vars = vars_of r }) (omega arith)))))
-
-  worded-agree : (s : HostStep) (k k' : Next) (st : State) → AgreeAll st.left k k' → worded ev s k st ≡ worded ev s k' st
-  worded-agree (Done c v) k k' st h = h c v st (omega arith)
-  worded-agree (Fail t) k k' st h = h Error t st (omega arith)
-  worded-agree (Body t) k k' st h = host_body-agree t k k' st h
-  worded-agree (Words t) k k' st h = h Error t st (omega arith)
-  worded-agree Wait k k' st h = h Error [] st (omega arith)
-  worded-agree (Stop n) k k' st h = refl
-  worded-agree Unknown k k' st h = h Error [] st (omega arith)
-  worded-agree Memory k k' st h = refl
+        bounded text (after_body ev k st.left) (told_end k (host_body ev k)) st
+        (λ c v st' d. told_end-agree k k (next_body ev k st.left) (host_body ev k) c v st' (λ c' v' st'' e. refl)
+        (λ p t vars. next_body_is st.left t (record st' { vars = vars }) (omega arith)))
 
   host_words-agree : (f : Option WordFault) (words : List (List ℕ)) (k k' : Next) (st : State) → AgreeAll st.left k k' → host_words ev f k words st ≡ host_words ev f k' words st
   host_words-agree (Some f) words k k' st h = h Error (word_fault f) st (omega arith)
   host_words-agree None words k k' st h =
-      ap (Ask (AfterWords words st.vars) st.left) (fun_ext (λ r. worded-agree (step_of r) k k' (record st { vars = vars_of r }) h))
+      ap (Ask (AfterWords words st.vars) st.left) (fun_ext (λ r.
+      replied-agree k k' (host_body ev k) (host_body ev k') (k Error) (k' Error) [] (step_of r) (record st { vars = vars_of r }) h
+      (λ t. host_body-agree t k k' (record st { vars = vars_of r }) h)
+      (λ t. h Error t (record st { vars = vars_of r }) (omega arith))))
 
-  begun-agree : (words : List (List ℕ)) (s : HostStep) (k k' : Next) (st : State) → AgreeAll st.left k k' → begun ev words s k st ≡ begun ev words s k' st
-  begun-agree words (Done c v) k k' st h = h c v st (omega arith)
-  begun-agree words (Fail t) k k' st h = h Error t st (omega arith)
-  begun-agree words (Body t) k k' st h = host_body-agree t k k' st h
-  begun-agree words (Words t) k k' st h =
+  words_in-agree : (t : List ℕ) (k k' : Next) (st : State) → AgreeAll st.left k k' → words_in ev k t st ≡ words_in ev k' t st
+  words_in-agree t k k' st h =
       words-agree ((all_words (commands t)).0) [] k k' (λ ws st. host_words ev ((all_words (commands t)).1) k ws st) (λ ws st. host_words ev ((all_words (commands t)).1) k' ws st) st (with_cost st.left k k' h)
       (λ ws st' l. host_words-agree ((all_words (commands t)).1) ws k k' st' (fewer_all st'.left st.left k k' l h))
-  begun-agree words Wait k k' st h = h Error [] st (omega arith)
-  begun-agree words (Stop n) k k' st h = refl
-  begun-agree words Unknown k k' st h = h Error (no_command words) st (omega arith)
-  begun-agree words Memory k k' st h = refl
 
   begin-agree : (words : List (List ℕ)) (k k' : Next) (st : State) → AgreeAll st.left k k' → begin ev words k st ≡ begin ev words k' st
   begin-agree words k k' st h =
-      ap (Ask (Begin words st.vars) st.left) (fun_ext (λ r. begun-agree words (step_of r) k k' (record st { vars = vars_of r }) h))
+      ap (Ask (Begin words st.vars) st.left) (fun_ext (λ r.
+      replied-agree k k' (host_body ev k) (host_body ev k') (words_in ev k) (words_in ev k') (no_command words) (step_of r) (record st { vars = vars_of r }) h
+      (λ t. host_body-agree t k k' (record st { vars = vars_of r }) h)
+      (λ t. words_in-agree t k k' (record st { vars = vars_of r }) h)))
 
   while-agree : (name : List ℕ) (args : List (List ℕ)) (k k' : Next) (st : State) → AgreeAll st.left k k' → while_command ev name args k st ≡ while_command ev name args k' st
   while-agree name [] k k' st h = h Error (wrong_args name) st (omega arith)

@@ -1,20 +1,20 @@
 -- Lists of replies that lead from one tree to another.
 use Rattle.std.proofs.Common.{◌≡◌, ℕ, List, [], ◌∷◌, ◌++◌, Result, Ok, Err, IfOk, true, false, refl, sym, ap, ◌∙◌, subst}
 use Rattle.tcl_host.specs.Calls.{Call, Reply}
-use Rattle.tcl_eval.specs.Tree.{Tree, follow, Leads}
-use Rattle.tcl_eval.specs.Asked.{EndsInWait, IsWait, WaitsAt, IsReply, IsOverOrAsking, PausesAt, IsAskingOnPause, OnPause}
+use Rattle.tcl_eval.specs.Tree.{Tree, Answers, follow, Leads}
+use Rattle.tcl_eval.specs.Asked.{EndsInWait, IsWait, WaitsAt, IsOverOrAsking, PausesAt, IsAskingOnPause, OnPause}
 use Rattle.tcl_eval.specs.declared.frame.Asked.{Asked}
 use Rattle.tcl_eval.specs.declared.frame.Mode.{Mode}
-use Rattle.tcl_eval.specs.declared.frame.Mode.TheVariants.{Give, Run, Begin, AfterWords, AfterBody, Define, Ended}
+use Rattle.tcl_eval.specs.declared.frame.Mode.TheVariants.{Give, Run, Call as CallHost, Define, Ended}
 
 -- the tree that is reached, by another name
 pub leads_along : {H : Type 0} (answers : H → Call → Reply → H → Type 0) (rs : List Reply) (tree : Tree) (h : H) (mid to : Tree) (h' : H) → Leads answers rs tree h mid h' → mid ≡ to → Leads answers rs tree h to h'
 leads_along answers rs tree h mid to h' l e = subst (λ (t : Tree). Leads answers rs tree h t h') e l
 
 -- one reply, to the call of what is next
-pub leads_reply : {H : Type 0} (answers : H → Call → Reply → H → Type 0) (rest : ℕ → Mode → Tree) (mode mode' : Mode) (left : ℕ) (h : H) (r : Reply) (to : Tree) (h' : H) → mode ≡ mode' → IsReply answers rest mode' h r h' → to ≡ follow (rest left mode') r → Leads answers (r ∷ []) (rest left mode) h to h'
-leads_reply answers rest mode mode' left h r to h' e a f =
-    subst (λ (m : Mode). Leads answers (r ∷ []) (rest left m) h to h') (sym e) (h', a left, (sym f, refl))
+pub leads_reply : {H : Type 0} (answers : H → Call → Reply → H → Type 0) (rest : Mode → Tree) (mode mode' : Mode) (h : H) (r : Reply) (to : Tree) (h' : H) → mode ≡ mode' → Answers answers (rest mode') h r h' → to ≡ follow (rest mode') r → Leads answers (r ∷ []) (rest mode) h to h'
+leads_reply answers rest mode mode' h r to h' e a f =
+    subst (λ (m : Mode). Leads answers (r ∷ []) (rest m) h to h') (sym e) (h', a, (sym f, refl))
 
 -- two lists of replies, one behind the other
 pub leads_append : {H : Type 0} (answers : H → Call → Reply → H → Type 0) (rs ss : List Reply) (tree : Tree) (h : H) (mid : Tree) (h' : H) (to : Tree) (h'' : H) → Leads answers rs tree h mid h' → Leads answers ss mid h' to h'' → Leads answers (rs ++ ss) tree h to h''
@@ -32,29 +32,15 @@ pub pauses_waiting : (mode : Mode) (r : Reply) → IsOverOrAsking mode → IsWai
 pauses_waiting (Ended end) r o e = tt
 pauses_waiting (Give c v) r o e = absurd o
 pauses_waiting (Run script depth) r o e = absurd o
-pauses_waiting (Begin words depth resumed) r o e = (e, o)
-pauses_waiting (AfterWords words depth resumed) r o e = (e, o)
-pauses_waiting (AfterBody c v bound depth resumed) r o e = (e, o)
+pauses_waiting (CallHost call depth resumed) r o e = (e, o)
 pauses_waiting (Define name formals body) r o e = absurd o
 
 pub pauses_append : (mode : Mode) (rs ss : List Reply) → PausesAt mode ss → PausesAt mode (rs ++ ss)
 pauses_append (Ended end) rs ss e = tt
 pauses_append (Give c v) rs ss e = (ends_in_wait-append rs ss e.0, e.1)
 pauses_append (Run script depth) rs ss e = (ends_in_wait-append rs ss e.0, e.1)
-pauses_append (Begin words depth resumed) rs ss e = (ends_in_wait-append rs ss e.0, e.1)
-pauses_append (AfterWords words depth resumed) rs ss e = (ends_in_wait-append rs ss e.0, e.1)
-pauses_append (AfterBody c v bound depth resumed) rs ss e = (ends_in_wait-append rs ss e.0, e.1)
+pauses_append (CallHost call depth resumed) rs ss e = (ends_in_wait-append rs ss e.0, e.1)
 pauses_append (Define name formals body) rs ss e = (ends_in_wait-append rs ss e.0, e.1)
-
--- what came of a call, where there is one reply to it
-pub leads_asked : {H E : Type 0} (answers : H → Call → Reply → H → Type 0) (rest : ℕ → Mode → Tree) (mode mode' : Mode) (left : ℕ) (to : Mode → Tree) (h h' : H) (result : Result Asked E)
-    → mode ≡ mode'
-    → IfOk result (λ a. (r : Reply) × IsReply answers rest mode' h r h' × (to a.mode ≡ follow (rest left mode') r) × WaitsAt a r)
-    → IfOk result (λ a. IsAskingOnPause a)
-    → IfOk result (λ a. (replies : List Reply) × Leads answers replies (rest left mode) h (to a.mode) h' × OnPause a replies)
-leads_asked answers rest mode mode' left to h h' (Ok a) e f g =
-    (f.0 ∷ [], leads_reply answers rest mode mode' left h f.0 (to a.mode) h' e f.1 f.2, λ p. pauses_waiting a.mode f.0 (g p) (f.3 p))
-leads_asked answers rest mode mode' left to h h' (Err e') e f g = tt
 
 -- what goes on doesn't pause
 pub pauses_never : (a : Asked) (mode : Mode) (rs : List Reply) → a ≡ record { mode = mode; paused = false } → OnPause a rs

@@ -18,7 +18,6 @@ use Rattle.tcl_eval.specs.declared.out.Leave.{Leave}
 use Rattle.tcl_eval.specs.declared.out.Exception.{Exception}
 use Rattle.tcl_eval.specs.declared.out.Exception.TheVariants as x
 use Rattle.tcl_eval.specs.declared.engine.Engine.{Engine}
-use Rattle.tcl_eval.specs.declared.meter.Meter.{Meter}
 use Rattle.tcl_eval.specs.declared.frame.Frame.{Frame}
 use Rattle.tcl_eval.specs.declared.frame.End.TheVariants.{StepLimit}
 use Rattle.tcl_eval.specs.Tree.{State, Tree, Over}
@@ -87,8 +86,8 @@ pub word_came : (r : Result (List ℕ) Leave) (st : State) (k : Next) → flow r
 word_came r st k = ap (λ (n : Next). flow r st n (at_ok k)) (any_code k)
 
 -- one part behind another
-pub spent_on : (a b c : Engine) (m n o : Meter) (paid : ℕ) → Spent a b m n 0 0 → Spent b c n o 0 paid → Spent a c m o 0 paid
-spent_on a b c m n o paid p q = record { kept = q.kept ∙ p.kept; down = omega (arith, p.down, q.down); bound = q.bound ∙ p.bound }
+pub spent_on : (a b c : Engine) (paid : ℕ) → Spent a b 0 0 → Spent b c 0 paid → Spent a c 0 paid
+spent_on a b c paid p q = record { kept = q.kept ∙ p.kept; less = omega (arith, p.less, q.less); down = omega (arith, p.down, q.down) }
 
 -- ---- conditions of `if`
 

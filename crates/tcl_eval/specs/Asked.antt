@@ -1,17 +1,19 @@
 -- What came of a call of the host.
-use Rattle.std.specs.Prelude.{◌≡◌, ℕ, suc, ◌<◌, List, [], ◌∷◌, true, false}
+use Rattle.std.specs.Prelude.{◌≡◌, ℕ, suc, ◌<◌, List, [], ◌∷◌, Bool, true, false, IsTrue}
 use Rattle.tcl_host.specs.declared.host.HostStep.TheVariants.{Wait}
 use Rattle.tcl_eval.specs.declared.frame.Asked.{Asked}
 use Rattle.tcl_eval.specs.declared.frame.Mode.{Mode}
-use Rattle.tcl_eval.specs.declared.frame.Mode.TheVariants.{Give, Run, Begin, AfterWords, AfterBody, Ended}
-use Rattle.tcl_host.specs.Calls.{Call, Reply, Stepped, Known}
-use Rattle.tcl_eval.specs.Tree.{Tree, Answers}
+use Rattle.tcl_eval.specs.declared.frame.Mode.TheVariants.{Give, Run, Call as CallHost, Ended}
+use Rattle.tcl_host.specs.Calls.{Reply, Stepped, Known}
 
 -- nothing is in hand for a frame, and no script is to be begun
+abbrev pub is_settled : Mode → Bool
+is_settled (Give c v) = false
+is_settled (Run script depth) = false
+is_settled _ = true
+
 abbrev pub IsSettled : Mode → Type 0
-IsSettled (Give c v) = ⊥
-IsSettled (Run script depth) = ⊥
-IsSettled _ = Unit {0}
+IsSettled mode = IsTrue (is_settled mode)
 
 abbrev pub IsWait : Reply → Type 0
 IsWait (Stepped step vars) = step ≡ Wait
@@ -23,10 +25,6 @@ WaitsAt a r = a.paused ≡ true → IsWait r
 abbrev pub GoesDown : Asked → ℕ → ℕ → Type 0
 GoesDown a new old = a.paused ≡ false → new < old
 
--- the host may give this reply to the call that is next, however many steps are left
-abbrev pub IsReply : {H : Type 0} → (H → Call → Reply → H → Type 0) → (ℕ → Mode → Tree) → Mode → H → Reply → H → Type 0
-IsReply answers rest mode old r new = (left : ℕ) → Answers answers (rest left mode) old r new
-
 -- the last reply is a `Wait`
 abbrev pub EndsInWait : List Reply → Type 0
 EndsInWait [] = ⊥
@@ -35,9 +33,7 @@ EndsInWait (r ∷ s ∷ rs) = EndsInWait (s ∷ rs)
 
 -- it waits in a call
 abbrev pub IsAsking : Mode → Type 0
-IsAsking (Begin words depth resumed) = Unit {0}
-IsAsking (AfterWords words depth resumed) = Unit {0}
-IsAsking (AfterBody c v bound depth resumed) = Unit {0}
+IsAsking (CallHost call depth resumed) = Unit {0}
 IsAsking _ = ⊥
 
 -- it is over, or it waits in a call and the last reply was a `Wait`

@@ -310,79 +310,61 @@ define name formals body k st = Ask (Knows name) st.left (λ r. defined name for
 
 -- ---- commands of the host
 
--- What a reply behind a script makes of the command. Only at two codes there may be one more script.
-abbrev pub after_script : Code → HostStep → Next → (List ℕ → State → Tree) → State → Tree
-after_script c (Done code v) k more st = k code v st
-after_script c (Fail text) k more st = k Error text st
-after_script Again (Body text) k more st = more text st
-after_script AgainLater (Body text) k more st = more text st
-after_script c (Body text) k more st = k Error text st
-after_script c (Words text) k more st = k Error text st
-after_script c Wait k more st = k Error [] st
-after_script c (Stop e) k more st = Over (Stopped e) st
-after_script c Unknown k more st = k Error [] st
-after_script c Memory k more st = Over NoMemory st
+-- What the host's reply to a call makes of the command: `body` is what a script does that it asks for, `words` what words do, and `fault` is the
+-- error of a command that it doesn't know.
+abbrev pub replied : Next → (List ℕ → State → Tree) → (List ℕ → State → Tree) → List ℕ → HostStep → State → Tree
+replied k body words fault (Done c v) st = k c v st
+replied k body words fault (Fail text) st = k Error text st
+replied k body words fault (Body text) st = body text st
+replied k body words fault (Words text) st = words text st
+replied k body words fault Wait st = k Error [] st
+replied k body words fault (Stop e) st = Over (Stopped e) st
+replied k body words fault Unknown st = k Error fault st
+replied k body words fault Memory st = Over NoMemory st
 
-abbrev pub after_script_by : Code → Reply → Next → (List ℕ → State → Tree) → State → Tree
-after_script_by c r k more st = after_script c (step_of r) k more (record st { vars = vars_of r })
+abbrev pub on_reply : Next → (List ℕ → State → Tree) → (List ℕ → State → Tree) → List ℕ → State → Reply → Tree
+on_reply k body words fault st r = replied k body words fault (step_of r) (record st { vars = vars_of r })
 
--- A script that the host asks for is this, with such a script as what comes again (`Unrolled`): the script, and behind it the host is told
--- how it ended, and may ask for one more.
+-- only at two codes the host may ask for one more script
+abbrev pub once_more : Code → (List ℕ → State → Tree) → Next → List ℕ → State → Tree
+once_more Again more k = more
+once_more AgainLater more k = more
+once_more c more k = k Error
+
+-- behind a script that the host asked for: it is told how that ended, and may ask for one more
+abbrev pub told_end : Next → (List ℕ → State → Tree) → Next
+told_end k more c v st = Ask (AfterBody c v st.vars) st.left (on_reply k (once_more c more k) (k Error) [] st)
+
+-- a script that the host asks for, with such a script as what comes again (`Unrolled`)
 abbrev pub one_body : Eval → Next → (List ℕ → State → Tree) → List ℕ → State → Tree
-one_body ev k again text st =
-    ev text (λ c v st. Ask (AfterBody c v st.vars) st.left (λ r. after_script_by c r k again st)) st
+one_body ev k again text st = ev text (told_end k again) st
 
 -- One more script of the host, and at most n behind it. Each is asked for at a code that took a step, so there are no more of them than steps
 -- are left.
 abbrev pub next_body : Eval → Next → ℕ → List ℕ → State → Tree
 next_body ev k zero text st = Over StepLimit st
-next_body ev k (suc n) text st =
-    ev text
-    (λ c v st. Ask (AfterBody c v st.vars) st.left (λ r. after_script_by c r k (next_body ev k n) st)) st
+next_body ev k (suc n) text st = ev text (told_end k (next_body ev k n)) st
 
 -- what follows a script that the host asked for, with at most n more of them
 abbrev pub after_body : Eval → Next → ℕ → Next
-after_body ev k n c v st = Ask (AfterBody c v st.vars) st.left (λ r. after_script_by c r k (next_body ev k n) st)
+after_body ev k n = told_end k (next_body ev k n)
 
 -- a script that the host asks for
 abbrev pub host_body : Eval → Next → List ℕ → State → Tree
 host_body ev k text st = ev text (after_body ev k st.left) st
 
--- what a reply to words that the host asked for makes of the command
-abbrev pub worded : Eval → HostStep → Next → State → Tree
-worded ev (Done c v) k st = k c v st
-worded ev (Fail text) k st = k Error text st
-worded ev (Body text) k st = host_body ev k text st
-worded ev (Words text) k st = k Error text st
-worded ev Wait k st = k Error [] st
-worded ev (Stop e) k st = Over (Stopped e) st
-worded ev Unknown k st = k Error [] st
-worded ev Memory k st = Over NoMemory st
-
-abbrev pub worded_by : Eval → Reply → Next → State → Tree
-worded_by ev r k st = worded ev (step_of r) k (record st { vars = vars_of r })
-
+-- words that the host asked for, once they are filled
 abbrev pub host_words : Eval → Option WordFault → Next → List (List ℕ) → State → Tree
 host_words ev (Some f) k words st = k Error (word_fault f) st
-host_words ev None k words st = Ask (AfterWords words st.vars) st.left (λ r. worded_by ev r k st)
+host_words ev None k words st = Ask (AfterWords words st.vars) st.left (on_reply k (host_body ev k) (k Error) [] st)
 
--- what a reply to a command that was begun makes of it
-abbrev pub begun : Eval → List (List ℕ) → HostStep → Next → State → Tree
-begun ev words (Done c v) k st = k c v st
-begun ev words (Fail text) k st = k Error text st
-begun ev words (Body text) k st = host_body ev k text st
-begun ev words (Words text) k st =
+-- a text whose words the host asks for
+abbrev pub words_in : Eval → Next → List ℕ → State → Tree
+words_in ev k text st =
     fill_words ev ((all_words (commands text)).0) [] k (λ ws st. host_words ev ((all_words (commands text)).1) k ws st) st
-begun ev words Wait k st = k Error [] st
-begun ev words (Stop e) k st = Over (Stopped e) st
-begun ev words Unknown k st = k Error (no_command words) st
-begun ev words Memory k st = Over NoMemory st
-
-abbrev pub begun_by : Eval → List (List ℕ) → Reply → Next → State → Tree
-begun_by ev words r k st = begun ev words (step_of r) k (record st { vars = vars_of r })
 
 abbrev pub begin : Eval → List (List ℕ) → Next → State → Tree
-begin ev words k st = Ask (Begin words st.vars) st.left (λ r. begun_by ev words r k st)
+begin ev words k st = Ask (Begin words st.vars) st.left (on_reply k (host_body ev k) (words_in ev k) (no_command words) st)
 
 -- ---- commands of the language
 

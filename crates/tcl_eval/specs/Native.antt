@@ -4,27 +4,20 @@ use Rattle.tcl_subst.specs.Entries.{find}
 use Rattle.tcl_commands.specs.declared.code.Code.{Code}
 use Rattle.tcl_commands.specs.declared.code.Code.TheVariants as code
 use Rattle.tcl_commands.specs.Groups.{Turns}
-use Rattle.tcl_eval.specs.declared.out.Stop.{Stop}
+use Rattle.tcl_eval.specs.declared.stop.Stop.{Stop}
 use Rattle.tcl_eval.specs.declared.out.Exception.{Exception}
 use Rattle.tcl_eval.specs.declared.out.Exception.TheVariants.{Error, Return, Break, Continue, Again, AgainLater}
 use Rattle.tcl_eval.specs.declared.out.Leave.{Leave}
 use Rattle.tcl_eval.specs.declared.out.Leave.TheVariants.{Gone, Stopped, Memory}
-use Rattle.tcl_eval.specs.declared.task.Task.{Task}
-use Rattle.tcl_eval.specs.declared.task.Task.TheVariants.{Done, Stand, Script as RunTask, Expr, Arms as IfTask, Loop as LoopTask, For as ForTask, Each as EachTask, Catch as CatchTask}
-use Rattle.tcl_eval.specs.declared.task.Entry.{Entry}
-use Rattle.tcl_eval.specs.declared.task.Entry.TheVariants.{Host, Body, Done as DoneEntry}
 use Rattle.tcl_eval.specs.declared.frame.Frame.{Frame}
 use Rattle.tcl_eval.specs.declared.frame.Frame.TheVariants.{Each as EachFrame}
 use Rattle.tcl_eval.specs.declared.frame.End.TheVariants.{Memory as NoMemory}
 use Rattle.tcl_eval.specs.declared.frame.Onward.TheVariants.{Start}
 use Rattle.tcl_eval.specs.declared.frame.Turning.{Turning}
 use Rattle.tcl_eval.specs.declared.engine.Engine.{Engine}
-use Rattle.tcl_eval.specs.declared.meter.Meter.{Meter}
-use Rattle.tcl_eval.specs.Steps.{left_of}
 use Rattle.tcl_eval.specs.Tree.{State, Tree, Over}
 use Rattle.tcl_eval.specs.Meaning.{Eval, Next, on_ok, tested, eval, expression, arms, each, caught, begin, called_or_begun, scope_end}
-use Rattle.tcl_eval.specs.Standings.{mode_of}
-use Rattle.tcl_eval.specs.Rest.{frame_rest, onward_rest, mode_rest, looped, state_of}
+use Rattle.tcl_eval.specs.Rest.{frame_rest, onward_rest, mode_rest, looped, now_of}
 use Rattle.tcl_eval.specs.Potential.{again, bodies, credit}
 
 -- frames that were laid from the innermost on: the outermost, which was laid last, comes first
@@ -33,7 +26,7 @@ laid_rest [] k = k
 laid_rest (f ∷ fs) k = laid_rest fs (frame_rest f k)
 
 unfoldable pub stop_rest : Stop → Next → State → Tree
-stop_rest s k st = mode_rest (mode_of s.at) (laid_rest s.laid k) st
+stop_rest s k st = mode_rest s.at (laid_rest s.laid k) st
 
 -- ---- what came of a function that evaluates
 
@@ -74,32 +67,27 @@ Known (Fine a) = Unit {0}
 Known (Err l) = Knows l
 
 -- Where memory was enough, a part of a command came to this, whatever follows the command; `go` follows the part's value.
-abbrev pub Comes : {A : Type 0} → Engine → Meter → Result A Leave → Engine → Meter → (Next → A → State → Tree) → (Next → State → Tree) → Type 0
-Comes old before result new after go what =
-    Known result → (k : Next) → flow result (state_of new (left_of after)) k (go k) ≡ what k (state_of old (left_of before))
+abbrev pub Comes : {A : Type 0} → Engine → Result A Leave → Engine → (Next → A → State → Tree) → (Next → State → Tree) → Type 0
+Comes old result new go what =
+    Known result → (k : Next) → flow result (now_of new) k (go k) ≡ what k (now_of old)
 
 -- a script or a command came to this
-abbrev pub CameIs : Engine → Meter → Result (List ℕ) Leave → Engine → Meter → (Next → State → Tree) → Type 0
-CameIs old before result new after what =
-    Known result → (k : Next) → flow result (state_of new (left_of after)) k (at_ok k) ≡ what k (state_of old (left_of before))
-
--- the same, however many steps are left
-abbrev pub AnyCameIs : Engine → Result (List ℕ) Leave → Engine → (Next → State → Tree) → Type 0
-AnyCameIs old result new what =
-    Known result → (left : ℕ) (k : Next) → flow result (state_of new left) k (at_ok k) ≡ what k (state_of old left)
+abbrev pub CameIs : Engine → Result (List ℕ) Leave → Engine → (Next → State → Tree) → Type 0
+CameIs old result new what =
+    Known result → (k : Next) → flow result (now_of new) k (at_ok k) ≡ what k (now_of old)
 
 -- a value within a command came to this, whatever follows the value and the command
-abbrev pub WordIs : Engine → Meter → Result (List ℕ) Leave → Engine → Meter → (Next → (List ℕ → State → Tree) → State → Tree) → Type 0
-WordIs old before result new after what =
-    Known result → (k : Next) (go : List ℕ → State → Tree) → flow result (state_of new (left_of after)) (on_ok go k) go ≡ what k go (state_of old (left_of before))
+abbrev pub WordIs : Engine → Result (List ℕ) Leave → Engine → (Next → (List ℕ → State → Tree) → State → Tree) → Type 0
+WordIs old result new what =
+    Known result → (k : Next) (go : List ℕ → State → Tree) → flow result (now_of new) (on_ok go k) go ≡ what k go (now_of old)
 
 abbrev pub on_tested : (Bool → State → Tree) → Next → Next
 on_tested go k = on_ok (λ v st. tested v k go st) k
 
 -- the same, of a condition
-abbrev pub TruthIs : Engine → Meter → Result Bool Leave → Engine → Meter → (Next → (Bool → State → Tree) → State → Tree) → Type 0
-TruthIs old before result new after what =
-    Known result → (k : Next) (go : Bool → State → Tree) → flow result (state_of new (left_of after)) (on_tested go k) go ≡ what k go (state_of old (left_of before))
+abbrev pub TruthIs : Engine → Result Bool Leave → Engine → (Next → (Bool → State → Tree) → State → Tree) → Type 0
+TruthIs old result new what =
+    Known result → (k : Next) (go : Bool → State → Tree) → flow result (now_of new) (on_tested go k) go ≡ what k go (now_of old)
 
 -- what follows a part that has no value
 abbrev pub then_so : {A : Type 0} → (Next → State → Tree) → Next → A → State → Tree
@@ -120,33 +108,20 @@ abbrev pub each_on : ℕ → List ℕ → Next → Option Turns → State → Tr
 each_on depth body k (Some groups) st = each (eval depth) groups.names groups.left body k st
 each_on depth body k None st = k code.Ok [] st
 
--- what a command of the language still has to do
-abbrev pub task_rest : ℕ → Task → Next → State → Tree
-task_rest depth (Done c v) k st = k c v st
-task_rest depth (Stand at) k st = mode_rest (mode_of at) k st
-task_rest depth (RunTask script) k st = eval depth script k st
-task_rest depth (Expr t) k st = expression (eval depth) t k (at_ok k) st
-task_rest depth (IfTask a) k st = arms (eval depth) a.0 a.1 k st
-task_rest depth (LoopTask t) k st = looped depth t k st
-task_rest depth (ForTask script test next body) k st = eval depth script (on_ok (onward_rest (Start test next body depth) k) k) st
-task_rest depth (EachTask groups body) k st = each (eval depth) groups.names groups.left body k st
-task_rest depth (CatchTask name script) k st = eval depth script (caught name k) st
-
 -- a command by its words that the language doesn't have
 abbrev pub other_command : Eval → List (List ℕ) → Next → State → Tree
-other_command ev [] k st = at_ok k [] st
+other_command ev [] k st = begin ev [] k st
 other_command ev (name ∷ args) k st = called_or_begun ev (find name st.procs) name args k st
 
--- such a command, where it is known who carries it out
-abbrev pub entry_rest : Eval → List (List ℕ) → Entry → Next → State → Tree
-entry_rest ev words Host k st = begin ev words k st
-entry_rest ev words (Body script) k st = ev script (scope_end words k) st
-entry_rest ev words (DoneEntry c v) k st = k c v st
+-- such a command: the body of a procedure whose scope was entered, or a command of the host
+abbrev pub entered_rest : Eval → List (List ℕ) → Next → Option (List ℕ) → State → Tree
+entered_rest ev words k None st = begin ev words k st
+entered_rest ev words k (Some script) st = ev script (scope_end words k) st
 
 -- ---- what is paid for what is left
 
 abbrev pub stop_weight : Stop → ℕ
-stop_weight s = bodies s.laid + credit (mode_of s.at)
+stop_weight s = bodies s.laid + credit s.at
 
 abbrev pub leave_weight : Leave → ℕ
 leave_weight (Gone x v) = again (code_of x)
@@ -158,13 +133,8 @@ abbrev pub owed : {A : Type 0} → ℕ → Result A Leave → ℕ
 owed n (Fine a) = n
 owed n (Err l) = leave_weight l
 
-abbrev pub task_weight : Task → ℕ
-task_weight (Done c v) = again c
-task_weight (Stand at) = credit (mode_of at)
-task_weight _ = 0
-
 -- The frames below are as they were; the steps that are left and what is owed are no more than the steps that were left and what was paid.
-pub record Spent (old new : Engine) (before after : Meter) (paid owed : ℕ) : Type 0 where
+pub record Spent (old new : Engine) (paid owed : ℕ) : Type 0 where
   pub kept : new.stack ≡ old.stack
-  pub down : 8 * left_of after + owed ≤ 8 * left_of before + paid
-  pub bound : after.bound ≡ before.bound
+  pub less : new.left ≤ old.left
+  pub down : 8 * new.left + owed ≤ 8 * old.left + paid

@@ -10,7 +10,9 @@ use Rattle.tcl_eval.specs.declared.frame.Frame.TheVariants.{Onward as OnwardFram
 use Rattle.tcl_eval.specs.declared.frame.Onward.{Onward}
 use Rattle.tcl_eval.specs.declared.frame.Onward.TheVariants.{Fill}
 use Rattle.tcl_eval.specs.declared.frame.Mode.{Mode}
-use Rattle.tcl_eval.specs.declared.frame.Mode.TheVariants.{Give, Run, Begin, AfterWords, AfterBody, Define, Ended}
+use Rattle.tcl_eval.specs.declared.frame.Call.{Call}
+use Rattle.tcl_eval.specs.declared.frame.Call.TheVariants.{Begin, AfterWords, AfterBody}
+use Rattle.tcl_eval.specs.declared.frame.Mode.TheVariants.{Give, Run, Call as CallHost, Define, Ended}
 
 -- a code at which a host may ask for one more script
 abbrev pub again : Code → ℕ
@@ -40,15 +42,22 @@ abbrev pub bodies : List Frame → ℕ
 bodies [] = 0
 bodies (f ∷ fs) = frame_weight f + bodies fs
 
+-- what a reply may ask for
+abbrev pub asks : Call → ℕ
+asks (Begin words) = 3
+asks (AfterWords words) = 2
+asks (AfterBody c v bound) = again c
+
+abbrev pub call_credit : Call → ℕ
+call_credit call = 3 + asks call
+
 abbrev pub credit : Mode → ℕ
 credit (Give c v) = again c
 credit (Run script depth) = 1
-credit (Begin words depth resumed) = 6
-credit (AfterWords words depth resumed) = 5
-credit (AfterBody c v bound depth resumed) = 3 + again c
+credit (CallHost call depth resumed) = call_credit call
 credit (Define name formals body) = 6
 credit (Ended end) = 0
 
 -- falls with each step and each reply
-abbrev pub potential : Engine → ℕ → Mode → ℕ
-potential m left mode = 8 * left + bodies m.stack + credit mode
+abbrev pub potential : Engine → Mode → ℕ
+potential m mode = 8 * m.left + bodies m.stack + credit mode

@@ -4,7 +4,7 @@ use Rattle.tcl_subst.specs.Recipes.{given}
 use Rattle.tcl_subst.specs.Rests.{rest}
 use Rattle.tcl_subst.specs.Variables.{Variables}
 use Rattle.tcl_commands.specs.declared.code.Code.{Code}
-use Rattle.tcl_commands.specs.declared.code.Code.TheVariants.{Ok}
+use Rattle.tcl_commands.specs.declared.code.Code.TheVariants.{Ok, Error}
 use Rattle.tcl_commands.specs.Arms.{Arms}
 use Rattle.tcl_scripts.specs.Commands.{commands}
 use Rattle.tcl_eval.specs.declared.frame.End.TheVariants.{Finished}
@@ -16,16 +16,16 @@ use Rattle.tcl_eval.specs.declared.frame.Frame.TheVariants.{Sequence, Onward as 
 use Rattle.tcl_eval.specs.declared.frame.Onward.{Onward}
 use Rattle.tcl_eval.specs.declared.frame.Onward.TheVariants.{Word, Fill, Operand, Test, Arm, Next as NextTurn, Start}
 use Rattle.tcl_eval.specs.declared.frame.Mode.{Mode}
-use Rattle.tcl_eval.specs.declared.frame.Mode.TheVariants.{Give, Run, Begin, AfterWords, AfterBody, Define, Ended}
+use Rattle.tcl_eval.specs.declared.frame.Call.{Call}
+use Rattle.tcl_eval.specs.declared.frame.Call.TheVariants.{Begin, AfterWords, AfterBody}
+use Rattle.tcl_eval.specs.declared.frame.Mode.TheVariants.{Give, Run, Call as CallHost, Define, Ended}
 use Rattle.tcl_eval.specs.declared.engine.Engine.{Engine}
 use Rattle.tcl_eval.specs.declared.trail.Origin.TheVariants as origin
-use Rattle.tcl_eval.specs.declared.meter.Meter.{Meter}
 use Rattle.tcl_eval.specs.Evaluated.{with_operand}
 use Rattle.tcl_eval.specs.Worth.{worth}
-use Rattle.tcl_eval.specs.Steps.{left_of}
-use Rattle.tcl_host.specs.Calls.{Call, Begin as BeginCall, AfterWords as WordsCall, AfterBody as AfterCall, Knows, Resume, known_of}
+use Rattle.tcl_host.specs.Calls.{Call as HostCall, Begin as BeginCall, AfterWords as WordsCall, AfterBody as AfterCall, Knows, Resume, Reply, known_of}
 use Rattle.tcl_eval.specs.Tree.{State, Tree, Over, Ask}
-use Rattle.tcl_eval.specs.Meaning.{Next, noting, on_ok, on_said, tested, turn_end, stepped, fill_word, fill_words, spread, tree_of, arms, decided, advanced, turned, turns, loop, each, caught, scope_end, defined, after_script_by, next_body, after_body, worded_by, host_words, begun_by, invoke, sequence, eval}
+use Rattle.tcl_eval.specs.Meaning.{Eval, Next, noting, on_ok, on_said, tested, turn_end, stepped, fill_word, fill_words, spread, tree_of, arms, decided, advanced, turned, turns, loop, each, caught, scope_end, defined, replied, on_reply, once_more, next_body, after_body, host_body, host_words, words_in, no_command, invoke, sequence, eval}
 
 -- what follows the words
 abbrev pub then_rest : ℕ → Then → Next → List (List ℕ) → State → Tree
@@ -72,43 +72,54 @@ abbrev pub frames_rest : List Frame → Next
 frames_rest [] c v st = Over (Finished c v) st
 frames_rest (f ∷ fs) c v st = frame_rest f (frames_rest fs) c v st
 
-abbrev pub begin_call : Bool → List (List ℕ) → Variables → Call
-begin_call true words vars = Resume vars
-begin_call false words vars = BeginCall words vars
+-- the call of the host, or that it goes on with it
+abbrev pub host_call : Bool → Call → Variables → HostCall
+host_call true call vars = Resume vars
+host_call false (Begin words) vars = BeginCall words vars
+host_call false (AfterWords words) vars = WordsCall words vars
+host_call false (AfterBody c v bound) vars = AfterCall c v vars
 
-abbrev pub words_call : Bool → List (List ℕ) → Variables → Call
-words_call true words vars = Resume vars
-words_call false words vars = WordsCall words vars
+-- what a script does that the host asks for when it replies to a call
+abbrev pub body_for : Eval → Call → Next → List ℕ → State → Tree
+body_for ev (Begin words) k = host_body ev k
+body_for ev (AfterWords words) k = host_body ev k
+body_for ev (AfterBody c v bound) k = once_more c (next_body ev k bound) k
 
-abbrev pub after_call : Bool → Code → List ℕ → Variables → Call
-after_call true c v vars = Resume vars
-after_call false c v vars = AfterCall c v vars
+-- what words do that it asks for
+abbrev pub words_for : Eval → Call → Next → List ℕ → State → Tree
+words_for ev (Begin words) k = words_in ev k
+words_for ev (AfterWords words) k = k Error
+words_for ev (AfterBody c v bound) k = k Error
+
+-- the error of a command that it doesn't know
+abbrev pub unknown_for : Call → List ℕ
+unknown_for (Begin words) = no_command words
+unknown_for (AfterWords words) = []
+unknown_for (AfterBody c v bound) = []
 
 abbrev pub mode_rest : Mode → Next → State → Tree
 mode_rest (Give c v) k st = k c v st
 mode_rest (Run script depth) k st = eval depth script k st
-mode_rest (Begin words depth resumed) k st =
-    Ask (begin_call resumed words st.vars) st.left (λ r. begun_by (eval depth) words r k st)
-mode_rest (AfterWords words depth resumed) k st =
-    Ask (words_call resumed words st.vars) st.left (λ r. worded_by (eval depth) r k st)
-mode_rest (AfterBody c v bound depth resumed) k st =
-    Ask (after_call resumed c v st.vars) st.left (λ r. after_script_by c r k (next_body (eval depth) k bound) st)
+mode_rest (CallHost call depth resumed) k st =
+    Ask (host_call resumed call st.vars) st.left
+    (on_reply k (body_for (eval depth) call k) (words_for (eval depth) call k) (unknown_for call) st)
 mode_rest (Define name formals body) k st = Ask (Knows name) st.left (λ r. defined name formals body (known_of r) k st)
 mode_rest (Ended end) k st = Over end st
 
 abbrev pub state_of : Engine → ℕ → State
 state_of m left = record { vars = m.vars; procs = m.procs; left = left; trail = m.trail }
 
--- what is left of a run, where the meter has so many steps left and this is next
+-- what is left of a run, where so many steps are left and this is next
 abbrev pub engine_rest : Engine → ℕ → Mode → Tree
 engine_rest m left mode = mode_rest mode (frames_rest m.stack) (state_of m left)
 
--- where memory was enough, what is left of the run is this, before what the old frames do
-abbrev pub RestIs : {E : Type 0} → Engine → Meter → Result Mode E → Engine → Meter → (Next → State → Tree) → Type 0
-RestIs old before result new after what =
-    IfOk result (λ mode. engine_rest new (left_of after) mode ≡ what (frames_rest old.stack) (state_of old (left_of before)))
+-- the state that a run has come to, and what is left of it
+abbrev pub now_of : Engine → State
+now_of m = state_of m m.left
 
--- the same, however many steps are left
-abbrev pub AnyRestIs : {E : Type 0} → Engine → Result Mode E → Engine → (Next → State → Tree) → Type 0
-AnyRestIs old result new what =
-    IfOk result (λ mode. (left : ℕ) → engine_rest new left mode ≡ what (frames_rest old.stack) (state_of old left))
+abbrev pub rest_of : Engine → Mode → Tree
+rest_of m mode = engine_rest m m.left mode
+
+-- where memory was enough, what is left of the run is this, before what the old frames do
+abbrev pub RestIs : {E : Type 0} → Engine → Result Mode E → Engine → (Next → State → Tree) → Type 0
+RestIs old result new what = IfOk result (λ mode. rest_of new mode ≡ what (frames_rest old.stack) (now_of old))

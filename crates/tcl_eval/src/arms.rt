@@ -5,7 +5,6 @@ ghost use Rattle.tcl_eval.specs.Native.{CameIs, Spent, owed};
 
 use crate::engine::Engine;
 use crate::frame::Onward;
-use crate::meter::Meter;
 use crate::out::Leave;
 use crate::stops::onward_below;
 use tcl_commands::Arms;
@@ -15,22 +14,17 @@ impl Engine {
     /// Evaluates the body of the first condition that holds, or the one behind `else`.
     #[cycle(native)]
     #[tactic(auto, unfolding(crate::specs::Rest::onward_rest))]
-    pub(crate) fn choose(
-        &mut self,
-        meter: &mut Meter,
-        arms: Arms,
-        depth: u32,
-    ) -> Result<Value, Leave>
-        ensures measures { Spent self.old self.new meter.old meter.new 0 (owed 0 result) }
-        ensures rest { CameIs self.old meter.old result self.new meter.new (λ k st. arms_of (eval depth) arms.0 arms.1 k st) }
+    pub(crate) fn choose(&mut self, arms: Arms, depth: u32) -> Result<Value, Leave>
+        ensures measures { Spent self.old self.new 0 (owed 0 result) }
+        ensures rest { CameIs self.old result self.new (λ k st. arms_of (eval depth) arms.0 arms.1 k st) }
     {
         let mut left = arms;
         'arms: loop {
             let Some((test, body)) = left.take() else {
-                return self.otherwise(meter, left, depth);
+                return self.otherwise(left, depth);
             };
-            match self.text_truth(meter, &test, depth) {
-                Ok(true) => return self.text(meter, &body, depth),
+            match self.text_truth(&test, depth) {
+                Ok(true) => return self.text(&body, depth),
                 Ok(false) => {}
                 Err(leave) => {
                     let arms = left;
@@ -42,13 +36,13 @@ impl Engine {
 
     /// Evaluates the body behind `else`, where there is one.
     #[cycle(native)]
-    fn otherwise(&mut self, meter: &mut Meter, arms: Arms, depth: u32) -> Result<Value, Leave>
-        ensures measures { Spent self.old self.new meter.old meter.new 0 (owed 0 result) }
-        ensures rest { CameIs self.old meter.old result self.new meter.new (λ k st. otherwise_of (eval depth) arms.1 k st) }
+    fn otherwise(&mut self, arms: Arms, depth: u32) -> Result<Value, Leave>
+        ensures measures { Spent self.old self.new 0 (owed 0 result) }
+        ensures rest { CameIs self.old result self.new (λ k st. otherwise_of (eval depth) arms.1 k st) }
     {
         match arms.otherwise() {
             None => Ok(Value::new(self.alloc)),
-            Some(body) => self.text(meter, &body, depth),
+            Some(body) => self.text(&body, depth),
         }
     }
 }

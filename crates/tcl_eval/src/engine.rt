@@ -1,6 +1,7 @@
 //! What a run keeps.
 
-ghost use Rattle.std.specs.Prelude.{◌≡◌, IfOk};
+ghost use Rattle.std.specs.Prelude.{◌≡◌, ◌+◌, IfOk};
+ghost use Rattle.std.specs.Bool.{OnTrue, OnFalse};
 
 use crate::frame::Frame;
 use crate::procedure::Procedure;
@@ -26,9 +27,23 @@ pub struct Engine {
     pub(crate) trail: Trail,
     /// What was read and may come again.
     pub(crate) read: ReadTexts,
+    /// The steps that are left.
+    pub(crate) left: u64,
 }
 
 impl Engine {
+    /// Begins a step where one is left. Returns whether one was.
+    pub(crate) fn begin(&mut self) -> bool
+        ensures begun { OnTrue result (self.new ≡ record self.old { left = self.new.left } × (self.old.left ≡ self.new.left + 1)) }
+        ensures spent { OnFalse result ((self.old.left ≡ 0) × (self.new ≡ self.old)) }
+    {
+        if self.left == 0 {
+            return false;
+        }
+        self.left -= 1;
+        true
+    }
+
     /// A value of these bytes.
     pub(crate) fn value(&self, bytes: &[u8]) -> Result<Value, AllocError>
         ensures { IfOk result (λ v. v ≡ bytes.now) }

@@ -1,10 +1,11 @@
 //! How expressions are evaluated.
 
 ghost use Rattle.std.specs.Prelude.{◌≡◌, ℕ, ◌≤◌, Bool, List, [], IfOk};
-ghost use Rattle.tcl_commands.specs.Says.{Says};
+ghost use Rattle.tcl_expr.specs.Tree.{Tree as Expression};
 ghost use Rattle.tcl_commands.specs.Texts.{expr_fault};
 ghost use Rattle.tcl_eval.specs.Advanced.{begun_fill};
 ghost use Rattle.tcl_eval.specs.Meaning.{Next, Eval, eval, fill_word, on_ok, on_said, tree_of, expression, condition, tested};
+ghost use Rattle.tcl_eval.specs.Rest.{now_of};
 ghost use Rattle.tcl_eval.specs.Worth.{worth};
 ghost use Rattle.tcl_eval.specs.Native.{CameIs, Known, Spent, TruthIs, WordIs, at_ok, flow, owed};
 ghost use Rattle.tcl_eval.specs.Tree.{State, Tree};
@@ -14,14 +15,12 @@ use crate::begun::Begun;
 use crate::engine::Engine;
 use crate::evaluation::{Evaluation, Test};
 use crate::frame::Onward;
-use crate::meter::Meter;
 use crate::numbers::{number_of, truth_by_numbers};
 use crate::out::{Exception, Leave};
-use crate::read_texts::ReadTexts;
 use crate::stops::onward_below;
 use crate::words::unfilled;
 use std::alloc::{AllocError, Global};
-use tcl_commands::{Complaint, expected_number, expr_fault, said};
+use tcl_commands::{expected_number, expr_fault};
 use tcl_expr::{ExprFault, operands_are_bounded, read_truth, write_number};
 use tcl_subst::FillStep;
 use tcl_values::Value;
@@ -30,14 +29,9 @@ impl Engine {
     /// Evaluates an expression on.
     #[cycle(native)]
     #[inline(never)]
-    pub(crate) fn worth(
-        &mut self,
-        meter: &mut Meter,
-        first: Evaluation,
-        depth: u32,
-    ) -> Result<Value, Leave>
-        ensures measures { Spent self.old self.new meter.old meter.new 0 (owed 0 result) }
-        ensures rest { WordIs self.old meter.old result self.new meter.new (λ k go st. worth (eval depth) first k go st) }
+    pub(crate) fn worth(&mut self, first: Evaluation, depth: u32) -> Result<Value, Leave>
+        ensures measures { Spent self.old self.new 0 (owed 0 result) }
+        ensures rest { WordIs self.old result self.new (λ k go st. worth (eval depth) first k go st) }
     {
         operands_are_bounded();
         let mut evaluation = first;
@@ -48,7 +42,7 @@ impl Engine {
                     let text = fault_text(self.alloc, &fault)?;
                     return Err(Leave::Gone(Exception::Error, text));
                 }
-                Advance::Operand(begun) => match self.operand(meter, begun, depth) {
+                Advance::Operand(begun) => match self.operand(begun, depth) {
                     Ok(value) => evaluation.give(value)?,
                     Err(leave) => {
                         return Err(onward_below(leave, Onward::Operand { evaluation, depth }));
@@ -60,16 +54,16 @@ impl Engine {
 
     /// Fills an operand on.
     #[cycle(native)]
-    fn operand(&mut self, meter: &mut Meter, begun: Begun, depth: u32) -> Result<Value, Leave>
-        ensures measures { Spent self.old self.new meter.old meter.new 0 (owed 0 result) }
-        ensures rest { WordIs self.old meter.old result self.new meter.new (λ k go st. fill_word (eval depth) (begun_fill begun) k go st) }
+    fn operand(&mut self, begun: Begun, depth: u32) -> Result<Value, Leave>
+        ensures measures { Spent self.old self.new 0 (owed 0 result) }
+        ensures rest { WordIs self.old result self.new (λ k go st. fill_word (eval depth) (begun_fill begun) k go st) }
     {
         match begun {
             Begun::Full(value) => Ok(value),
-            Begun::Alone(script) => self.alone_script(meter, &script, depth),
+            Begun::Alone(script) => self.alone_script(&script, depth),
             Begun::Script(filler, number) => {
                 let filler = Box::into_inner(filler);
-                self.fill_on(meter, filler, FillStep::NeedScript(number), depth)
+                self.fill_on(filler, FillStep::NeedScript(number), depth)
             }
             Begun::Failed(filler, fault) => {
                 let text = unfilled(self.alloc, &filler, fault)?;
@@ -80,49 +74,57 @@ impl Engine {
 
     /// Whether a condition holds.
     #[cycle(native)]
-    pub(crate) fn truth(&mut self, meter: &mut Meter, test: Test, depth: u32) -> Result<bool, Leave>
-        ensures measures { Spent self.old self.new meter.old meter.new 0 (owed 0 result) }
-        ensures rest { TruthIs self.old meter.old result self.new meter.new (λ k go st. condition (eval depth) test k go st) }
+    pub(crate) fn truth(&mut self, test: Test, depth: u32) -> Result<bool, Leave>
+        ensures measures { Spent self.old self.new 0 (owed 0 result) }
+        ensures rest { TruthIs self.old result self.new (λ k go st. condition (eval depth) test k go st) }
     {
         if let Some(holds) = truth_by_numbers(self.alloc, &test, &self.vars) {
             return Ok(holds);
         }
-        let value = self.worth(meter, Evaluation::new(self.alloc, test), depth)?;
+        let value = self.worth(Evaluation::new(self.alloc, test), depth)?;
         truth_of(self.alloc, &value)
     }
 
     /// Whether the condition that a text is holds.
     #[cycle(native)]
-    pub(crate) fn text_truth(
-        &mut self,
-        meter: &mut Meter,
-        text: &Value,
-        depth: u32,
-    ) -> Result<bool, Leave>
-        ensures measures { Spent self.old self.new meter.old meter.new 0 (owed 0 result) }
-        ensures rest { TruthIs self.old meter.old result self.new meter.new (λ k go st. on_said (tree_of text.now) k (λ t st. condition (eval depth) t k go st) st) }
+    pub(crate) fn text_truth(&mut self, text: &Value, depth: u32) -> Result<bool, Leave>
+        ensures measures { Spent self.old self.new 0 (owed 0 result) }
+        ensures rest { TruthIs self.old result self.new (λ k go st. on_said (tree_of text.now) k (λ t st. condition (eval depth) t k go st) st) }
     {
-        match said(self.alloc, read_test(&mut self.read, self.alloc, text))? {
-            Ok(test) => self.truth(meter, test, depth),
-            Err(text) => Err(Leave::Gone(Exception::Error, text)),
+        match self.test(text) {
+            Ok(test) => self.truth(test, depth),
+            Err(leave) => Err(leave),
+        }
+    }
+
+    /// The expression that a text is.
+    pub(crate) fn test(&mut self, text: &Value) -> Result<Test, Leave>
+        ensures measures { Spent self.old self.new 0 (owed 0 result) }
+        ensures same { now_of self.new ≡ now_of self.old }
+        ensures rest { Known result → (k : Next) (go : Expression → State → Tree) (st : State) → flow result st k go ≡ on_said (tree_of text.now) k go st }
+        ensures within { Known result → (k : Next) (on : List ℕ → State → Tree) (go : Expression → State → Tree) (st : State) → flow result st (on_ok on k) go ≡ on_said (tree_of text.now) k go st }
+    {
+        match self.read.test(self.alloc, text) {
+            Ok(test) => Ok(test),
+            Err(ExprFault::Memory) => Err(Leave::Memory),
+            Err(fault) => {
+                let text = expr_fault(self.alloc, text.as_slice(), &fault)?;
+                let text = Value::from_text(self.alloc, text)?;
+                Err(Leave::Gone(Exception::Error, text))
+            }
         }
     }
 
     /// The value of an expression, as a command's.
     #[cycle(native)]
-    pub(crate) fn result(
-        &mut self,
-        meter: &mut Meter,
-        test: Test,
-        depth: u32,
-    ) -> Result<Value, Leave>
-        ensures measures { Spent self.old self.new meter.old meter.new 0 (owed 0 result) }
-        ensures rest { CameIs self.old meter.old result self.new meter.new (λ k st. expression (eval depth) test k (at_ok k) st) }
+    pub(crate) fn result(&mut self, test: Test, depth: u32) -> Result<Value, Leave>
+        ensures measures { Spent self.old self.new 0 (owed 0 result) }
+        ensures rest { CameIs self.old result self.new (λ k st. expression (eval depth) test k (at_ok k) st) }
     {
         if let Some(number) = number_of(self.alloc, &test, &self.vars) {
             return Ok(write_number(self.alloc, number)?);
         }
-        self.worth(meter, Evaluation::new(self.alloc, test), depth)
+        self.worth(Evaluation::new(self.alloc, test), depth)
     }
 }
 
@@ -147,19 +149,4 @@ fn fault_text(alloc: Global, fault: &ExprFault) -> Result<Value, AllocError>
     ensures { IfOk result (λ text. text ≡ expr_fault [] fault.now) }
 {
     Value::from_text(alloc, expr_fault(alloc, &[], fault)?)
-}
-
-/// The expression that a text is, or the text of its fault.
-pub(crate) fn read_test(
-    read: &mut ReadTexts,
-    alloc: Global,
-    text: &Value,
-) -> Result<Test, Complaint>
-    ensures { Says result (tree_of text.now) }
-{
-    match read.test(alloc, text) {
-        Ok(test) => Ok(test),
-        Err(ExprFault::Memory) => Err(Complaint::Memory),
-        Err(fault) => Err(Complaint::Said(expr_fault(alloc, text.as_slice(), &fault)?)),
-    }
 }

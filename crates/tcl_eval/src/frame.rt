@@ -76,7 +76,7 @@ fn shared_next(next: &Option<Script>) -> Result<Option<Script>, AllocError>
 /// What is still to be done behind the code `Ok`.
 #[derive(Drop)]
 pub enum Onward {
-    /// The rest of a word, of which this was a script.
+    /// Fills the rest of a word with the value of one of its scripts.
     Word {
         filler: Filler,
         depth: u32,
@@ -90,17 +90,17 @@ pub enum Onward {
         then: Then,
         depth: u32,
     },
-    /// The rest of an expression, of which this was an operand.
+    /// Evaluates the rest of an expression with the value of an operand.
     Operand {
         evaluation: Evaluation,
         depth: u32,
     },
-    /// The turns of a loop, of which this was the condition.
+    /// Runs the turns of a loop, by the value of its condition.
     Test {
         turning: Turning,
         depth: u32,
     },
-    /// A body whose condition this was, and what stands behind it in an `if`.
+    /// Runs a body of an `if` or tests the next condition, by the value of this one.
     Arm {
         body: Value,
         arms: Arms,
@@ -158,6 +158,21 @@ pub enum Frame {
     },
 }
 
+/// What the host is called about.
+#[derive(Drop)]
+pub enum Call {
+    /// It is to begin a command.
+    Begin(Values),
+    /// It gets the words that it asked for.
+    AfterWords(Values),
+    /// It is told how a script that it asked for ended, with at most so many more.
+    AfterBody {
+        code: Code,
+        value: Value,
+        bound: u64,
+    },
+}
+
 /// What a machine does next.
 #[derive(Drop)]
 pub enum Mode {
@@ -168,23 +183,9 @@ pub enum Mode {
         script: Script,
         depth: u32,
     },
-    /// Asks the host to begin a command, or to resume it.
-    Begin {
-        words: Values,
-        depth: u32,
-        resumed: bool,
-    },
-    /// Hands the host the words that it asked for, or resumes that call.
-    AfterWords {
-        words: Values,
-        depth: u32,
-        resumed: bool,
-    },
-    /// Tells the host how a script that it asked for ended, or resumes that call.
-    AfterBody {
-        code: Code,
-        value: Value,
-        bound: u64,
+    /// Calls the host, or resumes that call.
+    Call {
+        call: Call,
         depth: u32,
         resumed: bool,
     },

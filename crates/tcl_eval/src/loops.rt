@@ -1,37 +1,29 @@
 //! Loops: `while`, `for` and `foreach`.
 
 ghost use Rattle.std.specs.Prelude.{◌≡◌, ◌<◌, ◌≤◌, ℕ, List, true, Ok, Some};
-ghost use Rattle.tcl_eval.specs.Steps.{left_of};
 ghost use Rattle.tcl_eval.specs.Tree.{State};
 ghost use Rattle.tcl_eval.specs.Meaning.{Next, eval, on_ok, on_said, advanced, loop as loop_of, each, tree_of};
 ghost use Rattle.tcl_eval.specs.Native.{CameIs, Comes, Known, Knows, Spent, each_begun, each_on, ended, flow, left, leave_weight, owed, turn_on};
-ghost use Rattle.tcl_eval.specs.Rest.{frame_rest, looped, onward_rest, turns_left, state_of};
+ghost use Rattle.tcl_eval.specs.Rest.{frame_rest, looped, onward_rest, turns_left};
 
 use crate::engine::Engine;
-use crate::exprs::read_test;
-use crate::frame::{End, Frame, Onward, Turning};
-use crate::meter::Meter;
-use crate::out::{Exception, Leave, Standing, came};
+use crate::frame::{End, Frame, Mode, Onward, Turning};
+use crate::out::{Exception, Leave, came};
 use crate::stops::{below, stopped};
-use tcl_commands::{Groups, said};
+use tcl_commands::Groups;
 use tcl_scripts::Script;
 use tcl_values::Value;
 
 impl Engine {
     /// Evaluates a loop, from its condition on.
     #[cycle(native)]
-    pub(crate) fn turns(
-        &mut self,
-        meter: &mut Meter,
-        turning: Turning,
-        depth: u32,
-    ) -> Result<Value, Leave>
-        ensures measures { Spent self.old self.new meter.old meter.new 0 (owed 0 result) }
-        ensures rest { CameIs self.old meter.old result self.new meter.new (λ k st. looped depth turning k st) }
+    pub(crate) fn turns(&mut self, turning: Turning, depth: u32) -> Result<Value, Leave>
+        ensures measures { Spent self.old self.new 0 (owed 0 result) }
+        ensures rest { CameIs self.old result self.new (λ k st. looped depth turning k st) }
     {
         let mut now = turning;
         'turns: loop {
-            if !self.turn_once(meter, &mut now, depth)? {
+            if !self.turn_once(&mut now, depth)? {
                 return Ok(Value::new(self.alloc));
             }
         }
@@ -40,19 +32,14 @@ impl Engine {
     /// A turn of a loop, from its condition on: whether the next one follows.
     #[cycle(native)]
     #[tactic(auto, unfolding(crate::specs::Rest::onward_rest))]
-    fn turn_once(
-        &mut self,
-        meter: &mut Meter,
-        turning: &mut Turning,
-        depth: u32,
-    ) -> Result<bool, Leave>
-        ensures measures { Spent self.old self.new meter.old meter.new 0 (owed 0 result) }
-        ensures steps { result ≡ Ok true → left_of meter.new < left_of meter.old }
-        ensures rest { Comes self.old meter.old result self.new meter.new (turn_on depth turning.new) (λ k st. looped depth turning.old k st) }
+    fn turn_once(&mut self, turning: &mut Turning, depth: u32) -> Result<bool, Leave>
+        ensures measures { Spent self.old self.new 0 (owed 0 result) }
+        ensures steps { result ≡ Ok true → self.new.left < self.old.left }
+        ensures rest { Comes self.old result self.new (turn_on depth turning.new) (λ k st. looped depth turning.old k st) }
     {
         let test = turning.test.shared()?;
-        match self.truth(meter, test, depth) {
-            Ok(holds) => self.turn_if(meter, holds, turning, depth),
+        match self.truth(test, depth) {
+            Ok(holds) => self.turn_if(holds, turning, depth),
             Err(leave) => Err(test_below(leave, turning, depth)),
         }
     }
@@ -62,37 +49,36 @@ impl Engine {
     #[tactic(auto, unfolding(crate::specs::Rest::frame_rest))]
     pub(crate) fn turn_if(
         &mut self,
-        meter: &mut Meter,
         holds: bool,
         turning: &mut Turning,
         depth: u32,
     ) -> Result<bool, Leave>
-        ensures measures { Spent self.old self.new meter.old meter.new 0 (owed 0 result) }
-        ensures steps { result ≡ Ok true → left_of meter.new < left_of meter.old }
-        ensures rest { Comes self.old meter.old result self.new meter.new (turn_on depth turning.new) (λ k st. turns_left depth turning.old k holds st) }
+        ensures measures { Spent self.old self.new 0 (owed 0 result) }
+        ensures steps { result ≡ Ok true → self.new.left < self.old.left }
+        ensures rest { Comes self.old result self.new (turn_on depth turning.new) (λ k st. turns_left depth turning.old k holds st) }
     {
         if !holds {
             return Ok(false);
         }
-        if !meter.begin() {
-            return Err(stopped(self.alloc, Standing::Ended(End::StepLimit)));
+        if !self.begin() {
+            return Err(stopped(self.alloc, Mode::Ended(End::StepLimit)));
         }
         if turning.bound == 0 {
-            return Err(stopped(self.alloc, Standing::Ended(End::StepLimit)));
+            return Err(stopped(self.alloc, Mode::Ended(End::StepLimit)));
         }
         turning.bound -= 1;
-        self.turn_body(meter, turning, depth)
+        self.turn_body(turning, depth)
     }
 
     /// The body of a turn, and the script behind it.
     #[cycle(native)]
     #[tactic(auto, unfolding(crate::specs::Rest::frame_rest))]
-    fn turn_body(&mut self, meter: &mut Meter, turning: &Turning, depth: u32) -> Result<bool, Leave>
-        ensures measures { Spent self.old self.new meter.old meter.new 0 (owed 0 result) }
-        ensures rest { Comes self.old meter.old result self.new meter.new (turn_on depth turning.now) (λ k st. eval depth turning.now.body (frame_rest (Frame.Turn turning.now depth) k) st) }
+    fn turn_body(&mut self, turning: &Turning, depth: u32) -> Result<bool, Leave>
+        ensures measures { Spent self.old self.new 0 (owed 0 result) }
+        ensures rest { Comes self.old result self.new (turn_on depth turning.now) (λ k st. eval depth turning.now.body (frame_rest (Frame.Turn turning.now depth) k) st) }
     {
-        let out = self.script(meter, &turning.body, depth);
-        self.turn_end(meter, out, turning, depth)
+        let out = self.script(&turning.body, depth);
+        self.turn_end(out, turning, depth)
     }
 
     /// What follows the body of a turn: whether the next one follows.
@@ -100,19 +86,16 @@ impl Engine {
     #[tactic(auto, unfolding(crate::specs::Rest::frame_rest))]
     pub(crate) fn turn_end(
         &mut self,
-        meter: &mut Meter,
         out: Result<Value, Leave>,
         turning: &Turning,
         depth: u32,
     ) -> Result<bool, Leave>
-        ensures measures { Spent self.old self.new meter.old meter.new (owed 0 out) (owed 0 result) }
+        ensures measures { Spent self.old self.new (owed 0 out) (owed 0 result) }
         ensures known { Known result → Known out }
-        ensures rest { Comes self.old meter.old result self.new meter.new (turn_on depth turning.now) (λ k st. ended out st (frame_rest (Frame.Turn turning.now depth) k)) }
+        ensures rest { Comes self.old result self.new (turn_on depth turning.now) (λ k st. ended out st (frame_rest (Frame.Turn turning.now depth) k)) }
     {
         match out {
-            Ok(_) | Err(Leave::Gone(Exception::Continue, _)) => self.turn_next(
-                meter, turning, depth,
-            ),
+            Ok(_) | Err(Leave::Gone(Exception::Continue, _)) => self.turn_next(turning, depth),
             Err(Leave::Gone(Exception::Break, _)) => Ok(false),
             Err(Leave::Stopped(stop)) => {
                 let turning = turning.shared()?;
@@ -125,14 +108,14 @@ impl Engine {
     /// The script behind a turn, where there is one.
     #[cycle(native)]
     #[tactic(auto, unfolding(crate::specs::Rest::onward_rest))]
-    fn turn_next(&mut self, meter: &mut Meter, turning: &Turning, depth: u32) -> Result<bool, Leave>
-        ensures measures { Spent self.old self.new meter.old meter.new 0 (owed 0 result) }
-        ensures rest { Comes self.old meter.old result self.new meter.new (turn_on depth turning.now) (λ k st. advanced (eval depth) turning.now.next k (λ st. looped depth turning.now k st) st) }
+    fn turn_next(&mut self, turning: &Turning, depth: u32) -> Result<bool, Leave>
+        ensures measures { Spent self.old self.new 0 (owed 0 result) }
+        ensures rest { Comes self.old result self.new (turn_on depth turning.now) (λ k st. advanced (eval depth) turning.now.next k (λ st. looped depth turning.now k st) st) }
     {
         let Some(next) = &turning.next else {
             return Ok(true);
         };
-        match self.script(meter, next, depth) {
+        match self.script(next, depth) {
             Ok(_) => Ok(true),
             Err(leave) => Err(next_below(leave, turning, depth)),
         }
@@ -142,49 +125,43 @@ impl Engine {
     #[cycle(native)]
     pub(crate) fn started(
         &mut self,
-        meter: &mut Meter,
         test: &Value,
         next: &Value,
         body: &Value,
         depth: u32,
     ) -> Result<Value, Leave>
-        ensures measures { Spent self.old self.new meter.old meter.new 0 (owed 0 result) }
-        ensures rest { CameIs self.old meter.old result self.new meter.new (λ k st. on_said (tree_of test.now) k (λ t st. loop_of (eval depth) t body.now (Some next.now) k st) st) }
+        ensures measures { Spent self.old self.new 0 (owed 0 result) }
+        ensures rest { CameIs self.old result self.new (λ k st. on_said (tree_of test.now) k (λ t st. loop_of (eval depth) t body.now (Some next.now) k st) st) }
     {
-        match said(self.alloc, read_test(&mut self.read, self.alloc, test))? {
-            Ok(test) => {
-                let body = self.read.script_of(self.alloc, body)?;
-                let next = self.read.script_of(self.alloc, next)?;
-                let turning = Turning {
-                    test,
-                    body,
-                    next: Some(next),
-                    bound: meter.left(),
-                };
-                self.turns(meter, turning, depth)
-            }
-            Err(text) => Err(Leave::Gone(Exception::Error, text)),
-        }
+        let test = self.test(test)?;
+        let body = self.read.script_of(self.alloc, body)?;
+        let next = self.read.script_of(self.alloc, next)?;
+        let turning = Turning {
+            test,
+            body,
+            next: Some(next),
+            bound: self.left,
+        };
+        self.turns(turning, depth)
     }
 
     /// Evaluates the turns of a `foreach` that are left.
     #[cycle(native)]
     pub(crate) fn each_turns(
         &mut self,
-        meter: &mut Meter,
         groups: Groups,
         body: &Script,
         depth: u32,
     ) -> Result<Value, Leave>
-        ensures measures { Spent self.old self.new meter.old meter.new 0 (owed 0 result) }
-        ensures rest { CameIs self.old meter.old result self.new meter.new (λ k st. each (eval depth) groups.names groups.left body.now k st) }
+        ensures measures { Spent self.old self.new 0 (owed 0 result) }
+        ensures rest { CameIs self.old result self.new (λ k st. each (eval depth) groups.names groups.left body.now k st) }
     {
         let mut left = groups;
         'turns: loop {
-            if !self.each_begin(meter, &mut left)? {
+            if !self.each_begin(&mut left)? {
                 return Ok(Value::new(self.alloc));
             }
-            let out = self.script(meter, body, depth);
+            let out = self.script(body, depth);
             let Some(more) = each_end(out, left, body, depth)? else {
                 return Ok(Value::new(self.alloc));
             };
@@ -194,16 +171,16 @@ impl Engine {
 
     /// Begins a turn of a `foreach`, where one is left: its names get their elements. Returns whether one was.
     #[tactic(auto, unfolding(crate::specs::Rest::frame_rest))]
-    fn each_begin(&mut self, meter: &mut Meter, groups: &mut Groups) -> Result<bool, Leave>
-        ensures measures { Spent self.old self.new meter.old meter.new 0 (owed 0 result) }
-        ensures steps { result ≡ Ok true → left_of meter.new < left_of meter.old }
-        ensures rest { (depth : ℕ) (body : List ℕ) → Comes self.old meter.old result self.new meter.new (each_begun depth body groups.new) (λ k st. each (eval depth) groups.old.names groups.old.left body k st) }
+    fn each_begin(&mut self, groups: &mut Groups) -> Result<bool, Leave>
+        ensures measures { Spent self.old self.new 0 (owed 0 result) }
+        ensures steps { result ≡ Ok true → self.new.left < self.old.left }
+        ensures rest { (depth : ℕ) (body : List ℕ) → Comes self.old result self.new (each_begun depth body groups.new) (λ k st. each (eval depth) groups.old.names groups.old.left body k st) }
     {
         if groups.is_done() {
             return Ok(false);
         }
-        if !meter.begin() {
-            return Err(stopped(self.alloc, Standing::Ended(End::StepLimit)));
+        if !self.begin() {
+            return Err(stopped(self.alloc, Mode::Ended(End::StepLimit)));
         }
         let (code, value) = groups.assign(self.alloc, &mut self.vars)?;
         came(code, value)?;

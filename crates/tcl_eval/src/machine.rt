@@ -14,7 +14,6 @@ use crate::meter::Meter;
 use crate::read_texts::ReadTexts;
 use crate::trail::{Origin, Trail};
 use std::alloc::{AllocError, Global};
-use std::marker::PhantomData;
 use std::mem;
 use tcl_commands::Code;
 use tcl_host::{Ending, Host, Pile};
@@ -40,29 +39,21 @@ pub enum Pause {
     Memory,
 }
 
-/// A script's evaluation over a host, which can be suspended and run again.
+/// A script's evaluation, which can be suspended and run again over any host that answers as the one before: such as one that tells of its commands.
 #[derive(Drop)]
-pub struct Machine<H: Host> {
+pub struct Machine {
     /// What is kept.
     engine: Engine,
     /// What is done next.
     mode: Mode,
-    host: PhantomData<H>,
 }
 
-/// What is kept, and what is done first, where a source is to be evaluated.
-#[derive(Drop)]
-struct Beginning {
-    engine: Engine,
-    mode: Mode,
-}
-
-/// The evaluation of a source is to begin.
-fn begin(alloc: Global, source: &[u8], vars: Vars, depth: u32) -> Result<Beginning, AllocError>
-    ensures { IfOk result (λ b. (left : ℕ) → engine_rest b.engine left b.mode ≡ eval depth source.now at_the_end (record { vars = vars; procs = []; left = left; trail = [] })) }
+/// A machine that is to evaluate a source, with so many levels of scripts.
+fn begin(alloc: Global, source: &[u8], vars: Vars, depth: u32) -> Result<Machine, AllocError>
+    ensures { IfOk result (λ m. (left : ℕ) → engine_rest m.engine left m.mode ≡ eval depth source.now at_the_end (record { vars = vars; procs = []; left = left; trail = [] })) }
 {
     let script = Script::read(alloc, Value::from_slice(alloc, source)?)?;
-    Ok(Beginning {
+    Ok(Machine {
         engine: Engine {
             alloc,
             stack: Pile::new(alloc),
@@ -70,22 +61,18 @@ fn begin(alloc: Global, source: &[u8], vars: Vars, depth: u32) -> Result<Beginni
             procs: Names::new(alloc),
             trail: Trail::new(alloc),
             read: ReadTexts::new(alloc),
+            left: 0,
         },
         mode: Mode::Run { script, depth },
     })
 }
 
-impl<H: Host> Machine<H> {
+impl Machine {
     /// A machine that is to evaluate a source, with these variables and no procedures.
-    pub fn new(alloc: Global, source: &[u8], vars: Vars) -> Result<Machine<H>, AllocError>
+    pub fn new(alloc: Global, source: &[u8], vars: Vars) -> Result<Machine, AllocError>
         ensures { IfOk result (λ m. (left : ℕ) → engine_rest m.engine left m.mode ≡ eval 200 source.now at_the_end (record { vars = vars; procs = []; left = left; trail = [] })) }
     {
-        let Beginning { engine, mode } = begin(alloc, source, vars, DEEPEST)?;
-        Ok(Machine {
-            engine,
-            mode,
-            host: PhantomData,
-        })
+        begin(alloc, source, vars, DEEPEST)
     }
 
     /// The variables as they are.
@@ -141,21 +128,8 @@ impl<H: Host> Machine<H> {
     /// state to its new one, and with which what was left of the run is what is left of it now. The meter keeps its bound, and counts just
     /// the steps that the meaning begins on the way. A run that is over stays as it is, and shows the same pause again, or `Memory` where a
     /// copy of its text was refused. Behind `Memory` it is over.
-    pub fn run(&mut self, host: &mut H, meter: &mut Meter) -> Pause
+    pub fn run<H: Host>(&mut self, host: &mut H, meter: &mut Meter) -> Pause
         ensures leads { result ≢ Pause.Memory → (replies : List Reply) × Leads H.answers replies (engine_rest self.old.engine (left_of meter.old) self.old.mode) host.old (engine_rest self.new.engine (left_of meter.new) self.new.mode) host.new × IsPauseOf result self.new.mode replies }
-        ensures shown { IsShownBy result self.new.mode }
-        ensures over { IsOver self.old.mode → self.new ≡ self.old }
-        ensures host { IsOver self.old.mode → host.new ≡ host.old }
-        ensures meter { IsOver self.old.mode → meter.new ≡ meter.old }
-        ensures bound { meter.new.bound ≡ meter.old.bound }
-        ensures counted { result ≢ Pause.Memory → meter.new.count + left_at (engine_rest self.new.engine (left_of meter.new) self.new.mode) ≡ meter.old.count + left_of meter.old }
-    {
-        self.run_over(host, meter)
-    }
-
-    /// Runs on as `run` does, over another host: such as one that carries out the same commands, and tells of them.
-    pub fn run_over<G: Host>(&mut self, host: &mut G, meter: &mut Meter) -> Pause
-        ensures leads { result ≢ Pause.Memory → (replies : List Reply) × Leads G.answers replies (engine_rest self.old.engine (left_of meter.old) self.old.mode) host.old (engine_rest self.new.engine (left_of meter.new) self.new.mode) host.new × IsPauseOf result self.new.mode replies }
         ensures shown { IsShownBy result self.new.mode }
         ensures over { IsOver self.old.mode → self.new ≡ self.old }
         ensures host { IsOver self.old.mode → host.new ≡ host.old }
@@ -167,7 +141,10 @@ impl<H: Host> Machine<H> {
             return self.pause();
         }
         let mode = mem::replace(&mut self.mode, Mode::Ended(End::Memory));
-        match self.engine.go(host, meter, mode) {
+        self.engine.left = meter.left();
+        let asked = self.engine.go(host, mode);
+        meter.go_down(self.engine.left);
+        match asked {
             Err(_) => Pause::Memory,
             Ok(asked) => {
                 drop(mem::replace(&mut self.mode, asked.mode));

@@ -1,7 +1,6 @@
 //! A count of steps with a bound.
 
-ghost use Rattle.std.specs.Prelude.{◌≡◌, ◌+◌, ◌≤◌};
-ghost use Rattle.std.specs.Bool.{OnTrue, OnFalse};
+ghost use Rattle.std.specs.Prelude.{◌≡◌, ◌≤◌};
 
 /// Counts steps up to a bound.
 #[derive(Drop)]
@@ -24,19 +23,12 @@ impl Meter {
         Meter { bound, count: 0 }
     }
 
-    /// Begins a step where one is left, and says whether one was.
-    pub fn begin(&mut self) -> bool
-        ensures begun { OnTrue result (left_of self.old ≡ left_of self.new + 1) }
-        ensures counted { OnTrue result (self.new.count ≡ self.old.count + 1) }
-        ensures spent { OnFalse result (left_of self.old ≡ 0) }
-        ensures same { OnFalse result (self.new ≡ self.old) }
+    /// Steps were begun, and so many are left: no more than before.
+    pub(crate) fn go_down(&mut self, left: u64)
+        ensures left { left ≤ left_of self.old → left_of self.new ≡ left }
         ensures bound { self.new.bound ≡ self.old.bound }
     {
-        if self.count == self.bound {
-            return false;
-        }
-        self.count += 1;
-        true
+        self.count = self.bound - left.min(self.bound);
     }
 
     /// How many steps were begun.

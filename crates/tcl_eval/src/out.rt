@@ -1,99 +1,19 @@
 //! What came of a function that evaluates.
 
 ghost use Rattle.std.specs.Prelude.{◌≡◌, ◌≤◌, ℕ, List};
-ghost use Rattle.tcl_eval.specs.Meaning.{Next, on_ok};
+ghost use Rattle.tcl_commands.specs.Said.{Said as Meant};
+ghost use Rattle.tcl_commands.specs.Says.{Says};
+ghost use Rattle.tcl_eval.specs.Meaning.{Next, on_ok, on_said};
 ghost use Rattle.tcl_eval.specs.Native.{Known, code_of, ended, flow, owed};
 ghost use Rattle.tcl_eval.specs.Potential.{again};
-ghost use Rattle.tcl_eval.specs.Standings.{mode_of};
 ghost use Rattle.tcl_eval.specs.Tree.{State, Tree};
 
-use crate::frame::{End, Frame, Mode};
-use std::alloc::{AllocError, AllocFailed};
-use tcl_commands::Code;
-use tcl_host::{Pile, Values};
+use crate::stop::Stop;
+use std::alloc::{AllocError, AllocFailed, Global};
+use tcl_commands::{Code, Complaint};
 use tcl_values::Value;
 
-/// Where a run can stand still.
-#[derive(Drop)]
-pub enum Standing {
-    /// The host is to begin a command.
-    Begin {
-        words: Values,
-        depth: u32,
-    },
-    /// The host gets the words that it asked for.
-    AfterWords {
-        words: Values,
-        depth: u32,
-    },
-    /// The host is told how a script that it asked for ended.
-    AfterBody {
-        code: Code,
-        value: Value,
-        bound: u64,
-        depth: u32,
-    },
-    /// The host is asked whether it knows the name of a new procedure.
-    Define {
-        name: Value,
-        formals: Value,
-        body: Value,
-    },
-    /// It is over.
-    Ended(End),
-}
-
-impl Standing {
-    /// What a machine does next there.
-    pub(crate) fn mode(self) -> Mode
-        ensures { result ≡ mode_of self }
-    {
-        let resumed = false;
-        match self {
-            Standing::Begin { words, depth } => Mode::Begin {
-                words,
-                depth,
-                resumed,
-            },
-            Standing::AfterWords { words, depth } => Mode::AfterWords {
-                words,
-                depth,
-                resumed,
-            },
-            Standing::AfterBody {
-                code,
-                value,
-                bound,
-                depth,
-            } => Mode::AfterBody {
-                code,
-                value,
-                bound,
-                depth,
-                resumed,
-            },
-            Standing::Define {
-                name,
-                formals,
-                body,
-            } => Mode::Define {
-                name,
-                formals,
-                body,
-            },
-            Standing::Ended(end) => Mode::Ended(end),
-        }
-    }
-}
-
-/// Where a run stands still, and what is still to be done behind it. The outermost frame was laid last, and is on top.
-#[derive(Drop)]
-pub struct Stop {
-    pub at: Standing,
-    pub laid: Pile<Frame>,
-}
-
-/// A code other than `Ok` (Tcl(n) calls it exceptional).
+/// A return code other than `Ok` (Tcl(n): an exceptional return).
 #[derive(Clone, Copy)]
 pub enum Exception {
     Error,
@@ -153,7 +73,7 @@ impl<T: Drop> From<AllocFailed<T>> for Leave {
     }
 }
 
-/// What a code and a value come to.
+/// The outcome of a command that ended with this code and value.
 pub(crate) fn came(code: Code, value: Value) -> Result<Value, Leave>
     ensures known { Known result }
     ensures rest { (k : Next) (st : State) → ended result st k ≡ k code value st }
@@ -170,4 +90,20 @@ pub(crate) fn came(code: Code, value: Value) -> Result<Value, Leave>
         Code::AgainLater => Exception::AgainLater,
     };
     Err(Leave::Gone(exception, value))
+}
+
+/// The result of a call. A complaint becomes an error of the command.
+pub(crate) fn given<T: Drop>(alloc: Global, heard: Result<T, Complaint>) -> Result<T, Leave>
+    ensures rest { (meant : Meant T) → Says heard meant → Known result → (k : Next) (go : T → State → Tree) (st : State) → flow result st k go ≡ on_said meant k go st }
+    ensures within { (meant : Meant T) → Says heard meant → Known result → (k : Next) (on : List ℕ → State → Tree) (go : T → State → Tree) (st : State) → flow result st (on_ok on k) go ≡ on_said meant k go st }
+    ensures weight { owed 0 result ≡ 0 }
+{
+    match heard {
+        Ok(x) => Ok(x),
+        Err(Complaint::Said(text)) => {
+            let text = Value::from_text(alloc, text)?;
+            Err(Leave::Gone(Exception::Error, text))
+        }
+        Err(Complaint::Memory) => Err(Leave::Memory),
+    }
 }

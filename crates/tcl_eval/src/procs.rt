@@ -3,16 +3,15 @@
 ghost use Rattle.std.specs.Prelude.{◌≡◌, ◌+◌, ◌≤◌, [], drop, IfOk, ◌≢◌, ℕ};
 ghost use Rattle.tcl_commands.specs.Texts.{quoted, not_set};
 ghost use Rattle.tcl_eval.specs.Meaning.{eval, caught, digit, Next, no_command, passed, scope_end, outside_loop, reserved, defined};
-ghost use Rattle.tcl_eval.specs.Rest.{AnyRestIs, frame_rest, state_of};
-ghost use Rattle.tcl_eval.specs.Native.{ended, entry_rest, other_command, owed, AnyCameIs, Known};
+ghost use Rattle.tcl_eval.specs.Rest.{frame_rest, now_of, RestIs};
+ghost use Rattle.tcl_eval.specs.Native.{ended, entered_rest, other_command, owed, CameIs, Comes, Known, Spent};
 ghost use Rattle.tcl_eval.specs.Potential.{bodies, credit, again};
 
 use crate::engine::Engine;
 use crate::frame::{Frame, Mode};
-use crate::out::{Exception, Leave, came};
+use crate::out::{Exception, Leave};
 use crate::procedure::Procedure;
 use crate::stops::below;
-use crate::task::Entry;
 use crate::trail::Origin;
 use std::alloc::{AllocError, Global};
 use tcl_commands::{Code, Complaint, enter, formals_of, not_set, quoted, said};
@@ -61,10 +60,9 @@ impl Engine {
         name: Option<Value>,
         out: Result<Value, Leave>,
     ) -> Result<Value, Leave>
-        ensures kept { self.new.stack ≡ self.old.stack }
+        ensures measures { Spent self.old self.new (owed 0 out) (owed 0 result) }
         ensures known { Known result → Known out }
-        ensures rest { AnyCameIs self.old result self.new (λ k st. ended out st (frame_rest (Frame.Catch name) k)) }
-        ensures weight { owed 0 result ≤ owed 0 out }
+        ensures rest { CameIs self.old result self.new (λ k st. ended out st (frame_rest (Frame.Catch name) k)) }
     {
         match out {
             Ok(value) => self.caught_by(name, Code::Ok, value),
@@ -76,9 +74,8 @@ impl Engine {
 
     /// What follows the script of a `catch`, by its code.
     fn caught_by(&mut self, name: Option<Value>, code: Code, value: Value) -> Result<Value, Leave>
-        ensures kept { self.new.stack ≡ self.old.stack }
-        ensures rest { AnyCameIs self.old result self.new (λ k st. caught name k code value st) }
-        ensures weight { owed 0 result ≡ 0 }
+        ensures measures { Spent self.old self.new 0 (owed 0 result) }
+        ensures rest { CameIs self.old result self.new (λ k st. caught name k code value st) }
     {
         self.trail.clear();
         let Some(name) = name else {
@@ -100,46 +97,42 @@ impl Engine {
         words: Values,
         out: Result<Value, Leave>,
     ) -> Result<Value, Leave>
-        ensures kept { self.new.stack ≡ self.old.stack }
+        ensures measures { Spent self.old self.new (owed 0 out) (owed 0 result) }
         ensures known { Known result → Known out }
-        ensures rest { AnyCameIs self.old result self.new (λ k st. ended out st (frame_rest (Frame.Scope words) k)) }
-        ensures weight { owed 0 result ≤ owed 0 out }
+        ensures rest { CameIs self.old result self.new (λ k st. ended out st (frame_rest (Frame.Scope words) k)) }
     {
         match out {
-            Ok(value) => self.leave_by(words, Code::Ok, value),
-            Err(Leave::Gone(exception, value)) => self.leave_by(words, exception.code(), value),
+            Ok(value) | Err(Leave::Gone(Exception::Return, value)) => {
+                self.leave();
+                Ok(value)
+            }
+            Err(Leave::Gone(Exception::Error, text)) => {
+                self.leave();
+                self.error_out(words, text)
+            }
+            Err(Leave::Gone(Exception::Break, _)) => {
+                self.leave();
+                let text = outside_loop(self.alloc, b"break")?;
+                self.error_out(words, text)
+            }
+            Err(Leave::Gone(Exception::Continue, _)) => {
+                self.leave();
+                let text = outside_loop(self.alloc, b"continue")?;
+                self.error_out(words, text)
+            }
+            Err(Leave::Gone(exception, value)) => {
+                self.leave();
+                Err(Leave::Gone(exception, value))
+            }
             Err(Leave::Stopped(stop)) => Err(below(stop, Frame::Scope { words })),
             Err(Leave::Memory) => Err(Leave::Memory),
         }
     }
 
-    /// Leaves the scope of a procedure that these words called, by the code of its body.
-    fn leave_by(&mut self, words: Values, code: Code, value: Value) -> Result<Value, Leave>
-        ensures kept { self.new.stack ≡ self.old.stack }
-        ensures rest { AnyCameIs self.old result self.new (λ k st. scope_end words k code value st) }
-        ensures weight { owed 0 result ≤ again code }
-    {
-        self.leave();
-        match code {
-            Code::Error => self.error_out(words, value),
-            Code::Return => Ok(value),
-            Code::Break => {
-                let text = outside_loop(self.alloc, b"break")?;
-                self.error_out(words, text)
-            }
-            Code::Continue => {
-                let text = outside_loop(self.alloc, b"continue")?;
-                self.error_out(words, text)
-            }
-            _ => came(code, value),
-        }
-    }
-
     /// An error leaves a procedure that these words called.
     fn error_out(&mut self, words: Values, text: Value) -> Result<Value, Leave>
-        ensures kept { self.new.stack ≡ self.old.stack }
-        ensures rest { AnyCameIs self.old result self.new (λ k st. k Code.Error text (passed (Origin.Procedure words) st)) }
-        ensures weight { owed 0 result ≡ 0 }
+        ensures measures { Spent self.old self.new 0 (owed 0 result) }
+        ensures rest { CameIs self.old result self.new (λ k st. k Code.Error text (passed (Origin.Procedure words) st)) }
     {
         self.trail.push(Origin::Procedure { words })?;
         Err(Leave::Gone(Exception::Error, text))
@@ -154,26 +147,26 @@ impl Engine {
         }
     }
 
-    /// Enters the procedure that has the name of a command, where there is one.
-    pub(crate) fn enter(&mut self, words: &Values) -> Result<Entry, AllocError>
-        ensures kept { self.new.stack ≡ self.old.stack }
-        ensures rest { IfOk result (λ e. (depth left : ℕ) (k : Next) → entry_rest (eval depth) words.now e k (state_of self.new left) ≡ other_command (eval depth) words.now k (state_of self.old left)) }
+    /// Enters the procedure that has the name of a command, where there is one, and returns its body.
+    pub(crate) fn enter(&mut self, words: &Values) -> Result<Option<Script>, Leave>
+        ensures measures { Spent self.old self.new 0 (owed 0 result) }
+        ensures rest { (depth : ℕ) → Comes self.old result self.new (entered_rest (eval depth) words.now) (λ k st. other_command (eval depth) words.now k st) }
     {
         let Some((name, args)) = words.as_slice().split_first() else {
-            return Ok(Entry::Done(Code::Ok, Value::new(self.alloc)));
+            return Ok(None);
         };
         let name = name.as_slice();
         let Some(procedure) = self.procs.get(name) else {
-            return Ok(Entry::Host);
+            return Ok(None);
         };
         let script = procedure.body.shared()?;
         match enter(self.alloc, name, &procedure.formals, args, &mut self.vars) {
-            Ok(()) => Ok(Entry::Body(script)),
+            Ok(()) => Ok(Some(script)),
             Err(Complaint::Said(text)) => {
                 let text = Value::from_text(self.alloc, text)?;
-                Ok(Entry::Done(Code::Error, text))
+                Err(Leave::Gone(Exception::Error, text))
             }
-            Err(Complaint::Memory) => Err(AllocError),
+            Err(Complaint::Memory) => Err(Leave::Memory),
         }
     }
 
@@ -185,8 +178,9 @@ impl Engine {
         body: Value,
         is_known: bool,
     ) -> Result<Mode, AllocError>
-        ensures rest { AnyRestIs self.old result self.new (λ k st. defined name formals body is_known k st) }
+        ensures rest { RestIs self.old result self.new (λ k st. defined name formals body is_known k st) }
         ensures potential { IfOk result (λ mode. bodies self.new.stack + credit mode ≤ bodies self.old.stack) }
+        ensures less { self.new.left ≤ self.old.left }
     {
         self.define_by(&name, &formals, &body, is_known)
     }
@@ -199,8 +193,9 @@ impl Engine {
         body: &Value,
         is_known: bool,
     ) -> Result<Mode, AllocError>
-        ensures rest { AnyRestIs self.old result self.new (λ k st. defined name.now formals.now body.now is_known k st) }
+        ensures rest { RestIs self.old result self.new (λ k st. defined name.now formals.now body.now is_known k st) }
         ensures potential { IfOk result (λ mode. bodies self.new.stack + credit mode ≤ bodies self.old.stack) }
+        ensures less { self.new.left ≤ self.old.left }
     {
         if is_known {
             let text = reserved(self.alloc, name.as_slice())?;

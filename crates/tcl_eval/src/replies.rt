@@ -2,18 +2,16 @@
 
 ghost use Rattle.std.specs.Prelude.{◌≡◌, ℕ, ◌+◌, ◌<◌, ◌*◌, [], IfOk, false, ◌≤◌};
 ghost use Rattle.tcl_eval.specs.Asked.{WaitsAt, GoesDown, IsAskingOnPause};
-ghost use Rattle.tcl_eval.specs.Rest.{engine_rest, AnyRestIs, RestIs};
-ghost use Rattle.tcl_eval.specs.Steps.{left_of};
+ghost use Rattle.tcl_eval.specs.Rest.{body_for, words_for, unknown_for, frame_rest, rest_of, RestIs};
 ghost use Rattle.tcl_host.specs.Calls.{Stepped};
 ghost use Rattle.tcl_eval.specs.Tree.{follow};
-ghost use Rattle.tcl_eval.specs.Potential.{potential, bodies, credit, again};
-ghost use Rattle.tcl_eval.specs.Meaning.{eval, after_body, begun, after_script, next_body};
+ghost use Rattle.tcl_eval.specs.Potential.{potential, bodies, call_credit, credit, again};
+ghost use Rattle.tcl_eval.specs.Meaning.{eval, after_body, words_in, once_more, next_body};
 
 use crate::engine::Engine;
-use crate::frame::{Asked, End, Frame, Mode, Then};
-use crate::meter::Meter;
+use crate::frame::{Asked, Call, End, Frame, Mode, Then};
 use crate::procs::no_command;
-use std::alloc::AllocError;
+use std::alloc::{AllocError, Global};
 use tcl_commands::Code;
 use tcl_host::{HostStep, Values};
 use tcl_values::Value;
@@ -28,12 +26,24 @@ pub(crate) fn on(mode: Mode) -> Asked
     }
 }
 
+/// The error of a command that the host doesn't know.
+fn unknown_for(alloc: Global, call: &Call) -> Result<Value, AllocError>
+    ensures { IfOk result (λ v. v ≡ unknown_for call.now) }
+{
+    match call {
+        Call::Begin(words) => no_command(alloc, words),
+        Call::AfterWords(_) => Ok(Value::new(alloc)),
+        Call::AfterBody { .. } => Ok(Value::new(alloc)),
+    }
+}
+
 impl Engine {
     /// Begins a script that the host asked for, with at most so many more.
     #[tactic(auto, unfolding(crate::specs::Rest::frame_rest))]
     fn host_body(&mut self, text: Value, bound: u64, depth: u32) -> Result<Mode, AllocError>
-        ensures rest { AnyRestIs self.old result self.new (λ k st. eval depth text (after_body (eval depth) k bound) st) }
+        ensures rest { RestIs self.old result self.new (λ k st. eval depth text (after_body (eval depth) k bound) st) }
         ensures potential { IfOk result (λ mode. bodies self.new.stack + credit mode ≤ bodies self.old.stack + 4) }
+        ensures less { self.new.left ≤ self.old.left }
     {
         let script = self.read.script_of(self.alloc, &text)?;
         self.stack.push(Frame::HostBody { bound, depth })?;
@@ -41,47 +51,46 @@ impl Engine {
     }
 
     /// Begins to fill the words of a text that the host asked for.
-    fn host_words(&mut self, meter: &mut Meter, text: Value, depth: u32) -> Result<Mode, AllocError>
-        ensures rest { RestIs self.old meter.old result self.new meter.new (λ k st. begun (eval depth) [] (HostStep.Words text) k st) }
-        ensures potential { IfOk result (λ mode. potential self.new (left_of meter.new) mode ≤ 8 * left_of meter.old + bodies self.old.stack + 5) }
-        ensures bound { meter.new.bound ≡ meter.old.bound }
+    fn host_words(&mut self, text: Value, depth: u32) -> Result<Mode, AllocError>
+        ensures rest { RestIs self.old result self.new (λ k st. words_in (eval depth) k text st) }
+        ensures potential { IfOk result (λ mode. potential self.new mode ≤ 8 * self.old.left + bodies self.old.stack + 5) }
+        ensures less { self.new.left ≤ self.old.left }
     {
         let script = self.read.script_of(self.alloc, &text)?;
         let (words, fault) = script.all_words(self.alloc)?;
         let done = Values::new(self.alloc);
-        let out = self.words_from(meter, &words, 0, done, Then::List(fault), depth);
-        let mode = self.settle_by(meter, out)?;
+        let out = self.words_from(&words, 0, done, Then::List(fault), depth);
+        let mode = self.settle_by(out)?;
         Ok(mode)
     }
 
-    /// Takes the host's reply to a command that was begun.
-    pub(crate) fn take_begun(
+    /// Takes the host's reply to a call.
+    pub(crate) fn take(
         &mut self,
-        meter: &mut Meter,
-        words: Values,
+        call: Call,
         depth: u32,
         step: HostStep,
     ) -> Result<Asked, AllocError>
-        ensures rest { IfOk result (λ a. engine_rest self.new (left_of meter.new) a.mode ≡ follow (engine_rest self.old (left_of meter.old) (Mode.Begin words depth false)) (Stepped step self.old.vars)) }
+        ensures rest { IfOk result (λ a. rest_of self.new a.mode ≡ follow (rest_of self.old (Mode.Call call depth false)) (Stepped step self.old.vars)) }
         ensures paused { IfOk result (λ a. WaitsAt a (Stepped step self.old.vars)) }
         ensures asking { IfOk result (λ a. IsAskingOnPause a) }
-        ensures potential { IfOk result (λ a. GoesDown a (potential self.new (left_of meter.new) a.mode) (8 * left_of meter.old + bodies self.old.stack + 6)) }
-        ensures bound { meter.new.bound ≡ meter.old.bound }
+        ensures potential { IfOk result (λ a. GoesDown a (potential self.new a.mode) (8 * self.old.left + bodies self.old.stack + call_credit call)) }
+        ensures less { self.new.left ≤ self.old.left }
     {
         match step {
             HostStep::Done(code, value) => Ok(on(Mode::Give(code, value))),
             HostStep::Fail(text) => Ok(on(Mode::Give(Code::Error, text))),
             HostStep::Body(text) => {
-                let mode = self.host_body(text, meter.left(), depth)?;
+                let mode = self.body_for(&call, text, depth)?;
                 Ok(on(mode))
             }
             HostStep::Words(text) => {
-                let mode = self.host_words(meter, text, depth)?;
+                let mode = self.words_for(&call, text, depth)?;
                 Ok(on(mode))
             }
             HostStep::Wait => Ok(Asked {
-                mode: Mode::Begin {
-                    words,
+                mode: Mode::Call {
+                    call,
                     depth,
                     resumed: true,
                 },
@@ -89,83 +98,36 @@ impl Engine {
             }),
             HostStep::Stop(ending) => Ok(on(Mode::Ended(End::Stopped(ending)))),
             HostStep::Unknown => {
-                let text = no_command(self.alloc, &words)?;
+                let text = unknown_for(self.alloc, &call)?;
                 Ok(on(Mode::Give(Code::Error, text)))
             }
             HostStep::Memory => Ok(on(Mode::Ended(End::Memory))),
         }
     }
 
-    /// Takes the host's reply to words that it asked for.
-    pub(crate) fn take_words(
-        &mut self,
-        meter: &Meter,
-        words: Values,
-        depth: u32,
-        step: HostStep,
-    ) -> Result<Asked, AllocError>
-        ensures rest { IfOk result (λ a. engine_rest self.new (left_of meter.now) a.mode ≡ follow (engine_rest self.old (left_of meter.now) (Mode.AfterWords words depth false)) (Stepped step self.old.vars)) }
-        ensures paused { IfOk result (λ a. WaitsAt a (Stepped step self.old.vars)) }
-        ensures asking { IfOk result (λ a. IsAskingOnPause a) }
-        ensures potential { IfOk result (λ a. GoesDown a (bodies self.new.stack + credit a.mode) (bodies self.old.stack + 5)) }
+    /// Begins a script that the host asked for in its reply to a call.
+    fn body_for(&mut self, call: &Call, text: Value, depth: u32) -> Result<Mode, AllocError>
+        ensures rest { RestIs self.old result self.new (λ k st. body_for (eval depth) call.now k text st) }
+        ensures potential { IfOk result (λ mode. bodies self.new.stack + credit mode < bodies self.old.stack + call_credit call.now) }
+        ensures less { self.new.left ≤ self.old.left }
     {
-        match step {
-            HostStep::Done(code, value) => Ok(on(Mode::Give(code, value))),
-            HostStep::Fail(text) => Ok(on(Mode::Give(Code::Error, text))),
-            HostStep::Body(text) => {
-                let mode = self.host_body(text, meter.left(), depth)?;
-                Ok(on(mode))
-            }
-            HostStep::Words(text) => Ok(on(Mode::Give(Code::Error, text))),
-            HostStep::Wait => Ok(Asked {
-                mode: Mode::AfterWords {
-                    words,
-                    depth,
-                    resumed: true,
-                },
-                paused: true,
-            }),
-            HostStep::Stop(ending) => Ok(on(Mode::Ended(End::Stopped(ending)))),
-            HostStep::Unknown => Ok(on(Mode::Give(Code::Error, Value::new(self.alloc)))),
-            HostStep::Memory => Ok(on(Mode::Ended(End::Memory))),
+        match call {
+            Call::Begin(_) => self.host_body(text, self.left, depth),
+            Call::AfterWords(_) => self.host_body(text, self.left, depth),
+            Call::AfterBody { code, bound, .. } => self.body_again(*code, text, *bound, depth),
         }
     }
 
-    /// Takes the host's reply behind a script that it asked for.
-    pub(crate) fn take_after(
-        &mut self,
-        code: Code,
-        value: Value,
-        bound: u64,
-        depth: u32,
-        step: HostStep,
-    ) -> Result<Asked, AllocError>
-        ensures rest { IfOk result (λ a. (left : ℕ) → engine_rest self.new left a.mode ≡ follow (engine_rest self.old left (Mode.AfterBody code value bound depth false)) (Stepped step self.old.vars)) }
-        ensures paused { IfOk result (λ a. WaitsAt a (Stepped step self.old.vars)) }
-        ensures asking { IfOk result (λ a. IsAskingOnPause a) }
-        ensures potential { IfOk result (λ a. GoesDown a (bodies self.new.stack + credit a.mode) (bodies self.old.stack + 3 + again code)) }
+    /// Begins to fill the words that the host asked for in its reply to a call.
+    fn words_for(&mut self, call: &Call, text: Value, depth: u32) -> Result<Mode, AllocError>
+        ensures rest { RestIs self.old result self.new (λ k st. words_for (eval depth) call.now k text st) }
+        ensures potential { IfOk result (λ mode. potential self.new mode < 8 * self.old.left + bodies self.old.stack + call_credit call.now) }
+        ensures less { self.new.left ≤ self.old.left }
     {
-        match step {
-            HostStep::Done(code, value) => Ok(on(Mode::Give(code, value))),
-            HostStep::Fail(text) => Ok(on(Mode::Give(Code::Error, text))),
-            HostStep::Body(text) => {
-                let mode = self.body_again(code, text, bound, depth)?;
-                Ok(on(mode))
-            }
-            HostStep::Words(text) => Ok(on(Mode::Give(Code::Error, text))),
-            HostStep::Wait => Ok(Asked {
-                mode: Mode::AfterBody {
-                    code,
-                    value,
-                    bound,
-                    depth,
-                    resumed: true,
-                },
-                paused: true,
-            }),
-            HostStep::Stop(ending) => Ok(on(Mode::Ended(End::Stopped(ending)))),
-            HostStep::Unknown => Ok(on(Mode::Give(Code::Error, Value::new(self.alloc)))),
-            HostStep::Memory => Ok(on(Mode::Ended(End::Memory))),
+        match call {
+            Call::Begin(_) => self.host_words(text, depth),
+            Call::AfterWords(_) => Ok(Mode::Give(Code::Error, text)),
+            Call::AfterBody { .. } => Ok(Mode::Give(Code::Error, text)),
         }
     }
 
@@ -177,8 +139,9 @@ impl Engine {
         bound: u64,
         depth: u32,
     ) -> Result<Mode, AllocError>
-        ensures rest { AnyRestIs self.old result self.new (λ k st. after_script code (HostStep.Body text) k (next_body (eval depth) k bound) st) }
+        ensures rest { RestIs self.old result self.new (λ k st. once_more code (next_body (eval depth) k bound) k text st) }
         ensures potential { IfOk result (λ mode. bodies self.new.stack + credit mode < bodies self.old.stack + 3 + again code) }
+        ensures less { self.new.left ≤ self.old.left }
     {
         match code {
             Code::Again => self.next_body(text, bound, depth),
@@ -189,8 +152,9 @@ impl Engine {
 
     /// One more script of the host, where one is left.
     fn next_body(&mut self, text: Value, bound: u64, depth: u32) -> Result<Mode, AllocError>
-        ensures rest { AnyRestIs self.old result self.new (λ k st. next_body (eval depth) k bound text st) }
+        ensures rest { RestIs self.old result self.new (λ k st. next_body (eval depth) k bound text st) }
         ensures potential { IfOk result (λ mode. bodies self.new.stack + credit mode ≤ bodies self.old.stack + 4) }
+        ensures less { self.new.left ≤ self.old.left }
     {
         if bound == 0 {
             return Ok(Mode::Ended(End::StepLimit));

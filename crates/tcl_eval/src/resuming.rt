@@ -1,21 +1,19 @@
-//! What came of a script or a command, handed to a frame, which goes on by calls of functions.
+//! Passes the outcome of a script or a command to the frames above it.
 
 ghost use Rattle.std.specs.Prelude.{◌≡◌, ◌+◌, ◌≤◌, ◌*◌, [], drop, IfOk};
 ghost use Rattle.tcl_eval.specs.Asked.{IsSettled};
-ghost use Rattle.tcl_eval.specs.Steps.{left_of};
 ghost use Rattle.tcl_eval.specs.Meaning.{Next, eval, fill_words};
 ghost use Rattle.tcl_eval.specs.Native.{ended, left, leave_weight, owed, CameIs, Known, Knows, Spent};
-ghost use Rattle.tcl_eval.specs.Rest.{engine_rest, frame_rest, frames_rest, onward_rest, then_rest, state_of};
+ghost use Rattle.tcl_eval.specs.Rest.{frame_rest, frames_rest, now_of, onward_rest, rest_of, then_rest};
 ghost use Rattle.tcl_eval.specs.Potential.{bodies, frame_weight, onward_weight, potential, then_weight};
 ghost use Rattle.tcl_eval.specs.Tree.{State};
 
 use crate::engine::Engine;
 use crate::evaluation::Evaluation;
 use crate::exprs::truth_of;
-use crate::frame::{End, Frame, Mode, Onward, Then, Turning};
+use crate::frame::{Call, End, Frame, Mode, Onward, Then, Turning};
 use crate::loops::each_end;
-use crate::meter::Meter;
-use crate::out::{Exception, Leave, Standing, came};
+use crate::out::{Exception, Leave, came};
 use crate::stops::{below, onward_below, stopped};
 use crate::values::Handed;
 use crate::words::{resumed, spread_onto};
@@ -27,16 +25,12 @@ use tcl_subst::Filler;
 use tcl_values::Value;
 
 impl Engine {
-    /// Hands what came of a script or a command to the frames, until the run stands still.
-    pub(crate) fn settle_by(
-        &mut self,
-        meter: &mut Meter,
-        out: Result<Value, Leave>,
-    ) -> Result<Mode, AllocError>
-        ensures rest { IfOk result (λ mode. Known out × (engine_rest self.new (left_of meter.new) mode ≡ ended out (state_of self.old (left_of meter.old)) (frames_rest self.old.stack))) }
-        ensures potential { IfOk result (λ mode. potential self.new (left_of meter.new) mode ≤ 8 * left_of meter.old + bodies self.old.stack + owed 0 out) }
+    /// Passes the outcome of a script or a command to the frames, one after another, until the run stands still.
+    pub(crate) fn settle_by(&mut self, out: Result<Value, Leave>) -> Result<Mode, AllocError>
+        ensures rest { IfOk result (λ mode. Known out × (rest_of self.new mode ≡ ended out (now_of self.old) (frames_rest self.old.stack))) }
+        ensures potential { IfOk result (λ mode. potential self.new mode ≤ 8 * self.old.left + bodies self.old.stack + owed 0 out) }
         ensures settled { IfOk result IsSettled }
-        ensures bound { meter.new.bound ≡ meter.old.bound }
+        ensures less { self.new.left ≤ self.old.left }
     {
         let mut now = out;
         'frames: loop {
@@ -49,20 +43,15 @@ impl Engine {
             let Some(frame) = self.stack.pop() else {
                 return Ok(Mode::Ended(End::Finished(code, value)));
             };
-            now = self.resume(meter, frame, came(code, value));
+            now = self.resume(frame, came(code, value));
         }
     }
 
-    /// Hands what came of a script or a command to a frame.
-    pub(crate) fn resume(
-        &mut self,
-        meter: &mut Meter,
-        frame: Frame,
-        out: Result<Value, Leave>,
-    ) -> Result<Value, Leave>
-        ensures measures { Spent self.old self.new meter.old meter.new (frame_weight frame + owed 0 out) (owed 0 result) }
+    /// Passes the outcome of a script or a command to a frame. Returns the frame's outcome.
+    pub(crate) fn resume(&mut self, frame: Frame, out: Result<Value, Leave>) -> Result<Value, Leave>
+        ensures measures { Spent self.old self.new (frame_weight frame + owed 0 out) (owed 0 result) }
         ensures known { Known result → Known out }
-        ensures rest { CameIs self.old meter.old result self.new meter.new (λ k st. ended out st (frame_rest frame k)) }
+        ensures rest { CameIs self.old result self.new (λ k st. ended out st (frame_rest frame k)) }
     {
         match frame {
             Frame::Sequence {
@@ -72,13 +61,13 @@ impl Engine {
                 depth,
             } => {
                 let value = self.behind_command(out, &script, at, next, depth)?;
-                self.sequence(meter, &script, next, depth, value)
+                self.sequence(&script, next, depth, value)
             }
-            Frame::Onward(onward) => self.resume_onward(meter, onward, out),
+            Frame::Onward(onward) => self.resume_onward(onward, out),
             Frame::Catch { name } => self.caught_as(name, out),
             Frame::Turn { turning, depth } => {
-                if self.turn_end(meter, out, &turning, depth)? {
-                    return self.turns(meter, turning, depth);
+                if self.turn_end(out, &turning, depth)? {
+                    return self.turns(turning, depth);
                 }
                 Ok(Value::new(self.alloc))
             }
@@ -87,7 +76,7 @@ impl Engine {
                 body,
                 depth,
             } => match each_end(out, groups, &body, depth)? {
-                Some(groups) => self.each_turns(meter, groups, &body, depth),
+                Some(groups) => self.each_turns(groups, &body, depth),
                 None => Ok(Value::new(self.alloc)),
             },
             Frame::Scope { words } => self.leave_scope(words, out),
@@ -95,37 +84,27 @@ impl Engine {
         }
     }
 
-    /// Goes on where there is a value.
+    /// Continues with the value of an outcome. Passes on the reason why there is none.
     #[tactic(auto, unfolding(crate::specs::Rest::frame_rest))]
-    fn resume_onward(
-        &mut self,
-        meter: &mut Meter,
-        onward: Onward,
-        out: Result<Value, Leave>,
-    ) -> Result<Value, Leave>
-        ensures measures { Spent self.old self.new meter.old meter.new (onward_weight onward + owed 0 out) (owed 0 result) }
+    fn resume_onward(&mut self, onward: Onward, out: Result<Value, Leave>) -> Result<Value, Leave>
+        ensures measures { Spent self.old self.new (onward_weight onward + owed 0 out) (owed 0 result) }
         ensures known { Known result → Known out }
-        ensures rest { CameIs self.old meter.old result self.new meter.new (λ k st. ended out st (frame_rest (Frame.Onward onward) k)) }
+        ensures rest { CameIs self.old result self.new (λ k st. ended out st (frame_rest (Frame.Onward onward) k)) }
     {
         match out {
-            Ok(value) => self.onward_with(meter, onward, value),
+            Ok(value) => self.onward_with(onward, value),
             Err(leave) => Err(onward_below(leave, onward)),
         }
     }
 
     /// Goes on behind the code `Ok` with a value.
     #[tactic(auto, unfolding(crate::specs::Rest::onward_rest))]
-    fn onward_with(
-        &mut self,
-        meter: &mut Meter,
-        onward: Onward,
-        value: Value,
-    ) -> Result<Value, Leave>
-        ensures measures { Spent self.old self.new meter.old meter.new (onward_weight onward) (owed 0 result) }
-        ensures rest { CameIs self.old meter.old result self.new meter.new (λ k st. onward_rest onward k value st) }
+    fn onward_with(&mut self, onward: Onward, value: Value) -> Result<Value, Leave>
+        ensures measures { Spent self.old self.new (onward_weight onward) (owed 0 result) }
+        ensures rest { CameIs self.old result self.new (λ k st. onward_rest onward k value st) }
     {
         match onward {
-            Onward::Word { filler, depth } => self.word_with(meter, filler, value, depth),
+            Onward::Word { filler, depth } => self.word_with(filler, value, depth),
             Onward::Fill {
                 words,
                 next,
@@ -133,48 +112,39 @@ impl Engine {
                 done,
                 then: to,
                 depth,
-            } => self.words_with(meter, &words, next, expand, value, done, to, depth),
-            Onward::Operand { evaluation, depth } => {
-                self.operand_with(meter, evaluation, value, depth)
-            }
-            Onward::Test { turning, depth } => self.test_with(meter, turning, &value, depth),
+            } => self.words_with(&words, next, expand, value, done, to, depth),
+            Onward::Operand { evaluation, depth } => { self.operand_with(evaluation, value, depth) }
+            Onward::Test { turning, depth } => self.test_with(turning, &value, depth),
             Onward::Arm { body, arms, depth } => {
                 if truth_of(self.alloc, &value)? {
-                    return self.text(meter, &body, depth);
+                    return self.text(&body, depth);
                 }
-                self.choose(meter, arms, depth)
+                self.choose(arms, depth)
             }
-            Onward::Next { turning, depth } => self.turns(meter, turning, depth),
+            Onward::Next { turning, depth } => self.turns(turning, depth),
             Onward::Start {
                 test,
                 next,
                 body,
                 depth,
-            } => self.started(meter, &test, &next, &body, depth),
+            } => self.started(&test, &next, &body, depth),
         }
     }
 
     /// Fills a word on, with the value of its script.
     #[tactic(auto, unfolding(crate::specs::Rest::onward_rest))]
-    fn word_with(
-        &mut self,
-        meter: &mut Meter,
-        mut filler: Filler,
-        value: Value,
-        depth: u32,
-    ) -> Result<Value, Leave>
-        ensures measures { Spent self.old self.new meter.old meter.new 0 (owed 0 result) }
-        ensures rest { CameIs self.old meter.old result self.new meter.new (λ k st. onward_rest (Onward.Word filler depth) k value st) }
+    fn word_with(&mut self, mut filler: Filler, value: Value, depth: u32) -> Result<Value, Leave>
+        ensures measures { Spent self.old self.new 0 (owed 0 result) }
+        ensures rest { CameIs self.old result self.new (λ k st. onward_rest (Onward.Word filler depth) k value st) }
     {
         let step = resumed(self.alloc, value, &mut filler, &mut self.vars)?;
-        self.fill_on(meter, filler, step, depth)
+        self.fill_on(filler, step, depth)
     }
 
     /// Fills words on behind one with this value, and goes on behind them.
     #[tactic(auto, unfolding(crate::specs::Rest::onward_rest))]
     fn words_with(
         &mut self,
-        meter: &mut Meter,
         words: &Words,
         next: usize,
         expand: bool,
@@ -183,49 +153,46 @@ impl Engine {
         to: Then,
         depth: u32,
     ) -> Result<Value, Leave>
-        ensures measures { Spent self.old self.new meter.old meter.new (then_weight to) (owed 0 result) }
-        ensures rest { CameIs self.old meter.old result self.new meter.new (λ k st. onward_rest (Onward.Fill words.now next expand done to depth) k value st) }
+        ensures measures { Spent self.old self.new (then_weight to) (owed 0 result) }
+        ensures rest { CameIs self.old result self.new (λ k st. onward_rest (Onward.Fill words.now next expand done to depth) k value st) }
     {
         spread_onto(self.alloc, expand, value, &mut done)?;
-        self.words_from(meter, words, next, done, to, depth)
+        self.words_from(words, next, done, to, depth)
     }
 
     /// Fills words from a place on, and goes on behind them.
     pub(crate) fn words_from(
         &mut self,
-        meter: &mut Meter,
         words: &Words,
         start: usize,
         mut done: Values,
         to: Then,
         depth: u32,
     ) -> Result<Value, Leave>
-        ensures measures { Spent self.old self.new meter.old meter.new (then_weight to) (owed 0 result) }
-        ensures rest { CameIs self.old meter.old result self.new meter.new (λ k st. fill_words (eval depth) (drop start words.now) done k (then_rest depth to k) st) }
+        ensures measures { Spent self.old self.new (then_weight to) (owed 0 result) }
+        ensures rest { CameIs self.old result self.new (λ k st. fill_words (eval depth) (drop start words.now) done k (then_rest depth to k) st) }
     {
-        self.words(meter, words, start, &mut done, to, depth)?;
-        self.words_done(meter, done, to, depth)
+        self.words(words, start, &mut done, to, depth)?;
+        self.words_done(done, to, depth)
     }
 
     /// Goes on behind words that are filled.
-    fn words_done(
-        &mut self,
-        meter: &mut Meter,
-        done: Values,
-        to: Then,
-        depth: u32,
-    ) -> Result<Value, Leave>
-        ensures measures { Spent self.old self.new meter.old meter.new (then_weight to) (owed 0 result) }
-        ensures rest { CameIs self.old meter.old result self.new meter.new (λ k st. then_rest depth to k done st) }
+    fn words_done(&mut self, done: Values, to: Then, depth: u32) -> Result<Value, Leave>
+        ensures measures { Spent self.old self.new (then_weight to) (owed 0 result) }
+        ensures rest { CameIs self.old result self.new (λ k st. then_rest depth to k done st) }
     {
         match to {
-            Then::Command => self.begun(meter, Handed::Own(done), depth),
+            Then::Command => self.begun(Handed::Own(done), depth),
             Then::List(Some(fault)) => {
                 let text = self.value(word_fault(fault))?;
                 Err(Leave::Gone(Exception::Error, text))
             }
             Then::List(None) => {
-                let at = Standing::AfterWords { words: done, depth };
+                let at = Mode::Call {
+                    call: Call::AfterWords(done),
+                    depth,
+                    resumed: false,
+                };
                 Err(stopped(self.alloc, at))
             }
         }
@@ -235,39 +202,32 @@ impl Engine {
     #[tactic(auto, unfolding(crate::specs::Rest::onward_rest))]
     fn operand_with(
         &mut self,
-        meter: &mut Meter,
         mut evaluation: Evaluation,
         value: Value,
         depth: u32,
     ) -> Result<Value, Leave>
-        ensures measures { Spent self.old self.new meter.old meter.new 0 (owed 0 result) }
-        ensures rest { CameIs self.old meter.old result self.new meter.new (λ k st. onward_rest (Onward.Operand evaluation depth) k value st) }
+        ensures measures { Spent self.old self.new 0 (owed 0 result) }
+        ensures rest { CameIs self.old result self.new (λ k st. onward_rest (Onward.Operand evaluation depth) k value st) }
     {
         evaluation.give(value)?;
-        self.worth(meter, evaluation, depth)
+        self.worth(evaluation, depth)
     }
 
     /// The turns of a loop that are left, behind the value of its condition.
     #[tactic(auto, unfolding(crate::specs::Rest::onward_rest))]
-    fn test_with(
-        &mut self,
-        meter: &mut Meter,
-        mut turning: Turning,
-        value: &Value,
-        depth: u32,
-    ) -> Result<Value, Leave>
-        ensures measures { Spent self.old self.new meter.old meter.new 0 (owed 0 result) }
-        ensures rest { CameIs self.old meter.old result self.new meter.new (λ k st. onward_rest (Onward.Test turning depth) k value.now st) }
+    fn test_with(&mut self, mut turning: Turning, value: &Value, depth: u32) -> Result<Value, Leave>
+        ensures measures { Spent self.old self.new 0 (owed 0 result) }
+        ensures rest { CameIs self.old result self.new (λ k st. onward_rest (Onward.Test turning depth) k value.now st) }
     {
         let holds = truth_of(self.alloc, value)?;
-        if self.turn_if(meter, holds, &mut turning, depth)? {
-            return self.turns(meter, turning, depth);
+        if self.turn_if(holds, &mut turning, depth)? {
+            return self.turns(turning, depth);
         }
         Ok(Value::new(self.alloc))
     }
 }
 
-/// The host is told how a script that it asked for ended.
+/// Stops the run to tell the host how its script ended. `bound` is how many more scripts it may ask for.
 #[tactic(auto, unfolding(crate::specs::Rest::frame_rest))]
 fn told_host(alloc: Global, out: Result<Value, Leave>, bound: u64, depth: u32) -> Leave
     ensures known { Knows result → Known out }
@@ -280,11 +240,10 @@ fn told_host(alloc: Global, out: Result<Value, Leave>, bound: u64, depth: u32) -
         Err(Leave::Stopped(stop)) => return below(stop, Frame::HostBody { bound, depth }),
         Err(Leave::Memory) => return Leave::Memory,
     };
-    let at = Standing::AfterBody {
-        code,
-        value,
-        bound,
+    let at = Mode::Call {
+        call: Call::AfterBody { code, value, bound },
         depth,
+        resumed: false,
     };
     stopped(alloc, at)
 }

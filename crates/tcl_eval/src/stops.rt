@@ -1,26 +1,27 @@
 //! Runs that stand still, and the frames of what is still to be done behind them.
 
-ghost use Rattle.std.specs.Prelude.{◌≡◌, ℕ, ◌+◌, ◌≤◌, IfOk, OnOk};
+ghost use Rattle.std.specs.Prelude.{◌≡◌, ◌+◌, ◌≤◌, IfOk, OnOk};
 ghost use Rattle.tcl_eval.specs.Asked.{IsSettled};
-ghost use Rattle.tcl_eval.specs.Standings.{mode_of};
 ghost use Rattle.tcl_eval.specs.Tree.{State};
 ghost use Rattle.tcl_eval.specs.Meaning.{Next, on_ok};
 ghost use Rattle.tcl_eval.specs.Native.{Knows, left, laid_rest, stop_rest, leave_weight, stop_weight};
-ghost use Rattle.tcl_eval.specs.Rest.{frame_rest, frames_rest, mode_rest, onward_rest, engine_rest, state_of};
+ghost use Rattle.tcl_eval.specs.Rest.{frame_rest, frames_rest, mode_rest, now_of, onward_rest, rest_of};
 ghost use Rattle.tcl_eval.specs.Potential.{bodies, credit, frame_weight, onward_weight};
 
 use crate::engine::Engine;
 use crate::frame::{Frame, Mode, Onward};
-use crate::out::{Leave, Standing, Stop};
+use crate::out::Leave;
+use crate::stop::Stop;
 use std::alloc::{AllocError, Global};
 use tcl_host::Pile;
 
 /// A run that stands still, with nothing to be done behind it yet.
 #[cold]
 #[tactic(auto, unfolding(crate::specs::Native::stop_rest))]
-pub(crate) fn stop(alloc: Global, at: Standing) -> Result<Box<Stop>, AllocError>
-    ensures rest { IfOk result (λ s. (k : Next) (st : State) → stop_rest s.value k st ≡ mode_rest (mode_of at) k st) }
-    ensures weight { IfOk result (λ s. stop_weight s.value ≡ credit (mode_of at)) }
+pub(crate) fn stop(alloc: Global, at: Mode) -> Result<Box<Stop>, AllocError>
+    requires { IsSettled at }
+    ensures rest { IfOk result (λ s. (k : Next) (st : State) → stop_rest s.value k st ≡ mode_rest at k st) }
+    ensures weight { IfOk result (λ s. stop_weight s.value ≡ credit at) }
 {
     let stop = Box::new(
         alloc,
@@ -34,9 +35,10 @@ pub(crate) fn stop(alloc: Global, at: Standing) -> Result<Box<Stop>, AllocError>
 
 /// The same, as what came of a script or a command.
 #[cold]
-pub(crate) fn stopped(alloc: Global, at: Standing) -> Leave
-    ensures rest { Knows result → (k : Next) (st : State) → left result st k ≡ mode_rest (mode_of at) k st }
-    ensures weight { leave_weight result ≤ credit (mode_of at) }
+pub(crate) fn stopped(alloc: Global, at: Mode) -> Leave
+    requires { IsSettled at }
+    ensures rest { Knows result → (k : Next) (st : State) → left result st k ≡ mode_rest at k st }
+    ensures weight { leave_weight result ≤ credit at }
 {
     match stop(alloc, at) {
         Ok(stop) => Leave::Stopped(stop),
@@ -56,7 +58,7 @@ pub(crate) fn laid_on(stop: Box<Stop>, frame: Frame) -> Result<Box<Stop>, AllocE
     Ok(stop)
 }
 
-/// A run that stands still, with one frame more.
+/// Adds a frame to a stop. Returns `Memory` if that needs memory that isn't there.
 #[cold]
 pub(crate) fn below(stop: Box<Stop>, frame: Frame) -> Leave
     ensures rest { Knows result → (k : Next) (st : State) → left result st k ≡ stop_rest stop.value (frame_rest frame k) st }
@@ -68,7 +70,7 @@ pub(crate) fn below(stop: Box<Stop>, frame: Frame) -> Leave
     }
 }
 
-/// Why there is no value, with what goes on behind `Ok` where it stands still.
+/// Adds to a stop what follows the code `Ok`. Other reasons pass unchanged.
 #[cold]
 #[tactic(auto, using(crate::proofs::Natives::code_passes), unfolding(crate::specs::Rest::frame_rest))]
 pub(crate) fn onward_below(leave: Leave, onward: Onward) -> Leave
@@ -98,12 +100,13 @@ impl Engine {
     /// Lays on the stack what is still to be done.
     #[tactic(auto, unfolding(crate::specs::Native::stop_rest))]
     pub(crate) fn lay(&mut self, stop: Box<Stop>) -> Result<Mode, AllocError>
-        ensures rest { IfOk result (λ mode. (left : ℕ) → engine_rest self.new left mode ≡ stop_rest stop.value (frames_rest self.old.stack) (state_of self.old left)) }
+        ensures rest { IfOk result (λ mode. rest_of self.new mode ≡ stop_rest stop.value (frames_rest self.old.stack) (now_of self.old)) }
         ensures potential { IfOk result (λ mode. bodies self.new.stack + credit mode ≡ bodies self.old.stack + stop_weight stop.value) }
         ensures settled { IfOk result IsSettled }
+        ensures less { self.new.left ≡ self.old.left }
     {
         let Stop { at, laid } = Box::into_inner(stop);
         lay_on(&mut self.stack, laid)?;
-        Ok(at.mode())
+        Ok(at)
     }
 }

@@ -8,14 +8,12 @@ ghost use Rattle.tcl_eval.specs.Alone.{alone, asks_alone};
 ghost use Rattle.tcl_eval.specs.Tree.{State, Tree};
 ghost use Rattle.tcl_eval.specs.Meaning.{Next, Eval, eval, fill_word, fill_words, fill_parts, on_ok, on_said, spread};
 ghost use Rattle.tcl_eval.specs.Native.{Comes, Known, Knows, Spent, WordIs, flow, left, leave_weight, owed, then_so};
-ghost use Rattle.tcl_eval.specs.Rest.{onward_rest, then_rest, state_of};
+ghost use Rattle.tcl_eval.specs.Rest.{frame_rest, onward_rest, then_rest};
 ghost use Rattle.tcl_eval.specs.Potential.{then_weight};
-ghost use Rattle.tcl_eval.specs.Steps.{left_of};
 
 use crate::begun::{advanced, first, waiting};
 use crate::engine::Engine;
 use crate::frame::{Frame, Onward, Then};
-use crate::meter::Meter;
 use crate::out::{Exception, Leave};
 use crate::read_texts::ReadTexts;
 use crate::stops::{below, onward_below};
@@ -34,13 +32,12 @@ impl Engine {
     #[inline(never)]
     pub(crate) fn fill_on(
         &mut self,
-        meter: &mut Meter,
         mut filler: Filler,
         first: FillStep,
         depth: u32,
     ) -> Result<Value, Leave>
-        ensures measures { Spent self.old self.new meter.old meter.new 0 (owed 0 result) }
-        ensures rest { WordIs self.old meter.old result self.new meter.new (λ k go st. fill_word (eval depth) (told (first, filler)) k go st) }
+        ensures measures { Spent self.old self.new 0 (owed 0 result) }
+        ensures rest { WordIs self.old result self.new (λ k go st. fill_word (eval depth) (told (first, filler)) k go st) }
     {
         let mut step = first;
         'scripts: loop {
@@ -52,7 +49,7 @@ impl Engine {
                 }
                 FillStep::NeedScript(number) => {
                     let script = script_of(&mut self.read, self.alloc, &filler, number)?;
-                    match self.script(meter, &script, depth) {
+                    match self.script(&script, depth) {
                         Ok(value) => {
                             step = resumed(self.alloc, value, &mut filler, &mut self.vars)?;
                         }
@@ -68,31 +65,26 @@ impl Engine {
     /// Fills a word, step by step.
     #[cycle(native)]
     #[inline(never)]
-    fn word(&mut self, meter: &mut Meter, word: &KeptWord, depth: u32) -> Result<Value, Leave>
-        ensures measures { Spent self.old self.new meter.old meter.new 0 (owed 0 result) }
-        ensures rest { WordIs self.old meter.old result self.new meter.new (λ k go st. fill_parts (eval depth) word.now k go st) }
+    fn word(&mut self, word: &KeptWord, depth: u32) -> Result<Value, Leave>
+        ensures measures { Spent self.old self.new 0 (owed 0 result) }
+        ensures rest { WordIs self.old result self.new (λ k go st. fill_parts (eval depth) word.now k go st) }
     {
         if let Some(text) = word.only_script() {
             let script = self.read.script(self.alloc, text.as_slice())?;
-            return self.alone_script(meter, &script, depth);
+            return self.alone_script(&script, depth);
         }
         let mut filler = first(word.filler(self.alloc)?);
         let step = advanced(self.alloc, &mut filler, &mut self.vars)?;
-        self.fill_on(meter, filler, step, depth)
+        self.fill_on(filler, step, depth)
     }
 
     /// Evaluates the script that a word is, whose value is the word's. What fills the word is wanted only where the script stands still.
     #[cycle(native)]
-    pub(crate) fn alone_script(
-        &mut self,
-        meter: &mut Meter,
-        script: &Script,
-        depth: u32,
-    ) -> Result<Value, Leave>
-        ensures measures { Spent self.old self.new meter.old meter.new 0 (owed 0 result) }
-        ensures rest { WordIs self.old meter.old result self.new meter.new (λ k go st. fill_word (eval depth) (asks_alone script.now) k go st) }
+    pub(crate) fn alone_script(&mut self, script: &Script, depth: u32) -> Result<Value, Leave>
+        ensures measures { Spent self.old self.new 0 (owed 0 result) }
+        ensures rest { WordIs self.old result self.new (λ k go st. fill_word (eval depth) (asks_alone script.now) k go st) }
     {
-        match self.script(meter, script, depth) {
+        match self.script(script, depth) {
             Ok(value) => alone(self.alloc, value),
             Err(leave) => Err(self.alone_below(leave, script, depth)),
         }
@@ -119,22 +111,21 @@ impl Engine {
     #[cycle(native)]
     pub(crate) fn words(
         &mut self,
-        meter: &mut Meter,
         words: &Words,
         start: usize,
         done: &mut Values,
         then: Then,
         depth: u32,
     ) -> Result<(), Leave>
-        ensures measures { Spent self.old self.new meter.old meter.new (then_weight then) (owed (then_weight then) result) }
-        ensures rest { Comes self.old meter.old result self.new meter.new (then_so (λ k st. then_rest depth then k done.new st)) (λ k st. fill_words (eval depth) (drop start words.now) done.old k (then_rest depth then k) st) }
+        ensures measures { Spent self.old self.new (then_weight then) (owed (then_weight then) result) }
+        ensures rest { Comes self.old result self.new (then_so (λ k st. then_rest depth then k done.new st)) (λ k st. fill_words (eval depth) (drop start words.now) done.old k (then_rest depth then k) st) }
     {
         let mut next = start;
         'words: loop {
             let Some((word, to)) = words.next(next) else {
                 return Ok(());
             };
-            match self.next_word(meter, words, word, to, done, then, depth) {
+            match self.next_word(words, word, to, done, then, depth) {
                 Ok(()) => next = to,
                 Err(leave) => return Err(leave),
             }
@@ -146,7 +137,6 @@ impl Engine {
     #[tactic(auto, unfolding(crate::specs::Rest::onward_rest))]
     fn next_word(
         &mut self,
-        meter: &mut Meter,
         words: &Words,
         word: &KeptWord,
         to: usize,
@@ -154,14 +144,14 @@ impl Engine {
         then: Then,
         depth: u32,
     ) -> Result<(), Leave>
-        ensures measures { Spent self.old self.new meter.old meter.new (then_weight then) (owed (then_weight then) result) }
-        ensures rest { Comes self.old meter.old result self.new meter.new (then_so (λ k st. fill_words (eval depth) (drop to words.now) done.new k (then_rest depth then k) st)) (λ k st. fill_parts (eval depth) word.now k (onward_rest (Onward.Fill words.now to word.now.expand done.old then depth) k) st) }
+        ensures measures { Spent self.old self.new (then_weight then) (owed (then_weight then) result) }
+        ensures rest { Comes self.old result self.new (then_so (λ k st. fill_words (eval depth) (drop to words.now) done.new k (then_rest depth then k) st)) (λ k st. fill_parts (eval depth) word.now k (onward_rest (Onward.Fill words.now to word.now.expand done.old then depth) k) st) }
     {
         let expand = word.is_expanded();
         if let Some(value) = word.plain_value(self.alloc, &mut self.vars)? {
             return spread_onto(self.alloc, expand, value, done);
         }
-        match self.word(meter, word, depth) {
+        match self.word(word, depth) {
             Ok(value) => spread_onto(self.alloc, expand, value, done),
             Err(leave) => {
                 Err(fill_below(self.alloc, leave, words, to, expand, done, then, depth))

@@ -7,6 +7,6 @@ pub returns-clause-answered : goal.returns-clause-answered
 returns-clause-answered g c =
     let r : Reply = Known c.knows-is_known.result in (
       r,
-      λ left. subst (λ (name : List ℕ). g.H.Host.answers c.args.host.now (Knows name) r c.args.host.now) c.as_slice.ensures c.knows-is_known.ensures,
-      λ left. c.in_ok-mode.ensures.rest left,
+      subst (λ (name : List ℕ). g.H.Host.answers c.args.host.now (Knows name) r c.args.host.now) c.as_slice.ensures c.knows-is_known.ensures,
+      c.in_ok-mode.ensures.rest,
     )

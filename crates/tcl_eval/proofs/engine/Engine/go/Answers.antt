@@ -1,4 +1,4 @@
-use Rattle.std.proofs.Common.{sym, ◌++◌, ◌∙◌}
+use Rattle.std.proofs.Common.{sym, ◌++◌, ◌∙◌, arith}
 use Rattle.tcl_eval.proofs.Led.{leads_along, leads_append, pauses_append}
 use Rattle.tcl_eval.proofs.engine.Engine.go.Goals as goal
 
@@ -19,5 +19,5 @@ rounds-preserved g c = record {
         i.0 ++ a.0,
         leads_append g.H.Host.answers i.0 a.0 _ _ _ _ _ _ (leads_along g.H.Host.answers i.0 _ _ _ _ _ i.1 (sym c.in_ok-mode.ensures.rest)) a.1,
       );
-  bound = c.ask.ensures.bound ∙ c.settle.ensures.bound ∙ c.rounds.invariant.bound;
+  less = omega (arith, c.ask.ensures.less, c.settle.ensures.less, c.rounds.invariant.less);
 }

@@ -4,8 +4,7 @@ use Rattle.tcl_eval.specs.declared.frame.Frame.{Frame}
 use Rattle.tcl_eval.specs.declared.out.Leave.{Leave}
 use Rattle.tcl_eval.specs.Native.{Known, ended, owed}
 use Rattle.tcl_eval.specs.Potential.{again, bodies, frame_weight}
-use Rattle.tcl_eval.specs.Rest.{frame_rest, frames_rest, state_of}
-use Rattle.tcl_eval.specs.Steps.{left_of}
+use Rattle.tcl_eval.specs.Rest.{frame_rest, frames_rest, now_of}
 use Rattle.tcl_eval.proofs.engine.Engine.settle_by.Goals as goal
 use Rattle.tcl_eval.proofs.engine.Engine.settle_by.Goals.{in-Ok, in-Err-Gone}
 
@@ -14,7 +13,7 @@ frames-preserved c =
     let stack = c.frames.self.stack in
     let frame = c.in-Some.frame in
     let now = c.frames.now in
-    let st = state_of c.frames.self (left_of c.frames.meter) in
+    let st = now_of c.frames.self in
     let code = c.match-now.code.0 in
     let value = c.match-now.code.1 in
     let kept : c.resume-now.new.self.stack ≡ c.pop.new.self = c.resume-now.ensures.measures.kept in
@@ -42,7 +41,7 @@ frames-preserved c =
     record {
       same = λ known. (
         inv.0,
-        ap (λ (s : List Frame). ended c.resume-now.result (state_of c.resume-now.new.self (left_of c.resume-now.new.meter)) (frames_rest s)) kept
+        ap (λ (s : List Frame). ended c.resume-now.result (now_of c.resume-now.new.self) (frames_rest s)) kept
             ∙ c.resume-now.ensures.rest known (frames_rest c.pop.new.self)
             ∙ c.came.ensures.rest (frame_rest frame (frames_rest c.pop.new.self)) st
             ∙ ap (λ (s : List Frame). frames_rest s code value st) (sym c.in-Some.ensures)
@@ -50,5 +49,5 @@ frames-preserved c =
             ∙ inv.1,
       );
       down = omega (arith, c.frames.invariant.down, c.resume-now.ensures.measures.down, c.came.ensures.weight, paid, before, after);
-      bound = c.resume-now.ensures.measures.bound ∙ c.frames.invariant.bound;
+      less = omega (arith, c.frames.invariant.less, c.resume-now.ensures.measures.less);
     }
