@@ -1,6 +1,6 @@
 //! What a list of patterns says, without taking memory.
 
-ghost use Rattle.std.specs.Prelude.{◌≡◌, ◌+◌, ◌-◌, ◌==◌, ◌<◌, ◌≤◌, Some, None, IfErr, IfSome, position, length, if◌then◌else◌, option_map};
+ghost use Rattle.std.specs.Prelude.{◌≡◌, ◌+◌, ◌<◌, ◌≤◌, Some, IfErr, IfSome, position, length, option_map};
 ghost use Rattle.std.specs.List.{slice_get};
 ghost use Rattle.exp_match.specs.Choice.{waits_for_end as waits_for_end_of, waits_for_time as waits_for_time_of, waits_for_full as waits_for_full_of, waits_for_time_alone as waits_for_time_alone_of, first_in, serves as serves_of};
 ghost use Rattle.exp_match.specs.Arguments.{Gives, patterns_of};
@@ -130,32 +130,11 @@ impl PatternList {
             .position(|e| waits_for_time(&e.want))
     }
 
-    /// What the last `-timeout` names.
-    pub fn timeout(&self) -> Option<&[u8]>
-        ensures { option_map (λ t. t.now) result ≡ self.now.timeout }
-    {
-        match &self.timeout {
-            Some(time) => Some(time.as_slice()),
-            None => None,
-        }
-    }
-
     /// How many groups there are: one more than `-i` stands there.
     pub fn groups(&self) -> usize
         ensures { result ≡ length self.now.ids + 1 }
     {
         self.ids.as_slice().len() + 1
-    }
-
-    /// The process that a group's `-i` names, and none for group 0.
-    pub fn group_id(&self, group: usize) -> Option<&[u8]>
-        requires { group ≤ length self.now.ids }
-        ensures { option_map (λ t. t.now) result ≡ (if group == 0 then None else slice_get self.now.ids (group - 1)) }
-    {
-        if group == 0 {
-            return None;
-        }
-        Some(self.ids.as_slice()[group - 1].as_slice())
     }
 
     /// Whether a pattern, or a keyword other than `timeout`, stands in a group.

@@ -5,10 +5,9 @@ ghost use Rattle.regex.specs.Bytes.{IsReadFromSource, regex_config, regex_source
 ghost use Rattle.exp_match.specs.Reach.{Opens};
 ghost use Rattle.exp_match.specs.Scan.{is_pattern};
 ghost use Rattle.exp_match.specs.Unbuilt.{IsOfText, refusal_of};
-ghost use Rattle.exp_match.specs.Written.{FindsAsWritten, config_of, find_written};
+ghost use Rattle.exp_match.specs.Written.{config_of};
 
 use crate::faults::Refusal;
-use crate::matcher::{RegularMatcher, Spans};
 use crate::reach::opening_of_text;
 use regex::bytes::Regex;
 use regex::{Error, RegexBuilder};
@@ -138,18 +137,5 @@ impl Regular {
         ensures { IfSome result (Opens self.now) }
     {
         self.opening
-    }
-
-    /// The first match in these bytes with its groups, leftmost-first.
-    ///
-    /// A search writes to a matcher, which is made here: it is what takes memory. `PatternList::choose_with` keeps matchers.
-    pub fn search(&self, alloc: Global, bytes: &[u8]) -> Result<Option<Spans>, AllocError>
-        ensures written { IfOk result (FindsAsWritten self.now bytes.now) }
-        ensures value { IfOk result (λ found. found ≡ find_written self.now bytes.now) }
-    {
-        let mut matcher = RegularMatcher::new(alloc, self)?;
-        let mut spans = [None; 10];
-        let found = matcher.find(bytes, 0, &mut spans);
-        Ok(found.then_some(spans))
     }
 }
