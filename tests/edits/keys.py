@@ -1,7 +1,7 @@
 """The key of an edit: a sum of what its refusal depends on, as far as names tell.
 
 A refusal depends on the edited text of the functions concerned and their proof files, on what is stated of the functions that
-they call, on types and definitions, on the kit, and on how this runner judges. It doesn't depend on comments, nor on other
+they call, on types and definitions, on the kit's logic, and on how this runner judges. It doesn't depend on comments, nor on other
 functions' bodies and proofs: in a round these are holes. What counts of the rest is found by name, so a key that stays
 the same is no proof that the refusal does. That is why the gate tries a part of the edits again in spite of their keys.
 """
@@ -25,10 +25,16 @@ def sum_of(*parts):
     return hashlib.sha256(repr(parts).encode()).hexdigest()[:24]
 
 
+def logic():
+    """The logic of the kit, which several kits may have: the sum that stands behind its name."""
+    name = pathlib.Path(RT.KIT, "KIT-ID").read_text(encoding="utf-8")
+    return name.partition(" logic ")[2] or name
+
+
 def judged_by():
-    """The kit, and the texts of this runner that decide."""
+    """The logic of the kit, and the texts of this runner that decide."""
     texts = [(HERE / f"{it}.py").read_bytes() for it in DECIDING]
-    return sum_of(pathlib.Path(RT.KIT, "KIT-ID").read_bytes(), texts)
+    return sum_of(logic(), texts)
 
 
 def to_the_end(start, below):
