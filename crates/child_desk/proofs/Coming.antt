@@ -19,7 +19,7 @@ use Rattle.dialogue_sched.specs.Took.{Took, AllTook}
 use Rattle.dialogue_sched.specs.Hall.{Requested}
 use Rattle.dialogue_sched.specs.declared.script.Script.{Script}
 use Rattle.dialogue_sched.specs.Refusal.{refusal_of}
-use Rattle.child_keeper.specs.declared.keeper.Keeper.{Ghosts}
+use Rattle.child_hands.specs.declared.keeper.Keeper.{Ghosts}
 use Rattle.child_desk.specs.declared.book.Book.{Book}
 use Rattle.child_desk.specs.declared.line.Line.{Line}
 use Rattle.child_desk.specs.declared.ends.Ends.{Ends}

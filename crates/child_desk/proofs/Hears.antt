@@ -13,8 +13,8 @@ use Rattle.child_events.specs.declared.event.HallEvent.{HallEvent}
 use Rattle.child_events.specs.declared.event.HallEvent.TheVariants as hall
 use Rattle.child_events.specs.World.{own, after_own}
 use Rattle.child_events.proofs.Worlds.{own-append}
-use Rattle.child_keeper.specs.declared.items.Item.{Item}
-use Rattle.child_keeper.specs.declared.keeper.Keeper.{Ghosts}
+use Rattle.child_hands.specs.declared.items.Item.{Item}
+use Rattle.child_hands.specs.declared.keeper.Keeper.{Ghosts}
 use Rattle.feed_rings.specs.Ends.{taken_items, seen_items, all_put, SameOut}
 use Rattle.feed_rings.specs.declared.feed.Finished.{Finished}
 use Rattle.feed_rings.specs.declared.feed.FeedOut.{FeedOut}

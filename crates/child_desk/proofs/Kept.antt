@@ -11,8 +11,8 @@ use Rattle.dialogue_sched.specs.declared.script.Script.{Script}
 use Rattle.dialogue_sched.specs.Took.{AllTook}
 use Rattle.dialogue_sched.specs.Refusal.{refusal_of}
 use Rattle.std.specs.declared.io.traits.Read.{Ghosts as ReadGhosts}
-use Rattle.child_keeper.specs.declared.keeper.Keeper.{Ghosts}
-use Rattle.child_keeper.specs.declared.items.Item.{Item}
+use Rattle.child_hands.specs.declared.keeper.Keeper.{Ghosts}
+use Rattle.child_hands.specs.declared.items.Item.{Item}
 use Rattle.feed_rings.specs.Ends.{put_items, taken_items, SameIn, SameOut}
 use Rattle.feed_rings.specs.declared.feed.FeedIn.{FeedIn}
 use Rattle.feed_rings.specs.declared.feed.FeedOut.{FeedOut}
@@ -20,11 +20,11 @@ use Rattle.child_desk.specs.declared.ends.Ends.{Ends as HandEnds}
 use Rattle.child_desk.specs.Told.{Telling, Reply, Put, Asks, Stops, Rings, telling, asking, answers_in, replies_in, all_told, asked_of_hand, heard_of_hand, rings_of}
 use Rattle.child_desk.specs.Turn.{HasNoRequest, Waits}
 use Rattle.child_desk.specs.declared.book.Book.{Book}
-use Rattle.child_keeper.specs.declared.log_item.LogItem.{LogItem}
-use Rattle.child_keeper.specs.declared.log_item.LogItem.TheVariants as item
+use Rattle.child_hands.specs.declared.log_item.LogItem.{LogItem}
+use Rattle.child_hands.specs.declared.log_item.LogItem.TheVariants as item
 use Rattle.child_desk.specs.declared.line.Line.{Line}
 use Rattle.child_desk.specs.Book.{Enters, IsRecord, AllUntil, AllTaken, Looks, logged, ring_log}
-use Rattle.child_keeper.specs.Record.{ItemsAscendFrom, moment_in, moment_at, events_in}
+use Rattle.child_hands.specs.Record.{ItemsAscendFrom, moment_in, moment_at, events_in}
 use Rattle.child_desk.specs.Line.{Keeping, IsInLine, InLine, Leaves, Keeps, SameRings, HearsNoHand, KeepsAll}
 use Rattle.child_events.specs.declared.event.What.{What}
 use Rattle.child_events.specs.declared.event.What.TheVariants as what

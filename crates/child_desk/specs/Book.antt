@@ -8,9 +8,9 @@ use Rattle.dialogue_sched.specs.Took.{AllTook}
 use Rattle.feed_rings.specs.Ends.{put_items, room, SameIn}
 use Rattle.feed_rings.specs.declared.feed.FeedIn.{FeedIn}
 use Rattle.child_desk.specs.declared.book.Book.{Book}
-use Rattle.child_keeper.specs.declared.log_item.LogItem.{LogItem}
-use Rattle.child_keeper.specs.declared.log_item.LogItem.TheVariants as item
-use Rattle.child_keeper.specs.Record.{moment_in, moment_at, events_in, ItemsAscendFrom}
+use Rattle.child_hands.specs.declared.log_item.LogItem.{LogItem}
+use Rattle.child_hands.specs.declared.log_item.LogItem.TheVariants as item
+use Rattle.child_hands.specs.Record.{moment_in, moment_at, events_in, ItemsAscendFrom}
 
 -- the events that were put into a record's ring, in order
 abbrev pub ring_log : FeedIn LogItem → List HallEvent

@@ -8,9 +8,9 @@ use Rattle.child_events.specs.declared.event.Event.{Event}
 use Rattle.child_events.specs.declared.event.Event.TheVariants as event
 use Rattle.child_events.specs.declared.event.HallEvent.{HallEvent}
 use Rattle.child_events.specs.World.{own}
-use Rattle.child_keeper.specs.declared.items.Item.{Item}
-use Rattle.child_keeper.specs.declared.items.Item.TheVariants.{Out, End, ReadFail, Answer, Ask, Stop}
-use Rattle.child_keeper.specs.declared.keeper.Keeper.{Ghosts}
+use Rattle.child_hands.specs.declared.items.Item.{Item}
+use Rattle.child_hands.specs.declared.items.Item.TheVariants.{Out, End, ReadFail, Answer, Ask, Stop}
+use Rattle.child_hands.specs.declared.keeper.Keeper.{Ghosts}
 use Rattle.feed_rings.specs.Ends.{taken_items, seen_items, all_put, SameOut, IsFinishedOf}
 use Rattle.feed_rings.specs.declared.feed.FeedOut.{FeedOut}
 use Rattle.feed_rings.specs.declared.feed.Finished.{Finished}

@@ -15,8 +15,8 @@ use Rattle.session.specs.Meaning.{meaning}
 use Rattle.session.specs.Left.{Kept, left}
 use Rattle.session.specs.Spent.{memory_report}
 use Rattle.dialogue_sched.specs.declared.script.Script.{Script}
-use Rattle.child_keeper.specs.declared.keeper.Keeper.{Ghosts}
-use Rattle.child_keeper.specs.declared.items.Item.{Item}
+use Rattle.child_hands.specs.declared.keeper.Keeper.{Ghosts}
+use Rattle.child_hands.specs.declared.items.Item.{Item}
 use Rattle.feed_rings.specs.Ends.{taken_items, SameIn, SameOut, IsFinishedOf}
 use Rattle.feed_rings.specs.declared.feed.Finished.{Finished}
 use Rattle.child_desk.specs.Told.{answers_in, replies_in, AreAmong, AreOf, Asks, Stops, Rings, asked_of_hand, rings_of}

@@ -9,7 +9,7 @@ use Rattle.child_events.specs.World.{own}
 use Rattle.tcl_host.specs.declared.ending.Ending.TheVariants.{Waiting}
 use Rattle.session.specs.Left.{Kept, left}
 use Rattle.dialogue_sched.specs.declared.script.Script.{Script}
-use Rattle.child_keeper.specs.declared.keeper.Keeper.{Ghosts}
+use Rattle.child_hands.specs.declared.keeper.Keeper.{Ghosts}
 use Rattle.child_desk.specs.Book.{logged}
 use Rattle.child_desk.specs.declared.book.Book.{Book}
 use Rattle.child_desk.specs.declared.line.Line.{Line}

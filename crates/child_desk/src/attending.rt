@@ -15,7 +15,7 @@ use crate::entering::enter_taken;
 use crate::hearing::hear_children;
 use crate::line::{Line, ask_next, enter_answer, enter_end};
 use child_events::HallEvent;
-use child_keeper::{Keeper, LogItem};
+use child_hands::{Keeper, LogItem};
 use std::alloc::{AllocError, Global};
 
 /// The last moment.

@@ -2,7 +2,7 @@
 
 ghost use Rattle.std.specs.Prelude.{◌≤◌};
 
-use child_keeper::LogItem;
+use child_hands::LogItem;
 use dialogue_sched::Hall;
 use feed_rings::FeedIn;
 

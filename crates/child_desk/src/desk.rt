@@ -15,7 +15,7 @@ use crate::ends::Ends;
 use crate::hearing::{has_come_to, settle_child};
 use crate::line::Line;
 use child_events::HallEvent;
-use child_keeper::{Item, Keeper, LogItem};
+use child_hands::{Item, Keeper, LogItem};
 use dialogue_sched::Reports;
 use feed_rings::{Bell, FeedIn, Finished};
 use std::alloc::{AllocError, Global};

@@ -7,7 +7,7 @@ ghost use Rattle.child_desk.specs.Line.{TakesNone, IsFrontOf};
 
 use crate::readers::{Readers, Taken, is_last};
 use child_events::Answer;
-use child_keeper::{Answered, Item, Keeper};
+use child_hands::{Answered, Item, Keeper};
 use expect_core::{Act, Request};
 use feed_rings::{FeedIn, FeedOut, Finished};
 use std::alloc::{AllocError, Global};

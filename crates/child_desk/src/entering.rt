@@ -7,7 +7,7 @@ ghost use Rattle.child_desk.specs.Book.{Enters, HasRoom, IsRecord, Looks, logged
 
 use crate::book::Book;
 use child_events::HallEvent;
-use child_keeper::LogItem;
+use child_hands::LogItem;
 use dialogue_sched::Hall;
 use feed_rings::{Bell, FeedIn, await_room};
 use std::sync::Wait;

@@ -17,7 +17,7 @@ use crate::ends::Ends;
 use crate::entering::enter_taken;
 use crate::readers::{Taken, room};
 use child_events::{HallEvent, What};
-use child_keeper::{Item, Keeper};
+use child_hands::{Item, Keeper};
 use feed_rings::{Bell, Finished};
 use std::alloc::{AllocError, Global};
 use std::sync::Wait;

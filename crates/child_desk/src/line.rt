@@ -11,7 +11,7 @@ ghost use Rattle.child_desk.specs.Turn.{Comes, IsAwaited, IsTold, HasNoRequest, 
 use crate::book::Book;
 use crate::entering::enter;
 use child_events::{Answer, HallEvent, What};
-use child_keeper::{Answered, Keeper};
+use child_hands::{Answered, Keeper};
 use expect_core::Request;
 use session::Ending;
 

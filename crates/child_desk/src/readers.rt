@@ -6,7 +6,7 @@ ghost use Rattle.feed_rings.specs.Ends.{all_put};
 ghost use Rattle.child_desk.specs.Heard.{FinishedAt, SeenAt, TakesAt, IsTaken, IsLeftOf, LeavesOneLess, Says, heard_of};
 
 use child_events::What;
-use child_keeper::{Item, Keeper, Piece};
+use child_hands::{Item, Keeper, Piece};
 use feed_rings::{FeedOut, Finished};
 use std::alloc::{AllocError, Global};
 

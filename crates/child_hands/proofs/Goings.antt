@@ -2,10 +2,10 @@
 use Rattle.std.proofs.Common.{◌≡◌, ◌≢◌, ℕ, ◌+◌, ◌≤◌, Bool, true, false, ◌&&◌, ◌==◌, List, [], ◌∷◌, ◌++◌, length, refl, sym, ◌∙◌, ap, arith, Option, None, Some, cond, subst, length-append, ◌⊎◌, ⊎_elim}
 use Rattle.std.proofs.lemmas.Bool.Decides.{nat_tests}
 use Rattle.std.specs.declared.io.traits.Read.{Ghosts as ReadGhosts}
-use Rattle.child_keeper.specs.declared.keeper.Keeper.{Ghosts}
-use Rattle.child_keeper.specs.declared.items.Item.{Item}
-use Rattle.child_keeper.specs.declared.items.Item.TheVariants.{Out, End, ReadFail, Answer, Ask, Stop}
-use Rattle.child_keeper.specs.declared.items.Answered.{Answered}
+use Rattle.child_hands.specs.declared.keeper.Keeper.{Ghosts}
+use Rattle.child_hands.specs.declared.items.Item.{Item}
+use Rattle.child_hands.specs.declared.items.Item.TheVariants.{Out, End, ReadFail, Answer, Ask, Stop}
+use Rattle.child_hands.specs.declared.items.Answered.{Answered}
 use Rattle.expect_core.specs.declared.request.Request.{Request}
 use Rattle.feed_rings.specs.declared.feed.FeedIn.{FeedIn}
 use Rattle.child_hands.specs.declared.order.Order.TheVariants.{Do, Halt, Nothing}

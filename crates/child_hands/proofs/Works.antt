@@ -3,8 +3,8 @@ use Rattle.std.proofs.Common.{◌≡◌, ◌≢◌, ℕ, zero, suc, ◌+◌, ◌
 use Rattle.std.proofs.lemmas.Bool.{cases_eq}
 use Rattle.std.specs.List.{slice_get}
 use Rattle.std.specs.declared.io.traits.Read.{Ghosts as ReadGhosts}
-use Rattle.child_keeper.specs.declared.keeper.Keeper.{Ghosts}
-use Rattle.child_keeper.specs.declared.items.Item.{Item}
+use Rattle.child_hands.specs.declared.keeper.Keeper.{Ghosts}
+use Rattle.child_hands.specs.declared.items.Item.{Item}
 use Rattle.feed_rings.specs.declared.feed.FeedIn.{FeedIn}
 use Rattle.feed_rings.specs.declared.feed.Finished.{Finished}
 use Rattle.feed_rings.specs.Ends.{SameIn, EndsRingOf, all_put, put_items}

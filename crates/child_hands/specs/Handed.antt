@@ -13,9 +13,9 @@ use Rattle.child_hands.specs.declared.work.Outcome.{Outcome}
 use Rattle.child_hands.specs.declared.work.Reader.{Reader}
 use Rattle.child_hands.specs.declared.work.Work.TheVariants.{Free, Ended}
 use Rattle.child_hands.specs.declared.work.Work.{Work}
-use Rattle.child_keeper.specs.declared.items.Item.TheVariants.{Out, End, ReadFail, Answer, Ask, Stop}
-use Rattle.child_keeper.specs.declared.items.Item.{Item}
-use Rattle.child_keeper.specs.declared.keeper.Keeper.{Ghosts}
+use Rattle.child_hands.specs.declared.items.Item.TheVariants.{Out, End, ReadFail, Answer, Ask, Stop}
+use Rattle.child_hands.specs.declared.items.Item.{Item}
+use Rattle.child_hands.specs.declared.keeper.Keeper.{Ghosts}
 use Rattle.expect_core.specs.declared.request.Act.TheVariants as act
 use Rattle.expect_core.specs.declared.request.Act.{Act}
 use Rattle.expect_core.specs.declared.request.Request.{Request}

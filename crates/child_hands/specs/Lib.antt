@@ -1,3 +1,5 @@
+pub mod Told
+pub mod Record
 pub mod Pumped
 pub mod Started
 pub mod Handed

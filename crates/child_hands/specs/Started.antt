@@ -1,8 +1,8 @@
 -- What came of starting a reader.
 use Rattle.std.specs.Prelude.{◌≡◌, ℕ}
 use Rattle.std.specs.declared.io.traits.Read.{Ghosts as ReadGhosts}
-use Rattle.child_keeper.specs.declared.keeper.Keeper.{Ghosts}
-use Rattle.child_keeper.specs.declared.items.Item.{Item}
+use Rattle.child_hands.specs.declared.keeper.Keeper.{Ghosts}
+use Rattle.child_hands.specs.declared.items.Item.{Item}
 use Rattle.feed_rings.specs.declared.feed.FeedIn.{FeedIn}
 use Rattle.child_hands.specs.declared.reader.Started.{Started}
 use Rattle.child_hands.specs.declared.reader.Started.TheVariants.{Running, Refused}

@@ -8,7 +8,7 @@ ghost use Rattle.child_hands.specs.Handed.{PutsAt, TakesPlace, IsTaken, KeepsWor
 use crate::pump::give_up;
 use crate::reader::{Started, start};
 use crate::work::{Fresh, Reader, Work};
-use child_keeper::{Item, Keeper};
+use crate::{Item, Keeper};
 use feed_rings::Finished;
 use std::alloc::Global;
 use std::mem;

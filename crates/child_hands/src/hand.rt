@@ -1,15 +1,15 @@
 //! A hand: carries out a script's requests, and starts a reader for each child.
 
 ghost use Rattle.std.specs.Prelude.{◌≡◌, ◌+◌, ◌^◌, ◌<◌, ◌≤◌, [], ◌∷◌, ◌++◌, IfSome, is_some, vec_len};
-ghost use Rattle.child_keeper.specs.Told.{answer_of};
+ghost use Rattle.child_hands.specs.Told.{answer_of};
 ghost use Rattle.feed_rings.specs.Ends.{put_items, taken_items, room, SameIn, SameOut};
 ghost use Rattle.child_hands.specs.Handed.{starts, failure_of, order_of, KeepsGoing, GoesOn, IsEnded, IsHandEnd};
 
 use crate::children::Children;
 use crate::order::Order;
 use crate::work::{HandEnd, Outcome, Work};
+use crate::{Answered, Gate, Item, Keeper};
 use child_events::{Answer, Cause};
-use child_keeper::{Answered, Gate, Item, Keeper};
 use expect_core::{Act, Request};
 use feed_rings::{Bell, FeedIn, FeedOut, await_room, take_waiting};
 use std::alloc::Global;

@@ -1,16 +1,29 @@
 //! The threads between a script's desk and its children: a hand that carries out requests, and a reader for each child.
 //!
-//! A hand takes requests from one ring and puts the keeper's answers into another; each child's reader puts what the child
-//! wrote into a ring of its own. Everybody rests on a bell where there is nothing to do.
+//! A hand takes requests from one ring, asks a [`Keeper`] to carry them out, and puts its answers into another ring; each child's reader puts what
+//! the child wrote into a ring of its own. Everybody rests on a bell where there is nothing to do. [`Clock`] tells the time, and a [`Gate`] lets a
+//! request pass.
 #![tactic(auto)]
 
 pub mod children;
+pub mod clock;
+pub mod gate;
 pub mod hand;
+pub mod items;
+pub mod keeper;
+pub mod log_item;
 pub mod order;
+pub mod piece;
 pub mod pump;
 pub mod reader;
 pub mod thread;
 pub mod work;
 
+pub use clock::Clock;
+pub use gate::Gate;
+pub use items::{Answered, Item};
+pub use keeper::Keeper;
+pub use log_item::LogItem;
+pub use piece::Piece;
 pub use thread::{Obeys, start_hand};
 pub use work::{Fresh, HandEnd, Outcome, Work};

@@ -2,11 +2,11 @@
 
 ghost use Rattle.std.specs.Prelude.{◌≡◌, ◌+◌, ◌^◌, ◌<◌, ◌≤◌, [], ◌∷◌, ◌++◌, IfSome, ℕ, List, Option};
 ghost use Rattle.feed_rings.specs.Ends.{put_items, all_put, SameIn};
-ghost use Rattle.child_keeper.specs.declared.items.Item.TheVariants.{ReadFail};
+ghost use Rattle.child_hands.specs.declared.items.Item.TheVariants.{ReadFail};
 ghost use Rattle.child_hands.specs.Pumped.{PumpsAllBut, IsRead, FailsOnlyFor};
 
+use crate::{Item, Keeper, Piece};
 use child_events::{Cause, Counted};
-use child_keeper::{Item, Keeper, Piece};
 use feed_rings::{Bell, FeedIn, Finished, put_waiting};
 use std::alloc::Global;
 use std::io::{ErrorKind, Read};

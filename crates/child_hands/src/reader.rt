@@ -7,8 +7,8 @@ ghost use Rattle.child_hands.specs.Started.{IsStarted};
 
 use crate::pump::{give_up, pump};
 use crate::work::Fresh;
+use crate::{Item, Keeper};
 use child_events::Counted;
-use child_keeper::{Item, Keeper};
 use feed_rings::{FeedIn, Finished};
 use std::alloc::{AllocError, Global};
 use std::io::Read;

@@ -7,7 +7,7 @@ ghost use Rattle.child_hands.specs.Handed.{IsHandEnd};
 use crate::hand::hand;
 use crate::reader::STACK;
 use crate::work::{HandEnd, Work};
-use child_keeper::{Gate, Item, Keeper};
+use crate::{Gate, Item, Keeper};
 use feed_rings::{Bell, FeedIn, FeedOut};
 use std::alloc::Global;
 use std::snapshot::Snapshot;

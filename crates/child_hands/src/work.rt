@@ -4,7 +4,7 @@ ghost use Rattle.std.specs.Prelude.{◌≡◌, [], length};
 ghost use Rattle.feed_rings.specs.Ends.{put_items};
 
 use crate::reader::Reads;
-use child_keeper::{Item, Keeper};
+use crate::{Item, Keeper};
 use feed_rings::{Bell, FeedIn, FeedOut, Finished};
 use std::thread::PromisedHandle;
 

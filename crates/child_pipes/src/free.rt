@@ -1,6 +1,6 @@
 //! A gate that is open.
 
-use child_keeper::Gate;
+use child_hands::Gate;
 
 /// Lets every request pass.
 #[derive(Clone, Copy)]

@@ -10,7 +10,7 @@ use crate::output::Output;
 use crate::programs::Programs;
 use crate::reaper::Reaper;
 use child_events::{Answer, Cause};
-use child_keeper::Keeper;
+use child_hands::Keeper;
 use std::alloc::{AllocError, Global};
 use std::sync::{Arc, Wait};
 use std::time::Clock;

@@ -1,6 +1,6 @@
 //! The system's clock.
 
-use child_keeper::Clock;
+use child_hands::Clock;
 use std::time::{Clock as SystemClock, Instant};
 
 /// Counts the milliseconds since it was made. Where the system's clock can't be read, it stands still.

@@ -5,7 +5,7 @@ use crate::programs::Programs;
 use crate::reaper::{Reaper, Terms};
 use crate::stop::Stop;
 use crate::wall::Wall;
-use child_keeper::Clock as _;
+use child_hands::Clock as _;
 use feed_rings::{Bell, Ringer};
 use std::alloc::{AllocError, Global};
 use std::io::Write;

@@ -12,7 +12,7 @@ use Rattle.child_desk.specs.Book.{ring_log}
 use Rattle.child_desk.specs.Line.{Keeping}
 use Rattle.feed_rings.specs.Ends.{put_items}
 use Rattle.feed_rings.specs.declared.feed.FeedIn.{FeedIn}
-use Rattle.child_keeper.specs.declared.log_item.LogItem.{LogItem}
+use Rattle.child_hands.specs.declared.log_item.LogItem.{LogItem}
 use Rattle.dialogue_sched.specs.Hall.{opening_fault}
 use Rattle.run_records.specs.Joined.{AllFits, AllFitFrom, IsJoined}
 use Rattle.run_records.specs.Merged.{AllSoundFrom, Handed, HasOne, IsMerging, WasHanded}

@@ -14,10 +14,10 @@ use Rattle.child_events.specs.declared.event.What.TheVariants as what
 use Rattle.expect_core.specs.declared.request.Act.{Act}
 use Rattle.expect_core.specs.declared.request.Act.TheVariants as act
 use Rattle.expect_core.specs.declared.request.Request.{Request}
-use Rattle.child_keeper.specs.declared.keeper.Keeper.{Ghosts}
-use Rattle.child_keeper.specs.declared.items.Answered.{Answered}
-use Rattle.child_keeper.specs.declared.items.Item.{Item}
-use Rattle.child_keeper.specs.declared.items.Item.TheVariants.{Out, End, ReadFail, Answer, Ask, Stop}
+use Rattle.child_hands.specs.declared.keeper.Keeper.{Ghosts}
+use Rattle.child_hands.specs.declared.items.Answered.{Answered}
+use Rattle.child_hands.specs.declared.items.Item.{Item}
+use Rattle.child_hands.specs.declared.items.Item.TheVariants.{Out, End, ReadFail, Answer, Ask, Stop}
 use Rattle.child_hands.specs.Handed.{is_spawn, is_ok, starts, AreAnswers, spawn_call}
 use Rattle.child_hands.specs.Pumped.{outs_of, IsPumpList}
 use Rattle.child_desk.specs.Heard.{heard_of, heard}

@@ -1,12 +1,12 @@
 -- A desk that was turned so far, and looked at since.
 use Rattle.std.proofs.Common.{◌≡◌, List, sym, ap, subst}
 use Rattle.std.specs.declared.io.traits.Read.{Ghosts as ReadGhosts}
-use Rattle.child_keeper.specs.declared.keeper.Keeper.{Ghosts}
+use Rattle.child_hands.specs.declared.keeper.Keeper.{Ghosts}
 use Rattle.child_desk.specs.declared.ends.Ends.{Ends}
 use Rattle.child_desk.specs.declared.book.Book.{Book}
 use Rattle.child_desk.specs.declared.line.Line.{Line}
 use Rattle.child_desk.specs.Book.{Looks, logged}
-use Rattle.child_keeper.specs.Record.{events_in}
+use Rattle.child_hands.specs.Record.{events_in}
 use Rattle.child_desk.specs.Heard.{HearsAll, recorded}
 use Rattle.child_desk.specs.Line.{HearsNoHand, KeepsAll, Leaves}
 use Rattle.child_desk.proofs.Kept.{leaves_all, leaves_same, all_left, all_then, all_still}

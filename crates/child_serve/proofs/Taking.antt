@@ -3,7 +3,7 @@ use Rattle.std.proofs.Common.{◌≡◌, ℕ, suc, ◌+◌, List, [], ◌∷◌,
 use Rattle.feed_rings.specs.Ends.{IsPair, SameIn, SameOut}
 use Rattle.feed_rings.specs.declared.feed.FeedIn.{FeedIn}
 use Rattle.feed_rings.specs.declared.feed.FeedOut.{FeedOut}
-use Rattle.child_keeper.specs.declared.log_item.LogItem.{LogItem}
+use Rattle.child_hands.specs.declared.log_item.LogItem.{LogItem}
 use Rattle.run_records.specs.declared.reel.Reel.{Reel}
 use Rattle.run_records.specs.Merged.{AllPaired, SameRings, ArePairs}
 use Rattle.child_serve.specs.Teams.{Handle, IsRingOf, AreRingsOf, AreLogsOf}

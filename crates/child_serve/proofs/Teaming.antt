@@ -3,7 +3,7 @@ use Rattle.std.proofs.Common.{◌≡◌, ℕ, zero, suc, ◌+◌, List, [], ◌�
 use Rattle.std.specs.Prelude.{slice_get}
 use Rattle.std.proofs.lemmas.List.{map-append}
 use Rattle.feed_rings.specs.declared.feed.FeedIn.{FeedIn}
-use Rattle.child_keeper.specs.declared.log_item.LogItem.{LogItem}
+use Rattle.child_hands.specs.declared.log_item.LogItem.{LogItem}
 use Rattle.feed_rings.specs.Ends.{put_items}
 use Rattle.child_events.specs.declared.event.Answer.{Answer}
 use Rattle.expect_core.specs.declared.request.Request.{Request}

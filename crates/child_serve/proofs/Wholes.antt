@@ -25,7 +25,7 @@ use Rattle.child_serve.specs.declared.served.Part.{Part}
 use Rattle.child_serve.specs.declared.served.Served.{Served}
 use Rattle.child_serve.specs.declared.served.Unsettled.{Unsettled}
 use Rattle.run_records.specs.Joined.{script_of, EachSees}
-use Rattle.child_keeper.specs.Record.{Ascends}
+use Rattle.child_hands.specs.Record.{Ascends}
 use Rattle.child_serve.specs.Turns.{in_turn}
 use Rattle.child_hands.specs.Handed.{starts}
 use Rattle.child_serve.specs.Given.{IsGiven, started_by}

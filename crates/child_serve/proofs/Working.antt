@@ -25,14 +25,14 @@ use Rattle.dialogue_sched.specs.Ticks.{WithTicks, none as no_more, kept as kept_
 use Rattle.child_desk.specs.declared.book.Book.{Book}
 use Rattle.child_desk.specs.declared.line.Line.{Line}
 use Rattle.child_desk.specs.Book.{AllTaken, AllUntil, IsRecord, logged, ring_log}
-use Rattle.child_keeper.specs.Record.{Ascends, ItemsAscendFrom}
+use Rattle.child_hands.specs.Record.{Ascends, ItemsAscendFrom}
 use Rattle.run_records.specs.Merged.{AllNumbered}
 use Rattle.run_records.proofs.Handing.{items_events}
 use Rattle.child_desk.proofs.Kept.{until_later}
 use Rattle.child_desk.specs.Heard.{recorded}
 use Rattle.std.specs.declared.io.traits.Read.{Ghosts as ReadGhosts}
-use Rattle.child_keeper.specs.declared.keeper.Keeper.{Ghosts}
-use Rattle.child_keeper.specs.declared.items.Item.{Item}
+use Rattle.child_hands.specs.declared.keeper.Keeper.{Ghosts}
+use Rattle.child_hands.specs.declared.items.Item.{Item}
 use Rattle.feed_rings.specs.Ends.{put_items, taken_items}
 use Rattle.child_desk.specs.declared.ends.Ends.{Ends}
 use Rattle.child_desk.specs.Told.{Put, no_rings, AreAmong, answers_in, all_told, heard_of_hand, asked_of_hand, rings_of}

@@ -10,8 +10,8 @@ use Rattle.child_events.specs.declared.event.What.{What}
 use Rattle.child_events.specs.declared.event.What.TheVariants.{Out, Eof, ReadFail}
 use Rattle.expect_core.specs.declared.request.Act.TheVariants.{Spawn}
 use Rattle.expect_core.specs.declared.request.Request.{Request}
-use Rattle.child_keeper.specs.declared.items.Item.{Item}
-use Rattle.child_keeper.specs.declared.keeper.Keeper.{Ghosts}
+use Rattle.child_hands.specs.declared.items.Item.{Item}
+use Rattle.child_hands.specs.declared.keeper.Keeper.{Ghosts}
 use Rattle.child_hands.specs.Handed.{starts, spawn_call}
 use Rattle.child_hands.specs.Pumped.{AllPieces, IsPumpList}
 

@@ -4,8 +4,8 @@ use Rattle.std.specs.declared.io.traits.Read.{Ghosts as ReadGhosts}
 use Rattle.std.specs.declared.thread.PromisedHandle.{PromisedHandle}
 use Rattle.expect_core.specs.declared.request.Request.{Request}
 use Rattle.child_hands.specs.Handed.{AreAnswers}
-use Rattle.child_keeper.specs.declared.items.Item.{Item}
-use Rattle.child_keeper.specs.declared.keeper.Keeper.{Ghosts}
+use Rattle.child_hands.specs.declared.items.Item.{Item}
+use Rattle.child_hands.specs.declared.keeper.Keeper.{Ghosts}
 use Rattle.feed_rings.specs.Ends.{put_items, taken_items, all_put, IsPair, IsFinishedOf}
 use Rattle.feed_rings.specs.declared.feed.FeedOut.{FeedOut}
 use Rattle.feed_rings.specs.declared.feed.Finished.{Finished}

@@ -13,7 +13,7 @@ use Rattle.child_serve.specs.declared.serving.Works.{Works}
 use Rattle.child_serve.specs.declared.served.Served.{Served}
 use Rattle.std.specs.declared.thread.PromisedHandle.{PromisedHandle}
 use Rattle.feed_rings.specs.declared.feed.FeedIn.{FeedIn}
-use Rattle.child_keeper.specs.declared.log_item.LogItem.{LogItem}
+use Rattle.child_hands.specs.declared.log_item.LogItem.{LogItem}
 use Rattle.run_records.specs.declared.reel.Reel.{Reel}
 use Rattle.run_records.specs.Merged.{AllPaired, IsSound}
 use Rattle.child_desk.specs.Book.{ring_log}

@@ -7,7 +7,7 @@ ghost use Rattle.child_serve.specs.Whole.{keeping_of};
 ghost use Rattle.child_serve.specs.Teams.{AreDealt, AreTeams, AllTeams};
 
 use crate::worker::Team;
-use child_keeper::{Clock, Keeper};
+use child_hands::{Clock, Keeper};
 use dialogue_sched::Script;
 use std::alloc::{AllocError, Global};
 

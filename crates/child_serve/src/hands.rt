@@ -5,8 +5,7 @@ ghost use Rattle.child_serve.specs.Opened.{AreRings, IsOpened};
 
 use crate::worker::WorkFault;
 use child_desk::{Ends, Readers};
-use child_hands::{Fresh, HandEnd, Obeys, Work, start_hand};
-use child_keeper::{Gate, Item, Keeper};
+use child_hands::{Fresh, Gate, HandEnd, Item, Keeper, Obeys, Work, start_hand};
 use feed_rings::{Bell, FeedOut, feed_pair};
 use std::alloc::{AllocError, Global};
 use std::sync::{Arc, Wait};

@@ -2,7 +2,7 @@
 
 ghost use Rattle.child_serve.specs.Again.{ServingIsRun, ServingsIsolated};
 
-use child_keeper::Keeper;
+use child_hands::Keeper;
 
 /// What was served is a run over its record: that run refuses no entry, and the reports are those that it gives, unless memory is refused for one
 /// in either. It does nothing when it runs.

@@ -10,7 +10,7 @@ ghost use Rattle.child_serve.specs.Rests.{woken_of};
 use crate::audience::Audience;
 use crate::stopping::Stopping;
 use child_desk::Desk;
-use child_keeper::{Clock, Keeper};
+use child_hands::{Clock, Keeper};
 use crossbeam_utils::Backoff;
 use dialogue_sched::Hall;
 use feed_rings::Bell;

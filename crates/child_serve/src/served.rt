@@ -4,7 +4,7 @@ ghost use Rattle.std.specs.Prelude.{◌≡◌, IfOk};
 ghost use Rattle.child_serve.specs.Turns.{in_turn, TakesFirst, TakesTurn};
 ghost use Rattle.child_serve.specs.Served.{IsApart, IsAssembled};
 
-use child_keeper::LogItem;
+use child_hands::LogItem;
 use dialogue_sched::Reports;
 use feed_rings::FeedIn;
 use session::Report;

@@ -14,7 +14,7 @@ use crate::dealing::dealt;
 use crate::served::{Part, Served, assembled};
 use crate::stopping::Stopping;
 use crate::worker::{Over, Place, Seat, Team, WorkFault, work};
-use child_keeper::{Clock, Gate, Keeper, LogItem};
+use child_hands::{Clock, Gate, Keeper, LogItem};
 use dialogue_sched::{HallFault, Script, opening_fault};
 use feed_rings::{Bell, FeedIn, feed_pair};
 use run_records::{Merger, Recorder, Reel};

@@ -13,10 +13,10 @@ use Rattle.child_events.specs.declared.event.Event.TheVariants as event
 use Rattle.exp_match.specs.declared.list.PatternList.{PatternList}
 use Rattle.exp_match.specs.Arguments.{patterns_of}
 use Rattle.exp_match.specs.Choice.{Found, waits_for_end, waits_for_full, waits_for_time, first_in}
-use Rattle.tty_input.specs.declared.action.Action.{Action}
-use Rattle.tty_input.specs.declared.action.Action.TheVariants.{Write, End}
-use Rattle.tty_input.specs.Sends.{handed_by, line_after, echo_of}
-use Rattle.tty_output.specs.declared.modes.Modes.{Modes}
+use Rattle.tty.specs.declared.action.Action.{Action}
+use Rattle.tty.specs.declared.action.Action.TheVariants.{Write, End}
+use Rattle.tty.specs.Sends.{handed_by, line_after, echo_of}
+use Rattle.tty.specs.declared.modes.Modes.{Modes}
 use Rattle.tcl_subst.specs.Variables.{Variables}
 use Rattle.tcl_commands.specs.declared.code.Code.{Code}
 use Rattle.tcl_commands.specs.declared.code.Code.TheVariants as code

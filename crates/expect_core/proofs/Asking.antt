@@ -6,8 +6,8 @@ use Rattle.std.specs.Fmt.{decimal}
 use Rattle.child_events.specs.declared.event.Answer.{Answer}
 use Rattle.child_events.specs.declared.event.Cause.{Cause}
 use Rattle.exp_match.specs.Choice.{Found, waits_for_end, waits_for_full, waits_for_time, first_in}
-use Rattle.tty_input.specs.declared.action.Action.{Action}
-use Rattle.tty_input.specs.Sends.{handed_by, line_after, echo_of}
+use Rattle.tty.specs.declared.action.Action.{Action}
+use Rattle.tty.specs.Sends.{handed_by, line_after, echo_of}
 use Rattle.tcl_subst.specs.Variables.{Variables}
 use Rattle.tcl_commands.specs.declared.code.Code.{Code}
 use Rattle.tcl_commands.specs.declared.code.Code.TheVariants as code

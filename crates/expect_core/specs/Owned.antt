@@ -1,10 +1,10 @@
 -- What commands change.
 use Rattle.std.specs.Prelude.{ℕ, ◌+◌, max, min, List, [], ◌∷◌, ◌++◌, Bool, true, false, Option, Some, None, slice_set, slice_index_or, if◌then◌else◌}
 use Rattle.circular_buffer.specs.Buffer.{keep_last}
-use Rattle.tty_output.specs.declared.modes.Modes.{Modes}
-use Rattle.tty_output.specs.Modes.{sane}
-use Rattle.tty_output.specs.Output.{convert}
-use Rattle.tty_input.specs.Sends.{Waits}
+use Rattle.tty.specs.declared.modes.Modes.{Modes}
+use Rattle.tty.specs.Modes.{sane}
+use Rattle.tty.specs.Output.{convert}
+use Rattle.tty.specs.Sends.{Waits}
 use Rattle.expect_core.specs.declared.request.Act.{Act}
 use Rattle.expect_core.specs.declared.child.Standing.{Standing}
 use Rattle.expect_core.specs.declared.child.Standing.TheVariants as standing

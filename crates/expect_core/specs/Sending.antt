@@ -3,9 +3,9 @@ use Rattle.std.specs.Prelude.{ℕ, List, [], ◌∷◌, length, codes, true, Opt
 use Rattle.child_events.specs.declared.event.Answer.{Answer}
 use Rattle.child_events.specs.declared.event.Cause.{Cause}
 use Rattle.child_events.specs.Queue.{with_echo}
-use Rattle.tty_input.specs.declared.action.Action.{Action}
-use Rattle.tty_input.specs.declared.action.Action.TheVariants.{Write, End}
-use Rattle.tty_input.specs.Sends.{handed_by, line_after, echo_of}
+use Rattle.tty.specs.declared.action.Action.{Action}
+use Rattle.tty.specs.declared.action.Action.TheVariants.{Write, End}
+use Rattle.tty.specs.Sends.{handed_by, line_after, echo_of}
 use Rattle.tcl_subst.specs.Variables.{Variables}
 use Rattle.tcl_commands.specs.Said.{Said, ◌>>=◌}
 use Rattle.expect_core.specs.declared.flags.Takes.{Takes}

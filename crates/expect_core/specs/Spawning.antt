@@ -3,9 +3,9 @@ use Rattle.std.specs.Prelude.{ℕ, ◌+◌, nat_lt, List, [], ◌∷◌, ◌++�
 use Rattle.std.specs.Fmt.{decimal}
 use Rattle.child_events.specs.declared.event.Answer.{Answer}
 use Rattle.child_events.specs.declared.event.Cause.{Cause}
-use Rattle.tty_output.specs.declared.modes.Modes.{Modes}
-use Rattle.tty_output.specs.declared.modes.BadMode.{BadMode}
-use Rattle.tty_output.specs.Modes.{sane, read as read_modes}
+use Rattle.tty.specs.declared.modes.Modes.{Modes}
+use Rattle.tty.specs.declared.modes.BadMode.{BadMode}
+use Rattle.tty.specs.Modes.{sane, read as read_modes}
 use Rattle.tcl_subst.specs.Variables.{Variables}
 use Rattle.tcl_commands.specs.Said.{Said, ◌>>=◌, list_of}
 use Rattle.tcl_commands.specs.Texts.{wrong_args}

@@ -4,8 +4,8 @@ ghost use Rattle.std.specs.Prelude.{◌≡◌, ◌<◌, ◌≤◌, ◌+◌, ◌-
 ghost use Rattle.circular_buffer.specs.Buffer.{keep_last};
 ghost use Rattle.exp_match.specs.Choice.{HasNone, LeavesNone, with_spans};
 ghost use Rattle.exp_match.specs.Decide.{decide};
-ghost use Rattle.tty_input.specs.Sends.{handed_by, line_after, echo_of};
-ghost use Rattle.tty_output.specs.Output.{convert};
+ghost use Rattle.tty.specs.Sends.{handed_by, line_after, echo_of};
+ghost use Rattle.tty.specs.Output.{convert};
 ghost use Rattle.expect_core.specs.Awaited.{buffer_of};
 ghost use Rattle.expect_core.specs.Ids.{is_born, is_open as is_open_of, has_id};
 ghost use Rattle.expect_core.specs.Owned.{child_as, child_in};
@@ -18,8 +18,7 @@ use std::alloc::{AllocError, Global};
 use std::marker::Model;
 use tcl_values::Value;
 use tcl_words::Text;
-use tty_input::{Actions, Line};
-use tty_output::{Modes, Seen, convert_behind};
+use tty::{Actions, Line, Modes, Seen, convert_behind};
 
 /// Whether a child has an id, and whether commands can still speak to it.
 #[derive(Clone, Copy, PartialEq, Eq)]

@@ -11,7 +11,7 @@ use std::alloc::{AllocError, Global};
 use std::marker::Model;
 use tcl_values::Value;
 use tcl_words::Text;
-use tty_output::Seen;
+use tty::Seen;
 
 /// Bytes that no expect has taken, and how many of them are kept.
 #[derive(Drop)]

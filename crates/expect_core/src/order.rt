@@ -1,7 +1,7 @@
 //! What a spawn is to start.
 
 ghost use Rattle.std.specs.Prelude.{◌≡◌, [], slice_index_or};
-ghost use Rattle.tty_output.specs.Modes.{read as read_modes};
+ghost use Rattle.tty.specs.Modes.{read as read_modes};
 ghost use Rattle.tcl_commands.specs.Says.{Says};
 ghost use Rattle.expect_core.specs.Spawning.{modes_in, modes_by as modes_by_of, modes_of as modes_named, order_of as order_meant, order_by, ordered};
 
@@ -13,7 +13,7 @@ use tcl_commands::{Complaint, list_of, texts_of, wrong_args};
 use tcl_subst::Vars;
 use tcl_values::Value;
 use tcl_words::{Text, Texts};
-use tty_output::Modes;
+use tty::Modes;
 
 /// What a spawn is to start.
 #[derive(Drop)]

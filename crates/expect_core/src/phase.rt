@@ -6,7 +6,7 @@ use child_events::Cause;
 use exp_match::Spans;
 use tcl_host::Pile;
 use tcl_words::Texts;
-use tty_input::Action;
+use tty::Action;
 
 /// What an answer is awaited for.
 #[derive(Drop)]

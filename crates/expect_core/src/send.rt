@@ -19,7 +19,7 @@ use tcl_host::{HostStep, Pile};
 use tcl_subst::Vars;
 use tcl_values::Value;
 use tcl_words::Text;
-use tty_input::{Action, Actions};
+use tty::{Action, Actions};
 
 /// The request that hands over what the terminal gives.
 fn act_of(alloc: Global, action: &Action) -> Result<Act, AllocError>

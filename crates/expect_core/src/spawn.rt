@@ -21,7 +21,7 @@ use tcl_host::HostStep;
 use tcl_subst::Vars;
 use tcl_values::Value;
 use tcl_words::{Text, Texts};
-use tty_output::Modes;
+use tty::Modes;
 
 /// Writes what is spawned to the transcript.
 fn announce(own: &mut Own, alloc: Global, quiet: bool, words: &Texts) -> Result<(), AllocError>

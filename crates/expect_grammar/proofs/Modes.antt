@@ -1,11 +1,11 @@
--- The rules of the words of `stty_init` say what the function of `tty_output` says.
+-- The rules of the words of `stty_init` say what the function of `tty` says.
 use Rattle.std.proofs.Common.{◌≡◌, ◌≢◌, ℕ, ◌+◌, Bool, true, false, not, ◌||◌, List, [], ◌∷◌, length, Option, Some, None, Result, Ok, Err, refl, sym, ap, ◌∙◌, subst, eqb, codes, ⊎_elim, arith, ℤ}
 use Rattle.std.proofs.lemmas.Bool.{cond_both, or_cases, eqb-true}
 use Rattle.std.specs.Str.{bytes_eq}
 use Rattle.tcl_expr.specs.Number.{number_of}
-use Rattle.tty_output.specs.Modes.{switched, set_by, names_size, read_words, read, then_words, bad}
-use Rattle.tty_output.specs.declared.modes.BadMode.{BadMode}
-use Rattle.tty_output.specs.declared.modes.Modes.{Modes}
+use Rattle.tty.specs.Modes.{switched, set_by, names_size, read_words, read, then_words, bad}
+use Rattle.tty.specs.declared.modes.BadMode.{BadMode}
+use Rattle.tty.specs.declared.modes.Modes.{Modes}
 use Rattle.expect_grammar.specs.ModeRules.{Switches, Sets, IsSize, Leave, BadWord, SetModes, FirstBad, index, all_on}
 use Rattle.expect_grammar.proofs.Words.{found, either, never}
 

@@ -2,7 +2,7 @@
 use Rattle.std.specs.Prelude.{◌≡◌, ℕ, ◌-◌, Bool, true, false, not, List, [], ◌∷◌, length, Some, None, ℤ, codes}
 use Rattle.tcl_words.specs.Bytes.{minus}
 use Rattle.tcl_expr.specs.Number.{number_of}
-use Rattle.tty_output.specs.declared.modes.Modes.{Modes}
+use Rattle.tty.specs.declared.modes.Modes.{Modes}
 
 -- all modes on, as a terminal begins
 abbrev pub all_on : Modes

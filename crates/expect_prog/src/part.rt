@@ -3,7 +3,7 @@
 ghost use Rattle.std.specs.Prelude.{◌≡◌, length, Ok};
 
 use crate::complaint::Complaint;
-use child_keeper::Clock;
+use child_hands::Clock;
 use child_pipes::Wall;
 use product_files::{Found, Way, page_way, part_name, way_to};
 use std::alloc::Global;

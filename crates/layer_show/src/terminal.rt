@@ -5,8 +5,7 @@ use crate::complaint::Complaint;
 use crate::spell::{alloc_of, push_hex, push_labelled};
 use std::alloc::AllocError;
 use tcl_words::Text;
-use tty_input::{Action, Actions, Line};
-use tty_output::{Modes, convert};
+use tty::{Action, Actions, Line, Modes, convert};
 
 fn push_actions(text: &mut Text, actions: &Actions) -> Result<(), AllocError> {
     'actions: for action in actions.as_slice() {

@@ -4,7 +4,7 @@ ghost use Rattle.std.specs.Prelude.{◌≡◌, ◌+◌, ◌^◌, ◌<◌, ◌≤
 
 use crate::served::{Open, scripts, stopped};
 use child_events::{Answer, Cause};
-use child_keeper::Keeper;
+use child_hands::Keeper;
 use child_serve::{Served, serve};
 use run_records::NoRecorder;
 use session::{Ending, Report};

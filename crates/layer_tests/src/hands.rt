@@ -3,8 +3,7 @@
 use crate::keeper::{LINE, Line, Liner, Turnstile};
 use child_events::{Answer, Cause, Counted};
 use child_hands::pump::pump;
-use child_hands::{Fresh, Outcome, Work, start_hand};
-use child_keeper::Item;
+use child_hands::{Fresh, Item, Outcome, Work, start_hand};
 use expect_core::{Act, Request};
 use feed_rings::{Bell, FeedIn, FeedOut, feed_pair, take_waiting};
 use std::io;

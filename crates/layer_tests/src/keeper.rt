@@ -3,7 +3,7 @@
 ghost use Rattle.std.specs.Prelude.{◌≡◌, ◌+◌, ◌^◌, ◌<◌, ◌≤◌, ⊤, length, IfOk};
 
 use child_events::{Answer, Cause};
-use child_keeper::{Gate, Keeper};
+use child_hands::{Gate, Keeper};
 use std::alloc::{AllocError, Global};
 use std::io::Read;
 use std::sync::atomic::{AtomicU64, Ordering};

@@ -1,6 +1,6 @@
 //! A piece of output.
 
-use child_keeper::Piece;
+use child_hands::Piece;
 use std::test::Fail;
 
 #[test]

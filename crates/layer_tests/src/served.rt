@@ -4,7 +4,7 @@ ghost use Rattle.std.specs.Prelude.{◌≡◌, length, IfOk, ⊤};
 
 use crate::keeper::Liner;
 use child_events::{HallEvents, fits, read_log, write_log};
-use child_keeper::{Clock, Gate};
+use child_hands::{Clock, Gate};
 use child_serve::{Audience, Served, Stopping, serve};
 use dialogue_sched::Script;
 use run_records::Recorder;

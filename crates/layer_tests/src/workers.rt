@@ -2,7 +2,7 @@
 
 use crate::keeper::liners;
 use crate::served::{CAT, all_of_cat, scripts};
-use child_keeper::{Clock, Gate};
+use child_hands::{Clock, Gate};
 use child_serve::{Audience, Stopping, serve};
 use run_records::NoRecorder;
 use std::alloc::{AllocError, Global};

@@ -2,9 +2,9 @@
 use Rattle.std.proofs.Common.{◌≡◌, ◌⊎◌, inl, inr, ℕ, zero, suc, ◌+◌, ◌≤◌, ◌<◌, List, [], ◌∷◌, ◌++◌, map, length, refl, sym, ap, subst, ◌∙◌, append_assoc, append-nil, arith}
 use Rattle.std.specs.List.{AllByRecursion}
 use Rattle.child_events.specs.declared.event.HallEvent.{HallEvent}
-use Rattle.child_keeper.specs.declared.log_item.LogItem.{LogItem}
-use Rattle.child_keeper.specs.declared.log_item.LogItem.TheVariants as item
-use Rattle.child_keeper.specs.Record.{moment_in, moment_at, AscendsFrom, events_in, ItemsAscendFrom}
+use Rattle.child_hands.specs.declared.log_item.LogItem.{LogItem}
+use Rattle.child_hands.specs.declared.log_item.LogItem.TheVariants as item
+use Rattle.child_hands.specs.Record.{moment_in, moment_at, AscendsFrom, events_in, ItemsAscendFrom}
 use Rattle.feed_rings.specs.Ends.{put_items, taken_items}
 use Rattle.feed_rings.specs.declared.feed.FeedIn.{FeedIn}
 use Rattle.run_records.specs.declared.reel.Reel.{Reel}

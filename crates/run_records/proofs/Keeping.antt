@@ -5,9 +5,9 @@ use Rattle.std.specs.List.{AllByRecursion}
 use Rattle.std.proofs.lemmas.List.{map-append}
 use Rattle.std.proofs.lemmas.List.Elements.{filter-append}
 use Rattle.child_events.specs.declared.event.HallEvent.{HallEvent}
-use Rattle.child_keeper.specs.declared.log_item.LogItem.{LogItem}
-use Rattle.child_keeper.specs.declared.log_item.LogItem.TheVariants as item
-use Rattle.child_keeper.specs.Record.{moment_in, moment_at, AscendsFrom, Ascends, events_in, ItemsAscendFrom}
+use Rattle.child_hands.specs.declared.log_item.LogItem.{LogItem}
+use Rattle.child_hands.specs.declared.log_item.LogItem.TheVariants as item
+use Rattle.child_hands.specs.Record.{moment_in, moment_at, AscendsFrom, Ascends, events_in, ItemsAscendFrom}
 use Rattle.run_records.specs.declared.reel.Reel.{Reel}
 use Rattle.run_records.specs.Joined.{numbered, all_from, all_of, at_moment, IsJoined}
 use Rattle.run_records.specs.Merged.{AllBelow, AllFrom, BeginsFrom, AllPaired, AllNumbered, AllNumberedFrom, last_moment}

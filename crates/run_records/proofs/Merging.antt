@@ -15,7 +15,7 @@ use Rattle.child_events.specs.Log.{AllFit, fits}
 use Rattle.dialogue_sched.specs.Ticks.{RisesFrom, Rises, WithTicks, none, tick}
 use Rattle.dialogue_sched.proofs.Ticking.{ticks_change_nothing, ticks_only_add}
 use Rattle.run_records.specs.Joined.{script_of, numbered, all_from, at_moment, AllFitFrom, AllFits, IsJoined, EachSees, EachMeans}
-use Rattle.child_keeper.specs.Record.{moment_in, AscendsFrom, Ascends}
+use Rattle.child_hands.specs.Record.{moment_in, AscendsFrom, Ascends}
 use Rattle.run_records.proofs.Ticking.{OnlyTicks, unchanged, put_twice, after_both, ticks_behind, tick_more}
 
 abbrev pub Entries : Type 0

@@ -4,9 +4,9 @@ use Rattle.std.specs.Prelude.{slice_get, slice_set, Some}
 use Rattle.std.specs.List.{AllByRecursion}
 use Rattle.std.proofs.lemmas.List.{map-append}
 use Rattle.child_events.specs.declared.event.HallEvent.{HallEvent}
-use Rattle.child_keeper.specs.declared.log_item.LogItem.{LogItem}
-use Rattle.child_keeper.specs.declared.log_item.LogItem.TheVariants as item
-use Rattle.child_keeper.specs.Record.{moment_in, moment_at, events_at, events_in}
+use Rattle.child_hands.specs.declared.log_item.LogItem.{LogItem}
+use Rattle.child_hands.specs.declared.log_item.LogItem.TheVariants as item
+use Rattle.child_hands.specs.Record.{moment_in, moment_at, events_at, events_in}
 use Rattle.feed_rings.specs.Ends.{taken_items, SameOut}
 use Rattle.feed_rings.specs.declared.feed.FeedOut.{FeedOut}
 use Rattle.run_records.specs.declared.reel.Reel.{Reel}

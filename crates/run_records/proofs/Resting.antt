@@ -1,7 +1,7 @@
 -- What is left in rings is taken, place by place.
 use Rattle.std.proofs.Common.{◌≡◌, ℕ, ◌+◌, ◌≤◌, ◌<◌, List, length, get_or, Some, refl, sym, ap, subst, ◌∙◌, arith}
 use Rattle.std.specs.Prelude.{slice_get, slice_set}
-use Rattle.child_keeper.specs.declared.log_item.LogItem.{LogItem}
+use Rattle.child_hands.specs.declared.log_item.LogItem.{LogItem}
 use Rattle.feed_rings.specs.Ends.{put_items, IsPair, LooksOn, SameOut}
 use Rattle.feed_rings.specs.declared.feed.FeedIn.{FeedIn}
 use Rattle.feed_rings.specs.declared.feed.FeedOut.{FeedOut}

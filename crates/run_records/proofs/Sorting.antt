@@ -8,7 +8,7 @@ use Rattle.std.proofs.lemmas.Bool.Decides.{nat_tests}
 use Rattle.child_events.specs.declared.event.HallEvent.{HallEvent}
 use Rattle.child_events.specs.declared.event.HallEvent.TheVariants as hall
 use Rattle.run_records.specs.Joined.{at_moment}
-use Rattle.child_keeper.specs.Record.{moment_in, AscendsFrom, Ascends}
+use Rattle.child_hands.specs.Record.{moment_in, AscendsFrom, Ascends}
 
 ascends_by : (l : ℕ) (xs : List HallEvent) → IsNonDecreasingBy moment_in xs → ((d : HallEvent) → 0 < length xs → l ≤ moment_in (get_or xs 0 d)) → AscendsFrom l xs
 ascends_by l [] up low = tt

@@ -10,7 +10,7 @@ use Rattle.expect_core.specs.declared.settings.Settings.{Settings}
 use Rattle.session.specs.Meaning.{meaning}
 use Rattle.session.specs.Growth.{Continues}
 use Rattle.dialogue_sched.specs.Ticks.{WithTicks}
-use Rattle.child_keeper.specs.Record.{moment_in, Ascends}
+use Rattle.child_hands.specs.Record.{moment_in, Ascends}
 
 -- Of so many workers, counted from 0, worker w has the scripts w + 1, w + 1 + workers, .., which its own hall numbers 1, 2, ..
 abbrev pub script_of : ℕ → ℕ → ℕ → ℕ

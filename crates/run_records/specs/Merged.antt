@@ -3,8 +3,8 @@ use Rattle.std.specs.Prelude.{◌≡◌, ℕ, ◌+◌, ◌-◌, ◌≤◌, ◌<�
 use Rattle.std.specs.List.{AllByRecursion}
 use Rattle.child_events.specs.declared.event.HallEvent.{HallEvent}
 use Rattle.child_events.specs.declared.event.HallEvent.TheVariants as hall
-use Rattle.child_keeper.specs.declared.log_item.LogItem.{LogItem}
-use Rattle.child_keeper.specs.Record.{moment_in, moment_at, events_in, ItemsAscendFrom}
+use Rattle.child_hands.specs.declared.log_item.LogItem.{LogItem}
+use Rattle.child_hands.specs.Record.{moment_in, moment_at, events_in, ItemsAscendFrom}
 use Rattle.feed_rings.specs.Ends.{put_items, taken_items, IsPair, SameOut}
 use Rattle.feed_rings.specs.declared.feed.FeedIn.{FeedIn}
 use Rattle.run_records.specs.declared.reel.Reel.{Reel}

@@ -7,7 +7,7 @@ use crate::numbering::moment;
 use crate::recorder::Recorder;
 use crate::reel::{Place, Reel};
 use child_events::HallEvents;
-use child_keeper::LogItem;
+use child_hands::LogItem;
 use feed_rings::FeedIn;
 use std::alloc::{AllocError, Global};
 

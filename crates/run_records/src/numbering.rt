@@ -1,7 +1,7 @@
 //! The events of a worker, under the numbers that their scripts have among all.
 
 ghost use Rattle.std.specs.Prelude.{◌≡◌, ◌≤◌};
-ghost use Rattle.child_keeper.specs.Record.{moment_in};
+ghost use Rattle.child_hands.specs.Record.{moment_in};
 ghost use Rattle.run_records.specs.Joined.{numbered, script_of};
 ghost use Rattle.run_records.specs.Merged.{IsNumbered};
 

@@ -2,12 +2,12 @@
 
 ghost use Rattle.std.specs.Prelude.{◌≡◌, ◌++◌, [], OnOk};
 ghost use Rattle.feed_rings.specs.Ends.{put_items, taken_items, IsPair, LooksOn, SameOut};
-ghost use Rattle.child_keeper.specs.Record.{events_at, moment_at};
+ghost use Rattle.child_hands.specs.Record.{events_at, moment_at};
 ghost use Rattle.run_records.specs.Merged.{TakesOn, TakesFirst, Moves, IsFresh};
 
 use crate::numbering::{moment, renumbered};
 use child_events::{HallEvent, HallEvents};
-use child_keeper::LogItem;
+use child_hands::LogItem;
 use feed_rings::{FeedIn, FeedOut};
 use std::alloc::{AllocError, Global};
 use std::collections::VecDeque;

@@ -7,7 +7,7 @@ ghost use Rattle.script_runs.specs.Drive.{Drives, Records, Logs, log_fault_of};
 use crate::log_writer::{LogWriteFault, LogWriter};
 use crate::shelf::{Shelf, keep_all};
 use child_events::Counted;
-use child_keeper::{Clock, Gate, Keeper};
+use child_hands::{Clock, Gate, Keeper};
 use child_serve::{Audience, ServeFault, Served, Stopping, serve};
 use dialogue_sched::Script;
 use report_texts::{Form, Unwritten, made_spares, write_reports};

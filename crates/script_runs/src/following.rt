@@ -6,7 +6,7 @@ ghost use Rattle.script_runs.specs.Follow.{mark_of, marked_byte, marked, told_so
 use crate::early::Ends;
 use crate::progress::Progress;
 use crate::voice::Voice;
-use child_keeper::Clock;
+use child_hands::Clock;
 use child_pipes::{Cancellation, Stop, Wall};
 use child_serve::{Audience, Stopping};
 use dialogue_sched::Hall;

@@ -3,7 +3,7 @@
 use crate::following::{Manner, Tale};
 use crate::teller::{Post, Tells};
 use crate::voice::Voice;
-use child_keeper::Clock;
+use child_hands::Clock;
 use child_pipes::{ErrorPipe, ErrorPipes, Wall};
 use libc::net::{POLLIN, poll};
 use libc::types::pollfd;

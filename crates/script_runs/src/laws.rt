@@ -2,7 +2,7 @@
 
 ghost use Rattle.script_runs.specs.Again.{ReplaysSame, ReplaysPart, ReplaysUnrefused};
 
-use child_keeper::Keeper;
+use child_hands::Keeper;
 
 /// A run that is recorded is its replay. If `drive` wrote all of the record, and `replay` reads it with the same scripts, the reports are the same, and
 /// so are those that are printed, except for a script that was refused memory in one of the two. The same holds if only a front of the reports could be

@@ -2,7 +2,7 @@ use Rattle.std.proofs.Common.{ap, ◌∙◌, ◌++◌, ◌+◌, ◌∷◌, [], L
 use Rattle.child_events.specs.World.{own}
 use Rattle.child_events.specs.declared.event.HallEvent.{HallEvent}
 use Rattle.child_desk.specs.Book.{logged}
-use Rattle.child_keeper.specs.Record.{events_in}
+use Rattle.child_hands.specs.Record.{events_in}
 use Rattle.child_desk.specs.Told.{telling_of, telling, told_of, replies_in, heard_of_hand, rings_of}
 use Rattle.child_desk.proofs.Kept.{leaves_same, keeps_left, keeps_rings, keeps_behind, rings_kept, rings_told}
 use Rattle.child_desk.proofs.Coming.{comes_same, comes_then, hand_silent, hand_told}

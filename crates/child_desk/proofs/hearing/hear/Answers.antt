@@ -1,5 +1,5 @@
 use Rattle.child_desk.specs.Book.{logged}
-use Rattle.child_keeper.specs.Record.{events_in}
+use Rattle.child_hands.specs.Record.{events_in}
 use Rattle.std.proofs.Common.{◌+◌, ap}
 use Rattle.child_desk.proofs.Hears.{hears_taken}
 use Rattle.child_desk.proofs.hearing.hear.Goals as goal

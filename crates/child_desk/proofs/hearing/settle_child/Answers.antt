@@ -1,5 +1,5 @@
 use Rattle.child_desk.specs.Book.{logged}
-use Rattle.child_keeper.specs.Record.{events_in}
+use Rattle.child_hands.specs.Record.{events_in}
 use Rattle.std.proofs.Common.{List, ◌+◌, ap, subst, ◌∙◌}
 use Rattle.child_events.specs.declared.event.HallEvent.{HallEvent}
 use Rattle.child_desk.specs.Heard.{HearsAt}

@@ -1,5 +1,5 @@
 use Rattle.std.proofs.Common.{ap, ◌∙◌}
-use Rattle.child_keeper.specs.Record.{events_in}
+use Rattle.child_hands.specs.Record.{events_in}
 use Rattle.child_desk.proofs.Kept.{leaves_same, leaves_then}
 use Rattle.child_serve.proofs.rounds.end_record.Goals as goal
 

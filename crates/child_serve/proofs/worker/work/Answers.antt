@@ -8,7 +8,7 @@ use Rattle.child_desk.proofs.Kept.{all_still, leaves_all, no_hand_same}
 use Rattle.child_serve.specs.Opened.{AreOpened}
 use Rattle.child_serve.proofs.Settling.{linked_all, linked_still, given_all, unheard_all}
 use Rattle.feed_rings.specs.Ends.{SameIn}
-use Rattle.child_keeper.specs.Record.{events_in}
+use Rattle.child_hands.specs.Record.{events_in}
 use Rattle.child_serve.specs.declared.served.Part.{Part}
 use Rattle.child_serve.specs.Teams.{IsWork}
 use Rattle.child_serve.proofs.Taking.{then_in, kept_in}

@@ -1,7 +1,7 @@
 use Rattle.std.proofs.Common.{get_or, sym, ap, subst, ◌∙◌, rules, arith}
 use Rattle.std.proofs.lemmas.List.Sorted.{IsNonDecreasingBy-from_sort_by_key}
 use Rattle.std.proofs.lemmas.Fn.{always_returns_same}
-use Rattle.child_keeper.specs.Record.{moment_in}
+use Rattle.child_hands.specs.Record.{moment_in}
 use Rattle.run_records.specs.Joined.{at_moment}
 use Rattle.run_records.proofs.Sorting.{sorted_ascends, stable_at}
 use Rattle.run_records.proofs.Parting.{ring_at, rings_same, rings_put, out_kept}

@@ -1,6 +1,6 @@
 use Rattle.std.proofs.Common.{List, Option, sym, ap, ◌∙◌}
 use Rattle.child_events.specs.declared.event.Answer.{Answer}
-use Rattle.tty_input.specs.declared.action.Action.{Action}
+use Rattle.tty.specs.declared.action.Action.{Action}
 use Rattle.expect_core.specs.declared.request.Act.{Act}
 use Rattle.expect_core.specs.declared.phase.Purpose.TheVariants as purpose
 use Rattle.expect_core.specs.declared.own.Own.{Own}

@@ -1,7 +1,0 @@
-pub mod Edits
-pub mod Cuts
-pub mod Buffers
-pub mod Plain
-pub mod Drafts
-pub mod Sent
-pub mod Joins

@@ -1,5 +1,0 @@
-use Rattle.tty_input.proofs.Joins.{sends_join}
-use Rattle.tty_input.proofs.line.sends_join.Goals as goal
-
-pub returns : goal.returns
-returns c = λ l xs. sends_join xs l
