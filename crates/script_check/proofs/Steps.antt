@@ -1,17 +1,29 @@
 -- One step of a reading at the front of a text, with the readings of the later places.
-use Rattle.std.proofs.Common.{◌≡◌, ℕ, ◌-◌, ◌<◌, ◌≤◌, Bool, true, false, List, [], ◌∷◌, ◌++◌, length, drop, get_or, Option, Some, None, Result, Ok, if◌then◌else◌, ap, sym, ◌∙◌, refl, append_assoc, arith, option_map}
+use Rattle.std.proofs.Common.{◌≡◌, ◌≢◌, ℕ, ◌-◌, ◌<◌, ◌≤◌, Bool, true, false, List, [], ◌∷◌, ◌++◌, length, drop, get_or, Option, Some, None, Result, Ok, Err, if◌then◌else◌, ap, sym, ◌∙◌, refl, append_assoc, arith, option_map}
 use Rattle.tcl_words.specs.declared.faults.WordFault.{WordFault}
+use Rattle.tcl_words.specs.declared.faults.WordFault.TheVariants as fault
 use Rattle.tcl_words.specs.declared.shapes.Command.{Command as Cmd}
 use Rattle.tcl_words.specs.declared.shapes.Part.{Part}
 use Rattle.tcl_words.specs.declared.shapes.Word.{Word}
-use Rattle.tcl_words.specs.Commands.{is_gap, next_command}
+use Rattle.tcl_words.specs.Commands.{is_gap, next_command, Fails}
 use Rattle.tcl_words.specs.Pieces.{Spelled, parts_view, word_view, command_view}
 use Rattle.tcl_words.proofs.Readings.{reading_step, reading_end}
 use Rattle.script_check.specs.declared.span.Span.{Span}
 use Rattle.script_check.specs.declared.readings.Reading.{Reading}
 use Rattle.script_check.specs.Placed.{owned, bare_step, behind_bare, plain_pieces, plain_value}
-use Rattle.script_check.specs.Brackets.{listed, and_behind, bracket_at, bracket_step, brackets, operand_at, operand_step, operands}
+use Rattle.script_check.specs.Brackets.{and_behind, bracket_at, bracket_step, brackets, operand_at, operand_step, operands}
 use Rattle.script_check.specs.Readings.{command_in, and_more, readings_step, readings}
+
+-- a fault that says something of the text
+pub fails_are : {X : Type 0} (f : WordFault) (read : Result X WordFault) → f ≢ fault.Memory → Fails f read → read ≡ Err f
+fails_are fault.MissingBrace read h e = e
+fails_are fault.MissingBracket read h e = e
+fails_are fault.MissingQuote read h e = e
+fails_are fault.ExtraAfterQuote read h e = e
+fails_are fault.ExtraAfterBrace read h e = e
+fails_are fault.TooDeep read h e = e
+fails_are fault.MissingParen read h e = e
+fails_are fault.Memory read h e = absurd (h refl)
 
 -- a bare word goes on
 pub bare_goes : (s : List ℕ) → 1 ≤ length s → is_gap (get_or s 0 0) (drop 1 s) ≡ false → behind_bare s ≡ behind_bare (drop (owned (get_or s 0 0) s) (drop 1 s))
@@ -36,11 +48,16 @@ brackets_go end [] h = absurd (omega arith)
 brackets_go end (b ∷ s) h = reading_step [] (bracket_step end) b s
 
 -- one turn of a loop that puts what is found behind others
-pub brackets_turn : (end : ℕ) (s : List ℕ) (before : List Span) (found : Option Span) (n : ℕ) → 1 ≤ length s → (found, n) ≡ bracket_at end (get_or s 0 0) s
-    → (before ++ listed found) ++ brackets end (drop n (drop 1 s)) ≡ before ++ brackets end s
-brackets_turn end s before found n h e =
-    append_assoc before (listed found) _
-    ∙ ap (λ (xs : List Span). before ++ xs) (ap (and_behind (λ k. brackets end (drop k (drop 1 s)))) e ∙ sym (brackets_go end s h))
+turn : (find : List ℕ → List Span) (s rest : List ℕ) (before after : List Span) (n : ℕ) (found : List Span × ℕ) → find s ≡ and_behind (λ k. find (drop k rest)) found
+    → after ≡ before ++ found.0 → n ≡ found.1 → after ++ find (drop n rest) ≡ before ++ find s
+turn find s rest before after n found h e m =
+    ap (λ (xs : List Span). xs ++ find (drop n rest)) e
+    ∙ append_assoc before found.0 _
+    ∙ ap (λ (xs : List Span). before ++ xs) (ap (λ (k : ℕ). found.0 ++ find (drop k rest)) m ∙ sym h)
+
+pub brackets_turn : (end : ℕ) (s : List ℕ) (before after : List Span) (n : ℕ) → 1 ≤ length s
+    → after ≡ before ++ (bracket_at end (get_or s 0 0) s).0 → n ≡ (bracket_at end (get_or s 0 0) s).1 → after ++ brackets end (drop n (drop 1 s)) ≡ before ++ brackets end s
+brackets_turn end s before after n h e m = turn (brackets end) s (drop 1 s) before after n _ (brackets_go end s h) e m
 
 pub brackets_over : (end : ℕ) (s : List ℕ) → length s < 1 → brackets end s ≡ []
 unfolding brackets
@@ -52,11 +69,9 @@ unfolding operands
 operands_go end [] h = absurd (omega arith)
 operands_go end (b ∷ s) h = reading_step [] (operand_step end) b s
 
-pub operands_turn : (end : ℕ) (s : List ℕ) (before : List Span) (found : Option Span) (n : ℕ) → 1 ≤ length s → (found, n) ≡ operand_at end (get_or s 0 0) s
-    → (before ++ listed found) ++ operands end (drop n (drop 1 s)) ≡ before ++ operands end s
-operands_turn end s before found n h e =
-    append_assoc before (listed found) _
-    ∙ ap (λ (xs : List Span). before ++ xs) (ap (and_behind (λ k. operands end (drop k (drop 1 s)))) e ∙ sym (operands_go end s h))
+pub operands_turn : (end : ℕ) (s : List ℕ) (before after : List Span) (n : ℕ) → 1 ≤ length s
+    → after ≡ before ++ (operand_at end (get_or s 0 0) s).0 → n ≡ (operand_at end (get_or s 0 0) s).1 → after ++ operands end (drop n (drop 1 s)) ≡ before ++ operands end s
+operands_turn end s before after n h e m = turn (operands end) s (drop 1 s) before after n _ (operands_go end s h) e m
 
 pub operands_over : (end : ℕ) (s : List ℕ) → length s < 1 → operands end s ≡ []
 unfolding operands

@@ -1,5 +1,5 @@
 -- The arguments of `expect`.
-use Rattle.std.specs.Prelude.{ℕ, Bool, true, false, not, ◌==◌, ◌&&◌, List, [], ◌∷◌, ◌++◌, take, codes, slice_index_or, Option, Some, None, option_map, Result, Ok, Err, bytes_eq, if◌then◌else◌}
+use Rattle.std.specs.Prelude.{ℕ, Bool, true, false, not, ◌==◌, ◌&&◌, List, [], ◌∷◌, ◌++◌, take, codes, slice_index_or, Option, Some, None, option_map, Result, Ok, Err, if◌then◌else◌}
 use Rattle.exp_match.specs.declared.faults.PatternFault.{PatternFault}
 use Rattle.exp_match.specs.declared.faults.PatternFault.TheVariants as fault
 use Rattle.exp_match.specs.declared.list.PatternList.{PatternList}
@@ -14,6 +14,7 @@ use Rattle.script_check.specs.declared.problem.Problem.TheVariants.{Malformed as
 use Rattle.script_check.specs.declared.readings.Reading.{Reading}
 use Rattle.script_check.specs.declared.readings.Reading.TheVariants.{Command, Malformed}
 use Rattle.script_check.specs.Stretches.{part, inside, begins_with}
+use Rattle.script_check.specs.Placed.{is_plainly}
 use Rattle.script_check.specs.Readings.{readings_in}
 
 abbrev pub and_texts : Option (List ℕ) → Option (List (List ℕ)) → Option (List (List ℕ))
@@ -48,10 +49,6 @@ is_braced source w = not w.expand && begins_with ascii.open_brace (part source w
 abbrev pub list_span : List ℕ → Placed → Span
 list_span source w = if is_braced source w then inside w.span else record { from = 0; to = 0 }
 
-abbrev pub is_expect : Option (List ℕ) → Bool
-is_expect None = false
-is_expect (Some w) = bytes_eq w (codes "expect")
-
 -- an argument with a newline before the first byte that is no white space
 abbrev pub is_list : List ℕ → Bool
 is_list [] = false
@@ -64,7 +61,7 @@ is_listing (Some w) = is_list w
 abbrev pub list_of : List ℕ → List Placed → Option Span
 list_of source [] = None
 list_of source (name ∷ []) = None
-list_of source (name ∷ w ∷ []) = if is_expect name.value && is_listing w.value then Some (list_span source w) else None
+list_of source (name ∷ w ∷ []) = if is_plainly (codes "expect") name.value && is_listing w.value then Some (list_span source w) else None
 list_of source (name ∷ w ∷ other ∷ more) = None
 
 -- the words of all commands, up to a malformed one, which is found
@@ -74,6 +71,6 @@ gathered (Malformed at f ∷ rs) = ([], Some (record { at = at; what = Broken f 
 gathered (Command at words ∷ rs) = (words ++ (gathered rs).0, (gathered rs).1)
 
 -- a command's words, with those of such a list in its place
-abbrev pub spread_by : List ℕ → List Placed → Option Span → Option (List Placed × Option Finding)
-spread_by source words None = None
-spread_by source words (Some s) = Some (take 1 words ++ (gathered (readings_in source s)).0, (gathered (readings_in source s)).1)
+abbrev pub spread_by : List ℕ → List Placed → Option Span → List Placed × Option Finding
+spread_by source words None = (words, None)
+spread_by source words (Some s) = (take 1 words ++ (gathered (readings_in source s)).0, (gathered (readings_in source s)).1)

@@ -1,102 +1,102 @@
--- What is wrong with the arguments of a command, where they are written plainly. A word that isn't, `None`, may be any word.
-use Rattle.std.specs.Prelude.{ℕ, false, ◌||◌, List, [], ◌∷◌, length, codes, Option, Some, None, bytes_eq, if◌then◌else◌}
+-- What is wrong with the arguments of a command by its row, where they are written plainly. A word that isn't, `None`, may be any word.
+use Rattle.std.specs.Prelude.{ℕ, suc, Bool, true, false, List, [], ◌∷◌, length, codes, Option, Some, None, is_some, bytes_eq, if◌then◌else◌}
 use Rattle.tcl_words.specs.Bytes as ascii
-use Rattle.tcl_commands.specs.declared.verbs.Plain.TheVariants as kind
-use Rattle.tcl_commands.specs.declared.verbs.Verb.{Verb}
-use Rattle.tcl_commands.specs.declared.verbs.Verb.TheVariants.{Plain, If}
-use Rattle.script_check.specs.declared.commands.Order.{Order}
-use Rattle.script_check.specs.declared.commands.Order.TheVariants as order
-use Rattle.script_check.specs.declared.commands.Known.{Known}
-use Rattle.script_check.specs.declared.commands.Known.TheVariants.{Language, Expect}
-use Rattle.script_check.specs.declared.counts.Count.{Count}
+use Rattle.command_table.specs.declared.commands.Command.{Command}
+use Rattle.command_table.specs.declared.counts.Count.{Count}
+use Rattle.command_table.specs.declared.flags.Flags.{Flags}
+use Rattle.command_table.specs.declared.flags.Role.{Role}
+use Rattle.command_table.specs.declared.flags.Role.TheVariants as role
+use Rattle.command_table.specs.declared.reading.Stage.{Stage}
+use Rattle.command_table.specs.declared.reading.Stage.TheVariants.{Choice, Test, Pattern, Output}
+use Rattle.command_table.specs.declared.rows.Row.{Row}
+use Rattle.command_table.specs.Counts.{fits}
+use Rattle.command_table.specs.Flags.{flag_role}
+use Rattle.command_table.specs.Options.{option_count}
+use Rattle.command_table.specs.Reading.{step, is_short}
+use Rattle.command_table.specs.Rows.{row_of}
 use Rattle.script_check.specs.declared.placed.Placed.{Placed}
 use Rattle.script_check.specs.declared.problem.Problem.{Problem}
 use Rattle.script_check.specs.declared.problem.Problem.TheVariants.{WrongArgs, BadOption, BadFlag}
-use Rattle.script_check.specs.declared.stages.Stage.TheVariants.{Test}
-use Rattle.script_check.specs.Stretches.{begins_with}
-use Rattle.script_check.specs.Counts.{exactly, count_of, string_count}
-use Rattle.script_check.specs.Stages.{is_short, last_stage}
-use Rattle.script_check.specs.Flags.{counted, flagged, takes_of}
 use Rattle.script_check.specs.Expects.{expect_fault}
+use Rattle.script_check.specs.Placed.{is_plainly}
+use Rattle.script_check.specs.Stretches.{begins_with}
 
 abbrev pub wrong : List ℕ → Option Problem
 wrong name = Some (WrongArgs name)
 
--- an option of `string`, and how many words stand behind it
+abbrev pub counted : List ℕ → Count → ℕ → Option Problem
+counted name c n = if fits c n then None else wrong name
+
+-- an option, and how many words stand behind it
 abbrev pub if_counted : List ℕ → ℕ → List ℕ → Option Count → Option Problem
 if_counted name left option None = Some (BadOption option)
 if_counted name left option (Some c) = counted name c left
 
-abbrev pub string_option : List ℕ → ℕ → Option (List ℕ) → Option Problem
-string_option name left None = None
-string_option name left (Some option) = if_counted name left option (string_count option)
+abbrev pub chosen : Command → List ℕ → ℕ → Option (List ℕ) → Option Problem
+chosen command name left None = None
+chosen command name left (Some option) = if_counted name left option (option_count command option)
 
-abbrev pub string_fault : List ℕ → List Placed → Option Problem
-string_fault name [] = wrong name
-string_fault name (option ∷ args) = string_option name (length args) option.value
+abbrev pub choice_fault : Command → Count → List ℕ → List Placed → Option Problem
+choice_fault command c name [] = wrong name
+choice_fault command c name (option ∷ args) = if fits c (suc (length args)) then chosen command name (length args) option.value else wrong name
 
-abbrev pub info_option : List ℕ → ℕ → Option (List ℕ) → Option Problem
-info_option name left None = None
-info_option name left (Some option) = if bytes_eq option (codes "exists") then counted name (exactly 1) left else Some (BadOption option)
+abbrev pub shown : Option (List ℕ) → List ℕ
+shown None = []
+shown (Some w) = w
 
-abbrev pub info_fault : List ℕ → List Placed → Option Problem
-info_fault name [] = wrong name
-info_fault name (option ∷ args) = info_option name (length args) option.value
+-- `on` is what is wrong behind this flag, where the id of an `-i` is due or not
+abbrev pub by_role : List ℕ → Count → Placed → ℕ → (Bool → Option Problem) → Role → Option Problem
+by_role name c w left on role.Unknown = None
+by_role name c w left on role.Word = counted name c (suc left)
+by_role name c w left on role.End = counted name c left
+by_role name c w left on role.Alone = on false
+by_role name c w left on role.Id = on true
+by_role name c w left on role.Bad = Some (BadFlag (shown w.value))
+
+-- flags, and words behind them; `due`: the id of an `-i` is next
+abbrev pub flagged : List ℕ → Flags → Count → Bool → List Placed → Option Problem
+flagged name f c true [] = wrong name
+flagged name f c true (w ∷ ws) = flagged name f c false ws
+flagged name f c false [] = counted name c 0
+flagged name f c false (w ∷ ws) = by_role name c w (length ws) (λ due. flagged name f c due ws) (flag_role f w.value)
+
+abbrev pub by_flags : List ℕ → Count → List Placed → Option Flags → Option Problem
+by_flags name c args None = counted name c (length args)
+by_flags name c args (Some f) = flagged name f c false args
+
+-- the stage behind words
+abbrev pub last_stage : Stage → List Placed → Stage
+last_stage s [] = s
+last_stage s (w ∷ ws) = last_stage (step s w.value).1 ws
 
 abbrev pub if_fault : List ℕ → List Placed → Option Problem
 if_fault name args = if is_short (last_stage Test args) then wrong name else None
 
-abbrev pub language_fault : Verb → List ℕ → List Placed → Option Problem
-language_fault If name args = if_fault name args
-language_fault (Plain kind.String) name args = string_fault name args
-language_fault (Plain kind.Info) name args = info_fault name args
-language_fault verb name args = counted name (count_of verb) (length args)
-
 -- a word where `stdout` may stand
-abbrev pub to_channel : List ℕ → Option Problem
-to_channel w =
+abbrev pub channel : Option (List ℕ) → Option Problem
+channel None = None
+channel (Some w) =
     if bytes_eq w (codes "stdout") then None
     else if begins_with ascii.minus w then Some (BadFlag w)
     else Some (BadOption w)
 
-abbrev pub before_text : Option (List ℕ) → Option Problem
-before_text None = None
-before_text (Some w) = if bytes_eq w (codes "-nonewline") then None else to_channel w
-
-abbrev pub channel : Option (List ℕ) → Option Problem
-channel None = None
-channel (Some w) = to_channel w
-
-abbrev pub two_before_text : List ℕ → Option (List ℕ) → Option (List ℕ) → Option Problem
-two_before_text name other None = None
-two_before_text name other (Some w) = if bytes_eq w (codes "-nonewline") then channel other else wrong name
-
 -- puts ?-nonewline? ?stdout? text
-abbrev pub puts_fault : List ℕ → List Placed → Option Problem
-puts_fault name [] = wrong name
-puts_fault name (text ∷ []) = None
-puts_fault name (w ∷ text ∷ []) = before_text w.value
-puts_fault name (w ∷ other ∷ text ∷ []) = two_before_text name other.value w.value
-puts_fault name (w ∷ other ∷ text ∷ more ∷ words) = wrong name
+abbrev pub output_fault : List ℕ → List Placed → Option Problem
+output_fault name [] = wrong name
+output_fault name (text ∷ []) = None
+output_fault name (w ∷ text ∷ []) = if is_plainly (codes "-nonewline") w.value then None else channel w.value
+output_fault name (w ∷ other ∷ text ∷ []) =
+    if is_plainly (codes "-nonewline") w.value then channel other.value
+    else if is_some w.value then wrong name
+    else None
+output_fault name (w ∷ other ∷ text ∷ more ∷ words) = wrong name
 
-abbrev pub log_user_word : Option (List ℕ) → Option Problem
-log_user_word None = None
-log_user_word (Some w) =
-    if bytes_eq w (codes "0") || bytes_eq w (codes "1") || bytes_eq w (codes "-info") then None
-    else Some (BadOption w)
+abbrev pub by_stage : Command → Row → List ℕ → List Placed → Stage → Option Problem
+by_stage command r name args Test = if_fault name args
+by_stage command r name args Pattern = expect_fault args
+by_stage command r name args Choice = choice_fault command r.count name args
+by_stage command r name args Output = output_fault name args
+by_stage command r name args other = by_flags name r.count args r.flags
 
--- log_user 0, log_user 1 or log_user -info
-abbrev pub log_user_fault : List ℕ → List Placed → Option Problem
-log_user_fault name [] = wrong name
-log_user_fault name (w ∷ []) = log_user_word w.value
-log_user_fault name (w ∷ other ∷ more) = wrong name
-
-abbrev pub order_fault : Order → List ℕ → List Placed → Option Problem
-order_fault order.Expect name args = expect_fault args
-order_fault order.Puts name args = puts_fault name args
-order_fault order.LogUser name args = log_user_fault name args
-order_fault o name args = flagged name (takes_of o) false args
-
-abbrev pub fault_of : Known → List ℕ → List Placed → Option Problem
-fault_of (Language verb) name args = language_fault verb name args
-fault_of (Expect o) name args = order_fault o name args
+abbrev pub fault_of : Command → List ℕ → List Placed → Option Problem
+fault_of command name args = by_stage command (row_of command) name args (row_of command).words

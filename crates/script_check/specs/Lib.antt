@@ -2,14 +2,9 @@ pub mod Stretches
 pub mod Placed
 pub mod Brackets
 pub mod Readings
-pub mod Commands
-pub mod Counts
-pub mod Stages
-pub mod Flags
 pub mod Expects
 pub mod Faults
 pub mod Nested
-pub mod Instead
 pub mod Texts
 pub mod Sights
 pub mod Findings

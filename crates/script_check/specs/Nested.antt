@@ -1,33 +1,30 @@
 -- The scripts that stand in the words of a command: those that its arguments are, and those in brackets.
-use Rattle.std.specs.Prelude.{ℕ, Bool, false, ◌&&◌, ◌||◌, List, [], ◌∷◌, ◌++◌, length, drop, Option, Some, None, Result, Ok, Err, bytes_eq, if◌then◌else◌}
+use Rattle.std.specs.Prelude.{ℕ, Bool, ◌&&◌, List, [], ◌∷◌, ◌++◌, length, drop, Option, Some, None, Result, Ok, Err, bytes_eq, if◌then◌else◌}
+use Rattle.std.specs.List.{list_any}
 use Rattle.tcl_words.specs.Bytes as ascii
 use Rattle.tcl_expr.specs.declared.faults.ExprFault.{ExprFault}
 use Rattle.tcl_expr.specs.Tree.{Tree}
 use Rattle.tcl_expr.specs.Grammar.{parsed}
+use Rattle.command_table.specs.declared.commands.Command.{Command}
+use Rattle.command_table.specs.declared.reading.Kind.{Kind}
+use Rattle.command_table.specs.declared.reading.Kind.TheVariants.{Text, Name, Script, Expression}
+use Rattle.command_table.specs.declared.reading.Stage.{Stage}
+use Rattle.command_table.specs.Commands.{command_of}
+use Rattle.command_table.specs.Reading.{texts, step, begin}
+use Rattle.command_table.specs.Rows.{row_of}
 use Rattle.script_check.specs.declared.span.Span.{Span}
 use Rattle.script_check.specs.declared.placed.Placed.{Placed}
-use Rattle.script_check.specs.declared.commands.Known.{Known}
-use Rattle.script_check.specs.declared.stages.Kind.{Kind}
-use Rattle.script_check.specs.declared.stages.Kind.TheVariants.{Text, Script, Expression}
-use Rattle.script_check.specs.declared.stages.Stage.{Stage}
-use Rattle.script_check.specs.declared.stages.Stage.TheVariants.{Texts}
 use Rattle.script_check.specs.Stretches.{part, inside, begins_with}
 use Rattle.script_check.specs.Brackets.{brackets, operands}
-use Rattle.script_check.specs.Commands.{known_of}
 use Rattle.script_check.specs.Expects.{is_braced}
-use Rattle.script_check.specs.Stages.{step, stage_of}
 
 abbrev pub brackets_in : List ℕ → Span → List Span
 brackets_in source s = brackets s.to (part source s)
 
-abbrev pub all_brackets : List ℕ → List Span → List Span
-all_brackets source [] = []
-all_brackets source (s ∷ ss) = brackets_in source s ++ all_brackets source ss
-
 -- The brackets of an expression stand in its operands, and not in those in braces. One that doesn't parse isn't looked into.
 abbrev pub formula_brackets : List ℕ → Span → Result Tree ExprFault → List Span
 formula_brackets source s (Err fault) = []
-formula_brackets source s (Ok tree) = all_brackets source (operands s.to (part source s))
+formula_brackets source s (Ok tree) = operands s.to (part source s)
 
 abbrev pub formula_scripts : List ℕ → Span → Option (List ℕ) → List Span
 formula_scripts source s None = []
@@ -59,26 +56,26 @@ script_or_brackets source s (Some script) = script ∷ []
 -- the scripts in a word, by what it is read as
 abbrev pub word_scripts : List ℕ → Placed → Kind → List Span
 word_scripts source w Script = script_or_brackets source w.span (script_at source w)
+word_scripts source w Name = if is_enclosed source w then [] else brackets_in source w.span
 word_scripts source w Text = if is_enclosed source w then [] else brackets_in source w.span
 word_scripts source w Expression = if is_braced source w then formula_scripts source (inside w.span) w.value else brackets_in source w.span
 
 -- the scripts in arguments
 abbrev pub nested : List ℕ → Stage → List Placed → List Span
 nested source s [] = []
-nested source s (w ∷ ws) = word_scripts source w (step s w).0 ++ nested source (step s w).1 ws
+nested source s (w ∷ ws) = word_scripts source w (step s w.value).0 ++ nested source (step s w.value).1 ws
 
 -- behind `{*}` stand nobody knows how many words
 abbrev pub any_expanded : List Placed → Bool
-any_expanded [] = false
-any_expanded (w ∷ ws) = w.expand || any_expanded ws
+any_expanded = list_any (λ w. w.expand)
 
-abbrev pub stage_by : List Placed → Option Known → Stage
-stage_by args None = Texts
-stage_by args (Some k) = if any_expanded args then Texts else stage_of k (length args)
+abbrev pub stage_by : List Placed → Option Command → Stage
+stage_by args None = texts
+stage_by args (Some c) = if any_expanded args then texts else begin (row_of c).words (length args)
 
 abbrev pub stage_for : Option (List ℕ) → List Placed → Stage
-stage_for None args = Texts
-stage_for (Some name) args = stage_by args (known_of name)
+stage_for None args = texts
+stage_for (Some name) args = stage_by args (command_of name)
 
 -- the scripts in the words of a command, in order
 abbrev pub scripts_of : List ℕ → List Placed → List Span

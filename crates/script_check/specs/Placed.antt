@@ -1,5 +1,5 @@
 -- The words of a command, where they stand in the source.
-use Rattle.std.specs.Prelude.{ℕ, ◌-◌, ◌==◌, Bool, false, ◌&&◌, ◌||◌, if◌then◌else◌, List, [], ◌∷◌, drop, Option, Some, None, Ok, Err}
+use Rattle.std.specs.Prelude.{ℕ, ◌-◌, ◌==◌, Bool, false, ◌&&◌, ◌||◌, if◌then◌else◌, List, [], ◌∷◌, drop, Option, Some, None, Ok, Err, bytes_eq}
 use Rattle.tcl_words.specs.Bytes as ascii
 use Rattle.tcl_words.specs.Commands.{is_blank, ends_command, is_continued, is_gap}
 use Rattle.tcl_words.specs.Course.{reading}
@@ -9,6 +9,11 @@ use Rattle.script_check.specs.declared.placed.Lead.{Lead as Leads}
 use Rattle.script_check.specs.declared.placed.Lead.TheVariants as lead
 use Rattle.script_check.specs.declared.placed.Placed.{Placed}
 use Rattle.script_check.specs.Stretches.{begins_with, from_to}
+
+-- whether a word is written plainly and is this one
+abbrev pub is_plainly : List ℕ → Option (List ℕ) → Bool
+is_plainly name None = false
+is_plainly name (Some w) = bytes_eq w name
 
 -- what goes on behind a byte before a word, or nothing where the word begins with it; `first`: it is a command's first word
 abbrev pub next_lead : Bool → Leads → ℕ → List ℕ → Option Leads

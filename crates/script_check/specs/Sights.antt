@@ -5,11 +5,17 @@ use Rattle.tcl_expr.specs.declared.faults.ExprFault.{ExprFault}
 use Rattle.tcl_expr.specs.declared.faults.ExprFault.TheVariants as expr
 use Rattle.tcl_expr.specs.Tree.{Tree}
 use Rattle.tcl_expr.specs.Grammar.{parsed}
-use Rattle.tcl_commands.specs.declared.verbs.Verb.TheVariants as verb
+use Rattle.command_table.specs.declared.commands.Command.{Command as Commands}
+use Rattle.command_table.specs.declared.commands.Command.TheVariants.{Tcl}
+use Rattle.command_table.specs.declared.commands.TclCommand.TheVariants as tcl
+use Rattle.command_table.specs.declared.reading.Kind.{Kind}
+use Rattle.command_table.specs.declared.reading.Kind.TheVariants.{Text, Name, Script, Expression}
+use Rattle.command_table.specs.declared.reading.Stage.{Stage}
+use Rattle.command_table.specs.Commands.{command_of}
+use Rattle.command_table.specs.Reading.{step, begin}
+use Rattle.command_table.specs.Rows.{row_of}
 use Rattle.script_check.specs.declared.span.Span.{Span}
 use Rattle.script_check.specs.declared.placed.Placed.{Placed}
-use Rattle.script_check.specs.declared.commands.Known.{Known}
-use Rattle.script_check.specs.declared.commands.Known.TheVariants.{Language}
 use Rattle.script_check.specs.declared.problem.Finding.{Finding}
 use Rattle.script_check.specs.declared.problem.Problem.{Problem}
 use Rattle.script_check.specs.declared.problem.Problem.TheVariants.{Malformed as Broken, NoCommand, BadExpression, DeepExpression, TooDeep}
@@ -17,15 +23,10 @@ use Rattle.script_check.specs.declared.readings.Reading.{Reading}
 use Rattle.script_check.specs.declared.readings.Reading.TheVariants.{Command, Malformed}
 use Rattle.script_check.specs.declared.sights.Sight.{Sight}
 use Rattle.script_check.specs.declared.sights.Sight.TheVariants.{Defines, Finds}
-use Rattle.script_check.specs.declared.stages.Kind.{Kind}
-use Rattle.script_check.specs.declared.stages.Kind.TheVariants.{Text, Script, Expression}
-use Rattle.script_check.specs.declared.stages.Stage.{Stage}
-use Rattle.script_check.specs.Commands.{known_of}
 use Rattle.script_check.specs.Expects.{list_of, spread_by}
 use Rattle.script_check.specs.Faults.{fault_of}
 use Rattle.script_check.specs.Nested.{any_expanded, scripts_of}
 use Rattle.script_check.specs.Readings.{readings_in}
-use Rattle.script_check.specs.Stages.{step, stage_of}
 
 -- the command that begins at this place has a problem
 abbrev pub found : ℕ → Problem → List Sight
@@ -43,6 +44,7 @@ by_parse text (Err fault) = Some (BadExpression text)
 
 abbrev pub formula_fault : Kind → Option (List ℕ) → Option Problem
 formula_fault Text value = None
+formula_fault Name value = None
 formula_fault Script value = None
 formula_fault Expression None = None
 formula_fault Expression (Some text) = by_parse text (parsed text)
@@ -50,33 +52,36 @@ formula_fault Expression (Some text) = by_parse text (parsed text)
 -- the expressions among arguments
 abbrev pub formula_sights : ℕ → Stage → List Placed → List Sight
 formula_sights at s [] = []
-formula_sights at s (w ∷ ws) = some_found at (formula_fault (step s w).0 w.value) ++ formula_sights at (step s w).1 ws
+formula_sights at s (w ∷ ws) = some_found at (formula_fault (step s w.value).0 w.value) ++ formula_sights at (step s w.value).1 ws
 
 -- expressions are looked at where the arguments are right otherwise
 abbrev pub by_fault : ℕ → Stage → List Placed → Option Problem → List Sight
 by_fault at s args (Some p) = found at p
 by_fault at s args None = formula_sights at s args
 
-abbrev pub judged : ℕ → Known → List ℕ → List Placed → List Sight
-judged at k name args = if any_expanded args then [] else by_fault at (stage_of k (length args)) args (fault_of k name args)
+abbrev pub judged : ℕ → Commands → List ℕ → List Placed → List Sight
+judged at c name args = if any_expanded args then [] else by_fault at (begin (row_of c).words (length args)) args (fault_of c name args)
 
-abbrev pub procedure : Option (List ℕ) → List Sight
-procedure None = []
-procedure (Some name) = Defines name ∷ []
+abbrev pub procedure_named : Option (List ℕ) → List Sight
+procedure_named None = []
+procedure_named (Some name) = Defines name ∷ []
+
+abbrev pub procedure : List Placed → List Sight
+procedure [] = []
+procedure (name ∷ args) = procedure_named name.value
 
 -- what a `proc` defines
-abbrev pub defined : Known → List Placed → List Sight
-defined (Language verb.Proc) [] = []
-defined (Language verb.Proc) (name ∷ args) = procedure name.value
+abbrev pub defined : Commands → List Placed → List Sight
+defined (Tcl tcl.Proc) args = procedure args
 defined other args = []
 
-abbrev pub by_known : ℕ → List ℕ → List Placed → Option Known → List Sight
-by_known at name args None = found at (NoCommand name)
-by_known at name args (Some k) = judged at k name args ++ defined k args
+abbrev pub by_command : ℕ → List ℕ → List Placed → Option Commands → List Sight
+by_command at name args None = found at (NoCommand name)
+by_command at name args (Some c) = judged at c name args ++ defined c args
 
 abbrev pub named : ℕ → List Placed → Option (List ℕ) → List Sight
 named at args None = []
-named at args (Some name) = by_known at name args (known_of name)
+named at args (Some name) = by_command at name args (command_of name)
 
 -- what is seen of a command itself; one whose first word isn't written plainly isn't judged
 abbrev pub own : ℕ → List Placed → List Sight
@@ -88,17 +93,13 @@ ending None = []
 ending (Some f) = Finds f ∷ []
 
 -- the scripts in a command's words stand behind where it begins; `inner` is what is seen of one
-abbrev pub command_sights : (Span → List Sight) → List ℕ → ℕ → List Placed → Option Finding → List Sight
-command_sights inner source at words broken = own at words ++ flat_map inner (scripts_of source words) ++ ending broken
+abbrev pub command_sights : (Span → List Sight) → List ℕ → ℕ → List Placed × Option Finding → List Sight
+command_sights inner source at spread = own at spread.0 ++ flat_map inner (scripts_of source spread.0) ++ ending spread.1
 
 -- the arguments of an `expect` may stand in a list of them
-abbrev pub by_spread : (Span → List Sight) → List ℕ → ℕ → List Placed → Option (List Placed × Option Finding) → List Sight
-by_spread inner source at words None = command_sights inner source at words None
-by_spread inner source at words (Some p) = command_sights inner source at p.0 p.1
-
 abbrev pub reading_sights : (Span → List Sight) → List ℕ → Reading → List Sight
 reading_sights inner source (Malformed at f) = found at (Broken f)
-reading_sights inner source (Command at words) = by_spread inner source at words (spread_by source words (list_of source words))
+reading_sights inner source (Command at words) = command_sights inner source at (spread_by source words (list_of source words))
 
 -- what is seen of a script that stands in so many others at most
 unfoldable pub sights : ℕ → List ℕ → Span → List Sight

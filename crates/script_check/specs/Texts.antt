@@ -4,7 +4,7 @@ use Rattle.tcl_expr.specs.declared.faults.ExprFault.TheVariants as expr
 use Rattle.tcl_commands.specs.Texts.{quoted, wrong_args, bad_option, too_deep, word_fault, expr_fault}
 use Rattle.script_check.specs.declared.problem.Problem.{Problem}
 use Rattle.script_check.specs.declared.problem.Problem.TheVariants.{Malformed, NoCommand, WrongArgs, BadOption, BadFlag, BadExpectFlag, BadRegular, BadExpression, DeepExpression, TooDeep}
-use Rattle.script_check.specs.Instead.{instead}
+use Rattle.command_table.specs.Advice.{advice_for}
 
 -- what to use in place of a command stands behind the text of its error
 abbrev pub instead_text : List ℕ → List ℕ → List ℕ
@@ -21,7 +21,7 @@ abbrev pub bad_regular : List ℕ → List ℕ
 bad_regular pattern = quoted (codes "bad regular expression ") pattern
 
 abbrev pub no_command : List ℕ → List ℕ
-no_command name = instead_text (quoted (codes "invalid command name ") name) (instead name)
+no_command name = instead_text (quoted (codes "invalid command name ") name) (advice_for name)
 
 abbrev pub text_of : Problem → List ℕ
 text_of (Malformed fault) = word_fault fault

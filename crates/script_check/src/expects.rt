@@ -1,14 +1,14 @@
 //! The arguments of `expect`.
 
-ghost use Rattle.std.specs.Prelude.{◌≡◌, ◌++◌, [], ◌∷◌, IfOk, OnOk, option_map, slice_index_or, take};
+ghost use Rattle.std.specs.Prelude.{◌≡◌, ◌++◌, [], ◌∷◌, IfOk, OnOk, option_map, slice_index_or};
 ghost use Rattle.exp_match.specs.Arguments.{Gives, patterns_of};
-ghost use Rattle.script_check.specs.Expects.{plain_texts, by_patterns, expect_fault, is_braced, is_list, list_span, is_expect, is_listing, list_of, gathered, spread_by};
+ghost use Rattle.script_check.specs.Expects.{plain_texts, by_patterns, expect_fault, is_braced, is_list, list_span, is_listing, list_of, gathered, spread_by};
 
 use crate::placed::{Placed, Words};
 use crate::problem::{Finding, Problem};
 use crate::readings::{Reading, readings_in};
 use crate::span::Span;
-use crate::stretch::{begins_with, inside, is, part};
+use crate::stretch::{begins_with, inside, part};
 use exp_match::{PatternFault, PatternList};
 use std::alloc::{AllocError, Global};
 use tcl_values::Value;
@@ -110,16 +110,6 @@ fn list_span(source: &[u8], word: &Placed) -> Span
     }
 }
 
-/// Whether a word is written plainly and is `expect`.
-fn is_expect(word: &Placed) -> bool
-    ensures { result ≡ is_expect word.now.value }
-{
-    match &word.value {
-        None => false,
-        Some(text) => is(text.as_slice(), b"expect"),
-    }
-}
-
 /// Whether a word is written plainly and is a list of arguments.
 fn is_listing(word: &Placed) -> bool
     ensures { result ≡ is_listing word.now.value }
@@ -136,7 +126,7 @@ fn list_of(source: &[u8], words: &[Placed]) -> Option<Span>
 {
     match words {
         [name, word] => {
-            if is_expect(name) && is_listing(word) {
+            if name.is(b"expect") && is_listing(word) {
                 Some(list_span(source, word))
             } else {
                 None
@@ -146,67 +136,47 @@ fn list_of(source: &[u8], words: &[Placed]) -> Option<Span>
     }
 }
 
-/// Puts equal words behind others.
-fn push_words(alloc: Global, words: &[Placed], out: &mut Vec<Placed>) -> Result<(), AllocError>
-    ensures { OnOk result (out.new.items ≡ out.old.items ++ words.now) }
+/// Appends words.
+fn push_words(words: Words, out: &mut Vec<Placed>) -> Result<(), AllocError>
+    ensures { OnOk result (out.new.items ≡ out.old.items ++ words) }
 {
-    let mut rest = words;
-    while let [word, more @ ..] = rest {
-        out.push(word.copied(alloc)?)?;
-        rest = more;
+    for word in words.list {
+        out.push(word)?;
     }
     Ok(())
 }
 
-/// Puts the words of all commands behind others, up to a malformed one, which is what is found.
-fn gather(
-    alloc: Global,
-    readings: &[Reading],
-    out: &mut Vec<Placed>,
-) -> Result<Option<Finding>, AllocError>
-    ensures { IfOk result (λ f. (out.new.items ≡ out.old.items ++ (gathered readings.now).0) × (f ≡ (gathered readings.now).1)) }
+/// Appends the words of all commands, up to a malformed one, which is what is found.
+fn gather(readings: Vec<Reading>, out: &mut Vec<Placed>) -> Result<Option<Finding>, AllocError>
+    ensures { IfOk result (λ f. (out.new.items ≡ out.old.items ++ (gathered readings.items).0) × (f ≡ (gathered readings.items).1)) }
 {
-    let mut rest = readings;
-    while let [reading, more @ ..] = rest {
+    for reading in readings {
         match reading {
             Reading::Malformed(at, fault) => {
                 return Ok(Some(Finding {
-                    at: *at,
-                    what: Problem::Malformed(*fault),
+                    at,
+                    what: Problem::Malformed(fault),
                 }));
             }
-            Reading::Command(_, words) => push_words(alloc, words.as_slice(), out)?,
+            Reading::Command(_, words) => push_words(words, out)?,
         }
-        rest = more;
     }
     Ok(None)
 }
 
-/// The words of an `expect` whose arguments stand in a list of them: its name and the words of the list, and what is found where the list
-/// ends early. `None` for any other command.
+/// The words of a command. If all arguments of an `expect` stand in a list, they are the words of the list, and what ends it early is found.
 pub(crate) fn spread(
     alloc: Global,
     source: &[u8],
-    words: &Words,
-) -> Result<Option<(Words, Option<Finding>)>, AllocError>
-    ensures { IfOk result (λ r. r ≡ spread_by source.now words.now (list_of source.now words.now)) }
+    words: Words,
+) -> Result<(Words, Option<Finding>), AllocError>
+    ensures { IfOk result (λ r. r ≡ spread_by source.now words (list_of source.now words)) }
 {
     let Some(span) = list_of(source, words.as_slice()) else {
-        return Ok(None);
+        return Ok((words, None));
     };
-    let readings = readings_in(alloc, source, span)?;
-    let mut list = Vec::new(alloc);
-    push_words(alloc, front(words.as_slice()), &mut list)?;
-    let found = gather(alloc, readings.as_slice(), &mut list)?;
-    Ok(Some((Words { list }, found)))
-}
-
-/// The first word.
-fn front(words: &[Placed]) -> &[Placed]
-    ensures { result.now ≡ take 1 words.now }
-{
-    match words {
-        [] => words,
-        [_, ..] => words.split_at(1).0,
-    }
+    let mut list = words.list;
+    list.truncate(1);
+    let found = gather(readings_in(alloc, source, span)?, &mut list)?;
+    Ok((Words { list }, found))
 }

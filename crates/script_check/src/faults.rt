@@ -1,18 +1,17 @@
 //! What is wrong with the arguments of a command.
 
-ghost use Rattle.std.specs.Prelude.{◌≡◌, IfOk};
-ghost use Rattle.script_check.specs.Faults.{wrong, string_option, string_fault, info_option, info_fault, if_fault, language_fault, to_channel, before_text, channel, two_before_text, puts_fault, log_user_word, log_user_fault, order_fault, fault_of};
+ghost use Rattle.std.specs.Prelude.{◌≡◌, false, IfOk};
+ghost use Rattle.script_check.specs.Faults.{wrong, counted, chosen, choice_fault, shown, flagged, by_flags, last_stage, if_fault, channel, output_fault, by_stage, fault_of};
 
-use crate::commands::{Known, Order};
-use crate::counts::{count_of, exactly, string_count};
 use crate::expects::expect_fault;
-use crate::flags::{counted, flagged, shown, takes_of};
 use crate::placed::Placed;
 use crate::problem::Problem;
-use crate::stages::{Stage, is_short, last_stage};
-use crate::stretch::{begins_with, is};
+use crate::stretch::begins_with;
+use command_table::{
+    Command, Count, Flags, Role, Row, Stage, fits, flag_role, is, is_short, option_count, row_of,
+    step,
+};
 use std::alloc::{AllocError, Global};
-use tcl_commands::{Plain, Verb};
 use tcl_words::Text;
 
 /// A command has too few or too many arguments.
@@ -22,62 +21,135 @@ fn wrong(alloc: Global, name: &[u8]) -> Result<Option<Problem>, AllocError>
     Ok(Some(Problem::WrongArgs(Text::from_slice(alloc, name)?)))
 }
 
-/// Behind the option of `string`. One that isn't written plainly isn't judged.
-fn string_option(
+/// Judges the number of arguments.
+fn counted(
     alloc: Global,
+    name: &[u8],
+    count: Count,
+    n: usize,
+) -> Result<Option<Problem>, AllocError>
+    ensures { IfOk result (λ p. p ≡ counted name.now count n) }
+{
+    if fits(count, n) {
+        return Ok(None);
+    }
+    wrong(alloc, name)
+}
+
+/// Judges an option and the number of arguments after it. One that isn't written plainly isn't judged.
+fn chosen(
+    alloc: Global,
+    command: Command,
     name: &[u8],
     option: &Placed,
     left: usize,
 ) -> Result<Option<Problem>, AllocError>
-    ensures { IfOk result (λ p. p ≡ string_option name.now left option.now.value) }
+    ensures { IfOk result (λ p. p ≡ chosen command name.now left option.now.value) }
 {
     match &option.value {
         None => Ok(None),
-        Some(text) => match string_count(text.as_slice()) {
+        Some(text) => match option_count(command, text.as_slice()) {
             None => Ok(Some(Problem::BadOption(text.copied(alloc)?))),
             Some(count) => counted(alloc, name, count, left),
         },
     }
 }
 
-fn string_fault(alloc: Global, name: &[u8], args: &[Placed]) -> Result<Option<Problem>, AllocError>
-    ensures { IfOk result (λ p. p ≡ string_fault name.now args.now) }
+/// Judges the arguments of a command whose first argument is an option.
+fn choice_fault(
+    alloc: Global,
+    command: Command,
+    count: Count,
+    name: &[u8],
+    args: &[Placed],
+) -> Result<Option<Problem>, AllocError>
+    ensures { IfOk result (λ p. p ≡ choice_fault command count name.now args.now) }
 {
     match args {
         [] => wrong(alloc, name),
-        [option, rest @ ..] => string_option(alloc, name, option, rest.len()),
-    }
-}
-
-/// Behind the option of `info`. One that isn't written plainly isn't judged.
-fn info_option(
-    alloc: Global,
-    name: &[u8],
-    option: &Placed,
-    left: usize,
-) -> Result<Option<Problem>, AllocError>
-    ensures { IfOk result (λ p. p ≡ info_option name.now left option.now.value) }
-{
-    match &option.value {
-        None => Ok(None),
-        Some(text) => {
-            if is(text.as_slice(), b"exists") {
-                return counted(alloc, name, exactly(1), left);
+        [option, rest @ ..] => {
+            if fits(count, args.len()) {
+                return chosen(alloc, command, name, option, rest.len());
             }
-            Ok(Some(Problem::BadOption(text.copied(alloc)?)))
+            wrong(alloc, name)
         }
     }
 }
 
-fn info_fault(alloc: Global, name: &[u8], args: &[Placed]) -> Result<Option<Problem>, AllocError>
-    ensures { IfOk result (λ p. p ≡ info_fault name.now args.now) }
+/// The text of a word, empty where it isn't written plainly.
+fn shown(alloc: Global, word: &Placed) -> Result<Text, AllocError>
+    ensures { IfOk result (λ t. t ≡ shown word.now.value) }
 {
-    match args {
-        [] => wrong(alloc, name),
-        [option, rest @ ..] => info_option(alloc, name, option, rest.len()),
+    match &word.value {
+        None => Ok(Text::new(alloc)),
+        Some(text) => text.copied(alloc),
     }
 }
 
+/// Judges flags, and the number of arguments after them.
+fn flagged(
+    alloc: Global,
+    name: &[u8],
+    flags: Flags,
+    count: Count,
+    args: &[Placed],
+) -> Result<Option<Problem>, AllocError>
+    ensures { IfOk result (λ p. p ≡ flagged name.now flags count false args.now) }
+{
+    let mut due = false;
+    let mut rest = args;
+    while let [word, more @ ..] = rest {
+        if due {
+            due = false;
+            rest = more;
+            continue;
+        }
+        match flag_role(flags, &word.value) {
+            Role::Unknown => return Ok(None),
+            Role::Word => return counted(alloc, name, count, rest.len()),
+            Role::End => return counted(alloc, name, count, more.len()),
+            Role::Alone => {}
+            Role::Id => due = true,
+            Role::Bad => return Ok(Some(Problem::BadFlag(shown(alloc, word)?))),
+        }
+        rest = more;
+    }
+    if due {
+        return wrong(alloc, name);
+    }
+    counted(alloc, name, count, 0)
+}
+
+/// Judges the arguments of a command with flags or without.
+fn by_flags(
+    alloc: Global,
+    name: &[u8],
+    row: Row,
+    args: &[Placed],
+) -> Result<Option<Problem>, AllocError>
+    ensures { IfOk result (λ p. p ≡ by_flags name.now row.count args.now row.flags) }
+{
+    match row.flags {
+        None => counted(alloc, name, row.count, args.len()),
+        Some(flags) => flagged(alloc, name, flags, row.count, args),
+    }
+}
+
+/// The stage after the arguments of `if`.
+fn last_stage(stage: Stage, words: &[Placed]) -> Stage
+    ensures { result ≡ last_stage stage words.now }
+{
+    let mut stage = stage;
+    let mut rest = words;
+    while let [word, more @ ..] = rest {
+        let (_, next) = step(stage, &word.value);
+        stage = next;
+        rest = more;
+    }
+    stage
+}
+
+/// Judges the arguments of `if`.
 fn if_fault(alloc: Global, name: &[u8], args: &[Placed]) -> Result<Option<Problem>, AllocError>
     ensures { IfOk result (λ p. p ≡ if_fault name.now args.now) }
 {
@@ -87,152 +159,77 @@ fn if_fault(alloc: Global, name: &[u8], args: &[Placed]) -> Result<Option<Proble
     Ok(None)
 }
 
-/// What is wrong with the arguments of a command of the language.
-fn language_fault(
-    alloc: Global,
-    verb: Verb,
-    name: &[u8],
-    args: &[Placed],
-) -> Result<Option<Problem>, AllocError>
-    ensures { IfOk result (λ p. p ≡ language_fault verb name.now args.now) }
-{
-    match verb {
-        Verb::If => if_fault(alloc, name, args),
-        Verb::Plain(Plain::String) => string_fault(alloc, name, args),
-        Verb::Plain(Plain::Info) => info_fault(alloc, name, args),
-        _ => counted(alloc, name, count_of(verb), args.len()),
-    }
-}
-
-/// What is wrong with a word where `stdout` may stand.
-fn to_channel(alloc: Global, text: &[u8]) -> Result<Option<Problem>, AllocError>
-    ensures { IfOk result (λ p. p ≡ to_channel text.now) }
-{
-    if is(text, b"stdout") {
-        return Ok(None);
-    }
-    if begins_with(b'-', text) {
-        return Ok(Some(Problem::BadFlag(Text::from_slice(alloc, text)?)));
-    }
-    Ok(Some(Problem::BadOption(Text::from_slice(alloc, text)?)))
-}
-
-/// The word before the text of `puts`.
-fn before_text(alloc: Global, word: &Placed) -> Result<Option<Problem>, AllocError>
-    ensures { IfOk result (λ p. p ≡ before_text word.now.value) }
-{
-    match &word.value {
-        None => Ok(None),
-        Some(text) => {
-            if is(text.as_slice(), b"-nonewline") {
-                return Ok(None);
-            }
-            to_channel(alloc, text.as_slice())
-        }
-    }
-}
-
-/// The channel of `puts`.
+/// Judges a word where `stdout` may stand.
 fn channel(alloc: Global, word: &Placed) -> Result<Option<Problem>, AllocError>
     ensures { IfOk result (λ p. p ≡ channel word.now.value) }
 {
-    match &word.value {
-        None => Ok(None),
-        Some(text) => to_channel(alloc, text.as_slice()),
+    let Some(text) = &word.value else {
+        return Ok(None);
+    };
+    if is(text.as_slice(), b"stdout") {
+        return Ok(None);
     }
-}
-
-/// The two words before the text of `puts`.
-fn two_before_text(
-    alloc: Global,
-    name: &[u8],
-    word: &Placed,
-    other: &Placed,
-) -> Result<Option<Problem>, AllocError>
-    ensures { IfOk result (λ p. p ≡ two_before_text name.now other.now.value word.now.value) }
-{
-    match &word.value {
-        None => Ok(None),
-        Some(text) => {
-            if is(text.as_slice(), b"-nonewline") {
-                return channel(alloc, other);
-            }
-            wrong(alloc, name)
-        }
+    if begins_with(b'-', text.as_slice()) {
+        return Ok(Some(Problem::BadFlag(text.copied(alloc)?)));
     }
+    Ok(Some(Problem::BadOption(text.copied(alloc)?)))
 }
 
 /// `puts ?-nonewline? ?stdout? text`
-fn puts_fault(alloc: Global, name: &[u8], args: &[Placed]) -> Result<Option<Problem>, AllocError>
-    ensures { IfOk result (λ p. p ≡ puts_fault name.now args.now) }
+fn output_fault(alloc: Global, name: &[u8], args: &[Placed]) -> Result<Option<Problem>, AllocError>
+    ensures { IfOk result (λ p. p ≡ output_fault name.now args.now) }
 {
     match args {
         [] => wrong(alloc, name),
         [_] => Ok(None),
-        [word, _] => before_text(alloc, word),
-        [word, other, _] => two_before_text(alloc, name, word, other),
+        [word, _] => {
+            if word.is(b"-nonewline") {
+                return Ok(None);
+            }
+            channel(alloc, word)
+        }
+        [word, other, _] => {
+            if word.is(b"-nonewline") {
+                return channel(alloc, other);
+            }
+            if word.value.is_some() {
+                return wrong(alloc, name);
+            }
+            Ok(None)
+        }
         [_, _, _, _, ..] => wrong(alloc, name),
     }
 }
 
-/// The word of `log_user`.
-fn log_user_word(alloc: Global, word: &Placed) -> Result<Option<Problem>, AllocError>
-    ensures { IfOk result (λ p. p ≡ log_user_word word.now.value) }
-{
-    match &word.value {
-        None => Ok(None),
-        Some(text) => {
-            let word = text.as_slice();
-            if is(word, b"0") || is(word, b"1") || is(word, b"-info") {
-                return Ok(None);
-            }
-            Ok(Some(Problem::BadOption(text.copied(alloc)?)))
-        }
-    }
-}
-
-/// `log_user 0`, `log_user 1` or `log_user -info`
-fn log_user_fault(
+/// Judges the arguments of a command by its row.
+fn by_stage(
     alloc: Global,
+    command: Command,
+    row: Row,
+    stage: Stage,
     name: &[u8],
     args: &[Placed],
 ) -> Result<Option<Problem>, AllocError>
-    ensures { IfOk result (λ p. p ≡ log_user_fault name.now args.now) }
+    ensures { IfOk result (λ p. p ≡ by_stage command row name.now args.now stage) }
 {
-    match args {
-        [word] => log_user_word(alloc, word),
-        _ => wrong(alloc, name),
+    match stage {
+        Stage::Test => if_fault(alloc, name, args),
+        Stage::Pattern => expect_fault(alloc, args),
+        Stage::Choice => choice_fault(alloc, command, row.count, name, args),
+        Stage::Output => output_fault(alloc, name, args),
+        _ => by_flags(alloc, name, row, args),
     }
 }
 
-/// What is wrong with the arguments of a command of Expect.
-fn order_fault(
-    alloc: Global,
-    order: Order,
-    name: &[u8],
-    args: &[Placed],
-) -> Result<Option<Problem>, AllocError>
-    ensures { IfOk result (λ p. p ≡ order_fault order name.now args.now) }
-{
-    match order {
-        Order::Expect => expect_fault(alloc, args),
-        Order::Puts => puts_fault(alloc, name, args),
-        Order::LogUser => log_user_fault(alloc, name, args),
-        _ => flagged(alloc, name, takes_of(order), args),
-    }
-}
-
-/// What is wrong with the arguments of a command.
+/// Judges the arguments of a command.
 pub(crate) fn fault_of(
     alloc: Global,
-    known: Known,
+    command: Command,
     name: &[u8],
     args: &[Placed],
 ) -> Result<Option<Problem>, AllocError>
-    ensures { IfOk result (λ p. p ≡ fault_of known name.now args.now) }
+    ensures { IfOk result (λ p. p ≡ fault_of command name.now args.now) }
 {
-    match known {
-        Known::Language(verb) => language_fault(alloc, verb, name, args),
-        Known::Expect(order) => order_fault(alloc, order, name, args),
-    }
+    let row = row_of(command);
+    by_stage(alloc, command, row, row.words, name, args)
 }

@@ -8,13 +8,9 @@
 #![tactic(auto)]
 
 mod brackets;
-mod commands;
-mod counts;
 mod expects;
 mod faults;
 mod findings;
-mod flags;
-mod instead;
 mod lines;
 mod nested;
 mod placed;
@@ -22,7 +18,6 @@ mod problem;
 mod readings;
 mod sights;
 mod span;
-mod stages;
 mod stretch;
 
 pub use findings::{Findings, check};

@@ -1,21 +1,19 @@
 //! The scripts that stand in the words of a command.
 
 ghost use Rattle.std.specs.Prelude.{◌≡◌, ◌++◌, IfOk, OnOk};
-ghost use Rattle.tcl_expr.specs.Grammar.{parsed};
 ghost use Rattle.script_check.specs.Stretches.{inside};
-ghost use Rattle.script_check.specs.Nested.{brackets_in, all_brackets, formula_brackets, formula_scripts, is_enclosed, written_at, as_written, script_at, word_scripts, nested, any_expanded, stage_for, scripts_of};
+ghost use Rattle.script_check.specs.Nested.{brackets_in, formula_scripts, is_enclosed, written_at, script_at, word_scripts, nested, any_expanded, stage_for, scripts_of};
 
 use crate::brackets::{brackets, operands};
-use crate::commands::known_of;
 use crate::expects::is_braced;
 use crate::placed::Placed;
 use crate::span::Span;
-use crate::stages::{Kind, Stage, stage_of, step};
-use crate::stretch::{begins_with, behind, inside, is, part};
+use crate::stretch::{begins_with, behind, inside, part};
+use command_table::{Kind, Stage, begin, command_of, is, row_of, step, texts};
 use std::alloc::{AllocError, Global};
 use tcl_expr::{ExprFault, parse};
 
-/// Puts the scripts in brackets of a stretch behind others.
+/// Appends the scripts in brackets of a stretch.
 fn brackets_in(
     alloc: Global,
     source: &[u8],
@@ -27,33 +25,20 @@ fn brackets_in(
     brackets(alloc, span.to, part(source, span), out)
 }
 
-/// Puts the scripts in brackets of several stretches behind others.
-fn all_brackets(
-    alloc: Global,
-    source: &[u8],
-    spans: &[Span],
-    out: &mut Vec<Span>,
-) -> Result<(), AllocError>
-    ensures { OnOk result (out.new.items ≡ out.old.items ++ all_brackets source.now spans.now) }
+/// The stretch of the script that a word is, where the source has it as it is read.
+fn script_at(source: &[u8], word: &Placed) -> Option<Span>
+    ensures { result ≡ script_at source.now word.now }
 {
-    let mut rest = spans;
-    while let [span, more @ ..] = rest {
-        brackets_in(alloc, source, *span, out)?;
-        rest = more;
+    if is_braced(source, word) {
+        return Some(inside(word.span));
     }
-    Ok(())
-}
-
-/// The stretch of a script that isn't in braces, where the source has it as it is read.
-fn as_written(source: &[u8], word: &Placed) -> Option<Span>
-    ensures { result ≡ as_written source.now word.now.span word.now.value }
-{
     match &word.value {
         None => None,
         Some(text) => written_at(source, word.span, text.as_slice()),
     }
 }
 
+/// The same for a script of this text that isn't in braces.
 fn written_at(source: &[u8], span: Span, text: &[u8]) -> Option<Span>
     ensures { result ≡ written_at source.now span text.now }
 {
@@ -66,17 +51,7 @@ fn written_at(source: &[u8], span: Span, text: &[u8]) -> Option<Span>
     None
 }
 
-/// The stretch of the script that a word is.
-fn script_at(source: &[u8], word: &Placed) -> Option<Span>
-    ensures { result ≡ script_at source.now word.now }
-{
-    if is_braced(source, word) {
-        return Some(inside(word.span));
-    }
-    as_written(source, word)
-}
-
-/// Puts the script that a word is behind others, or those in its brackets.
+/// Appends the script that a word is, or those in its brackets.
 fn push_script(
     alloc: Global,
     source: &[u8],
@@ -94,7 +69,7 @@ fn push_script(
     }
 }
 
-/// Puts the scripts in brackets of an expression in braces behind others.
+/// Appends the scripts in brackets of an expression in braces. One that doesn't parse has none.
 fn push_formula(
     alloc: Global,
     source: &[u8],
@@ -103,27 +78,12 @@ fn push_formula(
 ) -> Result<(), AllocError>
     ensures { OnOk result (out.new.items ≡ out.old.items ++ formula_scripts source.now (inside word.now.span) word.now.value) }
 {
-    match &word.value {
-        None => Ok(()),
-        Some(text) => push_parsed(alloc, source, inside(word.span), text.as_slice(), out),
-    }
-}
-
-/// The same for one of this text. One that doesn't parse has none.
-fn push_parsed(
-    alloc: Global,
-    source: &[u8],
-    span: Span,
-    text: &[u8],
-    out: &mut Vec<Span>,
-) -> Result<(), AllocError>
-    ensures { OnOk result (out.new.items ≡ out.old.items ++ formula_brackets source.now span (parsed text.now)) }
-{
-    match parse(alloc, text) {
-        Ok(_) => {
-            let found = operands(alloc, span.to, part(source, span))?;
-            all_brackets(alloc, source, found.as_slice(), out)
-        }
+    let Some(text) = &word.value else {
+        return Ok(());
+    };
+    let span = inside(word.span);
+    match parse(alloc, text.as_slice()) {
+        Ok(_) => operands(alloc, span.to, part(source, span), out),
         Err(ExprFault::Memory) => Err(AllocError),
         Err(_) => Ok(()),
     }
@@ -141,7 +101,7 @@ fn is_enclosed(source: &[u8], word: &Placed) -> bool
     }
 }
 
-/// Puts the scripts in a word behind others, by what it is read as.
+/// Appends the scripts in a word, by what it is read as.
 fn word_scripts(
     alloc: Global,
     source: &[u8],
@@ -153,7 +113,7 @@ fn word_scripts(
 {
     match kind {
         Kind::Script => push_script(alloc, source, word, out),
-        Kind::Text => {
+        Kind::Text | Kind::Name => {
             if is_enclosed(source, word) {
                 return Ok(());
             }
@@ -168,7 +128,7 @@ fn word_scripts(
     }
 }
 
-/// Puts the scripts in arguments behind others.
+/// Appends the scripts in arguments.
 fn nested(
     alloc: Global,
     source: &[u8],
@@ -181,7 +141,7 @@ fn nested(
     let mut stage = stage;
     let mut rest = args;
     while let [word, more @ ..] = rest {
-        let (kind, next) = step(stage, word);
+        let (kind, next) = step(stage, &word.value);
         word_scripts(alloc, source, word, kind, out)?;
         stage = next;
         rest = more;
@@ -193,29 +153,22 @@ fn nested(
 pub(crate) fn any_expanded(words: &[Placed]) -> bool
     ensures { result ≡ any_expanded words.now }
 {
-    let mut rest = words;
-    while let [word, more @ ..] = rest {
-        if word.expand {
-            return true;
-        }
-        rest = more;
-    }
-    false
+    words.iter().any(|word| word.expand)
 }
 
 /// What may stand first among the arguments of a command.
-fn stage_for(name: &Placed, args: &[Placed]) -> Stage
+pub(crate) fn stage_for(name: &Placed, args: &[Placed]) -> Stage
     ensures { result ≡ stage_for name.now.value args.now }
 {
     match &name.value {
-        None => Stage::Texts,
-        Some(text) => match known_of(text.as_slice()) {
-            None => Stage::Texts,
-            Some(known) => {
+        None => texts(),
+        Some(text) => match command_of(text.as_slice()) {
+            None => texts(),
+            Some(command) => {
                 if any_expanded(args) {
-                    Stage::Texts
+                    texts()
                 } else {
-                    stage_of(known, args.len())
+                    begin(row_of(command).words, args.len())
                 }
             }
         },

@@ -1,13 +1,14 @@
 //! The words of a command, where they stand in the source.
 
-ghost use Rattle.std.specs.Prelude.{◌≡◌, IfOk};
+ghost use Rattle.std.specs.Prelude.{◌≡◌, ◌≢◌, IfOk};
 ghost use Rattle.tcl_words.specs.Commands.{is_gap};
 ghost use Rattle.tcl_words.specs.Operands.{operand};
 ghost use Rattle.tcl_words.specs.Pieces.{part_view, word_view, words_view};
-ghost use Rattle.script_check.specs.Placed.{next_lead, behind_gap, taken, owned, behind_bare, behind_plain, behind_word, literal_alone, plain_value, placed};
+ghost use Rattle.script_check.specs.Placed.{is_plainly, next_lead, behind_gap, taken, owned, behind_bare, behind_plain, behind_word, literal_alone, plain_value, placed};
 
 use crate::span::Span;
 use crate::stretch::{begins_with, behind, place};
+use command_table::is;
 use std::alloc::{AllocError, Global};
 use std::marker::Model;
 use tcl_words::{Part, Text, Word, WordFault, ends_command, is_blank, is_continued, operand};
@@ -39,19 +40,14 @@ impl Model for Words {
 }
 
 impl Placed {
-    /// An equal word.
-    pub(crate) fn copied(&self, alloc: Global) -> Result<Placed, AllocError>
-        ensures { IfOk result (λ w. w ≡ self.now) }
+    /// Tells whether it is written plainly and is this word.
+    pub(crate) fn is(&self, name: &[u8]) -> bool
+        ensures { result ≡ is_plainly name.now self.now.value }
     {
-        let value = match &self.value {
-            None => None,
-            Some(text) => Some(text.copied(alloc)?),
-        };
-        Ok(Placed {
-            span: self.span,
-            expand: self.expand,
-            value,
-        })
+        match &self.value {
+            None => false,
+            Some(text) => is(text.as_slice(), name),
+        }
     }
 }
 
@@ -123,21 +119,34 @@ pub(crate) fn behind_gap(first: bool, bytes: &[u8]) -> &[u8]
     rest
 }
 
+/// A fault that says something of the text.
+pub(crate) fn told(fault: WordFault) -> Result<WordFault, AllocError>
+    ensures { IfOk result (λ f. (f ≡ fault) × (fault ≢ WordFault.Memory)) }
+{
+    match fault {
+        WordFault::MissingBrace => Ok(WordFault::MissingBrace),
+        WordFault::MissingBracket => Ok(WordFault::MissingBracket),
+        WordFault::MissingQuote => Ok(WordFault::MissingQuote),
+        WordFault::ExtraAfterQuote => Ok(WordFault::ExtraAfterQuote),
+        WordFault::ExtraAfterBrace => Ok(WordFault::ExtraAfterBrace),
+        WordFault::TooDeep => Ok(WordFault::TooDeep),
+        WordFault::MissingParen => Ok(WordFault::MissingParen),
+        WordFault::Memory => Err(AllocError),
+    }
+}
+
 /// How many bytes the operand at the front of a text takes; 1 where there is none.
+#[tactic(auto, using(crate::proofs::Steps::fails_are))]
 pub(crate) fn taken(alloc: Global, text: &[u8]) -> Result<usize, AllocError>
     ensures { IfOk result (λ n. n ≡ taken (operand text.now)) }
 {
     match operand(alloc, text) {
         Ok(Some((_, n))) => Ok(n),
         Ok(None) => Ok(1),
-        Err(WordFault::Memory) => Err(AllocError),
-        Err(WordFault::MissingBrace) => Ok(1),
-        Err(WordFault::MissingBracket) => Ok(1),
-        Err(WordFault::MissingQuote) => Ok(1),
-        Err(WordFault::ExtraAfterQuote) => Ok(1),
-        Err(WordFault::ExtraAfterBrace) => Ok(1),
-        Err(WordFault::TooDeep) => Ok(1),
-        Err(WordFault::MissingParen) => Ok(1),
+        Err(fault) => {
+            told(fault)?;
+            Ok(1)
+        }
     }
 }
 

@@ -3,7 +3,7 @@
 ghost use Rattle.std.specs.Prelude.{◌≡◌, IfOk};
 ghost use Rattle.script_check.specs.Texts.{instead_text, no_command, text_of};
 
-use crate::instead::instead;
+use command_table::advice_for;
 use std::alloc::{AllocError, Global};
 use tcl_commands::{bad_option, expr_fault, quoted, too_deep, word_fault, wrong_args};
 use tcl_expr::ExprFault;
@@ -61,7 +61,7 @@ fn no_command(alloc: Global, name: &[u8]) -> Result<Text, AllocError>
     ensures { IfOk result (λ t. t ≡ no_command name.now) }
 {
     let text = quoted(alloc, b"invalid command name ", name)?;
-    instead_text(text, instead(name))
+    instead_text(text, advice_for(name))
 }
 
 impl Problem {

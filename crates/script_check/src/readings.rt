@@ -1,15 +1,13 @@
 //! The commands of a script, where they stand in the source.
 
-ghost use Rattle.std.specs.Prelude.{◌≡◌, ℕ, List, IfOk, Option, Result, Err};
-ghost use Rattle.tcl_words.specs.Commands.{Fails};
-ghost use Rattle.tcl_words.specs.Pieces.{Spelled, command_view};
+ghost use Rattle.std.specs.Prelude.{◌≡◌, IfOk};
+ghost use Rattle.tcl_words.specs.Pieces.{command_view};
 ghost use Rattle.script_check.specs.Readings.{begin_of, command_in, readings, readings_in};
 
-use crate::placed::{Words, behind_gap, placed_words};
+use crate::placed::{Words, behind_gap, placed_words, told};
 use crate::span::Span;
 use crate::stretch::{behind, part, place};
 use std::alloc::{AllocError, Global};
-use std::marker::Model;
 use tcl_words::{Command, WordFault, next_command};
 
 /// What was read of a script.
@@ -19,46 +17,6 @@ pub enum Reading {
     Command(usize, Words),
     /// A malformed command: where it begins, and why. It is the last that was read.
     Malformed(usize, WordFault),
-}
-
-/// What was read of a script, in order. A contract sees the list of it.
-#[derive(Drop)]
-pub struct Readings {
-    pub(crate) list: Vec<Reading>,
-}
-
-impl Model for Readings {
-    ghost use Rattle.std.specs.Prelude.{List};
-    ghost use Rattle.script_check.specs.declared.readings.Reading.{Reading};
-
-    ghost Value = { List Reading };
-
-    ghost view = { λ r. r.list.items };
-}
-
-impl Readings {
-    /// What was read, in order.
-    pub(crate) fn as_slice(&self) -> &[Reading]
-        ensures { result.now ≡ self.now }
-    {
-        self.list.as_slice()
-    }
-}
-
-/// A fault that says something of the text.
-fn told(fault: WordFault) -> Result<WordFault, AllocError>
-    ensures { IfOk result (λ f. (read : Result (Option (List Spelled × ℕ)) WordFault) → Fails fault read → read ≡ Err f) }
-{
-    match fault {
-        WordFault::MissingBrace => Ok(WordFault::MissingBrace),
-        WordFault::MissingBracket => Ok(WordFault::MissingBracket),
-        WordFault::MissingQuote => Ok(WordFault::MissingQuote),
-        WordFault::ExtraAfterQuote => Ok(WordFault::ExtraAfterQuote),
-        WordFault::ExtraAfterBrace => Ok(WordFault::ExtraAfterBrace),
-        WordFault::TooDeep => Ok(WordFault::TooDeep),
-        WordFault::MissingParen => Ok(WordFault::MissingParen),
-        WordFault::Memory => Err(AllocError),
-    }
 }
 
 /// What is left of a text from the begin of its next command on.
@@ -83,8 +41,8 @@ fn command_in(
 }
 
 /// What is read of a text that ends at a place of the source.
-fn read(alloc: Global, end: usize, text: &[u8]) -> Result<Readings, AllocError>
-    ensures { IfOk result (λ r. r ≡ readings end text.now) }
+fn read(alloc: Global, end: usize, text: &[u8]) -> Result<Vec<Reading>, AllocError>
+    ensures { IfOk result (λ v. v.items ≡ readings end text.now) }
 {
     let mut list = Vec::new(alloc);
     let mut rest = text;
@@ -94,20 +52,24 @@ fn read(alloc: Global, end: usize, text: &[u8]) -> Result<Readings, AllocError>
                 list.push(command_in(alloc, end, rest, &command)?)?;
                 rest = behind(behind(rest, 1), n.saturating_sub(1));
             }
-            Ok(None) => return Ok(Readings { list }),
+            Ok(None) => return Ok(list),
             Err(fault) => {
                 let at = place(end, behind_gap(true, rest));
                 list.push(Reading::Malformed(at, told(fault)?))?;
-                return Ok(Readings { list });
+                return Ok(list);
             }
         }
     }
-    Ok(Readings { list })
+    Ok(list)
 }
 
 /// What is read of the script that is a stretch of the source.
-pub(crate) fn readings_in(alloc: Global, source: &[u8], span: Span) -> Result<Readings, AllocError>
-    ensures { IfOk result (λ r. r ≡ readings_in source.now span) }
+pub(crate) fn readings_in(
+    alloc: Global,
+    source: &[u8],
+    span: Span,
+) -> Result<Vec<Reading>, AllocError>
+    ensures { IfOk result (λ v. v.items ≡ readings_in source.now span) }
 {
     read(alloc, span.to, part(source, span))
 }

@@ -2,12 +2,10 @@
 
 ghost use Rattle.std.specs.Prelude.{◌≡◌, ◌++◌, IfOk, OnOk};
 ghost use Rattle.std.specs.List.{flat_map};
-ghost use Rattle.tcl_expr.specs.Grammar.{parsed};
-ghost use Rattle.script_check.specs.Commands.{known_of};
+ghost use Rattle.command_table.specs.Commands.{command_of};
 ghost use Rattle.script_check.specs.Expects.{list_of, spread_by};
-ghost use Rattle.script_check.specs.Sights.{found, some_found, by_parse, formula_fault, formula_sights, judged, procedure, defined, by_known, own, ending, command_sights, by_spread, reading_sights, sights};
+ghost use Rattle.script_check.specs.Sights.{found, some_found, formula_fault, formula_sights, judged, procedure, defined, by_command, own, ending, command_sights, reading_sights, sights};
 
-use crate::commands::{Known, known_of};
 use crate::expects::spread;
 use crate::faults::fault_of;
 use crate::nested::{any_expanded, scripts_of};
@@ -15,9 +13,8 @@ use crate::placed::{Placed, Words};
 use crate::problem::{Finding, Problem};
 use crate::readings::{Reading, readings_in};
 use crate::span::Span;
-use crate::stages::{Kind, Stage, stage_of, step};
+use command_table::{Command, Kind, Stage, TclCommand, begin, command_of, row_of, step};
 use std::alloc::{AllocError, Global};
-use tcl_commands::Verb;
 use tcl_expr::{ExprFault, parse};
 use tcl_words::Text;
 
@@ -30,7 +27,7 @@ pub enum Sight {
     Finds(Finding),
 }
 
-/// Puts what is wrong behind what was seen.
+/// Appends what is wrong.
 fn push_found(at: usize, what: Problem, out: &mut Vec<Sight>) -> Result<(), AllocError>
     ensures { OnOk result (out.new.items ≡ out.old.items ++ found at what) }
 {
@@ -38,23 +35,22 @@ fn push_found(at: usize, what: Problem, out: &mut Vec<Sight>) -> Result<(), Allo
     Ok(())
 }
 
-/// What is wrong with a text that is read as an expression.
+/// What is wrong with an argument that is read as an expression.
 fn formula_fault(alloc: Global, kind: Kind, word: &Placed) -> Result<Option<Problem>, AllocError>
     ensures { IfOk result (λ p. p ≡ formula_fault kind word.now.value) }
 {
     match kind {
-        Kind::Text => Ok(None),
-        Kind::Script => Ok(None),
-        Kind::Expression => match &word.value {
-            None => Ok(None),
-            Some(text) => parse_fault(alloc, text),
-        },
+        Kind::Text | Kind::Name | Kind::Script => Ok(None),
+        Kind::Expression => parse_fault(alloc, word),
     }
 }
 
-fn parse_fault(alloc: Global, text: &Text) -> Result<Option<Problem>, AllocError>
-    ensures { IfOk result (λ p. p ≡ by_parse text.now (parsed text.now)) }
+fn parse_fault(alloc: Global, word: &Placed) -> Result<Option<Problem>, AllocError>
+    ensures { IfOk result (λ p. p ≡ formula_fault Kind.Expression word.now.value) }
 {
+    let Some(text) = &word.value else {
+        return Ok(None);
+    };
     match parse(alloc, text.as_slice()) {
         Ok(_) => Ok(None),
         Err(ExprFault::Memory) => Err(AllocError),
@@ -63,7 +59,7 @@ fn parse_fault(alloc: Global, text: &Text) -> Result<Option<Problem>, AllocError
     }
 }
 
-/// Puts what is wrong, if anything is, behind what was seen.
+/// Appends what is wrong, if anything is.
 fn push_some(at: usize, what: Option<Problem>, out: &mut Vec<Sight>) -> Result<(), AllocError>
     ensures { OnOk result (out.new.items ≡ out.old.items ++ some_found at what) }
 {
@@ -73,7 +69,7 @@ fn push_some(at: usize, what: Option<Problem>, out: &mut Vec<Sight>) -> Result<(
     }
 }
 
-/// Puts what is wrong with the expressions among arguments behind what was seen.
+/// Appends what is wrong with the expressions among arguments.
 fn formula_sights(
     alloc: Global,
     at: usize,
@@ -86,7 +82,7 @@ fn formula_sights(
     let mut stage = stage;
     let mut rest = args;
     while let [word, more @ ..] = rest {
-        let (kind, next) = step(stage, word);
+        let (kind, next) = step(stage, &word.value);
         push_some(at, formula_fault(alloc, kind, word)?, out)?;
         stage = next;
         rest = more;
@@ -94,57 +90,60 @@ fn formula_sights(
     Ok(())
 }
 
-/// Puts what is wrong with the arguments of a command behind what was seen.
+/// Appends what is wrong with the arguments of a command.
 fn judge(
     alloc: Global,
     at: usize,
-    known: Known,
+    command: Command,
     name: &[u8],
     args: &[Placed],
     out: &mut Vec<Sight>,
 ) -> Result<(), AllocError>
-    ensures { OnOk result (out.new.items ≡ out.old.items ++ judged at known name.now args.now) }
+    ensures { OnOk result (out.new.items ≡ out.old.items ++ judged at command name.now args.now) }
 {
     if any_expanded(args) {
         return Ok(());
     }
-    match fault_of(alloc, known, name, args)? {
+    match fault_of(alloc, command, name, args)? {
         Some(problem) => push_found(at, problem, out),
-        None => formula_sights(alloc, at, stage_of(known, args.len()), args, out),
+        None => {
+            let stage = begin(row_of(command).words, args.len());
+            formula_sights(alloc, at, stage, args, out)
+        }
     }
 }
 
-/// Puts the procedure that a command defines behind what was seen.
+/// Appends the procedure that a command defines.
 fn push_defined(
     alloc: Global,
-    known: Known,
+    command: Command,
     args: &[Placed],
     out: &mut Vec<Sight>,
 ) -> Result<(), AllocError>
-    ensures { OnOk result (out.new.items ≡ out.old.items ++ defined known args.now) }
+    ensures { OnOk result (out.new.items ≡ out.old.items ++ defined command args.now) }
 {
-    match known {
-        Known::Language(Verb::Proc) => match args {
-            [] => Ok(()),
-            [name, ..] => push_procedure(alloc, name, out),
-        },
+    match command {
+        Command::Tcl(TclCommand::Proc) => push_procedure(alloc, args, out),
         _ => Ok(()),
     }
 }
 
-fn push_procedure(alloc: Global, name: &Placed, out: &mut Vec<Sight>) -> Result<(), AllocError>
-    ensures { OnOk result (out.new.items ≡ out.old.items ++ procedure name.now.value) }
+fn push_procedure(alloc: Global, args: &[Placed], out: &mut Vec<Sight>) -> Result<(), AllocError>
+    ensures { OnOk result (out.new.items ≡ out.old.items ++ procedure args.now) }
 {
-    match &name.value {
-        None => Ok(()),
-        Some(text) => {
+    match args {
+        [] => Ok(()),
+        [name, ..] => {
+            let Some(text) = &name.value else {
+                return Ok(());
+            };
             out.push(Sight::Defines(text.copied(alloc)?))?;
             Ok(())
         }
     }
 }
 
-/// Puts what is seen of a command with this name behind what was seen.
+/// Appends what is seen of a command with this name.
 fn push_named(
     alloc: Global,
     at: usize,
@@ -152,18 +151,18 @@ fn push_named(
     args: &[Placed],
     out: &mut Vec<Sight>,
 ) -> Result<(), AllocError>
-    ensures { OnOk result (out.new.items ≡ out.old.items ++ by_known at name.now args.now (known_of name.now)) }
+    ensures { OnOk result (out.new.items ≡ out.old.items ++ by_command at name.now args.now (command_of name.now)) }
 {
-    match known_of(name.as_slice()) {
+    match command_of(name.as_slice()) {
         None => push_found(at, Problem::NoCommand(name.copied(alloc)?), out),
-        Some(known) => {
-            judge(alloc, at, known, name.as_slice(), args, out)?;
-            push_defined(alloc, known, args, out)
+        Some(command) => {
+            judge(alloc, at, command, name.as_slice(), args, out)?;
+            push_defined(alloc, command, args, out)
         }
     }
 }
 
-/// Puts what is seen of a command itself behind what was seen. One whose first word isn't written plainly isn't judged.
+/// Appends what is seen of a command itself. One whose first word isn't written plainly isn't judged.
 fn push_own(
     alloc: Global,
     at: usize,
@@ -181,7 +180,7 @@ fn push_own(
     }
 }
 
-/// Puts what ended a list of arguments behind what was seen.
+/// Appends what ended a list of arguments.
 fn push_ending(broken: Option<Finding>, out: &mut Vec<Sight>) -> Result<(), AllocError>
     ensures { OnOk result (out.new.items ≡ out.old.items ++ ending broken) }
 {
@@ -194,7 +193,7 @@ fn push_ending(broken: Option<Finding>, out: &mut Vec<Sight>) -> Result<(), Allo
     }
 }
 
-/// Puts what is seen of scripts behind what was seen.
+/// Appends what is seen of scripts.
 #[cycle(see)]
 fn see_all(
     alloc: Global,
@@ -213,82 +212,43 @@ fn see_all(
     Ok(())
 }
 
-/// Puts what is seen of a command and of the scripts in its words behind what was seen.
+/// Appends what is seen of a command and of the scripts in its words.
 #[cycle(see)]
 fn see_command(
     alloc: Global,
     source: &[u8],
     at: usize,
-    words: &[Placed],
-    broken: Option<Finding>,
+    words: Words,
     depth: u8,
     out: &mut Vec<Sight>,
 ) -> Result<(), AllocError>
-    ensures { OnOk result (out.new.items ≡ out.old.items ++ command_sights (sights depth source.now) source.now at words.now broken) }
+    ensures { OnOk result (out.new.items ≡ out.old.items ++ command_sights (sights depth source.now) source.now at (spread_by source.now words (list_of source.now words))) }
 {
-    push_own(alloc, at, words, out)?;
-    let scripts = scripts_of(alloc, source, words)?;
+    let (all, broken) = spread(alloc, source, words)?;
+    push_own(alloc, at, all.as_slice(), out)?;
+    let scripts = scripts_of(alloc, source, all.as_slice())?;
     see_all(alloc, source, scripts.as_slice(), depth, out)?;
     push_ending(broken, out)
 }
 
-/// The same, where the arguments of an `expect` may stand in a list of them.
-#[cycle(see)]
-fn see_spread(
-    alloc: Global,
-    source: &[u8],
-    at: usize,
-    words: &Words,
-    depth: u8,
-    out: &mut Vec<Sight>,
-) -> Result<(), AllocError>
-    ensures { OnOk result (out.new.items ≡ out.old.items ++ by_spread (sights depth source.now) source.now at words.now (spread_by source.now words.now (list_of source.now words.now))) }
-{
-    match spread(alloc, source, words)? {
-        None => see_command(alloc, source, at, words.as_slice(), None, depth, out),
-        Some((all, broken)) => {
-            see_command(alloc, source, at, all.as_slice(), broken, depth, out)
-        }
-    }
-}
-
-/// Puts what is seen of what was read behind what was seen.
+/// Appends what is seen of what was read.
 #[cycle(see)]
 fn see_reading(
     alloc: Global,
     source: &[u8],
-    reading: &Reading,
+    reading: Reading,
     depth: u8,
     out: &mut Vec<Sight>,
 ) -> Result<(), AllocError>
-    ensures { OnOk result (out.new.items ≡ out.old.items ++ reading_sights (sights depth source.now) source.now reading.now) }
+    ensures { OnOk result (out.new.items ≡ out.old.items ++ reading_sights (sights depth source.now) source.now reading) }
 {
     match reading {
-        Reading::Malformed(at, fault) => push_found(*at, Problem::Malformed(*fault), out),
-        Reading::Command(at, words) => see_spread(alloc, source, *at, words, depth, out),
+        Reading::Malformed(at, fault) => push_found(at, Problem::Malformed(fault), out),
+        Reading::Command(at, words) => see_command(alloc, source, at, words, depth, out),
     }
 }
 
-/// Puts what is seen of all that was read of a script behind what was seen.
-#[cycle(see)]
-fn see_readings(
-    alloc: Global,
-    source: &[u8],
-    readings: &[Reading],
-    depth: u8,
-    out: &mut Vec<Sight>,
-) -> Result<(), AllocError>
-    ensures { OnOk result (out.new.items ≡ out.old.items ++ flat_map (reading_sights (sights depth source.now) source.now) readings.now) }
-{
-    let mut rest = readings;
-    while let [reading, more @ ..] = rest {
-        see_reading(alloc, source, reading, depth, out)?;
-        rest = more;
-    }
-    Ok(())
-}
-
-/// Puts what is seen of a script, in which so many may stand in one another, behind what was seen.
+/// Appends what is seen of a script, in which so many may stand in one another.
 #[cycle(see)]
 #[tactic(auto, unfolding(crate::specs::Sights::sights))]
 pub(crate) fn sights(
@@ -304,5 +264,22 @@ pub(crate) fn sights(
         return push_found(span.from, Problem::TooDeep, out);
     }
     let readings = readings_in(alloc, source, span)?;
-    see_readings(alloc, source, readings.as_slice(), depth - 1, out)
+    see_readings(alloc, source, readings, depth - 1, out)
+}
+
+/// Appends what is seen of all that was read of a script.
+#[cycle(see)]
+fn see_readings(
+    alloc: Global,
+    source: &[u8],
+    readings: Vec<Reading>,
+    depth: u8,
+    out: &mut Vec<Sight>,
+) -> Result<(), AllocError>
+    ensures { OnOk result (out.new.items ≡ out.old.items ++ flat_map (reading_sights (sights depth source.now) source.now) readings.items) }
+{
+    for reading in readings {
+        see_reading(alloc, source, reading, depth, out)?;
+    }
+    Ok(())
 }

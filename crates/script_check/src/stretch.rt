@@ -1,7 +1,6 @@
 //! The bytes of a stretch, and what stands where.
 
 ghost use Rattle.std.specs.Prelude.{◌≡◌, ◌-◌, drop, take, length};
-ghost use Rattle.std.specs.Str.{bytes_eq};
 ghost use Rattle.script_check.specs.Stretches.{begins_with, part, inside};
 
 use crate::span::Span;
@@ -18,7 +17,7 @@ pub(crate) fn behind(bytes: &[u8], n: usize) -> &[u8]
 }
 
 /// The bytes before a place.
-fn before(bytes: &[u8], n: usize) -> &[u8]
+pub(crate) fn before(bytes: &[u8], n: usize) -> &[u8]
     ensures { result.now ≡ take n bytes.now }
 {
     if n < bytes.len() {
@@ -64,11 +63,4 @@ pub(crate) fn begins_with(b: u8, bytes: &[u8]) -> bool
         [] => false,
         [first, ..] => *first == b,
     }
-}
-
-/// Whether a word is this name.
-pub(crate) fn is(word: &[u8], name: &[u8]) -> bool
-    ensures { result ≡ bytes_eq word.now name.now }
-{
-    word == name
 }

@@ -1,9 +1,6 @@
-use Rattle.std.proofs.Common.{◌≡◌, ◌++◌, length}
+use Rattle.std.proofs.Common.{◌≡◌, ◌++◌}
 use Rattle.script_check.specs.Expects.{gathered}
 use Rattle.script_check.proofs.expects.gather.Given as goal
 
-abbrev pub invariant-loop-rest : goal.invariant-loop-rest
-invariant-loop-rest l = (l.out.items ++ (gathered l.rest).0 ≡ l.fn.out.items ++ (gathered l.readings).0) × ((gathered l.rest).1 ≡ (gathered l.readings).1)
-
-abbrev pub decreases-loop-rest : goal.decreases-loop-rest
-decreases-loop-rest l = length l.rest
+abbrev pub invariant-loop-reading : goal.invariant-loop-reading
+invariant-loop-reading l = (l.out.items ++ (gathered l.reading-iterator.rest.items).0 ≡ l.fn.out.items ++ (gathered l.fn.readings.items).0) × ((gathered l.reading-iterator.rest.items).1 ≡ (gathered l.fn.readings.items).1)

@@ -2,7 +2,7 @@ use Rattle.std.proofs.Common.{◌≡◌, [], ◌≤◌, Some, None, Ok, length, 
 use Rattle.tcl_words.specs.Commands.{next_command}
 use Rattle.tcl_words.specs.Pieces.{command_view}
 use Rattle.script_check.specs.Readings.{readings}
-use Rattle.script_check.proofs.Steps.{readings_go, readings_turn, readings_over, viewed}
+use Rattle.script_check.proofs.Steps.{readings_go, readings_turn, readings_over, viewed, fails_are}
 use Rattle.script_check.proofs.readings.read.Goals as goal
 
 pub commands-preserved : goal.commands-preserved
@@ -24,7 +24,7 @@ returns-in-Ok-None c =
 pub returns-in-Err : goal.returns-in-Err
 returns-in-Err c =
     let s = c.commands.rest.now in
-    let q = c.in_ok-told-in-Err.ensures (next_command s 0) c.in-Err.ensures.value in
+    let q = fails_are _ (next_command s 0) c.in_ok-told-in-Err.ensures.1 c.in-Err.ensures.value in
     let h : 1 ≤ length s = grind arith in
     let e = readings_go c.args.end s h _ q in
     grind arith

@@ -4,22 +4,19 @@ use Rattle.script_check.specs.Sights.{reading_sights, sights}
 use Rattle.script_check.proofs.sights.+see.Given as goal
 
 abbrev pub decreases-see_all : goal.decreases-see_all
-decreases-see_all l = 6 * l.depth + 1
+decreases-see_all l = 5 * l.depth + 1
 
 abbrev pub decreases-see_command : goal.decreases-see_command
-decreases-see_command l = 6 * l.depth + 2
-
-abbrev pub decreases-see_spread : goal.decreases-see_spread
-decreases-see_spread l = 6 * l.depth + 3
+decreases-see_command l = 5 * l.depth + 2
 
 abbrev pub decreases-see_reading : goal.decreases-see_reading
-decreases-see_reading l = 6 * l.depth + 4
+decreases-see_reading l = 5 * l.depth + 3
 
 abbrev pub decreases-see_readings : goal.decreases-see_readings
-decreases-see_readings l = 6 * l.depth + 5
+decreases-see_readings l = 5 * l.depth + 4
 
 abbrev pub decreases-sights : goal.decreases-sights
-decreases-sights l = 6 * l.depth
+decreases-sights l = 5 * l.depth
 
 abbrev pub invariant-see_all-loop-rest : goal.invariant-see_all-loop-rest
 invariant-see_all-loop-rest l = l.out.items ++ flat_map (sights l.depth l.source) l.rest ≡ l.fn.out.items ++ flat_map (sights l.depth l.source) l.spans
@@ -27,8 +24,5 @@ invariant-see_all-loop-rest l = l.out.items ++ flat_map (sights l.depth l.source
 abbrev pub decreases-see_all-loop-rest : goal.decreases-see_all-loop-rest
 decreases-see_all-loop-rest l = length l.rest
 
-abbrev pub invariant-see_readings-loop-rest : goal.invariant-see_readings-loop-rest
-invariant-see_readings-loop-rest l = l.out.items ++ flat_map (reading_sights (sights l.depth l.source) l.source) l.rest ≡ l.fn.out.items ++ flat_map (reading_sights (sights l.depth l.source) l.source) l.readings
-
-abbrev pub decreases-see_readings-loop-rest : goal.decreases-see_readings-loop-rest
-decreases-see_readings-loop-rest l = length l.rest
+abbrev pub invariant-see_readings-loop-reading : goal.invariant-see_readings-loop-reading
+invariant-see_readings-loop-reading l = l.out.items ++ flat_map (reading_sights (sights l.depth l.source) l.source) l.reading-iterator.rest.items ≡ l.fn.out.items ++ flat_map (reading_sights (sights l.depth l.source) l.source) l.fn.readings.items

@@ -1,0 +1,63 @@
+-- The names of the commands of Tcl(n) and expect(1) that are there.
+use Rattle.std.specs.Prelude.{ℕ, List, codes, Option, Some, None, option_map, bytes_eq, if◌then◌else◌}
+use Rattle.command_table.specs.declared.commands.TclCommand.{TclCommand}
+use Rattle.command_table.specs.declared.commands.TclCommand.TheVariants as tcl
+use Rattle.command_table.specs.declared.commands.ExpectCommand.{ExpectCommand}
+use Rattle.command_table.specs.declared.commands.ExpectCommand.TheVariants as expect
+use Rattle.command_table.specs.declared.commands.Command.{Command}
+use Rattle.command_table.specs.declared.commands.Command.TheVariants.{Tcl, Expect}
+
+-- the command of the language that a word names
+abbrev pub tcl_command : List ℕ → Option TclCommand
+tcl_command word =
+    if bytes_eq word (codes "set") then Some tcl.Set
+    else if bytes_eq word (codes "incr") then Some tcl.Incr
+    else if bytes_eq word (codes "if") then Some tcl.If
+    else if bytes_eq word (codes "return") then Some tcl.Return
+    else if bytes_eq word (codes "append") then Some tcl.Append
+    else if bytes_eq word (codes "lappend") then Some tcl.Lappend
+    else if bytes_eq word (codes "list") then Some tcl.List
+    else if bytes_eq word (codes "llength") then Some tcl.Llength
+    else if bytes_eq word (codes "lindex") then Some tcl.Lindex
+    else if bytes_eq word (codes "lrange") then Some tcl.Lrange
+    else if bytes_eq word (codes "string") then Some tcl.String
+    else if bytes_eq word (codes "expr") then Some tcl.Expr
+    else if bytes_eq word (codes "while") then Some tcl.While
+    else if bytes_eq word (codes "for") then Some tcl.For
+    else if bytes_eq word (codes "foreach") then Some tcl.Foreach
+    else if bytes_eq word (codes "break") then Some tcl.Break
+    else if bytes_eq word (codes "continue") then Some tcl.Continue
+    else if bytes_eq word (codes "error") then Some tcl.Error
+    else if bytes_eq word (codes "global") then Some tcl.Global
+    else if bytes_eq word (codes "info") then Some tcl.Info
+    else if bytes_eq word (codes "unset") then Some tcl.Unset
+    else if bytes_eq word (codes "catch") then Some tcl.Catch
+    else if bytes_eq word (codes "proc") then Some tcl.Proc
+    else if bytes_eq word (codes "eval") then Some tcl.Eval
+    else if bytes_eq word (codes "exit") then Some tcl.Exit
+    else None
+
+-- the command of Expect that a word names
+abbrev pub expect_command : List ℕ → Option ExpectCommand
+expect_command word =
+    if bytes_eq word (codes "send") then Some expect.Send
+    else if bytes_eq word (codes "expect") then Some expect.Expect
+    else if bytes_eq word (codes "exp_continue") then Some expect.ExpContinue
+    else if bytes_eq word (codes "puts") then Some expect.Puts
+    else if bytes_eq word (codes "spawn") then Some expect.Spawn
+    else if bytes_eq word (codes "exp_send") then Some expect.Send
+    else if bytes_eq word (codes "send_user") then Some expect.SendUser
+    else if bytes_eq word (codes "close") then Some expect.Close
+    else if bytes_eq word (codes "wait") then Some expect.Wait
+    else if bytes_eq word (codes "match_max") then Some expect.MatchMax
+    else if bytes_eq word (codes "remove_nulls") then Some expect.RemoveNulls
+    else if bytes_eq word (codes "log_user") then Some expect.LogUser
+    else None
+
+abbrev pub tcl_or_expect : Option TclCommand → List ℕ → Option Command
+tcl_or_expect (Some c) word = Some (Tcl c)
+tcl_or_expect None word = option_map Expect (expect_command word)
+
+-- the command that a word names
+abbrev pub command_of : List ℕ → Option Command
+command_of word = tcl_or_expect (tcl_command word) word

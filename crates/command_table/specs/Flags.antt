@@ -1,0 +1,33 @@
+-- The flags of commands.
+use Rattle.std.specs.Prelude.{ℕ, ◌==◌, Bool, false, not, ◌&&◌, List, [], ◌∷◌, codes, Option, Some, None, bytes_eq, if◌then◌else◌}
+use Rattle.tcl_words.specs.Bytes as ascii
+use Rattle.command_table.specs.declared.flags.Own.{Own}
+use Rattle.command_table.specs.declared.flags.Own.TheVariants as own
+use Rattle.command_table.specs.declared.flags.Flags.{Flags}
+use Rattle.command_table.specs.declared.flags.Role.{Role}
+use Rattle.command_table.specs.declared.flags.Role.TheVariants as role
+
+-- the flags without a value that one command has
+abbrev pub is_own : Own → List ℕ → Bool
+is_own own.None word = false
+is_own own.NoEcho word = bytes_eq word (codes "-noecho")
+is_own own.Default word = bytes_eq word (codes "-d")
+is_own own.Timer word = bytes_eq word (codes "-continue_timer")
+
+abbrev pub begins_with_minus : List ℕ → Bool
+begins_with_minus [] = false
+begins_with_minus (b ∷ bytes) = b == ascii.minus
+
+-- what a word is if a flag may stand at its place
+abbrev pub word_role : Flags → List ℕ → Role
+word_role f word =
+    if not (begins_with_minus word) then role.Word
+    else if f.end && bytes_eq word (codes "--") then role.End
+    else if is_own f.own word then role.Alone
+    else if f.id && bytes_eq word (codes "-i") then role.Id
+    else role.Bad
+
+-- a word that isn't written plainly, `None`, may be any word
+abbrev pub flag_role : Flags → Option (List ℕ) → Role
+flag_role f None = role.Unknown
+flag_role f (Some word) = word_role f word

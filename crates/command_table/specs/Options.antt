@@ -1,0 +1,60 @@
+-- The options that are the first argument of a command: string(n), info(n), and log_user of expect(1).
+use Rattle.std.specs.Prelude.{ℕ, ◌||◌, List, codes, Option, Some, None, option_map, bytes_eq, if◌then◌else◌}
+use Rattle.command_table.specs.declared.commands.Command.{Command}
+use Rattle.command_table.specs.declared.commands.Command.TheVariants.{Tcl, Expect}
+use Rattle.command_table.specs.declared.commands.TclCommand.TheVariants as tcl
+use Rattle.command_table.specs.declared.commands.ExpectCommand.TheVariants as expect
+use Rattle.command_table.specs.declared.counts.Count.{Count}
+use Rattle.command_table.specs.declared.options.StringOption.{StringOption}
+use Rattle.command_table.specs.declared.options.StringOption.TheVariants as string
+use Rattle.command_table.specs.declared.options.InfoOption.{InfoOption}
+use Rattle.command_table.specs.declared.options.InfoOption.TheVariants as info
+use Rattle.command_table.specs.Counts.{exactly}
+
+abbrev pub string_option : List ℕ → Option StringOption
+string_option word =
+    if bytes_eq word (codes "length") then Some string.Length
+    else if bytes_eq word (codes "index") then Some string.Index
+    else if bytes_eq word (codes "range") then Some string.Range
+    else if bytes_eq word (codes "equal") then Some string.Equal
+    else if bytes_eq word (codes "compare") then Some string.Compare
+    else if bytes_eq word (codes "first") then Some string.First
+    else if bytes_eq word (codes "tolower") then Some string.ToLower
+    else if bytes_eq word (codes "toupper") then Some string.ToUpper
+    else if bytes_eq word (codes "trim") then Some string.Trim
+    else None
+
+abbrev pub string_count : StringOption → Count
+-- string length string
+string_count string.Length = exactly 1
+-- string index string charIndex
+string_count string.Index = exactly 2
+-- string range string first last
+string_count string.Range = exactly 3
+-- string equal string1 string2
+string_count string.Equal = exactly 2
+-- string compare string1 string2
+string_count string.Compare = exactly 2
+-- string first needleString haystackString
+string_count string.First = exactly 2
+-- string tolower string
+string_count string.ToLower = exactly 1
+-- string toupper string
+string_count string.ToUpper = exactly 1
+-- string trim string
+string_count string.Trim = exactly 1
+
+abbrev pub info_option : List ℕ → Option InfoOption
+info_option word = if bytes_eq word (codes "exists") then Some info.Exists else None
+
+abbrev pub info_count : InfoOption → Count
+-- info exists varName
+info_count info.Exists = exactly 1
+
+-- the number of arguments after an option, if the command has it
+abbrev pub option_count : Command → List ℕ → Option Count
+option_count (Tcl tcl.String) word = option_map string_count (string_option word)
+option_count (Tcl tcl.Info) word = option_map info_count (info_option word)
+-- log_user -info|0|1
+option_count (Expect expect.LogUser) word = if bytes_eq word (codes "0") || bytes_eq word (codes "1") || bytes_eq word (codes "-info") then Some (exactly 0) else None
+option_count other word = None

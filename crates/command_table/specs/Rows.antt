@@ -1,0 +1,106 @@
+-- The rows of the table, each below its synopsis: of its page in Tcl(n), or of expect(1), without the forms that are not there.
+use Rattle.std.specs.Prelude.{Bool, true, false, Some, None}
+use Rattle.command_table.specs.declared.commands.TclCommand.{TclCommand}
+use Rattle.command_table.specs.declared.commands.TclCommand.TheVariants as tcl
+use Rattle.command_table.specs.declared.commands.ExpectCommand.{ExpectCommand}
+use Rattle.command_table.specs.declared.commands.ExpectCommand.TheVariants as expect
+use Rattle.command_table.specs.declared.commands.Command.{Command}
+use Rattle.command_table.specs.declared.commands.Command.TheVariants.{Tcl, Expect}
+use Rattle.command_table.specs.declared.counts.Count.{Count}
+use Rattle.command_table.specs.declared.flags.Own.{Own}
+use Rattle.command_table.specs.declared.flags.Own.TheVariants as own
+use Rattle.command_table.specs.declared.reading.Kind.TheVariants.{Text, Name, Script, Expression}
+use Rattle.command_table.specs.declared.reading.Stage.{Stage}
+use Rattle.command_table.specs.declared.reading.Stage.TheVariants.{Each, Alone, Choice, Test, Pattern, Output}
+use Rattle.command_table.specs.declared.rows.Row.{Row}
+use Rattle.command_table.specs.Counts.{exactly, at_least, between}
+use Rattle.command_table.specs.Reading.{texts}
+
+-- a command without flags
+abbrev pub plain : Count → Stage → Row
+plain count words = record { count = count; flags = None; words = words }
+
+-- a command with flags of its own, `-i` or not, `--` or not, and texts after them
+abbrev pub flagged : Own → Bool → Bool → Count → Row
+flagged o id end count = record { count = count; flags = Some (record { own = o; id = id; end = end }); words = texts }
+
+abbrev pub tcl_row : TclCommand → Row
+-- append varName ?value value value ...?
+tcl_row tcl.Append = plain (at_least 1) (Each Name Text Text Text)
+-- break
+tcl_row tcl.Break = plain (exactly 0) texts
+-- catch script ?resultVarName?
+tcl_row tcl.Catch = plain (between 1 2) (Each Script Name Text Text)
+-- continue
+tcl_row tcl.Continue = plain (exactly 0) texts
+-- error message
+tcl_row tcl.Error = plain (exactly 1) texts
+-- eval arg ?arg ...?
+tcl_row tcl.Eval = plain (at_least 1) (Alone Script)
+-- exit ?returnCode?
+tcl_row tcl.Exit = plain (between 0 1) texts
+-- expr arg ?arg arg ...?
+tcl_row tcl.Expr = plain (at_least 1) (Alone Expression)
+-- for start test next body
+tcl_row tcl.For = plain (exactly 4) (Each Script Expression Script Script)
+-- foreach varlist1 list1 body
+tcl_row tcl.Foreach = plain (exactly 3) (Each Name Text Script Text)
+-- global ?varname ...?
+tcl_row tcl.Global = plain (at_least 0) (Each Name Name Name Name)
+-- if expr1 ?then? body1 elseif expr2 ?then? body2 elseif ... ?else? ?bodyN?
+tcl_row tcl.If = plain (at_least 2) Test
+-- incr varName ?increment?
+tcl_row tcl.Incr = plain (between 1 2) (Each Name Text Text Text)
+-- info option ?arg arg ...?
+tcl_row tcl.Info = plain (at_least 1) Choice
+-- lappend varName ?value value value ...?
+tcl_row tcl.Lappend = plain (at_least 1) (Each Name Text Text Text)
+-- lindex list ?index?
+tcl_row tcl.Lindex = plain (between 1 2) texts
+-- list ?arg arg ...?
+tcl_row tcl.List = plain (at_least 0) texts
+-- llength list
+tcl_row tcl.Llength = plain (exactly 1) texts
+-- lrange list first last
+tcl_row tcl.Lrange = plain (exactly 3) texts
+-- proc name args body
+tcl_row tcl.Proc = plain (exactly 3) (Each Text Text Script Text)
+-- return ?result?
+tcl_row tcl.Return = plain (between 0 1) texts
+-- set varName ?value?
+tcl_row tcl.Set = plain (between 1 2) (Each Name Text Text Text)
+-- string option arg ?arg ...?
+tcl_row tcl.String = plain (at_least 1) Choice
+-- unset ?name name name ...?
+tcl_row tcl.Unset = plain (at_least 0) (Each Name Name Name Name)
+-- while test body
+tcl_row tcl.While = plain (exactly 2) (Each Expression Script Text Text)
+
+abbrev pub expect_row : ExpectCommand → Row
+-- close ?-i spawn_id?
+expect_row expect.Close = flagged own.None true false (exactly 0)
+-- exp_continue ?-continue_timer?
+expect_row expect.ExpContinue = flagged own.Timer false false (exactly 0)
+-- expect ?-opts pat1 body1 ...? ?-opts patn bodyn?
+expect_row expect.Expect = plain (at_least 0) Pattern
+-- log_user -info|0|1
+expect_row expect.LogUser = plain (exactly 1) Choice
+-- match_max ?-d? ?-i spawn_id? ?size?
+expect_row expect.MatchMax = flagged own.Default true false (between 0 1)
+-- puts ?-nonewline? ?channelId? string
+expect_row expect.Puts = plain (between 1 3) Output
+-- remove_nulls ?-d? ?-i spawn_id? ?value?
+expect_row expect.RemoveNulls = flagged own.Default true false (between 0 1)
+-- send ?-i spawn_id? ?--? string
+expect_row expect.Send = flagged own.None true true (exactly 1)
+-- send_user ?--? string
+expect_row expect.SendUser = flagged own.None false true (exactly 1)
+-- spawn ?-noecho? ?--? program ?args?
+expect_row expect.Spawn = flagged own.NoEcho false true (at_least 1)
+-- wait ?-i spawn_id?
+expect_row expect.Wait = flagged own.None true false (exactly 0)
+
+-- the row of a command
+abbrev pub row_of : Command → Row
+row_of (Tcl c) = tcl_row c
+row_of (Expect c) = expect_row c

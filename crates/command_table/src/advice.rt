@@ -1,0 +1,248 @@
+//! What to use in place of commands that have no row.
+
+ghost use Rattle.std.specs.Prelude.{◌≡◌};
+ghost use Rattle.command_table.specs.Advice.{first_of, waiting, choosing, lists, texts, files, telling, expecting, starting, renamed, advice_for};
+
+use crate::commands::is;
+
+/// Commands that wait, or tell the time.
+fn waiting(word: &[u8]) -> &'static [u8]
+    ensures { result.now ≡ waiting word.now }
+{
+    if is(word, b"after") || is(word, b"sleep") || is(word, b"exp_sleep") {
+        b"expect -timeout 2 timeout {} waits for two seconds"
+    } else if is(word, b"update") || is(word, b"vwait") {
+        b"expect waits"
+    } else if is(word, b"clock") || is(word, b"timestamp") || is(word, b"exp_timestamp") {
+        b"spawn date"
+    } else if is(word, b"time") {
+        b"a record has the moments"
+    } else {
+        b""
+    }
+}
+
+/// Choices, loops, procedures and errors.
+fn choosing(word: &[u8]) -> &'static [u8]
+    ensures { result.now ≡ choosing word.now }
+{
+    if is(word, b"switch") || is(word, b"case") {
+        b"use if and elseif"
+    } else if is(word, b"apply") {
+        b"use proc"
+    } else if is(word, b"try") {
+        b"use catch"
+    } else if is(word, b"throw") {
+        b"use error"
+    } else if is(word, b"uplevel") || is(word, b"upvar") {
+        b"use global, or give the value back"
+    } else if is(word, b"namespace") || is(word, b"variable") {
+        b"use a prefix of the names"
+    } else if is(word, b"source") {
+        b"put the files together before"
+    } else if is(word, b"subst") {
+        b"use words in quotes"
+    } else {
+        b""
+    }
+}
+
+/// Commands of lists and arrays.
+fn lists(word: &[u8]) -> &'static [u8]
+    ensures { result.now ≡ lists word.now }
+{
+    if is(word, b"array") {
+        b"keep the names in a list of their own; info exists a(x) asks for one"
+    } else if is(word, b"dict") {
+        b"use the elements of an array"
+    } else if is(word, b"concat") {
+        b"use list {*}$a {*}$b"
+    } else if is(word, b"join") {
+        b"use foreach and append"
+    } else if is(word, b"lassign") {
+        b"use foreach {a b} $list break"
+    } else if is(word, b"linsert") {
+        b"use list {*}[lrange $l 0 1] $new {*}[lrange $l 2 end]"
+    } else if is(word, b"lmap") {
+        b"use foreach and lappend"
+    } else if is(word, b"lrepeat") || is(word, b"lreverse") {
+        b"use for and lappend"
+    } else if is(word, b"lreplace") {
+        b"use lrange twice"
+    } else if is(word, b"lsearch") {
+        b"use foreach and eq"
+    } else if is(word, b"lset") {
+        b"use an array, or lrange twice"
+    } else if is(word, b"lsort") {
+        b"spawn sort"
+    } else {
+        b""
+    }
+}
+
+/// Commands of texts.
+fn texts(word: &[u8]) -> &'static [u8]
+    ensures { result.now ≡ texts word.now }
+{
+    if is(word, b"format") {
+        b"join texts in quotes, or spawn printf"
+    } else if is(word, b"scan") {
+        b"use string range"
+    } else if is(word, b"regexp") || is(word, b"regsub") {
+        b"use expect -re and its groups, or string first and string range"
+    } else if is(word, b"split") {
+        b"use string first and string range in a loop"
+    } else if is(word, b"binary") || is(word, b"encoding") {
+        b"texts are bytes"
+    } else {
+        b""
+    }
+}
+
+/// Commands of files and of the system.
+fn files(word: &[u8]) -> &'static [u8]
+    ensures { result.now ≡ files word.now }
+{
+    if is(word, b"open")
+        || is(word, b"read")
+        || is(word, b"gets")
+        || is(word, b"seek")
+        || is(word, b"tell")
+        || is(word, b"flush")
+    {
+        b"use a child that reads or writes, as spawn cat FILE"
+    } else if is(word, b"file")
+        || is(word, b"fconfigure")
+        || is(word, b"fcopy")
+        || is(word, b"fileevent")
+        || is(word, b"fblocked")
+        || is(word, b"socket")
+    {
+        b"use a child that reads or writes, as spawn cat FILE"
+    } else if is(word, b"exec") {
+        b"spawn the program, and expect its output"
+    } else if is(word, b"system") || is(word, b"exp_system") {
+        b"use spawn sh -c {..}"
+    } else if is(word, b"cd") {
+        b"use spawn sh -c {cd folder && exec program}"
+    } else if is(word, b"pwd") {
+        b"spawn pwd"
+    } else if is(word, b"glob") {
+        b"spawn ls"
+    } else {
+        b""
+    }
+}
+
+/// What is written and told.
+fn telling(word: &[u8]) -> &'static [u8]
+    ensures { result.now ≡ telling word.now }
+{
+    if is(word, b"send_tty") || is(word, b"send_error") || is(word, b"send_log") {
+        b"use send_user"
+    } else if is(word, b"exp_send_user")
+        || is(word, b"exp_send_tty")
+        || is(word, b"exp_send_error")
+        || is(word, b"exp_send_log")
+    {
+        b"use send_user"
+    } else if is(word, b"tclLog") || is(word, b"strace") || is(word, b"exp_strace") {
+        b"use puts"
+    } else if is(word, b"log_file") || is(word, b"exp_log_file") {
+        b"the report has the transcript, and --record writes all that happened"
+    } else if is(word, b"exp_internal") || is(word, b"debug") || is(word, b"exp_debug") {
+        b"use --record, and exprun replay"
+    } else {
+        b""
+    }
+}
+
+/// Commands of Expect that wait.
+fn expecting(word: &[u8]) -> &'static [u8]
+    ensures { result.now ≡ expecting word.now }
+{
+    if is(word, b"interact") || is(word, b"exp_interact") {
+        b"nobody is there to interact with"
+    } else if is(word, b"expect_user") || is(word, b"expect_tty") {
+        b"set the answer in front of the script"
+    } else if is(word, b"expect_background") {
+        b"use several -i in one expect"
+    } else if is(word, b"expect_after") || is(word, b"expect_before") {
+        b"put the patterns into each expect"
+    } else if is(word, b"eof") {
+        b"use the pattern eof"
+    } else {
+        b""
+    }
+}
+
+/// Commands of Expect that start programs.
+fn starting(word: &[u8]) -> &'static [u8]
+    ensures { result.now ≡ starting word.now }
+{
+    if is(word, b"stty") || is(word, b"exp_stty") {
+        b"set stty_init before the spawn"
+    } else if is(word, b"fork") || is(word, b"exp_fork") {
+        b"run several scripts together"
+    } else if is(word, b"disconnect") || is(word, b"exp_disconnect") {
+        b"start exprun behind the shell: nohup exprun run FILE &"
+    } else {
+        b""
+    }
+}
+
+/// Other names of commands of Expect.
+fn renamed(word: &[u8]) -> &'static [u8]
+    ensures { result.now ≡ renamed word.now }
+{
+    if is(word, b"exp_spawn") {
+        b"use spawn"
+    } else if is(word, b"exp_close") {
+        b"use close"
+    } else if is(word, b"exp_wait") {
+        b"use wait"
+    } else if is(word, b"exp_exit") {
+        b"use exit"
+    } else if is(word, b"exp_log_user") {
+        b"use log_user"
+    } else if is(word, b"exp_match_max") {
+        b"use match_max"
+    } else if is(word, b"exp_remove_nulls") {
+        b"use remove_nulls"
+    } else {
+        b""
+    }
+}
+
+/// The first of two texts that has bytes.
+fn first_of(a: &'static [u8], b: &'static [u8]) -> &'static [u8]
+    ensures { result.now ≡ first_of a.now b.now }
+{
+    if a.is_empty() { b } else { a }
+}
+
+/// What to use in place of a command that has no row. Empty if nothing is known.
+#[tactic(auto, unfolding(crate::specs::Advice::advice_for))]
+pub fn advice_for(word: &[u8]) -> &'static [u8]
+    ensures { result.now ≡ advice_for word.now }
+{
+    first_of(
+        waiting(word),
+        first_of(
+            choosing(word),
+            first_of(
+                lists(word),
+                first_of(
+                    texts(word),
+                    first_of(
+                        files(word),
+                        first_of(
+                            telling(word),
+                            first_of(expecting(word), first_of(starting(word), renamed(word))),
+                        ),
+                    ),
+                ),
+            ),
+        ),
+    )
+}

@@ -1,0 +1,171 @@
+//! The commands by their names.
+
+ghost use Rattle.std.specs.Prelude.{◌≡◌};
+ghost use Rattle.std.specs.Str.{bytes_eq};
+ghost use Rattle.command_table.specs.Commands.{tcl_command, expect_command, command_of};
+
+/// A command of the language.
+#[derive(Clone, Copy, PartialEq, Eq)]
+pub enum TclCommand {
+    Append,
+    Break,
+    Catch,
+    Continue,
+    Error,
+    Eval,
+    Exit,
+    Expr,
+    For,
+    Foreach,
+    Global,
+    If,
+    Incr,
+    Info,
+    Lappend,
+    Lindex,
+    List,
+    Llength,
+    Lrange,
+    Proc,
+    Return,
+    Set,
+    String,
+    Unset,
+    While,
+}
+
+/// A command of Expect.
+#[derive(Clone, Copy, PartialEq, Eq)]
+pub enum ExpectCommand {
+    Close,
+    ExpContinue,
+    Expect,
+    LogUser,
+    MatchMax,
+    Puts,
+    RemoveNulls,
+    Send,
+    SendUser,
+    Spawn,
+    Wait,
+}
+
+/// A command of the table.
+#[derive(Clone, Copy, PartialEq, Eq)]
+pub enum Command {
+    Tcl(TclCommand),
+    Expect(ExpectCommand),
+}
+
+/// Tells whether a word is this name. A word of another length costs no call.
+#[inline(always)]
+pub fn is(word: &[u8], name: &[u8]) -> bool
+    ensures { result ≡ bytes_eq word.now name.now }
+{
+    word.len() == name.len() && word == name
+}
+
+/// Finds a command of the language. The names that scripts use most come first.
+pub fn tcl_command(word: &[u8]) -> Option<TclCommand>
+    ensures { result ≡ tcl_command word.now }
+{
+    if is(word, b"set") {
+        Some(TclCommand::Set)
+    } else if is(word, b"incr") {
+        Some(TclCommand::Incr)
+    } else if is(word, b"if") {
+        Some(TclCommand::If)
+    } else if is(word, b"return") {
+        Some(TclCommand::Return)
+    } else if is(word, b"append") {
+        Some(TclCommand::Append)
+    } else if is(word, b"lappend") {
+        Some(TclCommand::Lappend)
+    } else if is(word, b"list") {
+        Some(TclCommand::List)
+    } else if is(word, b"llength") {
+        Some(TclCommand::Llength)
+    } else if is(word, b"lindex") {
+        Some(TclCommand::Lindex)
+    } else if is(word, b"lrange") {
+        Some(TclCommand::Lrange)
+    } else if is(word, b"string") {
+        Some(TclCommand::String)
+    } else if is(word, b"expr") {
+        Some(TclCommand::Expr)
+    } else if is(word, b"while") {
+        Some(TclCommand::While)
+    } else if is(word, b"for") {
+        Some(TclCommand::For)
+    } else if is(word, b"foreach") {
+        Some(TclCommand::Foreach)
+    } else if is(word, b"break") {
+        Some(TclCommand::Break)
+    } else if is(word, b"continue") {
+        Some(TclCommand::Continue)
+    } else if is(word, b"error") {
+        Some(TclCommand::Error)
+    } else if is(word, b"global") {
+        Some(TclCommand::Global)
+    } else if is(word, b"info") {
+        Some(TclCommand::Info)
+    } else if is(word, b"unset") {
+        Some(TclCommand::Unset)
+    } else if is(word, b"catch") {
+        Some(TclCommand::Catch)
+    } else if is(word, b"proc") {
+        Some(TclCommand::Proc)
+    } else if is(word, b"eval") {
+        Some(TclCommand::Eval)
+    } else if is(word, b"exit") {
+        Some(TclCommand::Exit)
+    } else {
+        None
+    }
+}
+
+/// Finds a command of Expect.
+pub fn expect_command(word: &[u8]) -> Option<ExpectCommand>
+    ensures { result ≡ expect_command word.now }
+{
+    if is(word, b"send") {
+        Some(ExpectCommand::Send)
+    } else if is(word, b"expect") {
+        Some(ExpectCommand::Expect)
+    } else if is(word, b"exp_continue") {
+        Some(ExpectCommand::ExpContinue)
+    } else if is(word, b"puts") {
+        Some(ExpectCommand::Puts)
+    } else if is(word, b"spawn") {
+        Some(ExpectCommand::Spawn)
+    } else if is(word, b"exp_send") {
+        Some(ExpectCommand::Send)
+    } else if is(word, b"send_user") {
+        Some(ExpectCommand::SendUser)
+    } else if is(word, b"close") {
+        Some(ExpectCommand::Close)
+    } else if is(word, b"wait") {
+        Some(ExpectCommand::Wait)
+    } else if is(word, b"match_max") {
+        Some(ExpectCommand::MatchMax)
+    } else if is(word, b"remove_nulls") {
+        Some(ExpectCommand::RemoveNulls)
+    } else if is(word, b"log_user") {
+        Some(ExpectCommand::LogUser)
+    } else {
+        None
+    }
+}
+
+/// Finds a command.
+pub fn command_of(word: &[u8]) -> Option<Command>
+    ensures { result ≡ command_of word.now }
+{
+    match tcl_command(word) {
+        Some(command) => Some(Command::Tcl(command)),
+        None => match expect_command(word) {
+            Some(command) => Some(Command::Expect(command)),
+            None => None,
+        },
+    }
+}

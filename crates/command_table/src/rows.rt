@@ -1,0 +1,106 @@
+//! The rows of the table.
+
+ghost use Rattle.std.specs.Prelude.{◌≡◌};
+ghost use Rattle.command_table.specs.Rows.{plain, flagged, tcl_row, expect_row, row_of};
+
+use crate::commands::{Command, ExpectCommand, TclCommand};
+use crate::counts::{Count, at_least, between, exactly};
+use crate::flags::{Flags, Own};
+use crate::reading::Kind::{Expression, Name, Script, Text};
+use crate::reading::Stage::{Alone, Choice, Each, Output, Pattern, Test};
+use crate::reading::{Stage, texts};
+
+/// What a command takes.
+#[derive(Clone, Copy, PartialEq, Eq)]
+pub struct Row {
+    /// The number of arguments, without the flags.
+    pub count: Count,
+    /// Its flags. `None`: no argument is a flag.
+    pub flags: Option<Flags>,
+    /// How the arguments are read.
+    pub words: Stage,
+}
+
+/// A command without flags.
+fn plain(count: Count, words: Stage) -> Row
+    ensures { result ≡ plain count words }
+{
+    Row {
+        count,
+        flags: None,
+        words,
+    }
+}
+
+/// A command with flags, and texts after them.
+fn flagged(own: Own, id: bool, end: bool, count: Count) -> Row
+    ensures { result ≡ flagged own id end count }
+{
+    Row {
+        count,
+        flags: Some(Flags { own, id, end }),
+        words: texts(),
+    }
+}
+
+/// The row of a command of the language.
+pub fn tcl_row(command: TclCommand) -> Row
+    ensures { result ≡ tcl_row command }
+{
+    match command {
+        TclCommand::Append => plain(at_least(1), Each(Name, Text, Text, Text)),
+        TclCommand::Break => plain(exactly(0), texts()),
+        TclCommand::Catch => plain(between(1, 2), Each(Script, Name, Text, Text)),
+        TclCommand::Continue => plain(exactly(0), texts()),
+        TclCommand::Error => plain(exactly(1), texts()),
+        TclCommand::Eval => plain(at_least(1), Alone(Script)),
+        TclCommand::Exit => plain(between(0, 1), texts()),
+        TclCommand::Expr => plain(at_least(1), Alone(Expression)),
+        TclCommand::For => plain(exactly(4), Each(Script, Expression, Script, Script)),
+        TclCommand::Foreach => plain(exactly(3), Each(Name, Text, Script, Text)),
+        TclCommand::Global => plain(at_least(0), Each(Name, Name, Name, Name)),
+        TclCommand::If => plain(at_least(2), Test),
+        TclCommand::Incr => plain(between(1, 2), Each(Name, Text, Text, Text)),
+        TclCommand::Info => plain(at_least(1), Choice),
+        TclCommand::Lappend => plain(at_least(1), Each(Name, Text, Text, Text)),
+        TclCommand::Lindex => plain(between(1, 2), texts()),
+        TclCommand::List => plain(at_least(0), texts()),
+        TclCommand::Llength => plain(exactly(1), texts()),
+        TclCommand::Lrange => plain(exactly(3), texts()),
+        TclCommand::Proc => plain(exactly(3), Each(Text, Text, Script, Text)),
+        TclCommand::Return => plain(between(0, 1), texts()),
+        TclCommand::Set => plain(between(1, 2), Each(Name, Text, Text, Text)),
+        TclCommand::String => plain(at_least(1), Choice),
+        TclCommand::Unset => plain(at_least(0), Each(Name, Name, Name, Name)),
+        TclCommand::While => plain(exactly(2), Each(Expression, Script, Text, Text)),
+    }
+}
+
+/// The row of a command of Expect.
+pub fn expect_row(command: ExpectCommand) -> Row
+    ensures { result ≡ expect_row command }
+{
+    match command {
+        ExpectCommand::Close => flagged(Own::None, true, false, exactly(0)),
+        ExpectCommand::ExpContinue => flagged(Own::Timer, false, false, exactly(0)),
+        ExpectCommand::Expect => plain(at_least(0), Pattern),
+        ExpectCommand::LogUser => plain(exactly(1), Choice),
+        ExpectCommand::MatchMax => flagged(Own::Default, true, false, between(0, 1)),
+        ExpectCommand::Puts => plain(between(1, 3), Output),
+        ExpectCommand::RemoveNulls => flagged(Own::Default, true, false, between(0, 1)),
+        ExpectCommand::Send => flagged(Own::None, true, true, exactly(1)),
+        ExpectCommand::SendUser => flagged(Own::None, false, true, exactly(1)),
+        ExpectCommand::Spawn => flagged(Own::NoEcho, false, true, at_least(1)),
+        ExpectCommand::Wait => flagged(Own::None, true, false, exactly(0)),
+    }
+}
+
+/// The row of a command.
+pub fn row_of(command: Command) -> Row
+    ensures { result ≡ row_of command }
+{
+    match command {
+        Command::Tcl(command) => tcl_row(command),
+        Command::Expect(command) => expect_row(command),
+    }
+}
