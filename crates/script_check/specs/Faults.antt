@@ -36,9 +36,9 @@ abbrev pub chosen : Command → List ℕ → ℕ → Option (List ℕ) → Optio
 chosen command name left None = None
 chosen command name left (Some option) = if_counted name left option (option_count command option)
 
-abbrev pub choice_fault : Command → Count → List ℕ → List Placed → Option Problem
-choice_fault command c name [] = wrong name
-choice_fault command c name (option ∷ args) = if fits c (suc (length args)) then chosen command name (length args) option.value else wrong name
+abbrev pub choice_fault : Command → List ℕ → List Placed → Option Problem
+choice_fault command name [] = wrong name
+choice_fault command name (option ∷ args) = if fits (row_of command).count (suc (length args)) then chosen command name (length args) option.value else wrong name
 
 abbrev pub shown : Option (List ℕ) → List ℕ
 shown None = []
@@ -94,7 +94,7 @@ output_fault name (w ∷ other ∷ text ∷ more ∷ words) = wrong name
 abbrev pub by_stage : Command → Row → List ℕ → List Placed → Stage → Option Problem
 by_stage command r name args Test = if_fault name args
 by_stage command r name args Pattern = expect_fault args
-by_stage command r name args Choice = choice_fault command r.count name args
+by_stage command r name args Choice = choice_fault command name args
 by_stage command r name args Output = output_fault name args
 by_stage command r name args other = by_flags name r.count args r.flags
 

@@ -4,18 +4,12 @@ ghost use Rattle.std.specs.Prelude.{◌≡◌, ◌++◌, IfOk, OnOk};
 ghost use Rattle.script_check.specs.Brackets.{bracket_at, brackets, operand_at, operands};
 
 use crate::placed::taken;
-use crate::span::Span;
+use crate::span::{Done, Span, Spans, Taken};
 use crate::stretch::{before, begins_with, behind, place};
 use std::alloc::{AllocError, Global};
 
 /// Appends the script of a bracket at the front of a text. Returns how many bytes after the first belong to what stands there.
-fn bracket_at(
-    alloc: Global,
-    end: usize,
-    b: u8,
-    text: &[u8],
-    out: &mut Vec<Span>,
-) -> Result<usize, AllocError>
+fn bracket_at(alloc: Global, end: usize, b: u8, text: &[u8], out: &mut Spans) -> Taken
     ensures { IfOk result (λ n. (out.new.items ≡ out.old.items ++ (bracket_at end b text.now).0) × (n ≡ (bracket_at end b text.now).1)) }
 {
     if b == b'[' {
@@ -37,12 +31,7 @@ fn bracket_at(
 }
 
 /// Appends the scripts in brackets of a text that ends at a place of the source.
-pub(crate) fn brackets(
-    alloc: Global,
-    end: usize,
-    text: &[u8],
-    out: &mut Vec<Span>,
-) -> Result<(), AllocError>
+pub(crate) fn brackets(alloc: Global, end: usize, text: &[u8], out: &mut Spans) -> Done
     ensures { OnOk result (out.new.items ≡ out.old.items ++ brackets end text.now) }
 {
     let mut rest = text;
@@ -54,13 +43,7 @@ pub(crate) fn brackets(
 }
 
 /// Appends the scripts of the operand at the front of an expression's text. Returns how many bytes after the first belong to it.
-fn operand_at(
-    alloc: Global,
-    end: usize,
-    b: u8,
-    text: &[u8],
-    out: &mut Vec<Span>,
-) -> Result<usize, AllocError>
+fn operand_at(alloc: Global, end: usize, b: u8, text: &[u8], out: &mut Spans) -> Taken
     ensures { IfOk result (λ n. (out.new.items ≡ out.old.items ++ (operand_at end b text.now).0) × (n ≡ (operand_at end b text.now).1)) }
 {
     if b == b'{' {
@@ -75,12 +58,7 @@ fn operand_at(
 }
 
 /// Appends the scripts in the operands of an expression's text that ends at a place of the source.
-pub(crate) fn operands(
-    alloc: Global,
-    end: usize,
-    text: &[u8],
-    out: &mut Vec<Span>,
-) -> Result<(), AllocError>
+pub(crate) fn operands(alloc: Global, end: usize, text: &[u8], out: &mut Spans) -> Done
     ensures { OnOk result (out.new.items ≡ out.old.items ++ operands end text.now) }
 {
     let mut rest = text;

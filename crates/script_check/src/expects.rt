@@ -4,10 +4,11 @@ ghost use Rattle.std.specs.Prelude.{◌≡◌, ◌++◌, [], ◌∷◌, IfOk, On
 ghost use Rattle.exp_match.specs.Arguments.{Gives, patterns_of};
 ghost use Rattle.script_check.specs.Expects.{plain_texts, by_patterns, expect_fault, is_braced, is_list, list_span, is_listing, list_of, gathered, spread_by};
 
+use crate::faults::Judged;
 use crate::placed::{Placed, Words};
 use crate::problem::{Finding, Problem};
 use crate::readings::{Reading, readings_in};
-use crate::span::Span;
+use crate::span::{Done, Span};
 use crate::stretch::{begins_with, inside, part};
 use exp_match::{PatternFault, PatternList};
 use std::alloc::{AllocError, Global};
@@ -31,7 +32,7 @@ fn plain_texts(alloc: Global, words: &[Placed]) -> Result<Option<Vec<Value>>, Al
 }
 
 /// Puts a text behind others, as a value.
-fn push_text(texts: &mut Vec<Value>, alloc: Global, text: &Text) -> Result<(), AllocError>
+fn push_text(texts: &mut Vec<Value>, alloc: Global, text: &Text) -> Done
     ensures { OnOk result (texts.new.items ≡ texts.old.items ++ text.now ∷ []) }
 {
     texts.push(Value::from_slice(alloc, text.as_slice())?)?;
@@ -49,7 +50,7 @@ fn text_at(alloc: Global, texts: &[Value], at: usize) -> Result<Text, AllocError
 }
 
 /// What is wrong with arguments that are all written plainly.
-fn patterns_fault(alloc: Global, texts: &[Value]) -> Result<Option<Problem>, AllocError>
+fn patterns_fault(alloc: Global, texts: &[Value]) -> Judged
     ensures { IfOk result (λ p. p ≡ by_patterns texts.now (patterns_of texts.now)) }
 {
     match PatternList::build(alloc, texts) {
@@ -66,7 +67,7 @@ fn patterns_fault(alloc: Global, texts: &[Value]) -> Result<Option<Problem>, All
 }
 
 /// What is wrong with the arguments of an `expect`. They are judged where all are written plainly.
-pub(crate) fn expect_fault(alloc: Global, args: &[Placed]) -> Result<Option<Problem>, AllocError>
+pub(crate) fn expect_fault(alloc: Global, args: &[Placed]) -> Judged
     ensures { IfOk result (λ p. p ≡ expect_fault args.now) }
 {
     match plain_texts(alloc, args)? {
@@ -137,7 +138,7 @@ fn list_of(source: &[u8], words: &[Placed]) -> Option<Span>
 }
 
 /// Appends words.
-fn push_words(words: Words, out: &mut Vec<Placed>) -> Result<(), AllocError>
+fn push_words(words: Words, out: &mut Vec<Placed>) -> Done
     ensures { OnOk result (out.new.items ≡ out.old.items ++ words) }
 {
     for word in words.list {

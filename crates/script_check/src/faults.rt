@@ -1,7 +1,7 @@
 //! What is wrong with the arguments of a command.
 
 ghost use Rattle.std.specs.Prelude.{◌≡◌, false, IfOk};
-ghost use Rattle.script_check.specs.Faults.{wrong, counted, chosen, choice_fault, shown, flagged, by_flags, last_stage, if_fault, channel, output_fault, by_stage, fault_of};
+ghost use Rattle.script_check.specs.Faults.{wrong, counted, chosen, choice_fault, shown, flagged, by_flags, last_stage, if_fault, channel, output_fault, fault_of};
 
 use crate::expects::expect_fault;
 use crate::placed::Placed;
@@ -14,20 +14,18 @@ use command_table::{
 use std::alloc::{AllocError, Global};
 use tcl_words::Text;
 
+/// What is wrong with arguments, if anything is.
+pub(crate) type Judged = Result<Option<Problem>, AllocError>;
+
 /// A command has too few or too many arguments.
-fn wrong(alloc: Global, name: &[u8]) -> Result<Option<Problem>, AllocError>
+fn wrong(alloc: Global, name: &[u8]) -> Judged
     ensures { IfOk result (λ p. p ≡ wrong name.now) }
 {
     Ok(Some(Problem::WrongArgs(Text::from_slice(alloc, name)?)))
 }
 
 /// Judges the number of arguments.
-fn counted(
-    alloc: Global,
-    name: &[u8],
-    count: Count,
-    n: usize,
-) -> Result<Option<Problem>, AllocError>
+fn counted(alloc: Global, name: &[u8], count: Count, n: usize) -> Judged
     ensures { IfOk result (λ p. p ≡ counted name.now count n) }
 {
     if fits(count, n) {
@@ -37,13 +35,7 @@ fn counted(
 }
 
 /// Judges an option and the number of arguments after it. One that isn't written plainly isn't judged.
-fn chosen(
-    alloc: Global,
-    command: Command,
-    name: &[u8],
-    option: &Placed,
-    left: usize,
-) -> Result<Option<Problem>, AllocError>
+fn chosen(alloc: Global, command: Command, name: &[u8], option: &Placed, left: usize) -> Judged
     ensures { IfOk result (λ p. p ≡ chosen command name.now left option.now.value) }
 {
     match &option.value {
@@ -56,19 +48,13 @@ fn chosen(
 }
 
 /// Judges the arguments of a command whose first argument is an option.
-fn choice_fault(
-    alloc: Global,
-    command: Command,
-    count: Count,
-    name: &[u8],
-    args: &[Placed],
-) -> Result<Option<Problem>, AllocError>
-    ensures { IfOk result (λ p. p ≡ choice_fault command count name.now args.now) }
+fn choice_fault(alloc: Global, command: Command, name: &[u8], args: &[Placed]) -> Judged
+    ensures { IfOk result (λ p. p ≡ choice_fault command name.now args.now) }
 {
     match args {
         [] => wrong(alloc, name),
         [option, rest @ ..] => {
-            if fits(count, args.len()) {
+            if fits(row_of(command).count, args.len()) {
                 return chosen(alloc, command, name, option, rest.len());
             }
             wrong(alloc, name)
@@ -87,13 +73,7 @@ fn shown(alloc: Global, word: &Placed) -> Result<Text, AllocError>
 }
 
 /// Judges flags, and the number of arguments after them.
-fn flagged(
-    alloc: Global,
-    name: &[u8],
-    flags: Flags,
-    count: Count,
-    args: &[Placed],
-) -> Result<Option<Problem>, AllocError>
+fn flagged(alloc: Global, name: &[u8], flags: Flags, count: Count, args: &[Placed]) -> Judged
     ensures { IfOk result (λ p. p ≡ flagged name.now flags count false args.now) }
 {
     let mut due = false;
@@ -121,12 +101,7 @@ fn flagged(
 }
 
 /// Judges the arguments of a command with flags or without.
-fn by_flags(
-    alloc: Global,
-    name: &[u8],
-    row: Row,
-    args: &[Placed],
-) -> Result<Option<Problem>, AllocError>
+fn by_flags(alloc: Global, name: &[u8], row: Row, args: &[Placed]) -> Judged
     ensures { IfOk result (λ p. p ≡ by_flags name.now row.count args.now row.flags) }
 {
     match row.flags {
@@ -142,15 +117,14 @@ fn last_stage(stage: Stage, words: &[Placed]) -> Stage
     let mut stage = stage;
     let mut rest = words;
     while let [word, more @ ..] = rest {
-        let (_, next) = step(stage, &word.value);
-        stage = next;
+        stage = step(stage, &word.value).1;
         rest = more;
     }
     stage
 }
 
 /// Judges the arguments of `if`.
-fn if_fault(alloc: Global, name: &[u8], args: &[Placed]) -> Result<Option<Problem>, AllocError>
+fn if_fault(alloc: Global, name: &[u8], args: &[Placed]) -> Judged
     ensures { IfOk result (λ p. p ≡ if_fault name.now args.now) }
 {
     if is_short(last_stage(Stage::Test, args)) {
@@ -160,7 +134,7 @@ fn if_fault(alloc: Global, name: &[u8], args: &[Placed]) -> Result<Option<Proble
 }
 
 /// Judges a word where `stdout` may stand.
-fn channel(alloc: Global, word: &Placed) -> Result<Option<Problem>, AllocError>
+fn channel(alloc: Global, word: &Placed) -> Judged
     ensures { IfOk result (λ p. p ≡ channel word.now.value) }
 {
     let Some(text) = &word.value else {
@@ -176,7 +150,7 @@ fn channel(alloc: Global, word: &Placed) -> Result<Option<Problem>, AllocError>
 }
 
 /// `puts ?-nonewline? ?stdout? text`
-fn output_fault(alloc: Global, name: &[u8], args: &[Placed]) -> Result<Option<Problem>, AllocError>
+fn output_fault(alloc: Global, name: &[u8], args: &[Placed]) -> Judged
     ensures { IfOk result (λ p. p ≡ output_fault name.now args.now) }
 {
     match args {
@@ -201,35 +175,15 @@ fn output_fault(alloc: Global, name: &[u8], args: &[Placed]) -> Result<Option<Pr
     }
 }
 
-/// Judges the arguments of a command by its row.
-fn by_stage(
-    alloc: Global,
-    command: Command,
-    row: Row,
-    stage: Stage,
-    name: &[u8],
-    args: &[Placed],
-) -> Result<Option<Problem>, AllocError>
-    ensures { IfOk result (λ p. p ≡ by_stage command row name.now args.now stage) }
-{
-    match stage {
-        Stage::Test => if_fault(alloc, name, args),
-        Stage::Pattern => expect_fault(alloc, args),
-        Stage::Choice => choice_fault(alloc, command, row.count, name, args),
-        Stage::Output => output_fault(alloc, name, args),
-        _ => by_flags(alloc, name, row, args),
-    }
-}
-
 /// Judges the arguments of a command.
-pub(crate) fn fault_of(
-    alloc: Global,
-    command: Command,
-    name: &[u8],
-    args: &[Placed],
-) -> Result<Option<Problem>, AllocError>
+pub(crate) fn fault_of(alloc: Global, command: Command, name: &[u8], args: &[Placed]) -> Judged
     ensures { IfOk result (λ p. p ≡ fault_of command name.now args.now) }
 {
-    let row = row_of(command);
-    by_stage(alloc, command, row, row.words, name, args)
+    match row_of(command).words {
+        Stage::Test => if_fault(alloc, name, args),
+        Stage::Pattern => expect_fault(alloc, args),
+        Stage::Choice => choice_fault(alloc, command, name, args),
+        Stage::Output => output_fault(alloc, name, args),
+        _ => by_flags(alloc, name, row_of(command), args),
+    }
 }

@@ -7,19 +7,14 @@ ghost use Rattle.script_check.specs.Nested.{brackets_in, formula_scripts, is_enc
 use crate::brackets::{brackets, operands};
 use crate::expects::is_braced;
 use crate::placed::Placed;
-use crate::span::Span;
+use crate::span::{Done, Span, Spans};
 use crate::stretch::{begins_with, behind, inside, part};
 use command_table::{Kind, Stage, begin, command_of, is, row_of, step, texts};
 use std::alloc::{AllocError, Global};
 use tcl_expr::{ExprFault, parse};
 
 /// Appends the scripts in brackets of a stretch.
-fn brackets_in(
-    alloc: Global,
-    source: &[u8],
-    span: Span,
-    out: &mut Vec<Span>,
-) -> Result<(), AllocError>
+fn brackets_in(alloc: Global, source: &[u8], span: Span, out: &mut Spans) -> Done
     ensures { OnOk result (out.new.items ≡ out.old.items ++ brackets_in source.now span) }
 {
     brackets(alloc, span.to, part(source, span), out)
@@ -52,12 +47,7 @@ fn written_at(source: &[u8], span: Span, text: &[u8]) -> Option<Span>
 }
 
 /// Appends the script that a word is, or those in its brackets.
-fn push_script(
-    alloc: Global,
-    source: &[u8],
-    word: &Placed,
-    out: &mut Vec<Span>,
-) -> Result<(), AllocError>
+fn push_script(alloc: Global, source: &[u8], word: &Placed, out: &mut Spans) -> Done
     ensures { OnOk result (out.new.items ≡ out.old.items ++ word_scripts source.now word.now Kind.Script) }
 {
     match script_at(source, word) {
@@ -70,12 +60,7 @@ fn push_script(
 }
 
 /// Appends the scripts in brackets of an expression in braces. One that doesn't parse has none.
-fn push_formula(
-    alloc: Global,
-    source: &[u8],
-    word: &Placed,
-    out: &mut Vec<Span>,
-) -> Result<(), AllocError>
+fn push_formula(alloc: Global, source: &[u8], word: &Placed, out: &mut Spans) -> Done
     ensures { OnOk result (out.new.items ≡ out.old.items ++ formula_scripts source.now (inside word.now.span) word.now.value) }
 {
     let Some(text) = &word.value else {
@@ -102,13 +87,7 @@ fn is_enclosed(source: &[u8], word: &Placed) -> bool
 }
 
 /// Appends the scripts in a word, by what it is read as.
-fn word_scripts(
-    alloc: Global,
-    source: &[u8],
-    word: &Placed,
-    kind: Kind,
-    out: &mut Vec<Span>,
-) -> Result<(), AllocError>
+fn word_scripts(alloc: Global, source: &[u8], word: &Placed, kind: Kind, out: &mut Spans) -> Done
     ensures { OnOk result (out.new.items ≡ out.old.items ++ word_scripts source.now word.now kind) }
 {
     match kind {
@@ -129,13 +108,7 @@ fn word_scripts(
 }
 
 /// Appends the scripts in arguments.
-fn nested(
-    alloc: Global,
-    source: &[u8],
-    stage: Stage,
-    args: &[Placed],
-    out: &mut Vec<Span>,
-) -> Result<(), AllocError>
+fn nested(alloc: Global, source: &[u8], stage: Stage, args: &[Placed], out: &mut Spans) -> Done
     ensures { OnOk result (out.new.items ≡ out.old.items ++ nested source.now stage args.now) }
 {
     let mut stage = stage;
@@ -180,7 +153,7 @@ pub(crate) fn scripts_of(
     alloc: Global,
     source: &[u8],
     words: &[Placed],
-) -> Result<Vec<Span>, AllocError>
+) -> Result<Spans, AllocError>
     ensures { IfOk result (λ v. v.items ≡ scripts_of source.now words.now) }
 {
     let mut list = Vec::new(alloc);

@@ -6,7 +6,7 @@ ghost use Rattle.tcl_words.specs.Operands.{operand};
 ghost use Rattle.tcl_words.specs.Pieces.{part_view, word_view, words_view};
 ghost use Rattle.script_check.specs.Placed.{is_plainly, next_lead, behind_gap, taken, owned, behind_bare, behind_plain, behind_word, literal_alone, plain_value, placed};
 
-use crate::span::Span;
+use crate::span::{Span, Taken};
 use crate::stretch::{begins_with, behind, place};
 use command_table::is;
 use std::alloc::{AllocError, Global};
@@ -137,7 +137,7 @@ pub(crate) fn told(fault: WordFault) -> Result<WordFault, AllocError>
 
 /// How many bytes the operand at the front of a text takes; 1 where there is none.
 #[tactic(auto, using(crate::proofs::Steps::fails_are))]
-pub(crate) fn taken(alloc: Global, text: &[u8]) -> Result<usize, AllocError>
+pub(crate) fn taken(alloc: Global, text: &[u8]) -> Taken
     ensures { IfOk result (λ n. n ≡ taken (operand text.now)) }
 {
     match operand(alloc, text) {
@@ -151,7 +151,7 @@ pub(crate) fn taken(alloc: Global, text: &[u8]) -> Result<usize, AllocError>
 }
 
 /// How many bytes behind the first one of a text belong to what stands there.
-fn owned(alloc: Global, b: u8, text: &[u8]) -> Result<usize, AllocError>
+fn owned(alloc: Global, b: u8, text: &[u8]) -> Taken
     ensures { IfOk result (λ n. n ≡ owned b text.now) }
 {
     if b == b'\\' {

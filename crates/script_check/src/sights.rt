@@ -7,16 +7,19 @@ ghost use Rattle.script_check.specs.Expects.{list_of, spread_by};
 ghost use Rattle.script_check.specs.Sights.{found, some_found, formula_fault, formula_sights, judged, procedure, defined, by_command, own, ending, command_sights, reading_sights, sights};
 
 use crate::expects::spread;
-use crate::faults::fault_of;
+use crate::faults::{Judged, fault_of};
 use crate::nested::{any_expanded, scripts_of};
 use crate::placed::{Placed, Words};
 use crate::problem::{Finding, Problem};
 use crate::readings::{Reading, readings_in};
-use crate::span::Span;
+use crate::span::{Done, Span};
 use command_table::{Command, Kind, Stage, TclCommand, begin, command_of, row_of, step};
 use std::alloc::{AllocError, Global};
 use tcl_expr::{ExprFault, parse};
 use tcl_words::Text;
+
+/// What is seen, in order.
+pub(crate) type Seen = Vec<Sight>;
 
 /// What is seen.
 #[derive(Drop)]
@@ -28,7 +31,7 @@ pub enum Sight {
 }
 
 /// Appends what is wrong.
-fn push_found(at: usize, what: Problem, out: &mut Vec<Sight>) -> Result<(), AllocError>
+fn push_found(at: usize, what: Problem, out: &mut Seen) -> Done
     ensures { OnOk result (out.new.items ≡ out.old.items ++ found at what) }
 {
     out.push(Sight::Finds(Finding { at, what }))?;
@@ -36,7 +39,7 @@ fn push_found(at: usize, what: Problem, out: &mut Vec<Sight>) -> Result<(), Allo
 }
 
 /// What is wrong with an argument that is read as an expression.
-fn formula_fault(alloc: Global, kind: Kind, word: &Placed) -> Result<Option<Problem>, AllocError>
+fn formula_fault(alloc: Global, kind: Kind, word: &Placed) -> Judged
     ensures { IfOk result (λ p. p ≡ formula_fault kind word.now.value) }
 {
     match kind {
@@ -45,7 +48,7 @@ fn formula_fault(alloc: Global, kind: Kind, word: &Placed) -> Result<Option<Prob
     }
 }
 
-fn parse_fault(alloc: Global, word: &Placed) -> Result<Option<Problem>, AllocError>
+fn parse_fault(alloc: Global, word: &Placed) -> Judged
     ensures { IfOk result (λ p. p ≡ formula_fault Kind.Expression word.now.value) }
 {
     let Some(text) = &word.value else {
@@ -60,7 +63,7 @@ fn parse_fault(alloc: Global, word: &Placed) -> Result<Option<Problem>, AllocErr
 }
 
 /// Appends what is wrong, if anything is.
-fn push_some(at: usize, what: Option<Problem>, out: &mut Vec<Sight>) -> Result<(), AllocError>
+fn push_some(at: usize, what: Option<Problem>, out: &mut Seen) -> Done
     ensures { OnOk result (out.new.items ≡ out.old.items ++ some_found at what) }
 {
     match what {
@@ -70,13 +73,7 @@ fn push_some(at: usize, what: Option<Problem>, out: &mut Vec<Sight>) -> Result<(
 }
 
 /// Appends what is wrong with the expressions among arguments.
-fn formula_sights(
-    alloc: Global,
-    at: usize,
-    stage: Stage,
-    args: &[Placed],
-    out: &mut Vec<Sight>,
-) -> Result<(), AllocError>
+fn formula_sights(alloc: Global, at: usize, stage: Stage, args: &[Placed], out: &mut Seen) -> Done
     ensures { OnOk result (out.new.items ≡ out.old.items ++ formula_sights at stage args.now) }
 {
     let mut stage = stage;
@@ -94,32 +91,27 @@ fn formula_sights(
 fn judge(
     alloc: Global,
     at: usize,
-    command: Command,
+    known: Command,
     name: &[u8],
     args: &[Placed],
-    out: &mut Vec<Sight>,
-) -> Result<(), AllocError>
-    ensures { OnOk result (out.new.items ≡ out.old.items ++ judged at command name.now args.now) }
+    out: &mut Seen,
+) -> Done
+    ensures { OnOk result (out.new.items ≡ out.old.items ++ judged at known name.now args.now) }
 {
     if any_expanded(args) {
         return Ok(());
     }
-    match fault_of(alloc, command, name, args)? {
+    match fault_of(alloc, known, name, args)? {
         Some(problem) => push_found(at, problem, out),
         None => {
-            let stage = begin(row_of(command).words, args.len());
+            let stage = begin(row_of(known).words, args.len());
             formula_sights(alloc, at, stage, args, out)
         }
     }
 }
 
 /// Appends the procedure that a command defines.
-fn push_defined(
-    alloc: Global,
-    command: Command,
-    args: &[Placed],
-    out: &mut Vec<Sight>,
-) -> Result<(), AllocError>
+fn push_defined(alloc: Global, command: Command, args: &[Placed], out: &mut Seen) -> Done
     ensures { OnOk result (out.new.items ≡ out.old.items ++ defined command args.now) }
 {
     match command {
@@ -128,7 +120,7 @@ fn push_defined(
     }
 }
 
-fn push_procedure(alloc: Global, args: &[Placed], out: &mut Vec<Sight>) -> Result<(), AllocError>
+fn push_procedure(alloc: Global, args: &[Placed], out: &mut Seen) -> Done
     ensures { OnOk result (out.new.items ≡ out.old.items ++ procedure args.now) }
 {
     match args {
@@ -144,13 +136,7 @@ fn push_procedure(alloc: Global, args: &[Placed], out: &mut Vec<Sight>) -> Resul
 }
 
 /// Appends what is seen of a command with this name.
-fn push_named(
-    alloc: Global,
-    at: usize,
-    name: &Text,
-    args: &[Placed],
-    out: &mut Vec<Sight>,
-) -> Result<(), AllocError>
+fn push_named(alloc: Global, at: usize, name: &Text, args: &[Placed], out: &mut Seen) -> Done
     ensures { OnOk result (out.new.items ≡ out.old.items ++ by_command at name.now args.now (command_of name.now)) }
 {
     match command_of(name.as_slice()) {
@@ -163,12 +149,7 @@ fn push_named(
 }
 
 /// Appends what is seen of a command itself. One whose first word isn't written plainly isn't judged.
-fn push_own(
-    alloc: Global,
-    at: usize,
-    words: &[Placed],
-    out: &mut Vec<Sight>,
-) -> Result<(), AllocError>
+fn push_own(alloc: Global, at: usize, words: &[Placed], out: &mut Seen) -> Done
     ensures { OnOk result (out.new.items ≡ out.old.items ++ own at words.now) }
 {
     match words {
@@ -181,7 +162,7 @@ fn push_own(
 }
 
 /// Appends what ended a list of arguments.
-fn push_ending(broken: Option<Finding>, out: &mut Vec<Sight>) -> Result<(), AllocError>
+fn push_ending(broken: Option<Finding>, out: &mut Seen) -> Done
     ensures { OnOk result (out.new.items ≡ out.old.items ++ ending broken) }
 {
     match broken {
@@ -195,13 +176,7 @@ fn push_ending(broken: Option<Finding>, out: &mut Vec<Sight>) -> Result<(), Allo
 
 /// Appends what is seen of scripts.
 #[cycle(see)]
-fn see_all(
-    alloc: Global,
-    source: &[u8],
-    spans: &[Span],
-    depth: u8,
-    out: &mut Vec<Sight>,
-) -> Result<(), AllocError>
+fn see_all(alloc: Global, source: &[u8], spans: &[Span], depth: u8, out: &mut Seen) -> Done
     ensures { OnOk result (out.new.items ≡ out.old.items ++ flat_map (sights depth source.now) spans.now) }
 {
     let mut rest = spans;
@@ -214,14 +189,7 @@ fn see_all(
 
 /// Appends what is seen of a command and of the scripts in its words.
 #[cycle(see)]
-fn see_command(
-    alloc: Global,
-    source: &[u8],
-    at: usize,
-    words: Words,
-    depth: u8,
-    out: &mut Vec<Sight>,
-) -> Result<(), AllocError>
+fn see_one(alloc: Global, source: &[u8], at: usize, words: Words, depth: u8, out: &mut Seen) -> Done
     ensures { OnOk result (out.new.items ≡ out.old.items ++ command_sights (sights depth source.now) source.now at (spread_by source.now words (list_of source.now words))) }
 {
     let (all, broken) = spread(alloc, source, words)?;
@@ -233,52 +201,34 @@ fn see_command(
 
 /// Appends what is seen of what was read.
 #[cycle(see)]
-fn see_reading(
-    alloc: Global,
-    source: &[u8],
-    reading: Reading,
-    depth: u8,
-    out: &mut Vec<Sight>,
-) -> Result<(), AllocError>
+fn see_reading(alloc: Global, source: &[u8], reading: Reading, depth: u8, out: &mut Seen) -> Done
     ensures { OnOk result (out.new.items ≡ out.old.items ++ reading_sights (sights depth source.now) source.now reading) }
 {
     match reading {
         Reading::Malformed(at, fault) => push_found(at, Problem::Malformed(fault), out),
-        Reading::Command(at, words) => see_command(alloc, source, at, words, depth, out),
+        Reading::Command(at, words) => see_one(alloc, source, at, words, depth, out),
     }
 }
 
 /// Appends what is seen of a script, in which so many may stand in one another.
 #[cycle(see)]
 #[tactic(auto, unfolding(crate::specs::Sights::sights))]
-pub(crate) fn sights(
-    alloc: Global,
-    source: &[u8],
-    span: Span,
-    depth: u8,
-    out: &mut Vec<Sight>,
-) -> Result<(), AllocError>
+pub(crate) fn sights(alloc: Global, source: &[u8], span: Span, depth: u8, out: &mut Seen) -> Done
     ensures { OnOk result (out.new.items ≡ out.old.items ++ sights depth source.now span) }
 {
     if depth == 0 {
         return push_found(span.from, Problem::TooDeep, out);
     }
     let readings = readings_in(alloc, source, span)?;
-    see_readings(alloc, source, readings, depth - 1, out)
+    see_script(alloc, source, readings, depth - 1, out)
 }
 
 /// Appends what is seen of all that was read of a script.
 #[cycle(see)]
-fn see_readings(
-    alloc: Global,
-    source: &[u8],
-    readings: Vec<Reading>,
-    depth: u8,
-    out: &mut Vec<Sight>,
-) -> Result<(), AllocError>
-    ensures { OnOk result (out.new.items ≡ out.old.items ++ flat_map (reading_sights (sights depth source.now) source.now) readings.items) }
+fn see_script(alloc: Global, source: &[u8], read: Vec<Reading>, depth: u8, out: &mut Seen) -> Done
+    ensures { OnOk result (out.new.items ≡ out.old.items ++ flat_map (reading_sights (sights depth source.now) source.now) read.items) }
 {
-    for reading in readings {
+    for reading in read {
         see_reading(alloc, source, reading, depth, out)?;
     }
     Ok(())

@@ -1,4 +1,6 @@
-//! Stretches of a source.
+//! Stretches of a source, and how functions end that need memory alone.
+
+use std::alloc::AllocError;
 
 /// A stretch of a source.
 #[derive(Clone, Copy, PartialEq, Eq)]
@@ -8,3 +10,12 @@ pub struct Span {
     /// The place behind its last byte.
     pub to: usize,
 }
+
+/// Stretches, in order.
+pub(crate) type Spans = Vec<Span>;
+
+/// What a function gives that appends, or allocates.
+pub(crate) type Done = Result<(), AllocError>;
+
+/// A number of bytes.
+pub(crate) type Taken = Result<usize, AllocError>;

@@ -6,14 +6,14 @@ use Rattle.script_check.proofs.sights.+see.Given as goal
 abbrev pub decreases-see_all : goal.decreases-see_all
 decreases-see_all l = 5 * l.depth + 1
 
-abbrev pub decreases-see_command : goal.decreases-see_command
-decreases-see_command l = 5 * l.depth + 2
+abbrev pub decreases-see_one : goal.decreases-see_one
+decreases-see_one l = 5 * l.depth + 2
 
 abbrev pub decreases-see_reading : goal.decreases-see_reading
 decreases-see_reading l = 5 * l.depth + 3
 
-abbrev pub decreases-see_readings : goal.decreases-see_readings
-decreases-see_readings l = 5 * l.depth + 4
+abbrev pub decreases-see_script : goal.decreases-see_script
+decreases-see_script l = 5 * l.depth + 4
 
 abbrev pub decreases-sights : goal.decreases-sights
 decreases-sights l = 5 * l.depth
@@ -24,5 +24,5 @@ invariant-see_all-loop-rest l = l.out.items ++ flat_map (sights l.depth l.source
 abbrev pub decreases-see_all-loop-rest : goal.decreases-see_all-loop-rest
 decreases-see_all-loop-rest l = length l.rest
 
-abbrev pub invariant-see_readings-loop-reading : goal.invariant-see_readings-loop-reading
-invariant-see_readings-loop-reading l = l.out.items ++ flat_map (reading_sights (sights l.depth l.source) l.source) l.reading-iterator.rest.items ≡ l.fn.out.items ++ flat_map (reading_sights (sights l.depth l.source) l.source) l.fn.readings.items
+abbrev pub invariant-see_script-loop-reading : goal.invariant-see_script-loop-reading
+invariant-see_script-loop-reading l = l.out.items ++ flat_map (reading_sights (sights l.depth l.source) l.source) l.reading-iterator.rest.items ≡ l.fn.out.items ++ flat_map (reading_sights (sights l.depth l.source) l.source) l.fn.read.items
