@@ -1,5 +1,5 @@
 -- The flags of commands.
-use Rattle.std.specs.Prelude.{ℕ, ◌==◌, Bool, false, not, ◌&&◌, List, [], ◌∷◌, codes, Option, Some, None, bytes_eq, if◌then◌else◌}
+use Rattle.std.specs.Prelude.{ℕ, ◌==◌, Bool, false, not, ◌&&◌, List, [], ◌∷◌, codes, bytes_eq, if◌then◌else◌}
 use Rattle.tcl_words.specs.Bytes as ascii
 use Rattle.command_table.specs.declared.flags.Own.{Own}
 use Rattle.command_table.specs.declared.flags.Own.TheVariants as own
@@ -19,15 +19,10 @@ begins_with_minus [] = false
 begins_with_minus (b ∷ bytes) = b == ascii.minus
 
 -- what a word is if a flag may stand at its place
-abbrev pub word_role : Flags → List ℕ → Role
-word_role f word =
+abbrev pub flag_role : Flags → List ℕ → Role
+flag_role f word =
     if not (begins_with_minus word) then role.Word
     else if f.end && bytes_eq word (codes "--") then role.End
     else if is_own f.own word then role.Alone
     else if f.id && bytes_eq word (codes "-i") then role.Id
     else role.Bad
-
--- a word that isn't written plainly, `None`, may be any word
-abbrev pub flag_role : Flags → Option (List ℕ) → Role
-flag_role f None = role.Unknown
-flag_role f (Some word) = word_role f word

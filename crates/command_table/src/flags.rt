@@ -1,10 +1,9 @@
 //! The flags of commands.
 
 ghost use Rattle.std.specs.Prelude.{◌≡◌};
-ghost use Rattle.command_table.specs.Flags.{is_own, begins_with_minus, word_role, flag_role};
+ghost use Rattle.command_table.specs.Flags.{is_own, begins_with_minus, flag_role};
 
 use crate::commands::is;
-use tcl_words::Text;
 
 /// The flags without a value that one command has.
 #[derive(Clone, Copy, PartialEq, Eq)]
@@ -32,8 +31,6 @@ pub struct Flags {
 /// What a word is if a flag may stand at its place.
 #[derive(Clone, Copy, PartialEq, Eq)]
 pub enum Role {
-    /// It isn't written plainly, so it may be any word.
-    Unknown,
     /// It is no flag.
     Word,
     /// `--`
@@ -68,8 +65,9 @@ pub(crate) fn begins_with_minus(word: &[u8]) -> bool
     }
 }
 
-fn word_role(flags: Flags, word: &[u8]) -> Role
-    ensures { result ≡ word_role flags word.now }
+/// What a word is if a flag of a command may stand at its place.
+pub fn flag_role(flags: Flags, word: &[u8]) -> Role
+    ensures { result ≡ flag_role flags word.now }
 {
     if !begins_with_minus(word) {
         Role::Word
@@ -81,15 +79,5 @@ fn word_role(flags: Flags, word: &[u8]) -> Role
         Role::Id
     } else {
         Role::Bad
-    }
-}
-
-/// What a word is if a flag of a command may stand at its place. `None` is a word that isn't written plainly.
-pub fn flag_role(flags: Flags, word: &Option<Text>) -> Role
-    ensures { result ≡ flag_role flags word.now }
-{
-    match word {
-        None => Role::Unknown,
-        Some(text) => word_role(flags, text.as_slice()),
     }
 }

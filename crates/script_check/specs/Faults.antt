@@ -40,25 +40,24 @@ abbrev pub choice_fault : Command → List ℕ → List Placed → Option Proble
 choice_fault command name [] = wrong name
 choice_fault command name (option ∷ args) = if fits (row_of command).count (suc (length args)) then chosen command name (length args) option.value else wrong name
 
-abbrev pub shown : Option (List ℕ) → List ℕ
-shown None = []
-shown (Some w) = w
-
 -- `on` is what is wrong behind this flag, where the id of an `-i` is due or not
-abbrev pub by_role : List ℕ → Count → Placed → ℕ → (Bool → Option Problem) → Role → Option Problem
-by_role name c w left on role.Unknown = None
-by_role name c w left on role.Word = counted name c (suc left)
-by_role name c w left on role.End = counted name c left
-by_role name c w left on role.Alone = on false
-by_role name c w left on role.Id = on true
-by_role name c w left on role.Bad = Some (BadFlag (shown w.value))
+abbrev pub by_role : List ℕ → Count → ℕ → (Bool → Option Problem) → List ℕ → Role → Option Problem
+by_role name c left on w role.Word = counted name c (suc left)
+by_role name c left on w role.End = counted name c left
+by_role name c left on w role.Alone = on false
+by_role name c left on w role.Id = on true
+by_role name c left on w role.Bad = Some (BadFlag w)
+
+abbrev pub by_word : List ℕ → Flags → Count → ℕ → (Bool → Option Problem) → Option (List ℕ) → Option Problem
+by_word name f c left on None = None
+by_word name f c left on (Some w) = by_role name c left on w (flag_role f w)
 
 -- flags, and words behind them; `due`: the id of an `-i` is next
 abbrev pub flagged : List ℕ → Flags → Count → Bool → List Placed → Option Problem
 flagged name f c true [] = wrong name
 flagged name f c true (w ∷ ws) = flagged name f c false ws
 flagged name f c false [] = counted name c 0
-flagged name f c false (w ∷ ws) = by_role name c w (length ws) (λ due. flagged name f c due ws) (flag_role f w.value)
+flagged name f c false (w ∷ ws) = by_word name f c (length ws) (λ due. flagged name f c due ws) w.value
 
 abbrev pub by_flags : List ℕ → Count → List Placed → Option Flags → Option Problem
 by_flags name c args None = counted name c (length args)

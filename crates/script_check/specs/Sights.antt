@@ -9,7 +9,7 @@ use Rattle.command_table.specs.declared.commands.Command.{Command as Commands}
 use Rattle.command_table.specs.declared.commands.Command.TheVariants.{Tcl}
 use Rattle.command_table.specs.declared.commands.TclCommand.TheVariants as tcl
 use Rattle.command_table.specs.declared.reading.Kind.{Kind}
-use Rattle.command_table.specs.declared.reading.Kind.TheVariants.{Text, Name, Script, Expression}
+use Rattle.command_table.specs.declared.reading.Kind.TheVariants.{Expression}
 use Rattle.command_table.specs.declared.reading.Stage.{Stage}
 use Rattle.command_table.specs.Commands.{command_of}
 use Rattle.command_table.specs.Reading.{step, begin}
@@ -32,27 +32,24 @@ use Rattle.script_check.specs.Readings.{readings_in}
 abbrev pub found : ℕ → Problem → List Sight
 found at p = Finds (record { at = at; what = p }) ∷ []
 
-abbrev pub some_found : ℕ → Option Problem → List Sight
-some_found at None = []
-some_found at (Some p) = found at p
-
 -- a text that is read as an expression
-abbrev pub by_parse : List ℕ → Result Tree ExprFault → Option Problem
-by_parse text (Ok tree) = None
-by_parse text (Err expr.TooDeep) = Some DeepExpression
-by_parse text (Err fault) = Some (BadExpression text)
+abbrev pub by_parse : ℕ → List ℕ → Result Tree ExprFault → List Sight
+by_parse at text (Ok tree) = []
+by_parse at text (Err expr.TooDeep) = found at DeepExpression
+by_parse at text (Err fault) = found at (BadExpression text)
 
-abbrev pub formula_fault : Kind → Option (List ℕ) → Option Problem
-formula_fault Text value = None
-formula_fault Name value = None
-formula_fault Script value = None
-formula_fault Expression None = None
-formula_fault Expression (Some text) = by_parse text (parsed text)
+abbrev pub parse_sight : ℕ → Option (List ℕ) → List Sight
+parse_sight at None = []
+parse_sight at (Some text) = by_parse at text (parsed text)
+
+abbrev pub formula_sight : ℕ → Option (List ℕ) → Kind → List Sight
+formula_sight at value Expression = parse_sight at value
+formula_sight at value other = []
 
 -- the expressions among arguments
 abbrev pub formula_sights : ℕ → Stage → List Placed → List Sight
 formula_sights at s [] = []
-formula_sights at s (w ∷ ws) = some_found at (formula_fault (step s w.value).0 w.value) ++ formula_sights at (step s w.value).1 ws
+formula_sights at s (w ∷ ws) = formula_sight at w.value (step s w.value).0 ++ formula_sights at (step s w.value).1 ws
 
 -- expressions are looked at where the arguments are right otherwise
 abbrev pub by_fault : ℕ → Stage → List Placed → Option Problem → List Sight

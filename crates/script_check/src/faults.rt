@@ -1,7 +1,7 @@
 //! What is wrong with the arguments of a command.
 
 ghost use Rattle.std.specs.Prelude.{◌≡◌, false, IfOk};
-ghost use Rattle.script_check.specs.Faults.{wrong, counted, chosen, choice_fault, shown, flagged, by_flags, last_stage, if_fault, channel, output_fault, fault_of};
+ghost use Rattle.script_check.specs.Faults.{wrong, counted, chosen, choice_fault, flagged, by_flags, last_stage, if_fault, channel, output_fault, fault_of};
 
 use crate::expects::expect_fault;
 use crate::placed::Placed;
@@ -62,16 +62,6 @@ fn choice_fault(alloc: Global, command: Command, name: &[u8], args: &[Placed]) -
     }
 }
 
-/// The text of a word, empty where it isn't written plainly.
-fn shown(alloc: Global, word: &Placed) -> Result<Text, AllocError>
-    ensures { IfOk result (λ t. t ≡ shown word.now.value) }
-{
-    match &word.value {
-        None => Ok(Text::new(alloc)),
-        Some(text) => text.copied(alloc),
-    }
-}
-
 /// Judges flags, and the number of arguments after them.
 fn flagged(alloc: Global, name: &[u8], flags: Flags, count: Count, args: &[Placed]) -> Judged
     ensures { IfOk result (λ p. p ≡ flagged name.now flags count false args.now) }
@@ -84,13 +74,15 @@ fn flagged(alloc: Global, name: &[u8], flags: Flags, count: Count, args: &[Place
             rest = more;
             continue;
         }
-        match flag_role(flags, &word.value) {
-            Role::Unknown => return Ok(None),
+        let Some(text) = &word.value else {
+            return Ok(None);
+        };
+        match flag_role(flags, text.as_slice()) {
             Role::Word => return counted(alloc, name, count, rest.len()),
             Role::End => return counted(alloc, name, count, more.len()),
             Role::Alone => {}
             Role::Id => due = true,
-            Role::Bad => return Ok(Some(Problem::BadFlag(shown(alloc, word)?))),
+            Role::Bad => return Ok(Some(Problem::BadFlag(text.copied(alloc)?))),
         }
         rest = more;
     }

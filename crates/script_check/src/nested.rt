@@ -92,18 +92,9 @@ fn word_scripts(alloc: Global, source: &[u8], word: &Placed, kind: Kind, out: &m
 {
     match kind {
         Kind::Script => push_script(alloc, source, word, out),
-        Kind::Text | Kind::Name => {
-            if is_enclosed(source, word) {
-                return Ok(());
-            }
-            brackets_in(alloc, source, word.span, out)
-        }
-        Kind::Expression => {
-            if is_braced(source, word) {
-                return push_formula(alloc, source, word, out);
-            }
-            brackets_in(alloc, source, word.span, out)
-        }
+        Kind::Expression if is_braced(source, word) => push_formula(alloc, source, word, out),
+        Kind::Text | Kind::Name if is_enclosed(source, word) => Ok(()),
+        _ => brackets_in(alloc, source, word.span, out),
     }
 }
 
@@ -133,18 +124,12 @@ pub(crate) fn any_expanded(words: &[Placed]) -> bool
 pub(crate) fn stage_for(name: &Placed, args: &[Placed]) -> Stage
     ensures { result ≡ stage_for name.now.value args.now }
 {
-    match &name.value {
-        None => texts(),
-        Some(text) => match command_of(text.as_slice()) {
-            None => texts(),
-            Some(command) => {
-                if any_expanded(args) {
-                    texts()
-                } else {
-                    begin(row_of(command).words, args.len())
-                }
-            }
-        },
+    let Some(text) = &name.value else {
+        return texts();
+    };
+    match command_of(text.as_slice()) {
+        Some(command) if !any_expanded(args) => begin(row_of(command).words, args.len()),
+        _ => texts(),
     }
 }
 
@@ -157,12 +142,9 @@ pub(crate) fn scripts_of(
     ensures { IfOk result (λ v. v.items ≡ scripts_of source.now words.now) }
 {
     let mut list = Vec::new(alloc);
-    match words {
-        [] => Ok(list),
-        [name, args @ ..] => {
-            word_scripts(alloc, source, name, Kind::Text, &mut list)?;
-            nested(alloc, source, stage_for(name, args), args, &mut list)?;
-            Ok(list)
-        }
+    if let [name, args @ ..] = words {
+        word_scripts(alloc, source, name, Kind::Text, &mut list)?;
+        nested(alloc, source, stage_for(name, args), args, &mut list)?;
     }
+    Ok(list)
 }

@@ -2,12 +2,11 @@
 
 ghost use Rattle.std.specs.Prelude.{◌≡◌, ◌++◌, IfOk, OnOk};
 ghost use Rattle.std.specs.List.{flat_map};
-ghost use Rattle.command_table.specs.Commands.{command_of};
 ghost use Rattle.script_check.specs.Expects.{list_of, spread_by};
-ghost use Rattle.script_check.specs.Sights.{found, some_found, formula_fault, formula_sights, judged, procedure, defined, by_command, own, ending, command_sights, reading_sights, sights};
+ghost use Rattle.script_check.specs.Sights.{found, formula_sight, parse_sight, formula_sights, judged, procedure, defined, own, command_sights, reading_sights, sights};
 
 use crate::expects::spread;
-use crate::faults::{Judged, fault_of};
+use crate::faults::fault_of;
 use crate::nested::{any_expanded, scripts_of};
 use crate::placed::{Placed, Words};
 use crate::problem::{Finding, Problem};
@@ -38,37 +37,27 @@ fn push_found(at: usize, what: Problem, out: &mut Seen) -> Done
     Ok(())
 }
 
-/// What is wrong with an argument that is read as an expression.
-fn formula_fault(alloc: Global, kind: Kind, word: &Placed) -> Judged
-    ensures { IfOk result (λ p. p ≡ formula_fault kind word.now.value) }
+/// Appends what is wrong with an argument that is read as an expression.
+fn push_formula(alloc: Global, at: usize, kind: Kind, word: &Placed, out: &mut Seen) -> Done
+    ensures { OnOk result (out.new.items ≡ out.old.items ++ formula_sight at word.now.value kind) }
 {
     match kind {
-        Kind::Text | Kind::Name | Kind::Script => Ok(None),
-        Kind::Expression => parse_fault(alloc, word),
+        Kind::Text | Kind::Name | Kind::Script => Ok(()),
+        Kind::Expression => push_parsed(alloc, at, word, out),
     }
 }
 
-fn parse_fault(alloc: Global, word: &Placed) -> Judged
-    ensures { IfOk result (λ p. p ≡ formula_fault Kind.Expression word.now.value) }
+fn push_parsed(alloc: Global, at: usize, word: &Placed, out: &mut Seen) -> Done
+    ensures { OnOk result (out.new.items ≡ out.old.items ++ parse_sight at word.now.value) }
 {
     let Some(text) = &word.value else {
-        return Ok(None);
+        return Ok(());
     };
     match parse(alloc, text.as_slice()) {
-        Ok(_) => Ok(None),
+        Ok(_) => Ok(()),
         Err(ExprFault::Memory) => Err(AllocError),
-        Err(ExprFault::TooDeep) => Ok(Some(Problem::DeepExpression)),
-        Err(_) => Ok(Some(Problem::BadExpression(text.copied(alloc)?))),
-    }
-}
-
-/// Appends what is wrong, if anything is.
-fn push_some(at: usize, what: Option<Problem>, out: &mut Seen) -> Done
-    ensures { OnOk result (out.new.items ≡ out.old.items ++ some_found at what) }
-{
-    match what {
-        None => Ok(()),
-        Some(problem) => push_found(at, problem, out),
+        Err(ExprFault::TooDeep) => push_found(at, Problem::DeepExpression, out),
+        Err(_) => push_found(at, Problem::BadExpression(text.copied(alloc)?), out),
     }
 }
 
@@ -80,7 +69,7 @@ fn formula_sights(alloc: Global, at: usize, stage: Stage, args: &[Placed], out: 
     let mut rest = args;
     while let [word, more @ ..] = rest {
         let (kind, next) = step(stage, &word.value);
-        push_some(at, formula_fault(alloc, kind, word)?, out)?;
+        push_formula(alloc, at, kind, word, out)?;
         stage = next;
         rest = more;
     }
@@ -110,7 +99,7 @@ fn judge(
     }
 }
 
-/// Appends the procedure that a command defines.
+/// Appends the procedure that `proc` defines.
 fn push_defined(alloc: Global, command: Command, args: &[Placed], out: &mut Seen) -> Done
     ensures { OnOk result (out.new.items ≡ out.old.items ++ defined command args.now) }
 {
@@ -123,53 +112,30 @@ fn push_defined(alloc: Global, command: Command, args: &[Placed], out: &mut Seen
 fn push_procedure(alloc: Global, args: &[Placed], out: &mut Seen) -> Done
     ensures { OnOk result (out.new.items ≡ out.old.items ++ procedure args.now) }
 {
-    match args {
-        [] => Ok(()),
-        [name, ..] => {
-            let Some(text) = &name.value else {
-                return Ok(());
-            };
-            out.push(Sight::Defines(text.copied(alloc)?))?;
-            Ok(())
-        }
+    let [name, ..] = args else {
+        return Ok(());
+    };
+    if let Some(text) = &name.value {
+        out.push(Sight::Defines(text.copied(alloc)?))?;
     }
-}
-
-/// Appends what is seen of a command with this name.
-fn push_named(alloc: Global, at: usize, name: &Text, args: &[Placed], out: &mut Seen) -> Done
-    ensures { OnOk result (out.new.items ≡ out.old.items ++ by_command at name.now args.now (command_of name.now)) }
-{
-    match command_of(name.as_slice()) {
-        None => push_found(at, Problem::NoCommand(name.copied(alloc)?), out),
-        Some(command) => {
-            judge(alloc, at, command, name.as_slice(), args, out)?;
-            push_defined(alloc, command, args, out)
-        }
-    }
+    Ok(())
 }
 
 /// Appends what is seen of a command itself. One whose first word isn't written plainly isn't judged.
 fn push_own(alloc: Global, at: usize, words: &[Placed], out: &mut Seen) -> Done
     ensures { OnOk result (out.new.items ≡ out.old.items ++ own at words.now) }
 {
-    match words {
-        [] => Ok(()),
-        [name, args @ ..] => match &name.value {
-            None => Ok(()),
-            Some(text) => push_named(alloc, at, text, args, out),
-        },
-    }
-}
-
-/// Appends what ended a list of arguments.
-fn push_ending(broken: Option<Finding>, out: &mut Seen) -> Done
-    ensures { OnOk result (out.new.items ≡ out.old.items ++ ending broken) }
-{
-    match broken {
-        None => Ok(()),
-        Some(finding) => {
-            out.push(Sight::Finds(finding))?;
-            Ok(())
+    let [first, args @ ..] = words else {
+        return Ok(());
+    };
+    let Some(name) = &first.value else {
+        return Ok(());
+    };
+    match command_of(name.as_slice()) {
+        None => push_found(at, Problem::NoCommand(name.copied(alloc)?), out),
+        Some(command) => {
+            judge(alloc, at, command, name.as_slice(), args, out)?;
+            push_defined(alloc, command, args, out)
         }
     }
 }
@@ -196,18 +162,10 @@ fn see_one(alloc: Global, source: &[u8], at: usize, words: Words, depth: u8, out
     push_own(alloc, at, all.as_slice(), out)?;
     let scripts = scripts_of(alloc, source, all.as_slice())?;
     see_all(alloc, source, scripts.as_slice(), depth, out)?;
-    push_ending(broken, out)
-}
-
-/// Appends what is seen of what was read.
-#[cycle(see)]
-fn see_reading(alloc: Global, source: &[u8], reading: Reading, depth: u8, out: &mut Seen) -> Done
-    ensures { OnOk result (out.new.items ≡ out.old.items ++ reading_sights (sights depth source.now) source.now reading) }
-{
-    match reading {
-        Reading::Malformed(at, fault) => push_found(at, Problem::Malformed(fault), out),
-        Reading::Command(at, words) => see_one(alloc, source, at, words, depth, out),
+    if let Some(finding) = broken {
+        out.push(Sight::Finds(finding))?;
     }
+    Ok(())
 }
 
 /// Appends what is seen of a script, in which so many may stand in one another.
@@ -229,7 +187,10 @@ fn see_script(alloc: Global, source: &[u8], read: Vec<Reading>, depth: u8, out: 
     ensures { OnOk result (out.new.items ≡ out.old.items ++ flat_map (reading_sights (sights depth source.now) source.now) read.items) }
 {
     for reading in read {
-        see_reading(alloc, source, reading, depth, out)?;
+        match reading {
+            Reading::Malformed(at, fault) => push_found(at, Problem::Malformed(fault), out)?,
+            Reading::Command(at, words) => see_one(alloc, source, at, words, depth, out)?,
+        }
     }
     Ok(())
 }
