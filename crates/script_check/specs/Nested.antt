@@ -14,6 +14,7 @@ use Rattle.command_table.specs.Reading.{texts, step, begin}
 use Rattle.command_table.specs.Rows.{row_of}
 use Rattle.script_check.specs.declared.span.Span.{Span}
 use Rattle.script_check.specs.declared.placed.Placed.{Placed}
+use Rattle.script_check.specs.Placed.{mark}
 use Rattle.script_check.specs.Stretches.{part, inside, begins_with}
 use Rattle.script_check.specs.Brackets.{brackets, operands}
 use Rattle.script_check.specs.Expects.{is_braced}
@@ -32,7 +33,7 @@ formula_scripts source s (Some text) = formula_brackets source s (parsed text)
 
 -- in braces nothing is replaced, be they behind `{*}` or not
 abbrev pub is_enclosed : List ℕ → Placed → Bool
-is_enclosed source w = if w.expand then begins_with ascii.open_brace (drop 3 (part source w.span)) else begins_with ascii.open_brace (part source w.span)
+is_enclosed source w = begins_with ascii.open_brace (drop (mark w.expand) (part source w.span))
 
 -- a script that isn't in braces, where the source has it as it is read
 abbrev pub written_at : List ℕ → Span → List ℕ → Option Span

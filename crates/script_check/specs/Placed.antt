@@ -58,9 +58,13 @@ behind_bare = reading [] bare_step
 abbrev pub behind_plain : List ℕ → List ℕ
 behind_plain text = if begins_with ascii.quote text || begins_with ascii.open_brace text then drop (taken (operand text)) text else behind_bare text
 
--- what is left behind a word; `expand`: it stands behind `{*}`
+-- how many bytes `{*}` before a word takes
+abbrev pub mark : Bool → ℕ
+mark expand = if expand then 3 else 0
+
+-- what is left behind a word
 abbrev pub behind_word : Bool → List ℕ → List ℕ
-behind_word expand text = if expand then behind_plain (drop 3 text) else behind_plain text
+behind_word expand text = behind_plain (drop (mark expand) text)
 
 -- what a part is, where it is a literal
 abbrev pub literal_alone : Piece → Option (List ℕ)

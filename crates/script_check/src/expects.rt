@@ -2,7 +2,7 @@
 
 ghost use Rattle.std.specs.Prelude.{◌≡◌, ◌++◌, [], ◌∷◌, IfOk, OnOk, option_map, slice_index_or};
 ghost use Rattle.exp_match.specs.Arguments.{Gives, patterns_of};
-ghost use Rattle.script_check.specs.Expects.{plain_texts, by_patterns, expect_fault, is_braced, is_list, list_span, is_listing, list_of, gathered, spread_by};
+ghost use Rattle.script_check.specs.Expects.{plain_texts, by_patterns, expect_fault, is_braced, is_listing, list_of, gathered, spread_by};
 
 use crate::faults::Judged;
 use crate::placed::{Placed, Words};
@@ -76,11 +76,14 @@ pub(crate) fn expect_fault(alloc: Global, args: &[Placed]) -> Judged
     }
 }
 
-/// Whether a newline stands before the first byte that is no white space.
-fn is_list(text: &[u8]) -> bool
-    ensures { result ≡ is_list text.now }
+/// Whether a word is written plainly, with a newline before its first byte that is no white space.
+fn is_listing(word: &Placed) -> bool
+    ensures { result ≡ is_listing word.now.value }
 {
-    let mut rest = text;
+    let Some(text) = &word.value else {
+        return false;
+    };
+    let mut rest = text.as_slice();
     while let [b, more @ ..] = rest {
         if *b == b'\n' {
             return true;
@@ -100,41 +103,21 @@ pub(crate) fn is_braced(source: &[u8], word: &Placed) -> bool
     !word.expand && begins_with(b'{', part(source, word.span))
 }
 
-/// The stretch of an argument that is the list of all others. Only one in braces stands in the source as it is.
-fn list_span(source: &[u8], word: &Placed) -> Span
-    ensures { result ≡ list_span source.now word.now }
-{
-    if is_braced(source, word) {
-        inside(word.span)
-    } else {
-        Span { from: 0, to: 0 }
-    }
-}
-
-/// Whether a word is written plainly and is a list of arguments.
-fn is_listing(word: &Placed) -> bool
-    ensures { result ≡ is_listing word.now.value }
-{
-    match &word.value {
-        None => false,
-        Some(text) => is_list(text.as_slice()),
-    }
-}
-
-/// The stretch of the list of all arguments of an `expect`, where the command is one with such an argument.
+/// The stretch of the list of all arguments of an `expect`, if the command is one with such an argument. Only one in braces stands in the
+/// source as it is.
 fn list_of(source: &[u8], words: &[Placed]) -> Option<Span>
     ensures { result ≡ list_of source.now words.now }
 {
-    match words {
-        [name, word] => {
-            if name.is(b"expect") && is_listing(word) {
-                Some(list_span(source, word))
-            } else {
-                None
-            }
-        }
-        _ => None,
+    let [name, word] = words else {
+        return None;
+    };
+    if !name.is(b"expect") || !is_listing(word) {
+        return None;
     }
+    if is_braced(source, word) {
+        return Some(inside(word.span));
+    }
+    Some(Span { from: 0, to: 0 })
 }
 
 /// Appends words.

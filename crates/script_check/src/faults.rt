@@ -1,15 +1,14 @@
 //! What is wrong with the arguments of a command.
 
 ghost use Rattle.std.specs.Prelude.{◌≡◌, false, IfOk};
-ghost use Rattle.script_check.specs.Faults.{wrong, counted, chosen, choice_fault, flagged, by_flags, last_stage, if_fault, channel, output_fault, fault_of};
+ghost use Rattle.script_check.specs.Faults.{wrong, counted, chosen, choice_fault, flagged, last_stage, channel, output_fault, fault_of};
 
 use crate::expects::expect_fault;
 use crate::placed::Placed;
 use crate::problem::Problem;
 use crate::stretch::begins_with;
 use command_table::{
-    Command, Count, Flags, Role, Row, Stage, fits, flag_role, is, is_short, option_count, row_of,
-    step,
+    Command, Count, Flags, Role, Stage, fits, flag_role, is, is_short, option_count, row_of, step,
 };
 use std::alloc::{AllocError, Global};
 use tcl_words::Text;
@@ -92,16 +91,6 @@ fn flagged(alloc: Global, name: &[u8], flags: Flags, count: Count, args: &[Place
     counted(alloc, name, count, 0)
 }
 
-/// Judges the arguments of a command with flags or without.
-fn by_flags(alloc: Global, name: &[u8], row: Row, args: &[Placed]) -> Judged
-    ensures { IfOk result (λ p. p ≡ by_flags name.now row.count args.now row.flags) }
-{
-    match row.flags {
-        None => counted(alloc, name, row.count, args.len()),
-        Some(flags) => flagged(alloc, name, flags, row.count, args),
-    }
-}
-
 /// The stage after the arguments of `if`.
 fn last_stage(stage: Stage, words: &[Placed]) -> Stage
     ensures { result ≡ last_stage stage words.now }
@@ -113,16 +102,6 @@ fn last_stage(stage: Stage, words: &[Placed]) -> Stage
         rest = more;
     }
     stage
-}
-
-/// Judges the arguments of `if`.
-fn if_fault(alloc: Global, name: &[u8], args: &[Placed]) -> Judged
-    ensures { IfOk result (λ p. p ≡ if_fault name.now args.now) }
-{
-    if is_short(last_stage(Stage::Test, args)) {
-        return wrong(alloc, name);
-    }
-    Ok(None)
 }
 
 /// Judges a word where `stdout` may stand.
@@ -148,21 +127,11 @@ fn output_fault(alloc: Global, name: &[u8], args: &[Placed]) -> Judged
     match args {
         [] => wrong(alloc, name),
         [_] => Ok(None),
-        [word, _] => {
-            if word.is(b"-nonewline") {
-                return Ok(None);
-            }
-            channel(alloc, word)
-        }
-        [word, other, _] => {
-            if word.is(b"-nonewline") {
-                return channel(alloc, other);
-            }
-            if word.value.is_some() {
-                return wrong(alloc, name);
-            }
-            Ok(None)
-        }
+        [word, _] if word.is(b"-nonewline") => Ok(None),
+        [word, _] => channel(alloc, word),
+        [word, other, _] if word.is(b"-nonewline") => channel(alloc, other),
+        [word, _, _] if word.value.is_none() => Ok(None),
+        [_, _, _] => wrong(alloc, name),
         [_, _, _, _, ..] => wrong(alloc, name),
     }
 }
@@ -171,11 +140,16 @@ fn output_fault(alloc: Global, name: &[u8], args: &[Placed]) -> Judged
 pub(crate) fn fault_of(alloc: Global, command: Command, name: &[u8], args: &[Placed]) -> Judged
     ensures { IfOk result (λ p. p ≡ fault_of command name.now args.now) }
 {
-    match row_of(command).words {
-        Stage::Test => if_fault(alloc, name, args),
+    let row = row_of(command);
+    match row.words {
+        Stage::Test if is_short(last_stage(Stage::Test, args)) => wrong(alloc, name),
+        Stage::Test => Ok(None),
         Stage::Pattern => expect_fault(alloc, args),
         Stage::Choice => choice_fault(alloc, command, name, args),
         Stage::Output => output_fault(alloc, name, args),
-        _ => by_flags(alloc, name, row_of(command), args),
+        _ => match row.flags {
+            None => counted(alloc, name, row.count, args.len()),
+            Some(flags) => flagged(alloc, name, flags, row.count, args),
+        },
     }
 }

@@ -2,45 +2,32 @@
 
 ghost use Rattle.std.specs.Prelude.{◌≡◌, ◌++◌, IfOk, OnOk};
 ghost use Rattle.script_check.specs.Stretches.{inside};
-ghost use Rattle.script_check.specs.Nested.{brackets_in, formula_scripts, is_enclosed, written_at, script_at, word_scripts, nested, any_expanded, stage_for, scripts_of};
+ghost use Rattle.script_check.specs.Nested.{formula_scripts, is_enclosed, script_at, word_scripts, nested, any_expanded, stage_for, scripts_of};
 
 use crate::brackets::{brackets, operands};
 use crate::expects::is_braced;
-use crate::placed::Placed;
+use crate::placed::{Placed, mark};
 use crate::span::{Done, Span, Spans};
 use crate::stretch::{begins_with, behind, inside, part};
 use command_table::{Kind, Stage, begin, command_of, is, row_of, step, texts};
 use std::alloc::{AllocError, Global};
 use tcl_expr::{ExprFault, parse};
 
-/// Appends the scripts in brackets of a stretch.
-fn brackets_in(alloc: Global, source: &[u8], span: Span, out: &mut Spans) -> Done
-    ensures { OnOk result (out.new.items ≡ out.old.items ++ brackets_in source.now span) }
-{
-    brackets(alloc, span.to, part(source, span), out)
-}
-
 /// The stretch of the script that a word is, where the source has it as it is read.
 fn script_at(source: &[u8], word: &Placed) -> Option<Span>
     ensures { result ≡ script_at source.now word.now }
 {
+    let span = word.span;
     if is_braced(source, word) {
-        return Some(inside(word.span));
+        return Some(inside(span));
     }
-    match &word.value {
-        None => None,
-        Some(text) => written_at(source, word.span, text.as_slice()),
-    }
-}
-
-/// The same for a script of this text that isn't in braces.
-fn written_at(source: &[u8], span: Span, text: &[u8]) -> Option<Span>
-    ensures { result ≡ written_at source.now span text.now }
-{
-    if is(part(source, span), text) {
+    let Some(text) = &word.value else {
+        return None;
+    };
+    if is(part(source, span), text.as_slice()) {
         return Some(span);
     }
-    if begins_with(b'"', part(source, span)) && is(part(source, inside(span)), text) {
+    if begins_with(b'"', part(source, span)) && is(part(source, inside(span)), text.as_slice()) {
         return Some(inside(span));
     }
     None
@@ -51,7 +38,7 @@ fn push_script(alloc: Global, source: &[u8], word: &Placed, out: &mut Spans) -> 
     ensures { OnOk result (out.new.items ≡ out.old.items ++ word_scripts source.now word.now Kind.Script) }
 {
     match script_at(source, word) {
-        None => brackets_in(alloc, source, word.span, out),
+        None => brackets(alloc, word.span.to, part(source, word.span), out),
         Some(span) => {
             out.push(span)?;
             Ok(())
@@ -78,12 +65,7 @@ fn push_formula(alloc: Global, source: &[u8], word: &Placed, out: &mut Spans) ->
 fn is_enclosed(source: &[u8], word: &Placed) -> bool
     ensures { result ≡ is_enclosed source.now word.now }
 {
-    let text = part(source, word.span);
-    if word.expand {
-        begins_with(b'{', behind(text, 3))
-    } else {
-        begins_with(b'{', text)
-    }
+    begins_with(b'{', behind(part(source, word.span), mark(word.expand)))
 }
 
 /// Appends the scripts in a word, by what it is read as.
@@ -94,7 +76,7 @@ fn word_scripts(alloc: Global, source: &[u8], word: &Placed, kind: Kind, out: &m
         Kind::Script => push_script(alloc, source, word, out),
         Kind::Expression if is_braced(source, word) => push_formula(alloc, source, word, out),
         Kind::Text | Kind::Name if is_enclosed(source, word) => Ok(()),
-        _ => brackets_in(alloc, source, word.span, out),
+        _ => brackets(alloc, word.span.to, part(source, word.span), out),
     }
 }
 

@@ -4,7 +4,7 @@ ghost use Rattle.std.specs.Prelude.{◌≡◌, ◌≢◌, IfOk};
 ghost use Rattle.tcl_words.specs.Commands.{is_gap};
 ghost use Rattle.tcl_words.specs.Operands.{operand};
 ghost use Rattle.tcl_words.specs.Pieces.{part_view, word_view, words_view};
-ghost use Rattle.script_check.specs.Placed.{is_plainly, next_lead, behind_gap, taken, owned, behind_bare, behind_plain, behind_word, literal_alone, plain_value, placed};
+ghost use Rattle.script_check.specs.Placed.{is_plainly, next_lead, behind_gap, taken, owned, behind_bare, mark, behind_word, literal_alone, plain_value, placed};
 
 use crate::span::{Span, Taken};
 use crate::stretch::{begins_with, behind, place};
@@ -80,26 +80,13 @@ fn next_lead(first: bool, lead: Lead, b: u8, rest: &[u8]) -> Option<Lead>
     match lead {
         Lead::Continued => Some(Lead::White),
         Lead::Quoted => Some(Lead::Comment),
-        Lead::Comment => {
-            if b == b'\n' {
-                Some(Lead::White)
-            } else if b == b'\\' {
-                Some(Lead::Quoted)
-            } else {
-                Some(Lead::Comment)
-            }
-        }
-        Lead::White => {
-            if is_blank(b) || ends_command(b) {
-                Some(Lead::White)
-            } else if is_continued(b, rest) {
-                Some(Lead::Continued)
-            } else if b == b'#' && first {
-                Some(Lead::Comment)
-            } else {
-                None
-            }
-        }
+        Lead::Comment if b == b'\n' => Some(Lead::White),
+        Lead::Comment if b == b'\\' => Some(Lead::Quoted),
+        Lead::Comment => Some(Lead::Comment),
+        Lead::White if is_blank(b) || ends_command(b) => Some(Lead::White),
+        Lead::White if is_continued(b, rest) => Some(Lead::Continued),
+        Lead::White if b == b'#' && first => Some(Lead::Comment),
+        Lead::White => None,
     }
 }
 
@@ -124,14 +111,8 @@ pub(crate) fn told(fault: WordFault) -> Result<WordFault, AllocError>
     ensures { IfOk result (λ f. (f ≡ fault) × (fault ≢ WordFault.Memory)) }
 {
     match fault {
-        WordFault::MissingBrace => Ok(WordFault::MissingBrace),
-        WordFault::MissingBracket => Ok(WordFault::MissingBracket),
-        WordFault::MissingQuote => Ok(WordFault::MissingQuote),
-        WordFault::ExtraAfterQuote => Ok(WordFault::ExtraAfterQuote),
-        WordFault::ExtraAfterBrace => Ok(WordFault::ExtraAfterBrace),
-        WordFault::TooDeep => Ok(WordFault::TooDeep),
-        WordFault::MissingParen => Ok(WordFault::MissingParen),
         WordFault::Memory => Err(AllocError),
+        _ => Ok(fault),
     }
 }
 
@@ -185,24 +166,22 @@ fn behind_bare(alloc: Global, bytes: &[u8]) -> Result<&[u8], AllocError>
     Ok(rest)
 }
 
-/// What is left behind a word, but for `{*}` before it.
-fn behind_plain(alloc: Global, text: &[u8]) -> Result<&[u8], AllocError>
-    ensures { IfOk result (λ rest. rest.now ≡ behind_plain text.now) }
+/// How many bytes `{*}` before a word takes.
+pub(crate) fn mark(expand: bool) -> usize
+    ensures { result ≡ mark expand }
 {
-    if begins_with(b'"', text) || begins_with(b'{', text) {
-        return Ok(behind(text, taken(alloc, text)?));
-    }
-    behind_bare(alloc, text)
+    if expand { 3 } else { 0 }
 }
 
 /// What is left behind a word.
 fn behind_word(alloc: Global, expand: bool, text: &[u8]) -> Result<&[u8], AllocError>
     ensures { IfOk result (λ rest. rest.now ≡ behind_word expand text.now) }
 {
-    if expand {
-        return behind_plain(alloc, behind(text, 3));
+    let text = behind(text, mark(expand));
+    if begins_with(b'"', text) || begins_with(b'{', text) {
+        return Ok(behind(text, taken(alloc, text)?));
     }
-    behind_plain(alloc, text)
+    behind_bare(alloc, text)
 }
 
 /// What a part is, where it is a literal.

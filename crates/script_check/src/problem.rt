@@ -1,7 +1,7 @@
 //! What is wrong, and its text.
 
 ghost use Rattle.std.specs.Prelude.{◌≡◌, IfOk};
-ghost use Rattle.script_check.specs.Texts.{instead_text, no_command, text_of};
+ghost use Rattle.script_check.specs.Texts.{no_command, text_of};
 
 use command_table::advice_for;
 use std::alloc::{AllocError, Global};
@@ -43,25 +43,17 @@ pub struct Finding {
     pub what: Problem,
 }
 
-/// What to use in place of a command, behind the text of its error.
-fn instead_text(text: Text, advice: &[u8]) -> Result<Text, AllocError>
-    ensures { IfOk result (λ t. t ≡ instead_text text advice.now) }
-{
-    if advice.is_empty() {
-        return Ok(text);
-    }
-    let mut text = text;
-    text.extend(b": ")?;
-    text.extend(advice)?;
-    Ok(text)
-}
-
-/// A word names no command.
+/// A word names no command. Behind the text stands what to use in its place, where that is known.
 fn no_command(alloc: Global, name: &[u8]) -> Result<Text, AllocError>
     ensures { IfOk result (λ t. t ≡ no_command name.now) }
 {
-    let text = quoted(alloc, b"invalid command name ", name)?;
-    instead_text(text, advice_for(name))
+    let mut text = quoted(alloc, b"invalid command name ", name)?;
+    let advice = advice_for(name);
+    if !advice.is_empty() {
+        text.extend(b": ")?;
+        text.extend(advice)?;
+    }
+    Ok(text)
 }
 
 impl Problem {

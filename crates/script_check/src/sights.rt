@@ -3,7 +3,7 @@
 ghost use Rattle.std.specs.Prelude.{◌≡◌, ◌++◌, IfOk, OnOk};
 ghost use Rattle.std.specs.List.{flat_map};
 ghost use Rattle.script_check.specs.Expects.{list_of, spread_by};
-ghost use Rattle.script_check.specs.Sights.{found, formula_sight, parse_sight, formula_sights, judged, procedure, defined, own, command_sights, reading_sights, sights};
+ghost use Rattle.script_check.specs.Sights.{found, parse_sight, formula_sights, judged, defined, own, command_sights, reading_sights, sights};
 
 use crate::expects::spread;
 use crate::faults::fault_of;
@@ -37,16 +37,7 @@ fn push_found(at: usize, what: Problem, out: &mut Seen) -> Done
     Ok(())
 }
 
-/// Appends what is wrong with an argument that is read as an expression.
-fn push_formula(alloc: Global, at: usize, kind: Kind, word: &Placed, out: &mut Seen) -> Done
-    ensures { OnOk result (out.new.items ≡ out.old.items ++ formula_sight at word.now.value kind) }
-{
-    match kind {
-        Kind::Text | Kind::Name | Kind::Script => Ok(()),
-        Kind::Expression => push_parsed(alloc, at, word, out),
-    }
-}
-
+/// Appends what is wrong with an expression.
 fn push_parsed(alloc: Global, at: usize, word: &Placed, out: &mut Seen) -> Done
     ensures { OnOk result (out.new.items ≡ out.old.items ++ parse_sight at word.now.value) }
 {
@@ -69,7 +60,9 @@ fn formula_sights(alloc: Global, at: usize, stage: Stage, args: &[Placed], out: 
     let mut rest = args;
     while let [word, more @ ..] = rest {
         let (kind, next) = step(stage, &word.value);
-        push_formula(alloc, at, kind, word, out)?;
+        if let Kind::Expression = kind {
+            push_parsed(alloc, at, word, out)?;
+        }
         stage = next;
         rest = more;
     }
@@ -92,10 +85,7 @@ fn judge(
     }
     match fault_of(alloc, known, name, args)? {
         Some(problem) => push_found(at, problem, out),
-        None => {
-            let stage = begin(row_of(known).words, args.len());
-            formula_sights(alloc, at, stage, args, out)
-        }
+        None => formula_sights(alloc, at, begin(row_of(known).words, args.len()), args, out),
     }
 }
 
@@ -103,15 +93,9 @@ fn judge(
 fn push_defined(alloc: Global, command: Command, args: &[Placed], out: &mut Seen) -> Done
     ensures { OnOk result (out.new.items ≡ out.old.items ++ defined command args.now) }
 {
-    match command {
-        Command::Tcl(TclCommand::Proc) => push_procedure(alloc, args, out),
-        _ => Ok(()),
-    }
-}
-
-fn push_procedure(alloc: Global, args: &[Placed], out: &mut Seen) -> Done
-    ensures { OnOk result (out.new.items ≡ out.old.items ++ procedure args.now) }
-{
+    let Command::Tcl(TclCommand::Proc) = command else {
+        return Ok(());
+    };
     let [name, ..] = args else {
         return Ok(());
     };
