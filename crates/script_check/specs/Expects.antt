@@ -1,5 +1,5 @@
 -- The arguments of `expect`.
-use Rattle.std.specs.Prelude.{ℕ, Bool, true, false, not, ◌==◌, ◌&&◌, List, [], ◌∷◌, ◌++◌, take, codes, slice_index_or, Option, Some, None, option_map, Result, Ok, Err, if◌then◌else◌}
+use Rattle.std.specs.Prelude.{ℕ, Bool, true, false, not, ◌==◌, ◌&&◌, List, [], ◌∷◌, ◌++◌, take, codes, slice_index_or, Option, Some, None, option_map, option_and_then, unwrap_or, Result, Ok, Err, if◌then◌else◌}
 use Rattle.exp_match.specs.declared.faults.PatternFault.{PatternFault}
 use Rattle.exp_match.specs.declared.faults.PatternFault.TheVariants as fault
 use Rattle.exp_match.specs.declared.list.PatternList.{PatternList}
@@ -17,14 +17,10 @@ use Rattle.script_check.specs.Stretches.{part, inside, begins_with}
 use Rattle.script_check.specs.Placed.{is_plainly}
 use Rattle.script_check.specs.Readings.{readings_in}
 
-abbrev pub and_texts : Option (List ℕ) → Option (List (List ℕ)) → Option (List (List ℕ))
-and_texts None more = None
-and_texts (Some text) more = option_map (λ texts. text ∷ texts) more
-
 -- the words, where all are written plainly
 abbrev pub plain_texts : List Placed → Option (List (List ℕ))
 plain_texts [] = Some []
-plain_texts (w ∷ ws) = and_texts w.value (plain_texts ws)
+plain_texts (w ∷ ws) = option_and_then (λ text. option_map (λ texts. text ∷ texts) (plain_texts ws)) w.value
 
 abbrev pub by_patterns : List (List ℕ) → Result PatternList PatternFault → Option Problem
 by_patterns texts (Ok list) = None
@@ -33,13 +29,9 @@ by_patterns texts (Err (fault.BadRegex at)) = Some (BadRegular (slice_index_or t
 by_patterns texts (Err fault.Refused) = None
 by_patterns texts (Err fault.Memory) = None
 
-abbrev pub by_texts : Option (List (List ℕ)) → Option Problem
-by_texts None = None
-by_texts (Some texts) = by_patterns texts (patterns_of texts)
-
 -- the first argument that exp_match reads as no flag, pattern or keyword, where all are written plainly
 abbrev pub expect_fault : List Placed → Option Problem
-expect_fault args = by_texts (plain_texts args)
+expect_fault args = option_and_then (λ texts. by_patterns texts (patterns_of texts)) (plain_texts args)
 
 -- An argument that is the list of all others, with the stretch of the words in it. Only one in braces stands in the source as it is.
 
@@ -55,8 +47,7 @@ is_list [] = false
 is_list (b ∷ bs) = if b == ascii.newline then true else if is_white b then is_list bs else false
 
 abbrev pub is_listing : Option (List ℕ) → Bool
-is_listing None = false
-is_listing (Some w) = is_list w
+is_listing value = is_list (unwrap_or value [])
 
 abbrev pub list_of : List ℕ → List Placed → Option Span
 list_of source [] = None

@@ -1,5 +1,5 @@
 -- What is wrong with the arguments of a command by its row, where they are written plainly. A word that isn't, `None`, may be any word.
-use Rattle.std.specs.Prelude.{ℕ, suc, Bool, true, false, List, [], ◌∷◌, length, codes, Option, Some, None, is_some, bytes_eq, if◌then◌else◌}
+use Rattle.std.specs.Prelude.{ℕ, suc, Bool, true, false, List, [], ◌∷◌, length, codes, Option, Some, None, is_some, option_and_then, bytes_eq, if◌then◌else◌}
 use Rattle.tcl_words.specs.Bytes as ascii
 use Rattle.command_table.specs.declared.commands.Command.{Command}
 use Rattle.command_table.specs.declared.counts.Count.{Count}
@@ -33,8 +33,7 @@ if_counted name left option None = Some (BadOption option)
 if_counted name left option (Some c) = counted name c left
 
 abbrev pub chosen : Command → List ℕ → ℕ → Option (List ℕ) → Option Problem
-chosen command name left None = None
-chosen command name left (Some option) = if_counted name left option (option_count command option)
+chosen command name left = option_and_then (λ option. if_counted name left option (option_count command option))
 
 abbrev pub choice_fault : Command → List ℕ → List Placed → Option Problem
 choice_fault command name [] = wrong name
@@ -48,16 +47,12 @@ by_role name c left on w role.Alone = on false
 by_role name c left on w role.Id = on true
 by_role name c left on w role.Bad = Some (BadFlag w)
 
-abbrev pub by_word : List ℕ → Flags → Count → ℕ → (Bool → Option Problem) → Option (List ℕ) → Option Problem
-by_word name f c left on None = None
-by_word name f c left on (Some w) = by_role name c left on w (flag_role f w)
-
 -- flags, and words behind them; `due`: the id of an `-i` is next
 abbrev pub flagged : List ℕ → Flags → Count → Bool → List Placed → Option Problem
 flagged name f c true [] = wrong name
 flagged name f c true (w ∷ ws) = flagged name f c false ws
 flagged name f c false [] = counted name c 0
-flagged name f c false (w ∷ ws) = by_word name f c (length ws) (λ due. flagged name f c due ws) w.value
+flagged name f c false (w ∷ ws) = option_and_then (λ text. by_role name c (length ws) (λ due. flagged name f c due ws) text (flag_role f text)) w.value
 
 abbrev pub by_flags : List ℕ → Count → List Placed → Option Flags → Option Problem
 by_flags name c args None = counted name c (length args)

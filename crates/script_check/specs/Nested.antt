@@ -1,5 +1,5 @@
 -- The scripts that stand in the words of a command: those that its arguments are, and those in brackets.
-use Rattle.std.specs.Prelude.{ℕ, Bool, ◌&&◌, List, [], ◌∷◌, ◌++◌, length, drop, Option, Some, None, Result, Ok, Err, bytes_eq, if◌then◌else◌}
+use Rattle.std.specs.Prelude.{ℕ, Bool, ◌&&◌, List, [], ◌∷◌, ◌++◌, length, drop, Option, Some, None, option_and_then, Result, Ok, Err, bytes_eq, if◌then◌else◌}
 use Rattle.std.specs.List.{list_any}
 use Rattle.tcl_words.specs.Bytes as ascii
 use Rattle.tcl_expr.specs.declared.faults.ExprFault.{ExprFault}
@@ -42,13 +42,9 @@ written_at source s text =
     else if begins_with ascii.quote (part source s) && bytes_eq (part source (inside s)) text then Some (inside s)
     else None
 
-abbrev pub as_written : List ℕ → Span → Option (List ℕ) → Option Span
-as_written source s None = None
-as_written source s (Some text) = written_at source s text
-
 -- the stretch of the script that a word is
 abbrev pub script_at : List ℕ → Placed → Option Span
-script_at source w = if is_braced source w then Some (inside w.span) else as_written source w.span w.value
+script_at source w = if is_braced source w then Some (inside w.span) else option_and_then (written_at source w.span) w.value
 
 abbrev pub script_or_brackets : List ℕ → Span → Option Span → List Span
 script_or_brackets source s None = brackets_in source s
@@ -75,8 +71,7 @@ stage_by args None = texts
 stage_by args (Some c) = if any_expanded args then texts else begin (row_of c).words (length args)
 
 abbrev pub stage_for : Option (List ℕ) → List Placed → Stage
-stage_for None args = texts
-stage_for (Some name) args = stage_by args (command_of name)
+stage_for name args = stage_by args (option_and_then command_of name)
 
 -- the scripts in the words of a command, in order
 abbrev pub scripts_of : List ℕ → List Placed → List Span

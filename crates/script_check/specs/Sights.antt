@@ -1,5 +1,5 @@
 -- What is seen of a script and of those that stand in it: what is wrong, and which procedures are defined.
-use Rattle.std.specs.Prelude.{ℕ, zero, suc, List, [], ◌∷◌, ◌++◌, length, Option, Some, None, Result, Ok, Err, if◌then◌else◌}
+use Rattle.std.specs.Prelude.{ℕ, zero, suc, List, [], ◌∷◌, ◌++◌, length, Option, Some, None, option_map, option_to_list, Result, Ok, Err, if◌then◌else◌}
 use Rattle.std.specs.List.{flat_map}
 use Rattle.tcl_expr.specs.declared.faults.ExprFault.{ExprFault}
 use Rattle.tcl_expr.specs.declared.faults.ExprFault.TheVariants as expr
@@ -59,17 +59,9 @@ by_fault at s args None = formula_sights at s args
 abbrev pub judged : ℕ → Commands → List ℕ → List Placed → List Sight
 judged at c name args = if any_expanded args then [] else by_fault at (begin (row_of c).words (length args)) args (fault_of c name args)
 
-abbrev pub procedure_named : Option (List ℕ) → List Sight
-procedure_named None = []
-procedure_named (Some name) = Defines name ∷ []
-
-abbrev pub procedure : List Placed → List Sight
-procedure [] = []
-procedure (name ∷ args) = procedure_named name.value
-
 -- what a `proc` defines
 abbrev pub defined : Commands → List Placed → List Sight
-defined (Tcl tcl.Proc) args = procedure args
+defined (Tcl tcl.Proc) (name ∷ args) = option_to_list (option_map Defines name.value)
 defined other args = []
 
 abbrev pub by_command : ℕ → List ℕ → List Placed → Option Commands → List Sight
@@ -85,13 +77,9 @@ abbrev pub own : ℕ → List Placed → List Sight
 own at [] = []
 own at (name ∷ args) = named at args name.value
 
-abbrev pub ending : Option Finding → List Sight
-ending None = []
-ending (Some f) = Finds f ∷ []
-
 -- the scripts in a command's words stand behind where it begins; `inner` is what is seen of one
 abbrev pub command_sights : (Span → List Sight) → List ℕ → ℕ → List Placed × Option Finding → List Sight
-command_sights inner source at spread = own at spread.0 ++ flat_map inner (scripts_of source spread.0) ++ ending spread.1
+command_sights inner source at spread = own at spread.0 ++ flat_map inner (scripts_of source spread.0) ++ option_to_list (option_map Finds spread.1)
 
 -- the arguments of an `expect` may stand in a list of them
 abbrev pub reading_sights : (Span → List Sight) → List ℕ → Reading → List Sight
