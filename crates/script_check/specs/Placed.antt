@@ -1,10 +1,10 @@
 -- The words of a command, where they stand in the source.
-use Rattle.std.specs.Prelude.{ℕ, ◌-◌, ◌==◌, Bool, false, ◌&&◌, ◌||◌, if◌then◌else◌, List, [], ◌∷◌, drop, Option, Some, None, Ok, Err, bytes_eq}
+use Rattle.std.specs.Prelude.{ℕ, ◌-◌, ◌==◌, Bool, false, ◌&&◌, ◌||◌, if◌then◌else◌, List, [], ◌∷◌, drop, Option, Some, None, option_map, unwrap_or, Ok, Err, bytes_eq}
 use Rattle.tcl_words.specs.Bytes as ascii
 use Rattle.tcl_words.specs.Commands.{is_blank, ends_command, is_continued, is_gap}
 use Rattle.tcl_words.specs.Course.{reading}
 use Rattle.tcl_words.specs.Operands.{Operand, operand}
-use Rattle.tcl_words.specs.Pieces.{Piece, literal, variable, member, script, Pieces, no_pieces, piece, Spelled}
+use Rattle.tcl_words.specs.Pieces.{Piece, literal, Pieces, no_pieces, piece, Spelled}
 use Rattle.script_check.specs.declared.placed.Lead.{Lead as Leads}
 use Rattle.script_check.specs.declared.placed.Lead.TheVariants as lead
 use Rattle.script_check.specs.declared.placed.Placed.{Placed}
@@ -29,14 +29,10 @@ next_lead first lead.White b bytes =
     else if b == ascii.hash && first then Some lead.Comment
     else None
 
-abbrev pub or_here : List ℕ → (Leads → List ℕ) → Option Leads → List ℕ
-or_here text on None = text
-or_here text on (Some l) = on l
-
 -- what is left behind what stands before a word
 abbrev pub behind_gap : Bool → Leads → List ℕ → List ℕ
 behind_gap first l [] = []
-behind_gap first l (b ∷ bytes) = or_here (b ∷ bytes) (λ next. behind_gap first next bytes) (next_lead first l b bytes)
+behind_gap first l (b ∷ bytes) = unwrap_or (option_map (λ next. behind_gap first next bytes) (next_lead first l b bytes)) (b ∷ bytes)
 
 -- how many bytes the operand at the front of a text takes: `$..`, `[..]`, `".."` or `{..}`; 1 where there is none
 abbrev pub taken : Operand → ℕ
@@ -69,9 +65,7 @@ behind_word expand text = behind_plain (drop (mark expand) text)
 -- what a part is, where it is a literal
 abbrev pub literal_alone : Piece → Option (List ℕ)
 literal_alone (literal text) = Some text
-literal_alone (variable name) = None
-literal_alone (member name index) = None
-literal_alone (script text) = None
+literal_alone other = None
 
 -- a word of one literal, or of nothing
 abbrev pub plain_pieces : Pieces → Option (List ℕ)

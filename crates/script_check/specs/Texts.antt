@@ -11,15 +11,6 @@ abbrev pub instead_text : List ℕ → List ℕ → List ℕ
 instead_text text [] = text
 instead_text text (b ∷ bytes) = (text ++ codes ": ") ++ b ∷ bytes
 
-abbrev pub bad_flag : List ℕ → List ℕ
-bad_flag word = quoted (codes "bad flag ") word
-
-abbrev pub bad_expect_flag : List ℕ → List ℕ
-bad_expect_flag word = quoted (codes "bad expect flag ") word
-
-abbrev pub bad_regular : List ℕ → List ℕ
-bad_regular pattern = quoted (codes "bad regular expression ") pattern
-
 abbrev pub no_command : List ℕ → List ℕ
 no_command name = instead_text (quoted (codes "invalid command name ") name) (advice_for name)
 
@@ -28,9 +19,9 @@ text_of (Malformed fault) = word_fault fault
 text_of (NoCommand name) = no_command name
 text_of (WrongArgs name) = wrong_args name
 text_of (BadOption word) = bad_option word
-text_of (BadFlag word) = bad_flag word
-text_of (BadExpectFlag word) = bad_expect_flag word
-text_of (BadRegular word) = bad_regular word
+text_of (BadFlag word) = quoted (codes "bad flag ") word
+text_of (BadExpectFlag word) = quoted (codes "bad expect flag ") word
+text_of (BadRegular pattern) = quoted (codes "bad regular expression ") pattern
 text_of (BadExpression text) = expr_fault text expr.Syntax
 text_of DeepExpression = expr_fault [] expr.TooDeep
 text_of TooDeep = too_deep
