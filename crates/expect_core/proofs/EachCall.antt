@@ -1,188 +1,214 @@
 -- Each call with an event more comes to what it came to, or goes on where it waited.
-use Rattle.std.proofs.Common.{◌≡◌, ℕ, ◌+◌, List, [], ◌∷◌, length, Bool, true, false, Option, Some, None, Ok, Err, refl, ap, ◌∙◌}
-use Rattle.std.specs.Prelude.{if◌then◌else◌, nat_lt, codes}
-use Rattle.std.specs.Str.{bytes_eq}
-use Rattle.std.specs.Fmt.{decimal}
-use Rattle.child_events.specs.declared.event.Cause.{Cause}
+use Rattle.std.proofs.Common.{◌≡◌, ℕ, zero, suc, ◌<◌, List, [], ◌∷◌, ◌++◌, length, Bool, true, false, Option, Some, None, ◌⊎◌, inl, inr, refl, sym, ap, ◌∙◌, max, arith}
+use Rattle.std.specs.Prelude.{if◌then◌else◌}
+use Rattle.child_events.specs.declared.event.Answer.{Answer}
 use Rattle.child_events.specs.declared.event.Event.{Event}
-use Rattle.tty.specs.declared.action.Action.{Action}
+use Rattle.child_events.specs.World.{moment_of}
 use Rattle.tty.specs.Sends.{handed_by, line_after, echo_of}
 use Rattle.tcl_subst.specs.Variables.{Variables}
-use Rattle.tcl_commands.specs.declared.code.Code.{Code}
-use Rattle.tcl_commands.specs.declared.code.Code.TheVariants as code
 use Rattle.tcl_commands.specs.Said.{Said}
+use Rattle.tcl_host.specs.declared.host.HostStep.TheVariants as step
+use Rattle.tcl_host.specs.declared.ending.Ending.TheVariants.{TimeLimit}
 use Rattle.tcl_host.specs.Calls.{Call, Begin, Resume, AfterWords, AfterBody, Knows}
+use Rattle.expect_core.specs.declared.lanes.Lane.{Lane}
 use Rattle.expect_core.specs.declared.name.Name.{Name}
-use Rattle.expect_core.specs.declared.name.Name.TheVariants as name
-use Rattle.expect_core.specs.declared.request.Act.TheVariants as act
-use Rattle.expect_core.specs.declared.child.Standing.TheVariants as standing
 use Rattle.expect_core.specs.declared.plan.Plan.{Plan}
-use Rattle.expect_core.specs.declared.phase.Purpose.{Purpose}
-use Rattle.expect_core.specs.declared.phase.Purpose.TheVariants as purpose
 use Rattle.expect_core.specs.declared.phase.Phase.{Phase}
-use Rattle.expect_core.specs.declared.phase.Phase.TheVariants as phase
-use Rattle.expect_core.specs.declared.order.Order.{Order}
+use Rattle.expect_core.specs.declared.phase.Phase.TheVariants.{Idle, At}
+use Rattle.expect_core.specs.declared.phase.Heard.TheVariants.{Match, Full, TimedOut, OverLimit, NotYet, Ended, Failed}
+use Rattle.expect_core.specs.declared.turn.Deed.{Deed}
+use Rattle.expect_core.specs.declared.turn.Reply.{Reply}
+use Rattle.expect_core.specs.declared.turn.Reply.TheVariants.{Done, Fail}
+use Rattle.expect_core.specs.declared.turn.Want.{Want}
+use Rattle.expect_core.specs.declared.turn.Want.TheVariants as want
+use Rattle.expect_core.specs.declared.turn.Stage.{Stage}
+use Rattle.expect_core.specs.declared.turn.Stage.TheVariants.{Over, Act, Look, Send as SendText, Wait}
+use Rattle.expect_core.specs.declared.turn.Turn.{Turn}
+use Rattle.expect_core.specs.declared.own.Own.{Own}
 use Rattle.expect_core.specs.declared.dialogue.Dialogue.{Dialogue}
-use Rattle.expect_core.specs.Lanes.{offered}
-use Rattle.expect_core.specs.Owned.{child_of, standing_as, with_line, asked, awaited_once}
-use Rattle.expect_core.specs.Scoped.{Unset}
-use Rattle.expect_core.specs.Sides.{still_open}
-use Rattle.expect_core.specs.Heard.{deadline_from}
-use Rattle.expect_core.specs.Answered.{Outcome, idle, on_said, owning, failure}
-use Rattle.expect_core.specs.Spawning.{announced, current, stored, started, with_new, spawning_as, order_of}
-use Rattle.expect_core.specs.Sending.{act_of, counted, sent_by, handing, echoed, sending_to, send_of}
-use Rattle.expect_core.specs.Expecting.{listed, plan_of, expecting, again, behind, shut}
-use Rattle.expect_core.specs.Again.{continued}
-use Rattle.expect_core.specs.Ends.{closed_by, close_of, wait_of}
-use Rattle.expect_core.specs.Transcript.{put_of, to_user, writing, logging_as, logging}
-use Rattle.expect_core.specs.Options.{option_of, size_of, sizing_at, removal_of, removing_at}
-use Rattle.expect_core.specs.Texts.{id_at}
-use Rattle.expect_core.specs.Calls.{name_of, expecting_by, named, begun, resuming, outcome, onward}
+use Rattle.expect_core.specs.Lanes.{lane_of, with_answers, arrived, offered}
+use Rattle.expect_core.specs.Owned.{child_of, with_line, at_moment}
+use Rattle.expect_core.specs.Heard.{at_most, Listened, listen, look}
 use Rattle.expect_core.specs.Good.{Good}
-use Rattle.expect_core.proofs.Answering.{Settles, awaited_onward}
-use Rattle.expect_core.proofs.Waiting.{ended_onward, broken_onward, listening_onward, looking_onward}
+use Rattle.expect_core.specs.Answered.{Outcome, idle, owning, failure, first_answer}
+use Rattle.expect_core.specs.Effects.{Performed, performed}
+use Rattle.expect_core.specs.Turns.{at, doing}
+use Rattle.expect_core.specs.Sending.{typed, handing}
+use Rattle.expect_core.specs.Expecting.{expecting, behind, ended}
+use Rattle.expect_core.specs.Running.{To, step_of, answered, concluded, on_answer, awaited, waited_for, staged, turned, run, turns, resuming}
+use Rattle.expect_core.specs.Calls.{name_of, named, filling, filled, began, begun, outer, outcome, onward, resumed}
+use Rattle.expect_core.proofs.Times.{past}
+use Rattle.expect_core.proofs.LaneFacts.{IsBeyond, within, answers_twice}
+use Rattle.expect_core.proofs.Growing.{IsLaterAnswer, MoreAnswers, more_answers, Fits, answers_there}
+use Rattle.expect_core.proofs.Listening.{on_more, listen_more, look_more}
 use Rattle.expect_core.proofs.Echoes.{echoed_onward}
+use Rattle.expect_core.proofs.Goodness.{answer_good, typed_good, performed_good, GoodIn, waits_good}
+use Rattle.expect_core.proofs.Keeping.{Kept as WaitKept}
 
 module _ (e : Event) where
-  either : (b : Bool) (x' y' x y : Outcome) → x' ≡ onward e x → y' ≡ onward e y → (if b then x' else y') ≡ onward e (if b then x else y)
-  either true x' y' x y same other = same
-  either false x' y' x y same other = other
+  -- what follows is the same with an event more
+  abbrev Goes : To → Type 0
+  Goes to = (t : Turn) (vars : Variables) (st : Dialogue) → Good (idle st) → to t vars (offered e (idle st)) ≡ onward e (to t vars (idle st))
 
-  said_onward : {X : Type 0} (r : Said X) (vars : Variables) (st : Dialogue) (more' more : X → Outcome) → ((x : X) → more' x ≡ onward e (more x)) → on_said r vars (offered e st) more' ≡ onward e (on_said r vars st more)
-  said_onward (Ok x) vars st more' more same = same x
-  said_onward (Err text) vars st more' more same = refl
+  -- waits for a pattern
 
-  -- spawn
+  module _ (n : ℕ) (goes : Goes (run n)) (p : Plan) (vars : Variables) (st : Dialogue) where
+    abbrev h : ℕ
+    h = max st.horizon (moment_of e)
 
-  stored_onward : (value : List ℕ) (r : Variables × Unset) (st : Dialogue) → stored value r (offered e (idle st)) ≡ onward e (stored value r (idle st))
-  stored_onward value (vars, None) st = refl
-  stored_onward value (vars, Some f) st = refl
+    -- what a wait for a pattern leaves is no later than the horizon
+    abbrev Fine : Listened → Type 0
+    Fine r = WaitKept st.limit st.horizon p (GoodIn st.horizon) r
 
-  started_onward : (i : ℕ) (words : List (List ℕ)) (vars : Variables) (c : Option Cause) (st : Dialogue) → started i words vars c (offered e (idle st)) ≡ onward e (started i words vars c (idle st))
-  started_onward i words vars None st = stored_onward (decimal (i + 1)) (current (id_at i) vars) (owning (standing_as standing.Open i st.own) st)
-  started_onward i words vars (Some c) st = refl
+    concluded_onward : (r : Listened) → Fine r → concluded (run n) n p (on_more e st.limit h p r) vars (offered e (idle st)) ≡ onward e (concluded (run n) n p r vars (idle st))
+    concluded_onward (NotYet, lanes, o) fine = refl
+    concluded_onward (OverLimit, lanes, o) fine = refl
+    concluded_onward (TimedOut d, lanes, o) fine = goes _ vars (record st { lanes = lanes; own = record o { clock = d } }) (record { clock = fine.2; lanes = fine.0.0 })
+    concluded_onward (Match i m spans, lanes, o) fine = goes _ vars (record st { lanes = lanes; own = o }) (record { clock = fine.0.1; lanes = fine.0.0 })
+    concluded_onward (Full i, lanes, o) fine = goes _ vars (record st { lanes = lanes; own = o }) (record { clock = fine.0.1; lanes = fine.0.0 })
+    concluded_onward (Ended i, lanes, o) fine = goes _ vars (record st { lanes = lanes; own = o }) (record { clock = fine.0.1; lanes = fine.0.0 })
+    concluded_onward (Failed i c, lanes, o) fine = goes _ vars (record st { lanes = lanes; own = o }) (record { clock = fine.0.1; lanes = fine.0.0 })
 
-  spawned_onward : (i : ℕ) (words : List (List ℕ)) (vars : Variables) → Settles e i (purpose.Spawn words) vars
-  spawned_onward i words vars a st = started_onward i words vars (failure a) st
+    listening_onward : Good (idle st) → waited_for (run n) n (want.Output p) vars (offered e (idle st)) ≡ onward e (waited_for (run n) n (want.Output p) vars (idle st))
+    listening_onward g =
+        ap (λ (r : Listened). concluded (run n) n p r vars (offered e (idle st))) (listen_more e st.limit st.horizon h p (omega arith) st.lanes st.own)
+        ∙ concluded_onward (listen st.limit st.horizon p st.lanes st.own) (waits_good p (idle st) g).1
 
-  spawning_as_onward : (order : Order) (vars : Variables) (st : Dialogue) → spawning_as order vars (offered e (idle st)) ≡ onward e (spawning_as order vars (idle st))
-  spawning_as_onward order vars st =
-      let i : ℕ = length st.own.children in
-      either (nat_lt i 16) _ _ _ _
-      (awaited_onward e i (purpose.Spawn order.words) vars (owning (asked i (act.Spawn order.words) (announced order.quiet order.words (with_new i order.modes st.own))) st) (spawned_onward i order.words vars))
-      refl
+    looking_onward : Good (idle st) → staged (run n) n (Look p) vars (offered e (idle st)) ≡ onward e (staged (run n) n (Look p) vars (idle st))
+    looking_onward g =
+        ap (λ (r : Listened). concluded (run n) n p r vars (offered e (idle st))) (look_more e st.limit st.horizon h p (omega arith) st.lanes st.own)
+        ∙ concluded_onward (look st.limit st.horizon p st.lanes st.own) (waits_good p (idle st) g).0
 
-  -- send
+  -- waits for an answer
 
-  sent_onward : (i : ℕ) (a : Action) (vars : Variables) (more : Dialogue → Outcome) (c : Option Cause) (st : Dialogue) → ((st : Dialogue) → more (offered e (idle st)) ≡ onward e (more (idle st))) → sent_by i a vars more c (offered e (idle st)) ≡ onward e (sent_by i a vars more c (idle st))
-  sent_onward i a vars more None st same = same (owning (counted i a st.own) st)
-  sent_onward i a vars more (Some c) st same = refl
+  module _ (n : ℕ) (goes : Goes (run n)) (w : Want) (i : ℕ) (made : Answer → Own → Turn) (vars : Variables) (st : Dialogue) (g : Good (idle st))
+      (waits : (st : Dialogue) → waited_for (run n) n w vars st ≡ awaited (run n) n w i made vars st) where
+    abbrev First : Type 0
+    First = Option (ℕ × Answer) × List (ℕ × Answer)
 
-  handing_onward : (i : ℕ) (acts : List Action) (vars : Variables) (st : Dialogue) → handing i acts vars (offered e (idle st)) ≡ onward e (handing i acts vars (idle st))
-  handing_onward i [] vars st = refl
-  handing_onward i (a ∷ rest) vars st =
-      awaited_onward e i (purpose.Send a rest) vars (owning (asked i (act_of a) st.own) st)
-      (λ answer st'. sent_onward i a vars (handing i rest vars) (failure answer) st' (λ st. handing_onward i rest vars st))
+    abbrev now : ℕ
+    now = max st.horizon (moment_of e)
 
-  sending_to_onward : (i : ℕ) (text : List ℕ) (vars : Variables) (st : Dialogue) → Good st → sending_to i text vars (offered e (idle st)) ≡ onward e (sending_to i text vars (idle st))
-  sending_to_onward i text vars st g =
+    abbrev after : List Lane
+    after = arrived e now st.lanes
+
+    more : MoreAnswers i now st.lanes after (arrived e now)
+    more = more_answers i now st.lanes e
+
+    -- what a first answer comes to
+    abbrev come : First → Dialogue → Outcome
+    come x st' = on_answer (run n) n w made x.0 vars (record st' { lanes = with_answers i x.1 st'.lanes })
+
+    -- a call that waits, with so many answers left
+    abbrev suspended : List (ℕ × Answer) → Dialogue
+    suspended left = record st { lanes = with_answers i left st.lanes; phase = At n w }
+
+    abbrev waiting_or_over : Bool → Dialogue → Outcome
+    waiting_or_over b st' = if b then (step.Wait, vars, record st' { phase = At n w }) else (step.Stop TimeLimit, vars, st')
+
+    lanes_same : (left l : List (ℕ × Answer)) → with_answers i l after ≡ with_answers i l (arrived e now (with_answers i left st.lanes))
+    lanes_same left l = sym (answers_twice i (left ++ more.more) l after) ∙ ap (with_answers i l) (more.put left)
+
+    same_by : (left : List (ℕ × Answer)) (x : First) → come x (offered e (idle st)) ≡ come x (idle (offered e (suspended left)))
+    same_by left x = ap (λ (ls : List Lane). on_answer (run n) n w made x.0 vars (record (offered e (idle st)) { lanes = ls })) (lanes_same left x.1)
+
+    -- it goes on with what is left and what came
+    goes_on : (left : List (ℕ × Answer)) → Fits i left st.lanes → come (first_answer st.limit (left ++ more.more)) (offered e (idle st)) ≡ resumed vars (offered e (suspended left))
+    unfolding more
+    goes_on left fits =
+        same_by left (first_answer st.limit (left ++ more.more))
+        ∙ ap (λ (l : List (ℕ × Answer)). come (first_answer st.limit l) (idle (offered e (suspended left)))) (sym (answers_there i e now st.lanes left fits))
+        ∙ sym (waits (idle (offered e (suspended left))))
+
+    none_left : (left : List (ℕ × Answer)) → Fits i left st.lanes → (b : Bool) → at_most st.horizon st.limit ≡ b → (b ≡ false → first_answer st.limit (left ++ more.more) ≡ (None, left ++ more.more)) →
+        come (first_answer st.limit (left ++ more.more)) (offered e (idle st)) ≡ onward e (come (None, left) (idle st))
+    none_left left fits true same none =
+        goes_on left fits ∙ sym (ap (λ (b : Bool). onward e (waiting_or_over b (record (idle st) { lanes = with_answers i left st.lanes }))) same)
+    none_left left fits false same none =
+        ap (λ (x : First). come x (offered e (idle st))) (none refl)
+        ∙ ap (λ (b : Bool). waiting_or_over b (record (offered e (idle st)) { lanes = with_answers i (left ++ more.more) after })) (past st.limit st.horizon now same (omega arith))
+        ∙ ap (λ (ls : List Lane). waiting_or_over false (record (offered e (idle st)) { lanes = ls })) (more.put left)
+        ∙ sym (ap (λ (b : Bool). onward e (waiting_or_over b (record (idle st) { lanes = with_answers i left st.lanes }))) same)
+
+    late_answer : (l : List (ℕ × Answer)) → IsLaterAnswer now l → at_most st.horizon st.limit ≡ false → first_answer st.limit l ≡ (None, l)
+    late_answer [] later out = refl
+    late_answer (a ∷ l) later out = ap (λ (b : Bool). let r : First = (if b then (Some a, l) else (None, a ∷ l)) in r) (past st.limit st.horizon a.0 out (omega (arith, later)))
+
+    answer_by : (a : ℕ × Answer) (l : List (ℕ × Answer)) → (lane_of i st.lanes).answers ≡ a ∷ l → Fits i (a ∷ l) st.lanes → (b : Bool) → at_most a.0 st.limit ≡ b →
+        come (first_answer st.limit (a ∷ l ++ more.more)) (offered e (idle st)) ≡ onward e (come (first_answer st.limit (a ∷ l)) (idle st))
+    answer_by a l is fits true same =
+        ap (λ (b : Bool). come (let r : First = (if b then (Some a, l ++ more.more) else (None, a ∷ l ++ more.more)) in r) (offered e (idle st))) same
+        ∙ ap (λ (ls : List Lane). run n (made a.1 (at_moment a.0 st.own)) vars (owning (at_moment a.0 st.own) (record (offered e (idle st)) { lanes = ls }))) (more.put l)
+        ∙ goes (made a.1 (at_moment a.0 st.own)) vars (record st { lanes = with_answers i l st.lanes; own = at_moment a.0 st.own }) (answer_good i a l (idle st) is g)
+        ∙ sym (ap (λ (b : Bool). onward e (come (let r : First = (if b then (Some a, l) else (None, a ∷ l)) in r) (idle st))) same)
+    answer_by a l is fits false same =
+        none_left (a ∷ l) fits (at_most st.horizon st.limit) refl (λ n. ap (λ (b : Bool). let r : First = (if b then (Some a, l ++ more.more) else (None, a ∷ l ++ more.more)) in r) same)
+        ∙ sym (ap (λ (b : Bool). onward e (come (let r : First = (if b then (Some a, l) else (None, a ∷ l)) in r) (idle st))) same)
+
+    by_answers : (l : List (ℕ × Answer)) → (lane_of i st.lanes).answers ≡ l → Fits i l st.lanes → come (first_answer st.limit (l ++ more.more)) (offered e (idle st)) ≡ onward e (come (first_answer st.limit l) (idle st))
+    by_answers [] is fits = none_left [] fits (at_most st.horizon st.limit) refl (λ out. late_answer more.more more.later out)
+    by_answers (a ∷ l) is fits = answer_by a l is fits (at_most a.0 st.limit) refl
+
+    fitting : (i < length st.lanes) ⊎ IsBeyond i st.lanes → Fits i (lane_of i st.lanes).answers st.lanes
+    fitting (inl lt) = inl lt
+    fitting (inr b) = inr (b, ap (λ (l : Lane). l.answers) b.none)
+
+    awaited_onward : awaited (run n) n w i made vars (offered e (idle st)) ≡ onward e (awaited (run n) n w i made vars (idle st))
+    awaited_onward =
+        ap (λ (l : List (ℕ × Answer)). come (first_answer st.limit l) (offered e (idle st))) more.read
+        ∙ by_answers (lane_of i st.lanes).answers refl (fitting (within i st.lanes))
+
+  waited_onward : (n : ℕ) → Goes (run n) → (w : Want) (vars : Variables) (st : Dialogue) → Good (idle st) → waited_for (run n) n w vars (offered e (idle st)) ≡ onward e (waited_for (run n) n w vars (idle st))
+  waited_onward n goes (want.Answer i why) vars st g = awaited_onward n goes (want.Answer i why) i (λ a o. at i (answered why i a o)) vars st g (λ st. refl)
+  waited_onward n goes (want.End i p) vars st g = awaited_onward n goes (want.End i p) i (λ a o. ended p i (failure a) o) vars st g (λ st. refl)
+  waited_onward n goes (want.Output p) vars st g = listening_onward n goes p vars st g
+
+  -- turns
+
+  over_onward : (reply : Reply) (vars : Variables) (st : Dialogue) → (let r : Outcome = (step_of reply, vars, offered e st) in r) ≡ onward e (step_of reply, vars, st)
+  over_onward (Done c value) vars st = refl
+  over_onward (Fail text) vars st = refl
+
+  staged_onward : (n : ℕ) → Goes (run n) → (s : Stage) (vars : Variables) (st : Dialogue) → Good (idle st) → staged (run n) n s vars (offered e (idle st)) ≡ onward e (staged (run n) n s vars (idle st))
+  staged_onward n goes (Over reply) vars st g = over_onward reply vars (idle st)
+  staged_onward n goes (Act p m) vars st g = refl
+  staged_onward n goes (Look p) vars st g = looking_onward n goes p vars st g
+  staged_onward n goes (SendText i text) vars st g =
       let line = (child_of i st.own).line in
-      let acts : List Action = (handed_by line text).actions in
-      ap (λ (x : Dialogue). handing i acts vars (owning (with_line i (line_after line text) st.own) x)) (echoed_onward e i (echo_of line text) (idle st) (record { clock = g.clock; lanes = g.lanes }))
-      ∙ handing_onward i acts vars (owning (with_line i (line_after line text) st.own) (echoed i (echo_of line text) st))
+      let t : Turn = at i (handing (handed_by line text).actions) in
+      ap (λ (x : Dialogue). run n t vars (owning (with_line i (line_after line text) st.own) x)) (echoed_onward e i (echo_of line text) (idle st) g)
+      ∙ goes t vars (typed i text st) (typed_good i text (idle st) g)
+  staged_onward n goes (Wait w) vars st g = waited_onward n goes w vars st g
 
-  -- what answers come to
+  turned_onward : (n : ℕ) → Goes (run n) → (s : Stage) (r : Performed) (st : Dialogue) → Good (owning r.2 (idle st)) → turned (run n) n s r (offered e (idle st)) ≡ onward e (turned (run n) n s r (idle st))
+  turned_onward n goes s (None, vars, o) st g = staged_onward n goes s vars (owning o st) g
+  turned_onward n goes s (Some text, vars, o) st g = refl
 
-  closed_onward : (vars : Variables) (c : Option Cause) (st : Dialogue) → closed_by vars c (offered e (idle st)) ≡ onward e (closed_by vars c (idle st))
-  closed_onward vars None st = refl
-  closed_onward vars (Some c) st = refl
+  run_onward : (n : ℕ) → Goes (run n)
+  run_onward zero t vars st g = refl
+  run_onward (suc n) t vars st g = turned_onward n (run_onward n) t.stage (performed t.child t.effects vars st.own) st (performed_good t.child t.effects vars (idle st) g)
 
-  pub settles : (i : ℕ) (why : Purpose) (vars : Variables) → Settles e i why vars
-  settles i (purpose.Spawn words) vars a st = spawned_onward i words vars a st
-  settles i (purpose.Send x rest) vars a st = sent_onward i x vars (handing i rest vars) (failure a) st (λ st. handing_onward i rest vars st)
-  settles i purpose.Close vars a st = closed_onward vars (failure a) (shut i st)
-  settles i purpose.Wait vars a st = refl
-  settles i (purpose.End p) vars a st = ended_onward e i p vars a st
-  settles i (purpose.Fail c) vars a st = broken_onward e i c vars a st
+  resuming_onward : (f : Phase) (vars : Variables) (st : Dialogue) → Good (idle st) → resuming f vars (offered e (idle st)) ≡ onward e (resuming f vars (idle st))
+  resuming_onward Idle vars st g = refl
+  resuming_onward (At n w) vars st g = waited_onward n (run_onward n) w vars st g
 
-  resuming_onward : (f : Phase) (vars : Variables) (st : Dialogue) → resuming f vars (offered e (idle st)) ≡ onward e (resuming f vars (idle st))
-  resuming_onward phase.Idle vars st = refl
-  resuming_onward (phase.Answer i why) vars st = awaited_onward e i why vars st (settles i why vars)
-  resuming_onward (phase.Expect p) vars st = listening_onward e p vars st
+  filled_onward : (text : Option (List ℕ)) (said : Said Deed) (vars : Variables) (st : Dialogue) → Good (idle st) → filled text said vars (offered e (idle st)) ≡ onward e (filled text said vars (idle st))
+  filled_onward None said vars st g = run_onward turns (doing said) vars st g
+  filled_onward (Some text) said vars st g = refl
 
-  -- the other commands
+  began_onward : (n : Option Name) (word : List ℕ) (args : List (List ℕ)) (vars : Variables) (st : Dialogue) → Good (idle st) → began n word args vars (offered e (idle st)) ≡ onward e (began n word args vars (idle st))
+  began_onward None word args vars st g = refl
+  began_onward (Some n) word args vars st g = filled_onward (filling n args) (named n word args vars st.own) vars st g
 
-  expecting_onward : (args : List (List ℕ)) (vars : Variables) (st : Dialogue) → expecting args vars (offered e (idle st)) ≡ onward e (expecting args vars (idle st))
-  expecting_onward args vars st = said_onward (plan_of args vars st.own) vars (idle st) _ _ (λ p. looking_onward e p vars st)
-
-  expecting_by_onward : (list : Option (List ℕ)) (args : List (List ℕ)) (vars : Variables) (st : Dialogue) → expecting_by list args vars (offered e (idle st)) ≡ onward e (expecting_by list args vars (idle st))
-  expecting_by_onward None args vars st = expecting_onward args vars st
-  expecting_by_onward (Some text) args vars st = refl
-
-  writing_onward : (said : Said (List ℕ)) (vars : Variables) (st : Dialogue) → writing said vars (offered e (idle st)) ≡ onward e (writing said vars (idle st))
-  writing_onward (Ok text) vars st = refl
-  writing_onward (Err text) vars st = refl
-
-  sizing_at_onward : (at : Option ℕ) (text : Option (List ℕ)) (vars : Variables) (st : Dialogue) → sizing_at at text vars (offered e (idle st)) ≡ onward e (sizing_at at text vars (idle st))
-  sizing_at_onward at None vars st = refl
-  sizing_at_onward at (Some text) vars st = said_onward (size_of text) vars (idle st) _ _ (λ new. refl)
-
-  removing_at_onward : (at : Option ℕ) (text : Option (List ℕ)) (vars : Variables) (st : Dialogue) → removing_at at text vars (offered e (idle st)) ≡ onward e (removing_at at text vars (idle st))
-  removing_at_onward at None vars st = refl
-  removing_at_onward at (Some text) vars st = said_onward (removal_of text) vars (idle st) _ _ (λ new. refl)
-
-  logging_as_onward : (w : List ℕ) (vars : Variables) (st : Dialogue) → logging_as w vars (offered e (idle st)) ≡ onward e (logging_as w vars (idle st))
-  logging_as_onward w vars st =
-      either (bytes_eq w (codes "0")) _ _ _ _ refl
-      (either (bytes_eq w (codes "1")) _ _ _ _ refl
-      (either (bytes_eq w (codes "-info")) _ _ _ _ refl refl))
-
-  logging_onward : (word : List ℕ) (args : List (List ℕ)) (vars : Variables) (st : Dialogue) → logging word args vars (offered e (idle st)) ≡ onward e (logging word args vars (idle st))
-  logging_onward word [] vars st = refl
-  logging_onward word (w ∷ []) vars st = logging_as_onward w vars st
-  logging_onward word (w ∷ other ∷ more) vars st = refl
-
-  named_onward : (n : Option Name) (word : List ℕ) (args : List (List ℕ)) (vars : Variables) (st : Dialogue) → Good st → named n word args vars (offered e (idle st)) ≡ onward e (named n word args vars (idle st))
-  named_onward None word args vars st g = refl
-  named_onward (Some name.Spawn) word args vars st g = said_onward (order_of word args vars) vars (idle st) _ _ (λ order. spawning_as_onward order vars st)
-  named_onward (Some name.Send) word args vars st g = said_onward (send_of word args vars st.own) vars (idle st) _ _ (λ s. sending_to_onward s.0 s.1 vars st g)
-  named_onward (Some name.SendUser) word args vars st g = writing_onward (to_user word args) vars st
-  named_onward (Some name.Expect) word args vars st g = expecting_by_onward (listed args) args vars st
-  named_onward (Some name.ExpContinue) word args vars st g = said_onward (continued word args) vars (idle st) _ _ (λ c. refl)
-  named_onward (Some name.Close) word args vars st g =
-      said_onward (close_of word args vars st.own) vars (idle st) _ _
-      (λ i. awaited_onward e i purpose.Close vars (owning (asked i act.Close st.own) st) (settles i purpose.Close vars))
-  named_onward (Some name.Wait) word args vars st g =
-      said_onward (wait_of word args vars st.own) vars (idle st) _ _
-      (λ i. awaited_onward e i purpose.Wait vars (owning (asked i act.Wait (awaited_once i st.own)) st) (settles i purpose.Wait vars))
-  named_onward (Some name.MatchMax) word args vars st g = said_onward (option_of word args vars st.own) vars (idle st) _ _ (λ s. sizing_at_onward s.0 s.1 vars st)
-  named_onward (Some name.RemoveNulls) word args vars st g = said_onward (option_of word args vars st.own) vars (idle st) _ _ (λ s. removing_at_onward s.0 s.1 vars st)
-  named_onward (Some name.LogUser) word args vars st g = logging_onward word args vars st
-  named_onward (Some name.Puts) word args vars st g = writing_onward (put_of word args) vars st
-
-  begun_onward : (words : List (List ℕ)) (vars : Variables) (st : Dialogue) → Good st → begun words vars (offered e (idle st)) ≡ onward e (begun words vars (idle st))
+  begun_onward : (words : List (List ℕ)) (vars : Variables) (st : Dialogue) → Good (idle st) → begun words vars (offered e (idle st)) ≡ onward e (begun words vars (idle st))
   begun_onward [] vars st g = refl
-  begun_onward (word ∷ args) vars st g = named_onward (name_of word) word args vars st g
-
-  again_onward : (p : Plan) (deadline : Option ℕ) (ps : List Plan) (vars : Variables) (st : Dialogue) → again p deadline ps vars (offered e (idle st)) ≡ onward e (again p deadline ps vars (idle st))
-  again_onward p deadline ps vars st =
-      let o = record st.own { plans = ps } in
-      said_onward (still_open p.order o) vars (idle (owning o st)) _ _ (λ all. looking_onward e (record p { deadline = deadline }) vars (owning o st))
-
-  behind_onward : (c : Code) (value : List ℕ) (ps : List Plan) (vars : Variables) (st : Dialogue) → behind c value ps vars (offered e (idle st)) ≡ onward e (behind c value ps vars (idle st))
-  behind_onward c value [] vars st = refl
-  behind_onward code.Again value (p ∷ ps) vars st = again_onward p (deadline_from st.own.clock p.span) ps vars st
-  behind_onward code.AgainLater value (p ∷ ps) vars st = again_onward p p.deadline ps vars st
-  behind_onward code.Ok value (p ∷ ps) vars st = refl
-  behind_onward code.Error value (p ∷ ps) vars st = refl
-  behind_onward code.Return value (p ∷ ps) vars st = refl
-  behind_onward code.Break value (p ∷ ps) vars st = refl
-  behind_onward code.Continue value (p ∷ ps) vars st = refl
+  begun_onward (word ∷ args) vars st g = began_onward (name_of word) word args vars st g
 
   -- the law: a call with an event more
   pub outcome_onward : (call : Call) (st : Dialogue) → Good st → outcome call (offered e st) ≡ onward e (outcome call st)
-  outcome_onward (Begin words vars) st g = begun_onward words vars st g
-  outcome_onward (Resume vars) st g = resuming_onward st.phase vars st
-  outcome_onward (AfterWords words vars) st g = expecting_onward words vars st
-  outcome_onward (AfterBody c value vars) st g = behind_onward c value st.own.plans vars st
+  outcome_onward (Begin words vars) st g = begun_onward words vars st (record { clock = g.clock; lanes = g.lanes })
+  outcome_onward (Resume vars) st g = resuming_onward st.phase vars st (record { clock = g.clock; lanes = g.lanes })
+  outcome_onward (AfterWords words vars) st g = run_onward turns (doing (expecting words vars st.own)) vars st (record { clock = g.clock; lanes = g.lanes })
+  outcome_onward (AfterBody c value vars) st g =
+      let o = record st.own { plans = outer st.own.plans } in run_onward turns (behind c value st.own.plans o) vars (owning o st) (record { clock = g.clock; lanes = g.lanes })
   outcome_onward (Knows word) st g = refl

@@ -1,5 +1,12 @@
 pub mod Times
 pub mod LaneFacts
+pub mod Resting
+pub mod Stepping
+pub mod Calling
+pub mod Speaking
+pub mod Steady
+pub mod EachCall
+pub mod Overdue
 pub mod Growing
 pub mod Listening
 pub mod Turns
@@ -8,10 +15,7 @@ pub mod Vain
 pub mod Keeping
 pub mod Siding
 pub mod Waits
-pub mod Answering
-pub mod Waiting
 pub mod Echoes
-pub mod EachCall
 pub mod Moments
 pub mod Goodness
 pub mod Fronts

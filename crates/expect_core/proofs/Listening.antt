@@ -12,7 +12,7 @@ use Rattle.exp_match.specs.declared.chosen.Chosen.TheVariants as chosen
 use Rattle.expect_core.specs.declared.lanes.Lane.{Lane}
 use Rattle.expect_core.specs.declared.plan.Plan.{Plan}
 use Rattle.expect_core.specs.declared.phase.Heard.{Heard}
-use Rattle.expect_core.specs.declared.phase.Heard.TheVariants.{Match, Full, TimedOut, OverLimit, NotYet, Ended, Failed}
+use Rattle.expect_core.specs.declared.phase.Heard.TheVariants.{NotYet}
 use Rattle.expect_core.specs.declared.own.Own.{Own}
 use Rattle.expect_core.specs.Lanes.{lane_of, with_items, arrived}
 use Rattle.expect_core.specs.Owned.{received, at_moment, trimmed}
@@ -23,12 +23,7 @@ use Rattle.expect_core.proofs.Times.{lasts}
 -- what it comes to with an event more, which came at this horizon: where nothing had come in time, it goes on
 abbrev pub on_more : Event → Option ℕ → ℕ → Plan → Listened → Listened
 on_more e limit horizon p (NotYet, lanes, o) = listen limit horizon p (arrived e horizon lanes) o
-on_more e limit horizon p (Match i n spans, lanes, o) = (Match i n spans, arrived e horizon lanes, o)
-on_more e limit horizon p (Full i, lanes, o) = (Full i, arrived e horizon lanes, o)
-on_more e limit horizon p (TimedOut d, lanes, o) = (TimedOut d, arrived e horizon lanes, o)
-on_more e limit horizon p (OverLimit, lanes, o) = (OverLimit, arrived e horizon lanes, o)
-on_more e limit horizon p (Ended i, lanes, o) = (Ended i, arrived e horizon lanes, o)
-on_more e limit horizon p (Failed i c, lanes, o) = (Failed i c, arrived e horizon lanes, o)
+on_more e limit horizon p (v, lanes, o) = (v, arrived e horizon lanes, o)
 
 -- an item less
 pub fewer : (i : ℕ) (q : Queued) (qs : List Queued) (lanes : List Lane) → (lane_of i lanes).items ≡ q ∷ qs → item_count lanes ≡ suc (item_count (with_items i qs lanes))
@@ -140,12 +135,7 @@ module _ (e : Event) (limit : Option ℕ) (h h' : ℕ) (p : Plan) (le : h ≤ h'
   module _ (n : ℕ) (lanes : List Lane) (o : Own) (below : item_count (grow lanes) < n) (stays : (v : Heard) → v ≢ NotYet → lapse limit h p.deadline ≡ v → listen_for n limit h' p (grow lanes) o ≡ (v, grow lanes, o)) where
     at_rest : (v : Heard) → lapse limit h p.deadline ≡ v → listen_for n limit h' p (grow lanes) o ≡ goes_on (v, lanes, o)
     at_rest NotYet at = enough limit h' p n (suc (item_count (grow lanes))) (grow lanes) o below (omega arith)
-    at_rest (Match i n spans) at = stays (Match i n spans) (λ n. cc) at
-    at_rest (Full i) at = stays (Full i) (λ n. cc) at
-    at_rest (TimedOut d) at = stays (TimedOut d) (λ n. cc) at
-    at_rest OverLimit at = stays OverLimit (λ n. cc) at
-    at_rest (Ended i) at = stays (Ended i) (λ n. cc) at
-    at_rest (Failed i c) at = stays (Failed i c) (λ n. cc) at
+    at_rest v at = stays v (λ n. cc) at
 
   decided_more : (i : ℕ) (c : Chosen) (lanes : List Lane) (o : Own) (k k' : Own → Listened) → ((o : Own) → k' o ≡ goes_on (k o)) → decided i c (grow lanes) o k' ≡ goes_on (decided i c lanes o k)
   decided_more i (chosen.Pattern n spans) lanes o k k' same = refl

@@ -21,7 +21,7 @@ in_list [] i d d' lt = absurd (let no : i < 0 = lt in omega arith)
 in_list (x ∷ xs) zero d d' lt = refl
 in_list (x ∷ xs) (suc i) d d' lt = in_list xs i d d' (omega (arith, lt))
 
-lane_back : (i : ℕ) (lanes : List Lane) → with_lane i (lane_of i lanes) lanes ≡ lanes
+pub lane_back : (i : ℕ) (lanes : List Lane) → with_lane i (lane_of i lanes) lanes ≡ lanes
 lane_back i [] = refl
 lane_back zero (l ∷ ls) = refl
 lane_back (suc i) (l ∷ ls) = ap (λ (ls : List Lane). l ∷ ls) (lane_back i ls)

@@ -14,9 +14,10 @@ use Rattle.expect_core.specs.declared.name.Name.{Name}
 use Rattle.expect_core.specs.declared.name.Name.TheVariants as name
 use Rattle.expect_core.specs.declared.request.Request.{Request}
 use Rattle.expect_core.specs.declared.plan.Plan.{Plan}
-use Rattle.expect_core.specs.declared.phase.Purpose.TheVariants as purpose
 use Rattle.expect_core.specs.declared.phase.Phase.{Phase}
-use Rattle.expect_core.specs.declared.phase.Phase.TheVariants as phase
+use Rattle.expect_core.specs.declared.phase.Phase.TheVariants.{Idle, At}
+use Rattle.expect_core.specs.declared.turn.Want.{Want}
+use Rattle.expect_core.specs.declared.turn.Want.TheVariants.{Answer, Output, End}
 use Rattle.expect_core.specs.declared.own.Own.{Own}
 use Rattle.expect_core.specs.declared.dialogue.Dialogue.{Dialogue}
 use Rattle.expect_core.specs.Lanes.{lane_of, place, offered}
@@ -73,11 +74,15 @@ named_by (Some name.RemoveNulls) word args vars o = one (by_option word args var
 named_by other word args vars o = []
 
 -- Those that what is under way is about. At the end of one child's output its expect may go on with the others behind its action.
+
+abbrev pub wanted_of : Want → List ℕ
+wanted_of (Answer i why) = i ∷ []
+wanted_of (Output p) = places_of p.sides
+wanted_of (End i p) = i ∷ places_of p.sides
+
 abbrev pub under_way : Phase → List ℕ
-under_way phase.Idle = []
-under_way (phase.Answer i (purpose.End p)) = i ∷ places_of p.sides
-under_way (phase.Answer i why) = i ∷ []
-under_way (phase.Expect p) = places_of p.sides
+under_way Idle = []
+under_way (At n w) = wanted_of w
 
 -- behind an action `exp_continue` goes back to the children of its expect
 abbrev pub on_top : Code → List Plan → List ℕ
@@ -95,7 +100,7 @@ speaks_to (Knows word) st = []
 
 -- A wait is for children that take part: an expect awaits the answer of one of its own children.
 abbrev pub IsOfOwn : Phase → Type 0
-IsOfOwn (phase.Answer i (purpose.End p)) = IsWatched i p.sides
+IsOfOwn (At n (End i p)) = IsWatched i p.sides
 IsOfOwn other = Unit {0}
 
 -- none of these expects is of the child at a place

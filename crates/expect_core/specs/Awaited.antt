@@ -2,21 +2,21 @@
 use Rattle.std.specs.Prelude.{ℕ, ◌+◌, List, [], Option, Some, None, option_map, unwrap_or, slice_get}
 use Rattle.expect_core.specs.declared.child.Child.{Child}
 use Rattle.expect_core.specs.declared.phase.Phase.{Phase}
-use Rattle.expect_core.specs.declared.phase.Phase.TheVariants as phase
+use Rattle.expect_core.specs.declared.phase.Phase.TheVariants.{At}
+use Rattle.expect_core.specs.declared.turn.Want.TheVariants.{Answer, Output, End}
 use Rattle.expect_core.specs.declared.plan.Plan.{Plan}
 use Rattle.expect_core.specs.Lanes.{place}
 
 -- the child whose answer is awaited, from 1
 abbrev pub answering : Phase → Option ℕ
-answering phase.Idle = None
-answering (phase.Answer i why) = Some (i + 1)
-answering (phase.Expect p) = None
+answering (At n (Answer i why)) = Some (i + 1)
+answering (At n (End i p)) = Some (i + 1)
+answering other = None
 
 -- the expect that waits for an item of one of its children
 abbrev pub expecting : Phase → Option Plan
-expecting phase.Idle = None
-expecting (phase.Answer i why) = None
-expecting (phase.Expect p) = Some p
+expecting (At n (Output p)) = Some p
+expecting other = None
 
 -- the bytes of a child that no expect has taken, on which its patterns are tried; none where there is no such child
 abbrev pub buffer_of : ℕ → List Child → List ℕ

@@ -1,28 +1,31 @@
 -- What each call of a dialogue comes to.
 use Rattle.std.specs.Prelude.{◌≡◌, ℕ, List, [], ◌∷◌, codes, Bool, true, false, IsTrue, is_some, if◌then◌else◌, Option, Some, None}
 use Rattle.std.specs.Str.{bytes_eq}
-use Rattle.child_events.specs.declared.event.Answer.{Answer}
 use Rattle.child_events.specs.declared.event.Event.{Event}
 use Rattle.tcl_subst.specs.Variables.{Variables}
+use Rattle.tcl_commands.specs.declared.code.Code.{Code}
+use Rattle.tcl_commands.specs.Said.{Said}
 use Rattle.tcl_host.specs.declared.host.HostStep.{HostStep}
 use Rattle.tcl_host.specs.declared.host.HostStep.TheVariants.{Done, Fail, Body, Words, Wait, Stop, Unknown, Memory}
 use Rattle.tcl_host.specs.Calls.{Call, Begin, Resume, AfterWords, AfterBody, Knows, Reply, Stepped, Known}
 use Rattle.expect_core.specs.declared.name.Name.{Name}
 use Rattle.expect_core.specs.declared.name.Name.TheVariants as name
-use Rattle.expect_core.specs.declared.phase.Purpose.{Purpose}
-use Rattle.expect_core.specs.declared.phase.Purpose.TheVariants as purpose
-use Rattle.expect_core.specs.declared.phase.Phase.{Phase}
+use Rattle.expect_core.specs.declared.plan.Plan.{Plan}
 use Rattle.expect_core.specs.declared.phase.Phase.TheVariants as phase
+use Rattle.expect_core.specs.declared.turn.Deed.{Deed}
+use Rattle.expect_core.specs.declared.own.Own.{Own}
 use Rattle.expect_core.specs.declared.dialogue.Dialogue.{Dialogue}
 use Rattle.expect_core.specs.Lanes.{offered, no_lanes}
-use Rattle.expect_core.specs.Answered.{Outcome, idle, replied, failed, awaited}
-use Rattle.expect_core.specs.Spawning.{spawning, spawned}
-use Rattle.expect_core.specs.Sending.{sending, handed}
-use Rattle.expect_core.specs.Expecting.{listed, expecting, listening, behind, ended, broken}
+use Rattle.expect_core.specs.Answered.{Outcome, idle, owning}
+use Rattle.expect_core.specs.Turns.{doing}
+use Rattle.expect_core.specs.Spawning.{spawning}
+use Rattle.expect_core.specs.Sending.{sending}
+use Rattle.expect_core.specs.Expecting.{listed, expecting, behind}
 use Rattle.expect_core.specs.Again.{continuing}
-use Rattle.expect_core.specs.Ends.{closing_of, closed, waiting, waited}
+use Rattle.expect_core.specs.Ends.{closing, waiting}
 use Rattle.expect_core.specs.Transcript.{put_of, to_user, writing, logging}
 use Rattle.expect_core.specs.Options.{sizing, removing}
+use Rattle.expect_core.specs.Running.{run, turns, resuming}
 
 -- the command that a word names
 abbrev pub name_of : List ℕ → Option Name
@@ -44,54 +47,58 @@ name_of word =
 abbrev pub knows : List ℕ → Bool
 knows word = is_some (name_of word)
 
--- an argument that is a list of all others has its words filled first
-abbrev pub expecting_by : Option (List ℕ) → List (List ℕ) → Variables → Dialogue → Outcome
-expecting_by None args vars st = expecting args vars st
-expecting_by (Some text) args vars st = replied (Words text) vars st
+-- what a command does
+abbrev pub named : Name → List ℕ → List (List ℕ) → Variables → Own → Said Deed
+named name.Spawn word args vars o = spawning word args vars o
+named name.Send word args vars o = sending word args vars o
+named name.SendUser word args vars o = writing (to_user word args)
+named name.Expect word args vars o = expecting args vars o
+named name.ExpContinue word args vars o = continuing word args
+named name.Close word args vars o = closing word args vars o
+named name.Wait word args vars o = waiting word args vars o
+named name.MatchMax word args vars o = sizing word args vars o
+named name.RemoveNulls word args vars o = removing word args vars o
+named name.LogUser word args vars o = logging word args o
+named name.Puts word args vars o = writing (put_of word args)
 
-abbrev pub named : Option Name → List ℕ → List (List ℕ) → Variables → Dialogue → Outcome
-named None word args vars st = replied Unknown vars st
-named (Some name.Spawn) word args vars st = spawning word args vars st
-named (Some name.Send) word args vars st = sending word args vars st
-named (Some name.SendUser) word args vars st = writing (to_user word args) vars st
-named (Some name.Expect) word args vars st = expecting_by (listed args) args vars st
-named (Some name.ExpContinue) word args vars st = continuing word args vars st
-named (Some name.Close) word args vars st = closing_of word args vars st
-named (Some name.Wait) word args vars st = waiting word args vars st
-named (Some name.MatchMax) word args vars st = sizing word args vars st
-named (Some name.RemoveNulls) word args vars st = removing word args vars st
-named (Some name.LogUser) word args vars st = logging word args vars st
-named (Some name.Puts) word args vars st = writing (put_of word args) vars st
+-- an argument of `expect` that is a list of all others has its words filled first
+abbrev pub filling : Name → List (List ℕ) → Option (List ℕ)
+filling name.Expect args = listed args
+filling other args = None
+
+abbrev pub filled : Option (List ℕ) → Said Deed → Variables → Dialogue → Outcome
+filled None said vars st = run turns (doing said) vars st
+filled (Some text) said vars st = (Words text, vars, st)
+
+abbrev pub began : Option Name → List ℕ → List (List ℕ) → Variables → Dialogue → Outcome
+began None word args vars st = (Unknown, vars, st)
+began (Some n) word args vars st = filled (filling n args) (named n word args vars st.own) vars st
 
 abbrev pub begun : List (List ℕ) → Variables → Dialogue → Outcome
-begun [] vars st = replied Unknown vars st
-begun (word ∷ args) vars st = named (name_of word) word args vars st
-
--- what an answer that is awaited comes to
-abbrev pub settled : ℕ → Purpose → Variables → Answer → Dialogue → Outcome
-settled i (purpose.Spawn words) vars = spawned i words vars
-settled i (purpose.Send a rest) vars = handed i a rest vars
-settled i purpose.Close vars = closed i vars
-settled i purpose.Wait vars = waited i vars
-settled i (purpose.End p) vars = ended p i vars
-settled i (purpose.Fail c) vars = broken i c vars
-
--- Only a call that waits is resumed, and that leaves another phase than `Idle`: its line is never read, and is there so that there is one.
-abbrev pub resuming : Phase → Variables → Dialogue → Outcome
-resuming phase.Idle vars st = failed [] vars st
-resuming (phase.Answer i why) vars st = awaited i why (settled i why vars) vars st
-resuming (phase.Expect p) vars st = listening p vars st
+begun [] vars st = (Unknown, vars, st)
+begun (word ∷ args) vars st = began (name_of word) word args vars st
 
 abbrev pub resumed : Variables → Dialogue → Outcome
 resumed vars st = resuming st.phase vars (idle st)
+
+-- the expects around the innermost one
+abbrev pub outer : List Plan → List Plan
+outer [] = []
+outer (p ∷ ps) = ps
+
+-- an action was evaluated: its expect isn't kept any more
+abbrev pub ended_body : Code → List ℕ → Variables → Dialogue → Outcome
+ended_body c value vars st =
+    let o = record st.own { plans = outer st.own.plans } in
+    run turns (behind c value st.own.plans o) vars (owning o st)
 
 -- The reply to `Knows` is no step, and is told by `IsReply` alone: that line here is never read.
 abbrev pub outcome : Call → Dialogue → Outcome
 outcome (Begin words vars) st = begun words vars (idle st)
 outcome (Resume vars) st = resumed vars st
-outcome (AfterWords words vars) st = expecting words vars (idle st)
-outcome (AfterBody c value vars) st = behind c value st.own.plans vars (idle st)
-outcome (Knows word) st = failed [] (record { globals = []; locals = [] }) st
+outcome (AfterWords words vars) st = run turns (doing (expecting words vars st.own)) vars (idle st)
+outcome (AfterBody c value vars) st = ended_body c value vars (idle st)
+outcome (Knows word) st = (Fail [], record { globals = []; locals = [] }, st)
 
 -- What a call that came to this comes to with an event more: a call that waited goes on.
 abbrev pub onward : Event → Outcome → Outcome

@@ -2,7 +2,8 @@
 use Rattle.std.specs.Prelude.{ℕ, ◌≤◌, min, List, [], ◌∷◌, Option, Some, None}
 use Rattle.expect_core.specs.declared.lanes.Lane.{Lane}
 use Rattle.expect_core.specs.declared.phase.Phase.{Phase}
-use Rattle.expect_core.specs.declared.phase.Phase.TheVariants as phase
+use Rattle.expect_core.specs.declared.phase.Phase.TheVariants.{At}
+use Rattle.expect_core.specs.declared.turn.Want.TheVariants.{Output}
 use Rattle.expect_core.specs.declared.dialogue.Dialogue.{Dialogue}
 use Rattle.expect_core.specs.Heard.{watched, heads}
 
@@ -30,9 +31,8 @@ soonest first (m ∷ ms) = soonest (sooner first m) ms
 -- The deadline of what is under way. An expect has its own, and the moment of each item that is there: that item is taken when time is past
 -- it, if it had to wait for other children. A wait for an answer has none.
 abbrev pub deadline_under : Phase → List Lane → Option ℕ
-deadline_under phase.Idle lanes = None
-deadline_under (phase.Answer i why) lanes = None
-deadline_under (phase.Expect p) lanes = soonest (as_moment p.deadline) (heads (watched p) lanes)
+deadline_under (At n (Output p)) lanes = soonest (as_moment p.deadline) (heads (watched p) lanes)
+deadline_under other lanes = None
 
 -- the last moment to which a call that waits goes on waiting: the deadline of what is under way, or the last moment of the settings
 abbrev pub deadline_of : Dialogue → Option ℕ

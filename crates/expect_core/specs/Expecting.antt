@@ -1,7 +1,6 @@
 -- expect: the arguments, a wait for its patterns, and what follows it (expect(1)).
-use Rattle.std.specs.Prelude.{ℕ, zero, suc, ◌+◌, ◌-◌, ◌==◌, List, [], ◌∷◌, ◌++◌, take, drop, codes, Bool, true, false, slice_index_or, position, if◌then◌else◌, Option, Some, None, Result, Ok, Err}
+use Rattle.std.specs.Prelude.{ℕ, zero, suc, ◌+◌, ◌-◌, ◌==◌, List, [], ◌∷◌, ◌++◌, length, take, drop, codes, Bool, true, false, slice_index_or, position, if◌then◌else◌, Option, Some, None, Result, Ok, Err}
 use Rattle.std.specs.Fmt.{decimal}
-use Rattle.child_events.specs.declared.event.Answer.{Answer}
 use Rattle.child_events.specs.declared.event.Cause.{Cause}
 use Rattle.exp_match.specs.declared.faults.PatternFault.{PatternFault}
 use Rattle.exp_match.specs.declared.faults.PatternFault.TheVariants as fault
@@ -17,26 +16,29 @@ use Rattle.tcl_subst.specs.Variables.{Variables}
 use Rattle.tcl_commands.specs.declared.code.Code.{Code}
 use Rattle.tcl_commands.specs.declared.code.Code.TheVariants as code
 use Rattle.tcl_commands.specs.Said.{Said, ◌>>=◌, as_number}
-use Rattle.tcl_host.specs.declared.host.HostStep.TheVariants.{Done, Body}
 use Rattle.expect_core.specs.declared.request.Act.TheVariants as act
 use Rattle.expect_core.specs.declared.child.Standing.TheVariants as standing
+use Rattle.expect_core.specs.declared.child.Change.TheVariants.{Stand, Take}
 use Rattle.expect_core.specs.declared.plan.Span.{Span}
 use Rattle.expect_core.specs.declared.plan.Span.TheVariants.{Seconds}
-use Rattle.expect_core.specs.declared.plan.Met.{Met}
 use Rattle.expect_core.specs.declared.plan.Plan.{Plan}
-use Rattle.expect_core.specs.declared.phase.Purpose.{Purpose}
-use Rattle.expect_core.specs.declared.phase.Purpose.TheVariants as purpose
-use Rattle.expect_core.specs.declared.phase.Phase.TheVariants as phase
-use Rattle.expect_core.specs.declared.phase.Heard.{Heard}
-use Rattle.expect_core.specs.declared.phase.Heard.TheVariants.{Match, Full, TimedOut, OverLimit, NotYet, Ended, Failed}
+use Rattle.expect_core.specs.declared.effect.Effect.TheVariants.{Ask, Alter, Store}
+use Rattle.expect_core.specs.declared.turn.Reply.TheVariants.{Done, Fail}
+use Rattle.expect_core.specs.declared.turn.Purpose.TheVariants as purpose
+use Rattle.expect_core.specs.declared.turn.Next.TheVariants.{Await}
+use Rattle.expect_core.specs.declared.turn.Deed.{Deed}
+use Rattle.expect_core.specs.declared.turn.Deed.TheVariants.{Expect}
+use Rattle.expect_core.specs.declared.turn.Want.TheVariants.{End}
+use Rattle.expect_core.specs.declared.turn.Stage.{Stage}
+use Rattle.expect_core.specs.declared.turn.Stage.TheVariants.{Act, Wait}
+use Rattle.expect_core.specs.declared.turn.Turn.{Turn}
 use Rattle.expect_core.specs.declared.own.Own.{Own}
-use Rattle.expect_core.specs.declared.dialogue.Dialogue.{Dialogue}
-use Rattle.expect_core.specs.Owned.{child_of, bytes_of, with_bytes, standing_as, asked}
+use Rattle.expect_core.specs.Owned.{child_of, bytes_of}
 use Rattle.expect_core.specs.Texts.{bad_expect_flag, bad_regular, with_cause}
-use Rattle.expect_core.specs.Scoped.{optional, Unset, set_all}
-use Rattle.expect_core.specs.Heard.{span_of, deadline_from, groups_at, Listened, listen, look}
+use Rattle.expect_core.specs.Scoped.{optional}
+use Rattle.expect_core.specs.Heard.{span_of, deadline_from, groups_at}
 use Rattle.expect_core.specs.Sides.{asked_by, sides_of, still_open}
-use Rattle.expect_core.specs.Answered.{Outcome, done, failed, over_limit, waits, replied, on_said, owning, failure, awaited}
+use Rattle.expect_core.specs.Turns.{react, done, turn, over, at, doing}
 
 -- the arguments
 
@@ -81,6 +83,9 @@ plan_by list vars o =
 -- what an expect with these arguments waits for
 abbrev pub plan_of : List (List ℕ) → Variables → Own → Said Plan
 plan_of args vars o = patterns_by args (patterns_of args) >>= λ list. plan_by list vars o
+
+abbrev pub expecting : List (List ℕ) → Variables → Own → Said Deed
+expecting args vars o = plan_of args vars o >>= λ p. Ok (Expect p)
 
 -- what is stored
 
@@ -127,22 +132,21 @@ no_entry = record { want = want.Keyword keyword.Eof; indices = false; notransfer
 abbrev pub entry_of : ℕ → Plan → Entry
 entry_of n p = slice_index_or p.list.entries n no_entry
 
--- the action of what was met is evaluated, and the expect kept meanwhile
-abbrev pub acting : Plan → Met → Variables → Dialogue → Outcome
-acting p m vars st = replied (Body (entry_of m.entry p).action) vars (owning (record st.own { plans = record p { met = Some m } ∷ st.own.plans }) st)
+-- the action of what was met is evaluated
+abbrev pub acting : Plan → ℕ → Option ℕ → Stage
+acting p n at = Act p (record { entry = n; child = at })
 
--- the action of a keyword, if one is listed
-abbrev pub acting_at : Plan → Option ℕ → Variables → Dialogue → Outcome
-acting_at p None vars st = done [] vars st
-acting_at p (Some n) vars st = acting p (record { entry = n; child = None }) vars st
+-- the action of `timeout`, if it is listed
+abbrev pub late_at : Plan → Option ℕ → Turn
+late_at p None = over (done [])
+late_at p (Some n) = turn None [] (acting p n None)
 
--- the bytes that are met are stored, and leave the buffer
-abbrev pub met : Plan → ℕ → ℕ → List ℕ → Variables × Unset → Dialogue → Outcome
-met p i n rest (vars, Some text) st = failed text vars st
-met p i n rest (vars, None) st = acting p (record { entry = n; child = Some i }) vars (owning (with_bytes i rest st.own) st)
+abbrev pub late : Plan → Turn
+late p = late_at p (position (λ e. waits_for_time e.want) p.list.entries)
 
-abbrev pub meeting : Plan → ℕ → ℕ → Pairs → List ℕ → Variables → Dialogue → Outcome
-meeting p i n pairs rest vars st = met p i n rest (set_all pairs vars) st
+-- so many of the child's bytes leave the buffer, behind what is stored of them
+abbrev pub meeting : Plan → ℕ → ℕ → Pairs → ℕ → Turn
+meeting p i n pairs count = turn (Some i) (Store pairs ∷ Alter (Take count) ∷ []) (acting p n (Some i))
 
 abbrev pub end_in : Option (ℕ × ℕ) → ℕ
 end_in None = 0
@@ -153,68 +157,44 @@ abbrev pub end_of : Found → ℕ
 end_of spans = end_in (slice_index_or spans 0 None)
 
 -- a pattern matches the bytes of the child at place i
-abbrev pub matched : Plan → ℕ → ℕ → Found → Variables → Dialogue → Outcome
-matched p i n spans vars st =
-    let bytes = bytes_of i st.own in
+abbrev pub matched : Plan → ℕ → ℕ → Found → Own → Turn
+matched p i n spans o =
+    let bytes = bytes_of i o in
     let entry = entry_of n p in
-    meeting p i n (groups_from entry.indices bytes 0 spans ++ met_pairs (child_of i st.own).id (take (end_of spans) bytes))
-    (if entry.notransfer then bytes else drop (end_of spans) bytes) vars st
+    meeting p i n (groups_from entry.indices bytes 0 spans ++ met_pairs (child_of i o).id (take (end_of spans) bytes))
+    (if entry.notransfer then 0 else end_of spans)
 
 -- all kept bytes of the child at place i are met by a keyword, if it is listed
-abbrev pub all_met : Plan → ℕ → Option ℕ → Variables → Dialogue → Outcome
-all_met p i None vars st = done [] vars st
-all_met p i (Some n) vars st = meeting p i n (met_pairs (child_of i st.own).id (bytes_of i st.own)) [] vars st
+abbrev pub all_met : Plan → ℕ → Option ℕ → Own → Turn
+all_met p i None o = over (done [])
+all_met p i (Some n) o = meeting p i n (met_pairs (child_of i o).id (bytes_of i o)) (length (bytes_of i o))
 
--- behind the output's end its child was let go
-abbrev pub let_go : Plan → ℕ → Variables → Option Cause → Dialogue → Outcome
-let_go p i vars None st = all_met p i (first_in waits_for_end (groups_at i p.sides) p.list.entries) vars st
-let_go p i vars (Some c) st = failed (with_cause (codes "close failed") c) vars st
+abbrev pub full : Plan → ℕ → Own → Turn
+full p i o = all_met p i (first_in waits_for_full (groups_at i p.sides) p.list.entries) o
 
-abbrev pub shut : ℕ → Dialogue → Dialogue
-shut i st = owning (standing_as standing.Closed i st.own) st
+-- at the end of a child's output it is let go
+abbrev pub ending : Plan → ℕ → Turn
+ending p i = turn (Some i) (Ask act.Close ∷ []) (Wait (End i p))
 
-abbrev pub ended : Plan → ℕ → Variables → Answer → Dialogue → Outcome
-ended p i vars a st = let_go p i vars (failure a) (shut i st)
+-- so it is where reading it failed
+abbrev pub failing : ℕ → Cause → Turn
+failing i c = at i (react (Ask act.Close ∷ []) (Await (purpose.Fail c)))
 
-abbrev pub broken : ℕ → Cause → Variables → Answer → Dialogue → Outcome
-broken i c vars a st = failed (with_cause (codes "read failed") c) vars (shut i st)
+-- it was let go, and behind that its `eof` is met
+abbrev pub shut : ℕ → Turn → Turn
+shut i t = turn (Some i) (Alter (Stand standing.Closed) ∷ t.effects) t.stage
 
--- the child is let go, and what follows that
-abbrev pub closing : ℕ → Purpose → (Answer → Dialogue → Outcome) → Variables → Dialogue → Outcome
-closing i why more vars st = awaited i why more vars (owning (asked i act.Close st.own) st)
+abbrev pub ended : Plan → ℕ → Option Cause → Own → Turn
+ended p i None o = shut i (all_met p i (first_in waits_for_end (groups_at i p.sides) p.list.entries) o)
+ended p i (Some c) o = shut i (over (Fail (with_cause (codes "close failed") c)))
 
-abbrev pub by_heard : Plan → Variables → Heard → Dialogue → Outcome
-by_heard p vars (Match i n spans) st = matched p i n spans vars st
-by_heard p vars (Full i) st = all_met p i (first_in waits_for_full (groups_at i p.sides) p.list.entries) vars st
-by_heard p vars (TimedOut d) st = acting_at p (position (λ e. waits_for_time e.want) p.list.entries) vars (owning (record st.own { clock = d }) st)
-by_heard p vars OverLimit st = over_limit vars st
-by_heard p vars NotYet st = waits (phase.Expect p) vars st
-by_heard p vars (Ended i) st = closing i (purpose.End p) (ended p i vars) vars st
-by_heard p vars (Failed i c) st = closing i (purpose.Fail c) (broken i c vars) vars st
-
-abbrev pub concluded : Plan → Variables → Listened → Dialogue → Outcome
-concluded p vars (h, left, o) st = by_heard p vars h (record st { lanes = left; own = o })
-
--- goes on with a wait for a pattern
-abbrev pub listening : Plan → Variables → Dialogue → Outcome
-listening p vars st = concluded p vars (listen st.limit st.horizon p st.lanes st.own) st
-
--- begins one
-abbrev pub looking : Plan → Variables → Dialogue → Outcome
-looking p vars st = concluded p vars (look st.limit st.horizon p st.lanes st.own) st
-
-abbrev pub expecting : List (List ℕ) → Variables → Dialogue → Outcome
-expecting args vars st = on_said (plan_of args vars st.own) vars st (λ p. looking p vars st)
-
--- an expect once more, behind its action, where all that take part are still open
-abbrev pub again : Plan → Option ℕ → List Plan → Variables → Dialogue → Outcome
-again p deadline plans vars st =
-    let st' = owning (record st.own { plans = plans }) st in
-    on_said (still_open p.order st'.own) vars st' (λ all. looking (record p { deadline = deadline }) vars st')
+-- an expect once more, with this deadline, where all that take part are still open
+abbrev pub again : Plan → Option ℕ → Own → Turn
+again p deadline o = doing (still_open p.order o >>= λ all. Ok (Expect (record p { deadline = deadline })))
 
 -- Behind an action: `exp_continue` goes back to the expect, with a new deadline or with the old one.
-abbrev pub behind : Code → List ℕ → List Plan → Variables → Dialogue → Outcome
-behind c value [] vars st = replied (Done c value) vars st
-behind code.Again value (p ∷ ps) vars st = again p (deadline_from st.own.clock p.span) ps vars st
-behind code.AgainLater value (p ∷ ps) vars st = again p p.deadline ps vars st
-behind c value (p ∷ ps) vars st = replied (Done c value) vars (owning (record st.own { plans = ps }) st)
+abbrev pub behind : Code → List ℕ → List Plan → Own → Turn
+behind c value [] o = over (Done c value)
+behind code.Again value (p ∷ ps) o = again p (deadline_from o.clock p.span) o
+behind code.AgainLater value (p ∷ ps) o = again p p.deadline o
+behind c value (p ∷ ps) o = over (Done c value)

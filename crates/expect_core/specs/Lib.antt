@@ -14,6 +14,8 @@ pub mod Sought
 pub mod Sides
 pub mod Waits
 pub mod Answered
+pub mod Effects
+pub mod Turns
 pub mod Awaited
 pub mod Spawning
 pub mod Sending
@@ -22,6 +24,8 @@ pub mod Again
 pub mod Ends
 pub mod Transcript
 pub mod Options
+pub mod Running
+pub mod Going
 pub mod Calls
 pub mod Good
 pub mod Numbered

@@ -1,5 +1,5 @@
 -- match_max and remove_nulls: what is told or set of one child, or of children to come.
-use Rattle.std.specs.Prelude.{ℕ, nat_le, ◌&&◌, List, [], codes, Bool, true, false, if◌then◌else◌, Option, Some, None, Ok, Err, ℤ, pos, negsuc}
+use Rattle.std.specs.Prelude.{ℕ, nat_le, ◌&&◌, List, [], ◌∷◌, codes, Bool, true, false, if◌then◌else◌, Option, Some, None, Ok, Err, ℤ, pos, negsuc}
 use Rattle.std.specs.Str.{bytes_eq}
 use Rattle.std.specs.Fmt.{decimal}
 use Rattle.tcl_expr.specs.Number.{number_of}
@@ -8,13 +8,15 @@ use Rattle.tcl_commands.specs.Said.{Said, ◌>>=◌}
 use Rattle.expect_core.specs.declared.flags.Switch.TheVariants.{Default}
 use Rattle.expect_core.specs.declared.flags.Flags.{Flags}
 use Rattle.expect_core.specs.declared.flags.Takes.{Takes}
+use Rattle.expect_core.specs.declared.child.Change.TheVariants.{Size, Removal}
+use Rattle.expect_core.specs.declared.effect.Effect.TheVariants.{Alter}
+use Rattle.expect_core.specs.declared.turn.Deed.{Deed}
 use Rattle.expect_core.specs.declared.own.Own.{Own}
-use Rattle.expect_core.specs.declared.dialogue.Dialogue.{Dialogue}
 use Rattle.expect_core.specs.Flags.{flags_of, option_in}
-use Rattle.expect_core.specs.Owned.{size_at, with_size, removes_at, with_removal}
+use Rattle.expect_core.specs.Owned.{size_at, removes_at}
 use Rattle.expect_core.specs.Ids.{open_to}
 use Rattle.expect_core.specs.Texts.{bad_size, bad_removal, bit}
-use Rattle.expect_core.specs.Answered.{Outcome, done, on_said, owning}
+use Rattle.expect_core.specs.Turns.{done, over_at}
 
 abbrev pub takes : Takes
 takes = record { own = Some Default; id = true; end = false }
@@ -37,12 +39,12 @@ size_by text None = Err (bad_size text)
 abbrev pub size_of : List ℕ → Said ℕ
 size_of text = size_by text (number_of text)
 
-abbrev pub sizing_at : Option ℕ → Option (List ℕ) → Variables → Dialogue → Outcome
-sizing_at at None vars st = done (decimal (size_at at st.own)) vars st
-sizing_at at (Some text) vars st = on_said (size_of text) vars st (λ n. done [] vars (owning (with_size at n st.own) st))
+abbrev pub sizing_at : Option ℕ → Option (List ℕ) → Own → Said Deed
+sizing_at at None o = Ok (over_at at [] (done (decimal (size_at at o))))
+sizing_at at (Some text) o = size_of text >>= λ n. Ok (over_at at (Alter (Size n) ∷ []) (done []))
 
-abbrev pub sizing : List ℕ → List (List ℕ) → Variables → Dialogue → Outcome
-sizing name args vars st = on_said (option_of name args vars st.own) vars st (λ s. sizing_at s.0 s.1 vars st)
+abbrev pub sizing : List ℕ → List (List ℕ) → Variables → Own → Said Deed
+sizing name args vars o = option_of name args vars o >>= λ s. sizing_at s.0 s.1 o
 
 -- remove_nulls ?-d? ?-i id? ?value?
 
@@ -52,9 +54,9 @@ removal_of text =
     else if bytes_eq text (codes "1") then Ok true
     else Err (bad_removal text)
 
-abbrev pub removing_at : Option ℕ → Option (List ℕ) → Variables → Dialogue → Outcome
-removing_at at None vars st = done (bit (removes_at at st.own)) vars st
-removing_at at (Some text) vars st = on_said (removal_of text) vars st (λ on. done [] vars (owning (with_removal at on st.own) st))
+abbrev pub removing_at : Option ℕ → Option (List ℕ) → Own → Said Deed
+removing_at at None o = Ok (over_at at [] (done (bit (removes_at at o))))
+removing_at at (Some text) o = removal_of text >>= λ on. Ok (over_at at (Alter (Removal on) ∷ []) (done []))
 
-abbrev pub removing : List ℕ → List (List ℕ) → Variables → Dialogue → Outcome
-removing name args vars st = on_said (option_of name args vars st.own) vars st (λ s. removing_at s.0 s.1 vars st)
+abbrev pub removing : List ℕ → List (List ℕ) → Variables → Own → Said Deed
+removing name args vars o = option_of name args vars o >>= λ s. removing_at s.0 s.1 o

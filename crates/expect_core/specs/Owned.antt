@@ -1,12 +1,11 @@
 -- What commands change.
-use Rattle.std.specs.Prelude.{ℕ, ◌+◌, max, min, List, [], ◌∷◌, ◌++◌, Bool, true, false, Option, Some, None, slice_set, slice_index_or, if◌then◌else◌}
+use Rattle.std.specs.Prelude.{ℕ, ◌+◌, max, List, [], ◌∷◌, ◌++◌, Bool, true, false, Option, Some, None, slice_set, slice_index_or, if◌then◌else◌}
 use Rattle.circular_buffer.specs.Buffer.{keep_last}
 use Rattle.tty.specs.declared.modes.Modes.{Modes}
 use Rattle.tty.specs.Modes.{sane}
 use Rattle.tty.specs.Output.{convert}
 use Rattle.tty.specs.Sends.{Waits}
 use Rattle.expect_core.specs.declared.request.Act.{Act}
-use Rattle.expect_core.specs.declared.child.Standing.{Standing}
 use Rattle.expect_core.specs.declared.child.Standing.TheVariants as standing
 use Rattle.expect_core.specs.declared.child.Child.{Child}
 use Rattle.expect_core.specs.declared.own.Own.{Own}
@@ -37,13 +36,6 @@ child_of i o = child_in i o.children
 abbrev pub with_child : ℕ → Child → Own → Own
 with_child i child o = record o { children = slice_set o.children i child }
 
-abbrev pub standing_as : Standing → ℕ → Own → Own
-standing_as s i o = with_child i (record (child_of i o) { standing = s }) o
-
--- its end was asked for
-abbrev pub awaited_once : ℕ → Own → Own
-awaited_once i o = with_child i (record (child_of i o) { waited = true }) o
-
 abbrev pub with_line : ℕ → Waits → Own → Own
 with_line i line o = with_child i (record (child_of i o) { line = line }) o
 
@@ -60,31 +52,15 @@ with_bytes i bytes o = with_held i (record (child_of i o).kept { bytes = bytes }
 abbrev pub trimmed : ℕ → Own → Own
 trimmed i o = with_bytes i (keep_last (child_of i o).kept.size (bytes_of i o)) o
 
--- another number of bytes is kept from now on
-abbrev pub resized : ℕ → ℕ → Own → Own
-resized i size o = with_held i (record { bytes = keep_last size (bytes_of i o); size = size }) o
-
 -- How many bytes are kept, and whether NUL bytes are removed: of the child at a place, or of children to come.
 
 abbrev pub size_at : Option ℕ → Own → ℕ
 size_at None o = o.size
 size_at (Some i) o = (child_of i o).kept.size
 
-abbrev pub with_size : Option ℕ → ℕ → Own → Own
-with_size None n o = record o { size = n }
-with_size (Some i) n o = resized i n o
-
 abbrev pub removes_at : Option ℕ → Own → Bool
 removes_at None o = o.remove_nulls
 removes_at (Some i) o = (child_of i o).remove_nulls
-
-abbrev pub with_removal : Option ℕ → Bool → Own → Own
-with_removal None on o = record o { remove_nulls = on }
-with_removal (Some i) on o = with_child i (record (child_of i o) { remove_nulls = on }) o
-
--- so many bytes more were accepted
-abbrev pub accepted : ℕ → ℕ → Own → Own
-accepted i n o = with_child i (record (child_of i o) { sent = min ((child_of i o).sent + n) 18446744073709551615 }) o
 
 -- the clock goes to a moment, and never back
 abbrev pub at_moment : ℕ → Own → Own

@@ -1,15 +1,17 @@
 -- The commands that write to the transcript, and the one that says whether children's output is seen there.
-use Rattle.std.specs.Prelude.{ℕ, List, [], ◌∷◌, ◌++◌, codes, Bool, true, false, if◌then◌else◌, None, Ok, Err}
+use Rattle.std.specs.Prelude.{ℕ, List, [], ◌∷◌, ◌++◌, codes, Bool, true, false, if◌then◌else◌, Option, Some, None, Ok, Err}
 use Rattle.std.specs.Str.{bytes_eq}
 use Rattle.tcl_words.specs.Bytes as ascii
-use Rattle.tcl_subst.specs.Variables.{Variables}
 use Rattle.tcl_commands.specs.Said.{Said, ◌>>=◌}
 use Rattle.tcl_commands.specs.Texts.{wrong_args, bad_option}
-use Rattle.expect_core.specs.declared.dialogue.Dialogue.{Dialogue}
+use Rattle.expect_core.specs.declared.effect.Effect.{Effect}
+use Rattle.expect_core.specs.declared.effect.Effect.TheVariants.{Tell, LogUser}
+use Rattle.expect_core.specs.declared.turn.Deed.{Deed}
+use Rattle.expect_core.specs.declared.turn.Deed.TheVariants.{Alone}
+use Rattle.expect_core.specs.declared.own.Own.{Own}
 use Rattle.expect_core.specs.Flags.{flags_of, begins_with_minus, bad_flag, text_in}
-use Rattle.expect_core.specs.Owned.{told}
 use Rattle.expect_core.specs.Texts.{bit}
-use Rattle.expect_core.specs.Answered.{Outcome, done, failed, on_said, owning}
+use Rattle.expect_core.specs.Turns.{done}
 
 -- puts ?-nonewline? ?stdout? text
 
@@ -27,8 +29,8 @@ put_of name (w ∷ text ∷ []) = if bytes_eq w (codes "-nonewline") then Ok tex
 put_of name (w ∷ channel ∷ text ∷ []) = if bytes_eq w (codes "-nonewline") then puts_to false channel text else Err (wrong_args name)
 put_of name (w ∷ channel ∷ text ∷ other ∷ more) = Err (wrong_args name)
 
-abbrev pub writing : Said (List ℕ) → Variables → Dialogue → Outcome
-writing said vars st = on_said said vars st (λ text. done [] vars (owning (told text st.own) st))
+abbrev pub writing : Said (List ℕ) → Said Deed
+writing said = said >>= λ text. Ok (Alone (Tell text ∷ []) (done []))
 
 -- send_user ?--? text
 
@@ -37,14 +39,21 @@ to_user name args = flags_of name (record { own = None; id = false; end = true }
 
 -- log_user 0, 1 or -info
 
-abbrev pub logging_as : List ℕ → Variables → Dialogue → Outcome
-logging_as w vars st =
-    if bytes_eq w (codes "0") then done [] vars (owning (record st.own { log_user = false }) st)
-    else if bytes_eq w (codes "1") then done [] vars (owning (record st.own { log_user = true }) st)
-    else if bytes_eq w (codes "-info") then done (bit st.own.log_user) vars st
-    else failed (bad_option w) vars st
+-- whether output is seen from now on, or none where that is asked
+abbrev pub log_word : List ℕ → Said (Option Bool)
+log_word w =
+    if bytes_eq w (codes "0") then Ok (Some false)
+    else if bytes_eq w (codes "1") then Ok (Some true)
+    else if bytes_eq w (codes "-info") then Ok None
+    else Err (bad_option w)
 
-abbrev pub logging : List ℕ → List (List ℕ) → Variables → Dialogue → Outcome
-logging name [] vars st = failed (wrong_args name) vars st
-logging name (w ∷ []) vars st = logging_as w vars st
-logging name (w ∷ other ∷ more) vars st = failed (wrong_args name) vars st
+abbrev pub log_set : Option Bool → List Effect
+log_set None = []
+log_set (Some on) = LogUser on ∷ []
+
+abbrev pub log_told : Option Bool → Own → List ℕ
+log_told None o = bit o.log_user
+log_told (Some on) o = []
+
+abbrev pub logging : List ℕ → List (List ℕ) → Own → Said Deed
+logging name args o = text_in name args >>= λ w. log_word w >>= λ on. Ok (Alone (log_set on) (done (log_told on o)))

@@ -1,15 +1,14 @@
 //! `exp_continue`, by which an action goes back to its expect.
 
-ghost use Rattle.std.specs.Prelude.{◌≡◌, IfOk};
+ghost use Rattle.std.specs.Prelude.{◌≡◌};
 ghost use Rattle.tcl_commands.specs.Says.{Says};
 ghost use Rattle.expect_core.specs.Again.{again_code, continued as continued_of, continuing};
 
-use crate::dialogue::Dialogue;
+use crate::effect::Effects;
 use crate::flags::{Flags, Switch, Takes, bare, flags_of};
-use std::alloc::{AllocError, Global};
-use tcl_commands::{Code, Complaint, said};
-use tcl_host::HostStep;
-use tcl_subst::Vars;
+use crate::turn::{Deed, Reply};
+use std::alloc::Global;
+use tcl_commands::{Code, Complaint};
 use tcl_values::Value;
 
 /// The code of an `exp_continue`.
@@ -37,20 +36,10 @@ fn code_of(flags: &Flags) -> Code
     }
 }
 
-impl Dialogue {
-    /// `exp_continue ?-continue_timer?`.
-    pub(crate) fn exp_continue(
-        &mut self,
-        alloc: Global,
-        vars: &Vars,
-        name: &[u8],
-        args: &[Value],
-    ) -> Result<HostStep, AllocError>
-        ensures { IfOk result (λ s. continuing name.now args.now vars.now self.old ≡ (s, vars.now, self.new)) }
-    {
-        match said(alloc, continued(alloc, name, args))? {
-            Ok(code) => Ok(HostStep::Done(code, Value::new(alloc))),
-            Err(text) => Ok(HostStep::Fail(text)),
-        }
-    }
+/// `exp_continue ?-continue_timer?`.
+pub(crate) fn exp_continue(alloc: Global, name: &[u8], args: &[Value]) -> Result<Deed, Complaint>
+    ensures { Says result (continuing name.now args.now) }
+{
+    let code = continued(alloc, name, args)?;
+    Ok(Deed::Alone(Effects::new(alloc), Reply::Done(code, Value::new(alloc))))
 }

@@ -9,6 +9,7 @@ use crate::deadline::as_moment;
 use crate::dialogue::Dialogue;
 use crate::phase::Phase;
 use crate::plan::Plan;
+use crate::turn::Want;
 use std::alloc::{AllocError, Global};
 use tcl_words::Text;
 
@@ -27,9 +28,10 @@ impl Dialogue {
         ensures { result ≡ answering_of self.now.phase }
     {
         match &self.phase {
-            Phase::Answer(child, _) => Some(child.number()),
+            Phase::At(_, Want::Answer(child, _)) => Some(child.number()),
+            Phase::At(_, Want::End(child, _)) => Some(child.number()),
+            Phase::At(_, Want::Output(_)) => None,
             Phase::Idle => None,
-            Phase::Expect(_) => None,
         }
     }
 
@@ -38,9 +40,10 @@ impl Dialogue {
         ensures { MatchOption result (expecting_of self.now.phase ≡ None) (λ p. expecting_of self.now.phase ≡ Some p.now) }
     {
         match &self.phase {
-            Phase::Expect(plan) => Some(plan),
+            Phase::At(_, Want::Output(plan)) => Some(plan),
+            Phase::At(_, Want::Answer(_, _)) => None,
+            Phase::At(_, Want::End(_, _)) => None,
             Phase::Idle => None,
-            Phase::Answer(_, _) => None,
         }
     }
 

@@ -7,6 +7,7 @@ ghost use Rattle.exp_match.specs.Decide.{decide};
 ghost use Rattle.tty.specs.Sends.{handed_by, line_after, echo_of};
 ghost use Rattle.tty.specs.Output.{convert};
 ghost use Rattle.expect_core.specs.Awaited.{buffer_of};
+ghost use Rattle.expect_core.specs.Effects.{altered};
 ghost use Rattle.expect_core.specs.Ids.{is_born, is_open as is_open_of, has_id};
 ghost use Rattle.expect_core.specs.Owned.{child_as, child_in};
 
@@ -55,6 +56,23 @@ impl Standing {
     }
 }
 
+/// What may change of a child.
+#[derive(Clone, Copy)]
+pub enum Change {
+    /// It was started, or let go.
+    Stand(Standing),
+    /// Its end was asked for.
+    Waited,
+    /// So many bytes more of its writes were accepted.
+    Sent(u64),
+    /// So many of its first bytes, or all, leave its buffer.
+    Take(usize),
+    /// Another number of bytes is kept of its output.
+    Size(usize),
+    /// NUL bytes of its items are removed, or kept.
+    Removal(bool),
+}
+
 /// A child that was asked for.
 #[derive(Drop)]
 pub struct Child {
@@ -80,6 +98,35 @@ impl Child {
         ensures { result ≡ has_id id.now self.now }
     {
         self.standing.is_born() && self.id.as_slice() == id
+    }
+
+    /// Changes it.
+    fn alter(&mut self, change: Change) -> Result<(), AllocError>
+        ensures { OnOk result (self.new ≡ altered change self.old) }
+    {
+        match change {
+            Change::Stand(standing) => {
+                self.standing = standing;
+                Ok(())
+            }
+            Change::Waited => {
+                self.waited = true;
+                Ok(())
+            }
+            Change::Sent(count) => {
+                self.sent = self.sent.saturating_add(count);
+                Ok(())
+            }
+            Change::Take(count) => {
+                self.kept.take(count);
+                Ok(())
+            }
+            Change::Size(size) => self.kept.resize(size),
+            Change::Removal(on) => {
+                self.remove_nulls = on;
+                Ok(())
+            }
+        }
     }
 }
 
@@ -193,14 +240,16 @@ impl Children {
         }
     }
 
-    /// A child was started, or let go.
-    pub(crate) fn set_standing(&mut self, i: Place, standing: Standing)
-        ensures { self.new ≡ slice_set self.old i (record (child_in i self.old) { standing = standing }) }
+    /// Changes a child.
+    pub(crate) fn alter(&mut self, i: Place, change: Change) -> Result<(), AllocError>
+        ensures { OnOk result (self.new ≡ slice_set self.old i (altered change (child_in i self.old))) }
     {
         let i = i.index();
         if i < self.list.len() {
-            self.list[i].standing = standing;
+            let child = &mut self.list[i];
+            child.alter(change)?;
         }
+        Ok(())
     }
 
     /// A child's id.
@@ -224,26 +273,6 @@ impl Children {
             self.list[i].waited
         } else {
             false
-        }
-    }
-
-    /// A `wait` asks for the child's end.
-    pub(crate) fn set_waited(&mut self, i: Place)
-        ensures { self.new ≡ slice_set self.old i (record (child_in i self.old) { waited = true }) }
-    {
-        let i = i.index();
-        if i < self.list.len() {
-            self.list[i].waited = true;
-        }
-    }
-
-    /// So many bytes more of a child's writes were accepted.
-    pub(crate) fn accept(&mut self, i: Place, count: u64)
-        ensures { self.new ≡ slice_set self.old i (record (child_in i self.old) { sent = min ((child_in i self.old).sent + count) 18446744073709551615 }) }
-    {
-        let i = i.index();
-        if i < self.list.len() {
-            self.list[i].sent = self.list[i].sent.saturating_add(count);
         }
     }
 
@@ -286,16 +315,6 @@ impl Children {
             self.list[i].remove_nulls
         } else {
             true
-        }
-    }
-
-    /// NUL bytes of a child's items are removed, or kept, from now on.
-    pub(crate) fn set_removal(&mut self, i: Place, on: bool)
-        ensures { self.new ≡ slice_set self.old i (record (child_in i self.old) { remove_nulls = on }) }
-    {
-        let i = i.index();
-        if i < self.list.len() {
-            self.list[i].remove_nulls = on;
         }
     }
 
@@ -382,29 +401,6 @@ impl Children {
         if i < self.list.len() {
             let child = &mut self.list[i];
             child.kept.trim();
-        }
-    }
-
-    /// Keeps another number of bytes of a child from now on.
-    pub(crate) fn resize(&mut self, i: Place, size: usize) -> Result<(), AllocError>
-        ensures { OnOk result (self.new ≡ slice_set self.old i (record (child_in i self.old) { kept = record { bytes = keep_last size (child_in i self.old).kept.bytes; size = size } })) }
-    {
-        let i = i.index();
-        if i < self.list.len() {
-            let child = &mut self.list[i];
-            child.kept.resize(size)?;
-        }
-        Ok(())
-    }
-
-    /// Drops so many of a child's first bytes, or all.
-    pub(crate) fn take(&mut self, i: Place, count: usize)
-        ensures { self.new ≡ slice_set self.old i (record (child_in i self.old) { kept = record (child_in i self.old).kept { bytes = drop count (child_in i self.old).kept.bytes } }) }
-    {
-        let i = i.index();
-        if i < self.list.len() {
-            let child = &mut self.list[i];
-            child.kept.take(count);
         }
     }
 

@@ -9,6 +9,7 @@ use crate::lanes::Lanes;
 use crate::phase::Phase;
 use crate::place::Place;
 use crate::plan::Groups;
+use crate::turn::Want;
 
 /// The last moment of 64 bits.
 const LAST_MOMENT: u128 = 18_446_744_073_709_551_615;
@@ -50,8 +51,12 @@ fn deadline_under(phase: &Phase, lanes: &Lanes) -> Option<u64>
     ensures { result ≡ under phase.now lanes.now }
 {
     match phase {
-        Phase::Expect(plan) => soonest(as_moment(plan.deadline), plan.sides.list.as_slice(), lanes),
-        Phase::Idle | Phase::Answer(_, _) => None,
+        Phase::At(_, Want::Output(plan)) => {
+            soonest(as_moment(plan.deadline), plan.sides.list.as_slice(), lanes)
+        }
+        Phase::At(_, Want::Answer(_, _)) => None,
+        Phase::At(_, Want::End(_, _)) => None,
+        Phase::Idle => None,
     }
 }
 

@@ -1,30 +1,21 @@
 //! A script's dialogue with its children.
 
-ghost use Rattle.std.specs.Prelude.{◌≡◌, [], map, IfOk, OnOk, IsTrue, None};
-ghost use Rattle.child_events.specs.declared.event.Answer.{Answer};
-ghost use Rattle.tcl_subst.specs.Variables.{Variables};
+ghost use Rattle.std.specs.Prelude.{◌≡◌, [], map, IfOk, OnOk, IsTrue};
 ghost use Rattle.expect_core.specs.Good.{Good};
 ghost use Rattle.expect_core.specs.Lanes.{offered, untaken_of, OutlivesTicks};
-ghost use Rattle.expect_core.specs.Answered.{Outcome, failure as failure_of, after_answer, awaited as awaited_of};
+ghost use Rattle.expect_core.specs.Answered.{failure as failure_of};
 ghost use Rattle.expect_core.specs.Calls.{fresh};
-ghost use Rattle.expect_core.specs.declared.phase.Purpose.{Purpose};
-ghost use Rattle.expect_core.specs.declared.dialogue.Dialogue.{Dialogue};
 
-use crate::answers::is_within;
 use crate::child::Children;
 use crate::lanes::Lanes;
 use crate::own::Own;
-use crate::phase::{Phase, Purpose};
-use crate::place::Place;
+use crate::phase::Phase;
 use crate::plans::Plans;
 use crate::request::{Request, Requests};
 use crate::settings::Settings;
 use child_events::{Answer, Cause, Event, What};
 use std::alloc::{AllocError, Global};
 use std::mem;
-use tcl_commands::Code;
-use tcl_host::{Ending, HostStep};
-use tcl_values::Value;
 use tcl_words::Text;
 
 /// The host of a script: its children, and what came from them and was not taken yet.
@@ -54,20 +45,6 @@ pub(crate) fn failure(answer: Answer) -> Option<Cause>
         Answer::Exit(_) => Some(Cause::Other),
         Answer::Killed => Some(Cause::Other),
     }
-}
-
-/// A command is done, with this value.
-pub(crate) fn done(value: Value) -> HostStep
-    ensures { result ≡ HostStep.Done Code.Ok value }
-{
-    HostStep::Done(Code::Ok, value)
-}
-
-/// A command is an error with this text.
-pub(crate) fn failed(alloc: Global, text: Text) -> Result<HostStep, AllocError>
-    ensures { IfOk result (λ s. s ≡ HostStep.Fail text) }
-{
-    Ok(HostStep::Fail(Value::from_text(alloc, text)?))
 }
 
 impl Dialogue {
@@ -197,30 +174,5 @@ impl Dialogue {
         ensures { self.new ≡ record self.old { phase = phase } }
     {
         self.phase = phase;
-    }
-
-    /// The next answer of the child at a place, to whose moment the clock goes.
-    pub(crate) fn next_answer(&mut self, i: Place) -> Option<Answer>
-        ensures { (why : Purpose) (more : Answer → Dialogue → Outcome) (vars : Variables) → awaited_of i why more vars self.old ≡ after_answer i why more vars result self.new }
-    {
-        match self.lanes.take_answer(i, self.limit) {
-            Some((moment, answer)) => {
-                self.own.advance(moment);
-                Some(answer)
-            }
-            None => None,
-        }
-    }
-
-    /// There is no answer yet: the call waits, unless the last moment has passed.
-    pub(crate) fn wait_for(&mut self, i: Place, why: Purpose) -> HostStep
-        ensures { (more : Answer → Dialogue → Outcome) (vars : Variables) → after_answer i why more vars None self.old ≡ (result, vars, self.new) }
-    {
-        if is_within(self.horizon, self.limit) {
-            self.set_phase(Phase::Answer(i, why));
-            HostStep::Wait
-        } else {
-            HostStep::Stop(Ending::TimeLimit)
-        }
     }
 }

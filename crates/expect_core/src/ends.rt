@@ -1,43 +1,32 @@
 //! `close` and `wait`: a child is let go, and its end is asked for.
 
-ghost use Rattle.std.specs.Prelude.{◌≡◌, IfOk};
+ghost use Rattle.std.specs.Prelude.{◌≡◌, ◌+◌, ◌++◌, ◌∷◌, IfOk};
+ghost use Rattle.std.specs.Fmt.{decimal as decimal_of};
 ghost use Rattle.tcl_commands.specs.Says.{Says};
-ghost use Rattle.expect_core.specs.Ends.{close_of as close_meant, closing_of, if_unwaited, wait_of as wait_meant, waiting, waiting_at};
+ghost use Rattle.expect_core.specs.Ends.{broken as broken_of, closed as closed_of, closing, end_text as end_text_of, failed_by, if_unwaited, waited as waited_of, waiting};
+ghost use Rattle.expect_core.specs.Owned.{child_of};
 
-use crate::dialogue::Dialogue;
+use crate::child::{Change, Standing};
+use crate::effect::{Effect, Effects};
 use crate::flags::{Takes, bare, flags_of};
 use crate::ids::{open_to, spoken_to};
 use crate::own::Own;
-use crate::phase::Purpose;
 use crate::place::Place;
 use crate::request::Act;
-use crate::texts::waited_for;
+use crate::texts::{decimal, number_of_cause, waited_for, with_cause};
+use crate::turn::{Deed, Next, Purpose, Reaction, done};
+use child_events::{Answer, Cause};
 use std::alloc::{AllocError, Global};
-use tcl_commands::{Complaint, said};
-use tcl_host::HostStep;
+use tcl_commands::Complaint;
 use tcl_subst::Vars;
 use tcl_values::Value;
+use tcl_words::Text;
 
 const ID_ALONE: Takes = Takes {
     own: None,
     id: true,
     end: false,
 };
-
-/// The child that a `close` lets go.
-fn close_of(
-    alloc: Global,
-    name: &[u8],
-    args: &[Value],
-    vars: &Vars,
-    own: &Own,
-) -> Result<Place, Complaint>
-    ensures { Says result (close_meant name.now args.now vars.now own.now) }
-{
-    let (flags, at) = flags_of(alloc, name, ID_ALONE, args)?;
-    bare(alloc, name, &args[at..])?;
-    open_to(alloc, &flags.id, vars, own)
-}
 
 /// The child, where no `wait` has asked for its end.
 fn unwaited(alloc: Global, i: Place, own: &Own) -> Result<Place, Complaint>
@@ -49,61 +38,115 @@ fn unwaited(alloc: Global, i: Place, own: &Own) -> Result<Place, Complaint>
     Ok(i)
 }
 
-/// The child that a `wait` waits for.
-fn wait_of(
+/// `close ?-i id?`.
+pub(crate) fn close(
     alloc: Global,
     name: &[u8],
     args: &[Value],
     vars: &Vars,
     own: &Own,
-) -> Result<Place, Complaint>
-    ensures { Says result (wait_meant name.now args.now vars.now own.now) }
+) -> Result<Deed, Complaint>
+    ensures { Says result (closing name.now args.now vars.now own.now) }
 {
     let (flags, at) = flags_of(alloc, name, ID_ALONE, args)?;
     bare(alloc, name, &args[at..])?;
-    let i = spoken_to(alloc, &flags.id, vars, own)?;
-    unwaited(alloc, i, own)
+    let i = open_to(alloc, &flags.id, vars, own)?;
+    let effects = Effects::one(alloc, Effect::Ask(Act::Close))?;
+    let next = Next::Await(Purpose::Close);
+    Ok(Deed::To(i, Reaction { effects, next }))
 }
 
-impl Dialogue {
-    /// `close ?-i id?`.
-    pub(crate) fn close_child(
-        &mut self,
-        alloc: Global,
-        vars: &mut Vars,
-        name: &[u8],
-        args: &[Value],
-    ) -> Result<HostStep, AllocError>
-        ensures { IfOk result (λ s. closing_of name.now args.now vars.old self.old ≡ (s, vars.new, self.new)) }
-    {
-        match said(alloc, close_of(alloc, name, args, vars, &self.own))? {
-            Ok(i) => self.close(alloc, vars, i, Purpose::Close),
-            Err(text) => Ok(HostStep::Fail(text)),
+/// `wait ?-i id?`.
+pub(crate) fn wait(
+    alloc: Global,
+    name: &[u8],
+    args: &[Value],
+    vars: &Vars,
+    own: &Own,
+) -> Result<Deed, Complaint>
+    ensures { Says result (waiting name.now args.now vars.now own.now) }
+{
+    let (flags, at) = flags_of(alloc, name, ID_ALONE, args)?;
+    bare(alloc, name, &args[at..])?;
+    let i = unwaited(alloc, spoken_to(alloc, &flags.id, vars, own)?, own)?;
+    let effects = Effects::one(alloc, Effect::Alter(Change::Waited))?.with(Effect::Ask(Act::Wait))?;
+    let next = Next::Await(Purpose::Wait);
+    Ok(Deed::To(i, Reaction { effects, next }))
+}
+
+/// A child was let go by a `close`, or not.
+pub(crate) fn closed(alloc: Global, cause: Option<Cause>) -> Result<Reaction, AllocError>
+    ensures { IfOk result (λ r. r ≡ closed_of cause) }
+{
+    let effects = Effects::one(alloc, Effect::Alter(Change::Stand(Standing::Closed)))?;
+    match cause {
+        None => Ok(Reaction::well(alloc, effects)),
+        Some(cause) => {
+            let text = with_cause(alloc, b"close failed", cause)?;
+            Reaction::badly(alloc, effects, text)
         }
     }
+}
 
-    /// Asks for a child's end, and goes on with the answer.
-    fn wait_at(&mut self, alloc: Global, vars: &mut Vars, i: Place) -> Result<HostStep, AllocError>
-        ensures { IfOk result (λ s. waiting_at i vars.old self.old ≡ (s, vars.new, self.new)) }
-    {
-        self.own.children.set_waited(i);
-        self.own.ask(i, Act::Wait)?;
-        self.answered(alloc, vars, i, Purpose::Wait)
-    }
+/// Reading failed, and the child was let go, or not.
+pub(crate) fn broken(alloc: Global, cause: Cause) -> Result<Reaction, AllocError>
+    ensures { IfOk result (λ r. r ≡ broken_of cause) }
+{
+    let effects = Effects::one(alloc, Effect::Alter(Change::Stand(Standing::Closed)))?;
+    let text = with_cause(alloc, b"read failed", cause)?;
+    Reaction::badly(alloc, effects, text)
+}
 
-    /// `wait ?-i id?`.
-    pub(crate) fn wait(
-        &mut self,
-        alloc: Global,
-        vars: &mut Vars,
-        name: &[u8],
-        args: &[Value],
-    ) -> Result<HostStep, AllocError>
-        ensures { IfOk result (λ s. waiting name.now args.now vars.old self.old ≡ (s, vars.new, self.new)) }
-    {
-        match said(alloc, wait_of(alloc, name, args, vars, &self.own))? {
-            Ok(i) => self.wait_at(alloc, vars, i),
-            Err(text) => Ok(HostStep::Fail(text)),
+/// A wait failed for this cause.
+fn failed_text(alloc: Global, cause: Cause) -> Result<Text, AllocError>
+    ensures { IfOk result (λ t. t ≡ failed_by cause) }
+{
+    let mut text = Text::from_slice(alloc, b"-1 ")?;
+    text.extend(decimal(alloc, number_of_cause(cause))?.as_slice())?;
+    Ok(text)
+}
+
+/// How a child ended.
+fn end_text(alloc: Global, answer: Answer) -> Result<Text, AllocError>
+    ensures { IfOk result (λ t. t ≡ end_text_of answer) }
+{
+    match answer {
+        Answer::Exit(status) => {
+            let mut text = Text::from_slice(alloc, b"0 ")?;
+            text.extend(decimal(alloc, usize::from(status))?.as_slice())?;
+            Ok(text)
         }
+        Answer::Killed => Text::from_slice(alloc, b"0 -1 CHILDKILLED unknown unknown"),
+        Answer::Fail(cause) => failed_text(alloc, cause),
+        Answer::Ok => failed_text(alloc, Cause::Other),
     }
+}
+
+/// The number, the id and the end of a child, as one text.
+fn waited_text(alloc: Global, i: Place, answer: Answer, own: &Own) -> Result<Text, AllocError>
+    ensures { IfOk result (λ t. t ≡ decimal_of (i + 1) ++ 32 ∷ (child_of i own.now).id ++ 32 ∷ end_text_of answer) }
+{
+    let mut text = decimal(alloc, usize::from(i.number()))?;
+    text.push(b' ')?;
+    text.extend(own.children.id(i))?;
+    text.push(b' ')?;
+    text.extend(end_text(alloc, answer)?.as_slice())?;
+    Ok(text)
+}
+
+/// How a child ended is told.
+pub(crate) fn waited(
+    alloc: Global,
+    i: Place,
+    answer: Answer,
+    own: &Own,
+) -> Result<Reaction, AllocError>
+    ensures { IfOk result (λ r. r ≡ waited_of i answer own.now) }
+{
+    let text = waited_text(alloc, i, answer, own)?;
+    let next = Next::Finish(done(Value::from_text(alloc, text)?));
+    Ok(Reaction {
+        effects: Effects::new(alloc),
+        next,
+    })
 }

@@ -1,34 +1,35 @@
 //! `expect`.
 
-ghost use Rattle.std.specs.Prelude.{◌≡◌, ◌<◌, ◌++◌, ◌∷◌, [], drop, IfOk, OnOk, take};
+ghost use Rattle.std.specs.Prelude.{◌≡◌, ◌<◌, ◌++◌, ◌∷◌, [], List, IfOk, OnOk, take};
+ghost use Rattle.tcl_commands.specs.Says.{Says};
+ghost use Rattle.expect_core.specs.declared.plan.Plan.{Plan as PlanOf};
+ghost use Rattle.expect_core.specs.Calls.{outer};
 ghost use Rattle.expect_core.specs.Owned.{bytes_of, child_of};
-ghost use Rattle.expect_core.specs.Expecting.{acting, acting_at as acting_there, again as again_of, all_met as all_met_of, before as before_of, behind as behind_of, by_heard as by_heard_of, closing as closing_of, ended, end_of as end_told, entry_of, expecting as expecting_of, group_pairs as group_pairs_of, groups_from, listening as listening_of, looking as looking_of, matched as matched_of, meeting as meeting_of, met_pairs as met_pairs_of, places, text_pair};
-ghost use Rattle.expect_core.specs.Calls.{settled};
+ghost use Rattle.expect_core.specs.Turns.{done as done_of, over as over_of};
+ghost use Rattle.expect_core.specs.Expecting.{again as again_of, all_met, before as before_of, behind as behind_of, ended as ended_of, ending as ending_of, end_of as end_told, entry_of, expecting, failing as failing_of, full as full_of, group_pairs as group_pairs_of, groups_from, late as late_of, matched as matched_of, meeting, met_pairs as met_pairs_of, places, shut as shut_of, text_pair};
 
-use crate::dialogue::{Dialogue, done, failed, failure};
+use crate::child::{Change, Standing};
+use crate::effect::{Effect, Effects};
 use crate::ids::all_open;
-use crate::listen::{Times, listen, look};
 use crate::own::{Own, deadline_from};
-use crate::phase::{Heard, Phase, Purpose};
 use crate::place::Place;
 use crate::plan::{Met, Plan};
 use crate::planning::plan_of;
 use crate::request::Act;
-use crate::scoped::set_all;
 use crate::stored::{BUFFER, ID, Stores, end_name, start_name, string_name};
 use crate::texts::{decimal, with_cause};
-use child_events::Answer;
+use crate::turn::{Deed, Next, Purpose, Reaction, Reply, Stage, Turn, Want, done};
+use child_events::Cause;
 use exp_match::Spans;
 use std::alloc::{AllocError, Global};
-use tcl_commands::{Code, said};
-use tcl_host::{Ending, HostStep};
+use tcl_commands::{Code, Complaint, said};
 use tcl_subst::Vars;
 use tcl_values::Value;
 use tcl_words::Text;
 
 impl Plan {
     /// The action of an entry.
-    fn action(&self, index: usize) -> &[u8]
+    pub(crate) fn action(&self, index: usize) -> &[u8]
         ensures { result.now ≡ (entry_of index self.now).action }
     {
         let entries = self.list.entries.as_slice();
@@ -190,262 +191,223 @@ fn end_of(spans: &Spans) -> usize
     }
 }
 
-impl Dialogue {
-    /// An action is evaluated, and the expect kept meanwhile.
-    fn act(
-        &mut self,
-        alloc: Global,
-        vars: &Vars,
-        mut plan: Plan,
-        met: Met,
-    ) -> Result<HostStep, AllocError>
-        ensures { IfOk result (λ s. acting plan met vars.now self.old ≡ (s, vars.now, self.new)) }
-    {
-        let action = Value::from_slice(alloc, plan.action(met.entry))?;
-        plan.met = Some(met);
-        self.own.plans.push(plan)?;
-        Ok(HostStep::Body(action))
-    }
+/// `expect` with these arguments.
+pub(crate) fn expect(
+    alloc: Global,
+    args: &[Value],
+    vars: &Vars,
+    own: &mut Own,
+) -> Result<Deed, Complaint>
+    ensures same { own.new ≡ own.old }
+    ensures said { Says result (expecting args.now vars.now own.old) }
+{
+    let plan = plan_of(alloc, args, vars, own)?;
+    Ok(Deed::Expect(plan))
+}
 
-    /// The action of a keyword, if one is listed.
-    fn act_at(
-        &mut self,
-        alloc: Global,
-        vars: &Vars,
-        plan: Plan,
-        index: Option<usize>,
-    ) -> Result<HostStep, AllocError>
-        ensures { IfOk result (λ s. acting_there plan index vars.now self.old ≡ (s, vars.now, self.new)) }
-    {
-        match index {
-            Some(entry) => self.act(alloc, vars, plan, Met { entry, child: None }),
-            None => Ok(done(Value::new(alloc))),
+/// The call is done, with no value.
+fn nothing(alloc: Global) -> Turn
+    ensures { result ≡ over_of (done_of []) }
+{
+    Turn::over(alloc, done(Value::new(alloc)))
+}
+
+/// The deadline has passed.
+pub(crate) fn late(alloc: Global, plan: Plan) -> Turn
+    ensures { result ≡ late_of plan }
+{
+    match plan.list.at_timeout() {
+        Some(entry) => Turn::only(alloc, Stage::Act(plan, Met { entry, child: None })),
+        None => nothing(alloc),
+    }
+}
+
+/// Bytes that are met are stored, and so many of them leave the buffer.
+fn meet(
+    alloc: Global,
+    plan: Plan,
+    i: Place,
+    entry: usize,
+    stores: Stores,
+    count: usize,
+) -> Result<Turn, AllocError>
+    ensures { IfOk result (λ t. t ≡ meeting plan i entry stores count) }
+{
+    let effects = Effects::one(alloc, Effect::Store(stores))?.with(Effect::Alter(Change::Take(
+        count,
+    )))?;
+    let child = Some(i);
+    let stage = Stage::Act(plan, Met { entry, child });
+    Ok(Turn {
+        child,
+        effects,
+        stage,
+    })
+}
+
+/// A pattern matches.
+pub(crate) fn matched(
+    alloc: Global,
+    plan: Plan,
+    i: Place,
+    entry: usize,
+    spans: &Spans,
+    own: &mut Own,
+) -> Result<Turn, AllocError>
+    ensures same { own.new ≡ own.old }
+    ensures turn { IfOk result (λ t. t ≡ matched_of plan i entry spans.now own.old) }
+{
+    let (indices, notransfer) = plan.marks(entry);
+    let end = end_of(spans);
+    let mut stores = Stores::new(alloc);
+    own.push_groups(alloc, &mut stores, i, indices, spans)?;
+    own.push_met(alloc, &mut stores, i, end)?;
+    let taken = if notransfer { 0 } else { end };
+    meet(alloc, plan, i, entry, stores, taken)
+}
+
+/// All kept bytes are met by a keyword, if it is listed.
+fn meet_all(
+    alloc: Global,
+    plan: Plan,
+    i: Place,
+    entry: Option<usize>,
+    own: &mut Own,
+) -> Result<Turn, AllocError>
+    ensures same { own.new ≡ own.old }
+    ensures turn { IfOk result (λ t. t ≡ all_met plan i entry own.old) }
+{
+    let Some(entry) = entry else {
+        return Ok(nothing(alloc));
+    };
+    let count = own.children.count_kept(i);
+    let mut stores = Stores::new(alloc);
+    own.push_met(alloc, &mut stores, i, count)?;
+    meet(alloc, plan, i, entry, stores, count)
+}
+
+/// As many bytes are kept as may be.
+pub(crate) fn full(alloc: Global, plan: Plan, i: Place, own: &mut Own) -> Result<Turn, AllocError>
+    ensures same { own.new ≡ own.old }
+    ensures turn { IfOk result (λ t. t ≡ full_of plan i own.old) }
+{
+    let entry = plan.list.at_full(plan.sides.groups(i));
+    meet_all(alloc, plan, i, entry, own)
+}
+
+/// The output of a child ended: it is let go.
+pub(crate) fn ending(alloc: Global, plan: Plan, i: Place) -> Result<Turn, AllocError>
+    ensures { IfOk result (λ t. t ≡ ending_of plan i) }
+{
+    Ok(Turn {
+        child: Some(i),
+        effects: Effects::one(alloc, Effect::Ask(Act::Close))?,
+        stage: Stage::Wait(Want::End(i, plan)),
+    })
+}
+
+/// Reading the output of a child failed: it is let go.
+pub(crate) fn failing(alloc: Global, i: Place, cause: Cause) -> Result<Turn, AllocError>
+    ensures { IfOk result (λ t. t ≡ failing_of i cause) }
+{
+    let effects = Effects::one(alloc, Effect::Ask(Act::Close))?;
+    let next = Next::Await(Purpose::Fail(cause));
+    Ok(Reaction { effects, next }.at(i))
+}
+
+/// A child was let go before a turn.
+fn shut(i: Place, turn: Turn) -> Result<Turn, AllocError>
+    ensures { IfOk result (λ t. t ≡ shut_of i turn) }
+{
+    Ok(Turn {
+        child: Some(i),
+        effects: turn
+            .effects
+            .behind(Effect::Alter(Change::Stand(Standing::Closed)))?,
+        stage: turn.stage,
+    })
+}
+
+/// A child was let go at the end of its output, or not.
+pub(crate) fn ended(
+    alloc: Global,
+    plan: Plan,
+    i: Place,
+    cause: Option<Cause>,
+    own: &mut Own,
+) -> Result<Turn, AllocError>
+    ensures same { own.new ≡ own.old }
+    ensures turn { IfOk result (λ t. t ≡ ended_of plan i cause own.old) }
+{
+    match cause {
+        None => {
+            let entry = plan.list.at_end(plan.sides.groups(i));
+            let turn = meet_all(alloc, plan, i, entry, own)?;
+            shut(i, turn)
+        }
+        Some(cause) => {
+            let text = with_cause(alloc, b"close failed", cause)?;
+            let text = Value::from_text(alloc, text)?;
+            shut(i, Turn::over(alloc, Reply::Fail(text)))
         }
     }
 }
 
-impl Dialogue {
-    /// Bytes that are met are stored, and so many of them leave the buffer.
-    fn meet(
-        &mut self,
-        alloc: Global,
-        vars: &mut Vars,
-        plan: Plan,
-        i: Place,
-        index: usize,
-        stores: Stores,
-        count: usize,
-    ) -> Result<HostStep, AllocError>
-        ensures { IfOk result (λ s. meeting_of plan i index stores (drop count (bytes_of i self.old.own)) vars.old self.old ≡ (s, vars.new, self.new)) }
-    {
-        if let Some(text) = set_all(alloc, vars, stores)? {
-            return Ok(HostStep::Fail(text));
+/// An expect once more, behind its action.
+fn again(
+    alloc: Global,
+    mut plan: Plan,
+    deadline: Option<u128>,
+    own: &Own,
+) -> Result<Turn, AllocError>
+    ensures { IfOk result (λ t. t ≡ again_of plan deadline own.now) }
+{
+    match said(alloc, all_open(alloc, &plan.order, own))? {
+        Ok(()) => {
+            plan.deadline = deadline;
+            Ok(Turn::only(alloc, Stage::Look(plan)))
         }
-        self.own.children.take(i, count);
-        let met = Met {
-            entry: index,
-            child: Some(i),
-        };
-        self.act(alloc, vars, plan, met)
+        Err(text) => Ok(Turn::over(alloc, Reply::Fail(text))),
     }
+}
 
-    /// A pattern matches.
-    fn on_match(
-        &mut self,
-        alloc: Global,
-        vars: &mut Vars,
-        plan: Plan,
-        i: Place,
-        index: usize,
-        spans: &Spans,
-    ) -> Result<HostStep, AllocError>
-        ensures { IfOk result (λ s. matched_of plan i index spans.now vars.old self.old ≡ (s, vars.new, self.new)) }
-    {
-        let (indices, notransfer) = plan.marks(index);
-        let end = end_of(spans);
-        let mut stores = Stores::new(alloc);
-        self.own.push_groups(alloc, &mut stores, i, indices, spans)?;
-        self.own.push_met(alloc, &mut stores, i, end)?;
-        let taken = if notransfer { 0 } else { end };
-        self.meet(alloc, vars, plan, i, index, stores, taken)
-    }
-
-    /// All kept bytes are met by a keyword, if it is listed.
-    fn on_all_met(
-        &mut self,
-        alloc: Global,
-        vars: &mut Vars,
-        plan: Plan,
-        i: Place,
-        index: Option<usize>,
-    ) -> Result<HostStep, AllocError>
-        ensures { IfOk result (λ s. all_met_of plan i index vars.old self.old ≡ (s, vars.new, self.new)) }
-    {
-        let Some(index) = index else {
-            return Ok(done(Value::new(alloc)));
-        };
-        let count = self.own.children.count_kept(i);
-        let mut stores = Stores::new(alloc);
-        self.own.push_met(alloc, &mut stores, i, count)?;
-        let step = self.meet(alloc, vars, plan, i, index, stores, count)?;
-        Ok(step)
-    }
-
-    /// The output ended, and the child was let go, or not.
-    pub(crate) fn on_ended(
-        &mut self,
-        alloc: Global,
-        vars: &mut Vars,
-        i: Place,
-        plan: Plan,
-        answer: Answer,
-    ) -> Result<HostStep, AllocError>
-        ensures { IfOk result (λ s. ended plan i vars.old answer self.old ≡ (s, vars.new, self.new)) }
-    {
-        self.shut(i);
-        if let Some(cause) = failure(answer) {
-            return failed(alloc, with_cause(alloc, b"close failed", cause)?);
+/// Goes on behind an action, which ended with this code and value.
+fn behind(
+    alloc: Global,
+    code: Code,
+    value: &Value,
+    plan: Plan,
+    own: &Own,
+) -> Result<Turn, AllocError>
+    ensures { (outer : List PlanOf) → IfOk result (λ t. t ≡ behind_of code value.now (plan ∷ outer) own.now) }
+{
+    match code {
+        Code::Again => {
+            let deadline = deadline_from(own.clock, plan.span);
+            again(alloc, plan, deadline, own)
         }
-        let index = plan.list.at_end(plan.sides.groups(i));
-        self.on_all_met(alloc, vars, plan, i, index)
-    }
-
-    /// Lets a child go, and goes on with the answer.
-    pub(crate) fn close(
-        &mut self,
-        alloc: Global,
-        vars: &mut Vars,
-        i: Place,
-        why: Purpose,
-    ) -> Result<HostStep, AllocError>
-        ensures { IfOk result (λ s. closing_of i why (settled i why vars.old) vars.old self.old ≡ (s, vars.new, self.new)) }
-    {
-        self.own.ask(i, Act::Close)?;
-        self.answered(alloc, vars, i, why)
-    }
-
-    /// Ends a wait for a pattern, or keeps it.
-    fn conclude(
-        &mut self,
-        alloc: Global,
-        vars: &mut Vars,
-        plan: Plan,
-        heard: &Heard,
-    ) -> Result<HostStep, AllocError>
-        ensures { IfOk result (λ s. by_heard_of plan vars.old heard.now self.old ≡ (s, vars.new, self.new)) }
-    {
-        match heard {
-            Heard::Match(i, index, spans) => self.on_match(alloc, vars, plan, *i, *index, spans),
-            Heard::Full(i) => {
-                let index = plan.list.at_full(plan.sides.groups(*i));
-                self.on_all_met(alloc, vars, plan, *i, index)
-            }
-            Heard::TimedOut(deadline) => {
-                self.own.clock = *deadline;
-                let index = plan.list.at_timeout();
-                self.act_at(alloc, vars, plan, index)
-            }
-            Heard::OverLimit => Ok(HostStep::Stop(Ending::TimeLimit)),
-            Heard::NotYet => {
-                self.set_phase(Phase::Expect(plan));
-                Ok(HostStep::Wait)
-            }
-            Heard::Ended(i) => self.close(alloc, vars, *i, Purpose::End(plan)),
-            Heard::Failed(i, cause) => self.close(alloc, vars, *i, Purpose::Fail(*cause)),
+        Code::AgainLater => {
+            let deadline = plan.deadline;
+            again(alloc, plan, deadline, own)
         }
+        _ => Ok(Turn::over(alloc, Reply::Done(code, value.shared(alloc)?))),
     }
+}
 
-    /// Goes on with a wait for a pattern.
-    pub(crate) fn listening(
+impl Own {
+    /// Takes the innermost expect, whose action ended with this code and value, and goes on.
+    pub(crate) fn end_body(
         &mut self,
         alloc: Global,
-        vars: &mut Vars,
-        plan: Plan,
-    ) -> Result<HostStep, AllocError>
-        ensures { IfOk result (λ s. listening_of plan vars.old self.old ≡ (s, vars.new, self.new)) }
-    {
-        let times = Times {
-            limit: self.limit,
-            horizon: self.horizon,
-        };
-        let heard = listen(alloc, times, &plan, &mut self.lanes, &mut self.own)?;
-        self.conclude(alloc, vars, plan, &heard)
-    }
-
-    /// Begins a wait for a pattern.
-    pub(crate) fn looking(
-        &mut self,
-        alloc: Global,
-        vars: &mut Vars,
-        plan: Plan,
-    ) -> Result<HostStep, AllocError>
-        ensures { IfOk result (λ s. looking_of plan vars.old self.old ≡ (s, vars.new, self.new)) }
-    {
-        let times = Times {
-            limit: self.limit,
-            horizon: self.horizon,
-        };
-        let heard = look(alloc, times, &plan, &mut self.lanes, &mut self.own)?;
-        self.conclude(alloc, vars, plan, &heard)
-    }
-
-    /// `expect` with these arguments.
-    pub(crate) fn expect(
-        &mut self,
-        alloc: Global,
-        vars: &mut Vars,
-        args: &[Value],
-    ) -> Result<HostStep, AllocError>
-        ensures { IfOk result (λ s. expecting_of args.now vars.old self.old ≡ (s, vars.new, self.new)) }
-    {
-        match said(alloc, plan_of(alloc, args, vars, &mut self.own))? {
-            Ok(plan) => self.looking(alloc, vars, plan),
-            Err(text) => Ok(HostStep::Fail(text)),
-        }
-    }
-
-    /// An expect once more, behind its action.
-    fn expect_again(
-        &mut self,
-        alloc: Global,
-        vars: &mut Vars,
-        mut plan: Plan,
-        deadline: Option<u128>,
-    ) -> Result<HostStep, AllocError>
-        ensures { IfOk result (λ s. again_of plan deadline self.old.own.plans vars.old self.old ≡ (s, vars.new, self.new)) }
-    {
-        match said(alloc, all_open(alloc, &plan.order, &self.own))? {
-            Ok(()) => {
-                plan.deadline = deadline;
-                self.looking(alloc, vars, plan)
-            }
-            Err(text) => Ok(HostStep::Fail(text)),
-        }
-    }
-
-    /// Goes on behind an action, which ended with this code and value.
-    pub(crate) fn behind(
-        &mut self,
-        alloc: Global,
-        vars: &mut Vars,
         code: Code,
         value: &Value,
-    ) -> Result<HostStep, AllocError>
-        ensures { IfOk result (λ s. behind_of code value.now self.old.own.plans vars.old self.old ≡ (s, vars.new, self.new)) }
+    ) -> Result<Turn, AllocError>
+        ensures popped { self.new ≡ record self.old { plans = outer self.old.plans } }
+        ensures turn { IfOk result (λ t. t ≡ behind_of code value.now self.old.plans self.new) }
     {
-        let Some(plan) = self.own.plans.pop() else {
-            return Ok(HostStep::Done(code, value.shared(alloc)?));
-        };
-        match code {
-            Code::Again => {
-                let deadline = deadline_from(self.own.clock, plan.span);
-                self.expect_again(alloc, vars, plan, deadline)
-            }
-            Code::AgainLater => {
-                let deadline = plan.deadline;
-                self.expect_again(alloc, vars, plan, deadline)
-            }
-            _ => Ok(HostStep::Done(code, value.shared(alloc)?)),
+        match self.plans.pop() {
+            Some(plan) => behind(alloc, code, value, plan, self),
+            None => Ok(Turn::over(alloc, Reply::Done(code, value.shared(alloc)?))),
         }
     }
 }

@@ -1,20 +1,19 @@
 //! `match_max` and `remove_nulls`: what is told or set of one child, or of children to come.
 
-ghost use Rattle.std.specs.Prelude.{◌≡◌, IfOk};
-ghost use Rattle.std.specs.Fmt.{decimal as decimal_of};
 ghost use Rattle.tcl_commands.specs.Says.{Says};
 ghost use Rattle.expect_core.specs.Options.{option_of, removal_of, removing, removing_at, size_by, size_of, sizing, sizing_at, whose};
 
-use crate::dialogue::{Dialogue, done};
+use crate::child::Change;
+use crate::effect::{Effect, Effects};
 use crate::flags::{Flags, Switch, Takes, flags_of, is, with_option};
 use crate::ids::open_to;
 use crate::own::Own;
 use crate::place::Place;
 use crate::texts::{bad_removal, bad_size, bit, decimal};
-use std::alloc::{AllocError, Global};
-use tcl_commands::{Code, Complaint, said};
+use crate::turn::{Deed, done};
+use std::alloc::Global;
+use tcl_commands::Complaint;
 use tcl_expr::read_number;
-use tcl_host::HostStep;
 use tcl_subst::Vars;
 use tcl_values::Value;
 
@@ -79,87 +78,66 @@ fn removal_of(alloc: Global, text: &[u8]) -> Result<bool, Complaint>
     Err(Complaint::Said(bad_removal(alloc, text)?))
 }
 
-/// A count as a command's value.
-fn told(alloc: Global, count: usize) -> Result<HostStep, AllocError>
-    ensures { IfOk result (λ s. s ≡ HostStep.Done Code.Ok (decimal_of count)) }
+/// How many bytes are kept is told, or set.
+fn size(
+    alloc: Global,
+    at: Option<Place>,
+    text: &Option<Value>,
+    own: &Own,
+) -> Result<Deed, Complaint>
+    ensures { Says result (sizing_at at text.now own.now) }
 {
-    Ok(done(Value::from_text(alloc, decimal(alloc, count)?)?))
+    let Some(text) = text else {
+        let count = Value::from_text(alloc, decimal(alloc, own.size_at(at))?)?;
+        return Ok(Deed::over_at(at, Effects::new(alloc), done(count)));
+    };
+    let size = size_of(alloc, text.as_slice())?;
+    let effects = Effects::one(alloc, Effect::Alter(Change::Size(size)))?;
+    Ok(Deed::over_at(at, effects, done(Value::new(alloc))))
 }
 
-impl Dialogue {
-    /// How many bytes are kept is told, or set.
-    fn size(
-        &mut self,
-        alloc: Global,
-        vars: &Vars,
-        at: Option<Place>,
-        text: &Option<Value>,
-    ) -> Result<HostStep, AllocError>
-        ensures { IfOk result (λ s. sizing_at at text.now vars.now self.old ≡ (s, vars.now, self.new)) }
-    {
-        let Some(text) = text else {
-            return told(alloc, self.own.size_at(at));
-        };
-        match said(alloc, size_of(alloc, text.as_slice()))? {
-            Ok(size) => {
-                self.own.set_size(at, size)?;
-                Ok(done(Value::new(alloc)))
-            }
-            Err(text) => Ok(HostStep::Fail(text)),
-        }
-    }
+/// `match_max ?-d? ?-i id? ?size?`.
+pub(crate) fn match_max(
+    alloc: Global,
+    name: &[u8],
+    args: &[Value],
+    vars: &Vars,
+    own: &Own,
+) -> Result<Deed, Complaint>
+    ensures { Says result (sizing name.now args.now vars.now own.now) }
+{
+    let (at, text) = option_of(alloc, name, args, vars, own)?;
+    size(alloc, at, &text, own)
+}
 
-    /// `match_max ?-d? ?-i id? ?size?`.
-    pub(crate) fn match_max(
-        &mut self,
-        alloc: Global,
-        vars: &Vars,
-        name: &[u8],
-        args: &[Value],
-    ) -> Result<HostStep, AllocError>
-        ensures { IfOk result (λ s. sizing name.now args.now vars.now self.old ≡ (s, vars.now, self.new)) }
-    {
-        match said(alloc, option_of(alloc, name, args, vars, &self.own))? {
-            Ok((at, text)) => self.size(alloc, vars, at, &text),
-            Err(text) => Ok(HostStep::Fail(text)),
-        }
-    }
+/// Whether NUL bytes are removed is told, or set.
+fn removal(
+    alloc: Global,
+    at: &Option<Place>,
+    text: &Option<Value>,
+    own: &Own,
+) -> Result<Deed, Complaint>
+    ensures { Says result (removing_at at.now text.now own.now) }
+{
+    let Some(text) = text else {
+        let on = bit(alloc, own.removes_at(*at))?;
+        return Ok(Deed::over_at(*at, Effects::new(alloc), done(on)));
+    };
+    let on = removal_of(alloc, text.as_slice())?;
+    let effects = Effects::one(alloc, Effect::Alter(Change::Removal(on)))?;
+    Ok(Deed::over_at(*at, effects, done(Value::new(alloc))))
+}
 
-    /// Whether NUL bytes are removed is told, or set.
-    fn removal(
-        &mut self,
-        alloc: Global,
-        vars: &Vars,
-        at: Option<Place>,
-        text: &Option<Value>,
-    ) -> Result<HostStep, AllocError>
-        ensures { IfOk result (λ s. removing_at at text.now vars.now self.old ≡ (s, vars.now, self.new)) }
-    {
-        let Some(text) = text else {
-            return Ok(done(Value::from_slice(alloc, bit(self.own.removes_at(at)))?));
-        };
-        match said(alloc, removal_of(alloc, text.as_slice()))? {
-            Ok(on) => {
-                self.own.set_removal(at, on);
-                Ok(done(Value::new(alloc)))
-            }
-            Err(text) => Ok(HostStep::Fail(text)),
-        }
-    }
-
-    /// `remove_nulls ?-d? ?-i id? ?value?`.
-    pub(crate) fn remove_nulls(
-        &mut self,
-        alloc: Global,
-        vars: &Vars,
-        name: &[u8],
-        args: &[Value],
-    ) -> Result<HostStep, AllocError>
-        ensures { IfOk result (λ s. removing name.now args.now vars.now self.old ≡ (s, vars.now, self.new)) }
-    {
-        match said(alloc, option_of(alloc, name, args, vars, &self.own))? {
-            Ok((at, text)) => self.removal(alloc, vars, at, &text),
-            Err(text) => Ok(HostStep::Fail(text)),
-        }
-    }
+/// `remove_nulls ?-d? ?-i id? ?value?`.
+pub(crate) fn remove_nulls(
+    alloc: Global,
+    name: &[u8],
+    args: &[Value],
+    vars: &Vars,
+    own: &Own,
+) -> Result<Deed, Complaint>
+    ensures { Says result (removing name.now args.now vars.now own.now) }
+{
+    let (at, text) = option_of(alloc, name, args, vars, own)?;
+    removal(alloc, &at, &text, own)
 }

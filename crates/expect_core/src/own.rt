@@ -2,7 +2,7 @@
 
 ghost use Rattle.std.specs.Prelude.{◌≡◌, ◌++◌, OnOk};
 ghost use Rattle.expect_core.specs.Heard.{deadline_from as deadline_of};
-ghost use Rattle.expect_core.specs.Owned.{at_moment, bytes_of, told, logged, asked, received, seen, with_bytes, size_at, with_size, removes_at, with_removal};
+ghost use Rattle.expect_core.specs.Owned.{at_moment, bytes_of, told, logged, asked, received, seen, with_bytes, size_at, removes_at};
 
 use crate::child::Children;
 use crate::kept::behind;
@@ -127,19 +127,6 @@ impl Own {
         }
     }
 
-    /// Another number of bytes is kept of a child, or of children to come.
-    pub(crate) fn set_size(&mut self, at: Option<Place>, size: usize) -> Result<(), AllocError>
-        ensures { OnOk result (self.new ≡ with_size at size self.old) }
-    {
-        match at {
-            Some(i) => self.children.resize(i, size),
-            None => {
-                self.size = size;
-                Ok(())
-            }
-        }
-    }
-
     /// Whether NUL bytes are removed of a child, or of children to come.
     pub(crate) fn removes_at(&self, at: Option<Place>) -> bool
         ensures { result ≡ removes_at at self.now }
@@ -147,16 +134,6 @@ impl Own {
         match at {
             Some(i) => self.children.removes_nulls(i),
             None => self.remove_nulls,
-        }
-    }
-
-    /// NUL bytes are removed of a child, or of children to come, or kept, from now on.
-    pub(crate) fn set_removal(&mut self, at: Option<Place>, on: bool)
-        ensures { self.new ≡ with_removal at on self.old }
-    {
-        match at {
-            Some(i) => self.children.set_removal(i, on),
-            None => self.remove_nulls = on,
         }
     }
 }

@@ -1,39 +1,17 @@
 //! What a call that waits was doing.
 
 use crate::place::Place;
-use crate::plan::Plan;
+use crate::turn::Want;
 use child_events::Cause;
 use exp_match::Spans;
-use tcl_host::Pile;
-use tcl_words::Texts;
-use tty::Action;
-
-/// What an answer is awaited for.
-#[derive(Drop)]
-pub enum Purpose {
-    /// A spawn of these words.
-    Spawn(Texts),
-    /// A send: what was asked for, and what is to be asked for behind it.
-    Send(Action, Pile<Action>),
-    /// A close.
-    Close,
-    /// A wait.
-    Wait,
-    /// The end of an expect at the end of the output.
-    End(Plan),
-    /// The end of an expect where reading failed.
-    Fail(Cause),
-}
 
 /// What a call that waits was doing.
 #[derive(Drop)]
 pub enum Phase {
     /// Nothing.
     Idle,
-    /// It awaits the answer of the child at this place.
-    Answer(Place, Purpose),
-    /// It awaits an item of one of its children.
-    Expect(Plan),
+    /// It waits for this, and may take so many turns behind it.
+    At(u64, Want),
 }
 
 /// What came of a wait for patterns, and at which place the child stands that it is about.

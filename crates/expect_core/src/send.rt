@@ -1,25 +1,50 @@
 //! `send`.
 
-ghost use Rattle.std.specs.Prelude.{◌≡◌, IfOk};
+ghost use Rattle.std.specs.Prelude.{◌≡◌, ◌++◌, IfOk};
 ghost use Rattle.tcl_commands.specs.Says.{Says};
-ghost use Rattle.expect_core.specs.Sending.{act_of as act_meant, counted, handed, handing, refused as refused_text, send_of as send_meant, sending as sending_of, sending_to as sending_there};
+ghost use Rattle.expect_core.specs.Sending.{act_of as act_meant, counting, handed as handed_of, handing, refused as refused_text, sending};
 
-use crate::dialogue::{Dialogue, done, failed, failure};
+use crate::child::Change;
+use crate::effect::{Effect, Effects};
 use crate::flags::{Takes, flags_of, with_text};
 use crate::ids::open_to;
 use crate::own::Own;
-use crate::phase::Purpose;
 use crate::place::Place;
 use crate::request::Act;
 use crate::texts::with_cause;
-use child_events::{Answer, Cause};
+use crate::turn::{Deed, Next, Purpose, Reaction};
+use child_events::Cause;
 use std::alloc::{AllocError, Global};
-use tcl_commands::{Complaint, said};
-use tcl_host::{HostStep, Pile};
+use tcl_commands::Complaint;
+use tcl_host::Pile;
 use tcl_subst::Vars;
 use tcl_values::Value;
 use tcl_words::Text;
 use tty::{Action, Actions};
+
+const TAKES: Takes = Takes {
+    own: None,
+    id: true,
+    end: true,
+};
+
+/// `send ?-i id? ?--? text`.
+pub(crate) fn send(
+    alloc: Global,
+    name: &[u8],
+    args: &[Value],
+    vars: &Vars,
+    own: &Own,
+) -> Result<Deed, Complaint>
+    ensures { Says result (sending name.now args.now vars.now own.now) }
+{
+    let (flags, at) = flags_of(alloc, name, TAKES, args)?;
+    let text = with_text(alloc, name, &args[at..])?;
+    let i = open_to(alloc, &flags.id, vars, own)?;
+    let effects = Effects::new(alloc);
+    let next = Next::Send(text);
+    Ok(Deed::To(i, Reaction { effects, next }))
+}
 
 /// The request that hands over what the terminal gives.
 fn act_of(alloc: Global, action: &Action) -> Result<Act, AllocError>
@@ -28,16 +53,6 @@ fn act_of(alloc: Global, action: &Action) -> Result<Act, AllocError>
     match action {
         Action::Write(text) => Ok(Act::Write(text.copied(alloc)?)),
         Action::End => Ok(Act::End),
-    }
-}
-
-/// What was handed over counts.
-fn count(own: &mut Own, i: Place, action: &Action)
-    ensures { own.new ≡ counted i action.now own.old }
-{
-    match action {
-        Action::Write(text) => own.children.accept(i, text.len() as u64),
-        Action::End => {}
     }
 }
 
@@ -62,101 +77,57 @@ fn piled(alloc: Global, mut actions: Actions) -> Result<Pile<Action>, AllocError
     Ok(pile)
 }
 
-const TAKES: Takes = Takes {
-    own: None,
-    id: true,
-    end: true,
-};
-
-/// The child and the text of a send.
-fn send_of(
+/// Hands over the first of what a terminal gives, behind other effects.
+fn hand_behind(
     alloc: Global,
-    name: &[u8],
-    args: &[Value],
-    vars: &Vars,
-    own: &Own,
-) -> Result<(Place, Value), Complaint>
-    ensures { Says result (send_meant name.now args.now vars.now own.now) }
+    effects: Effects,
+    mut rest: Pile<Action>,
+) -> Result<Reaction, AllocError>
+    ensures { IfOk result (λ r. r ≡ record { effects = effects ++ (handing rest).effects; next = (handing rest).next }) }
 {
-    let (flags, at) = flags_of(alloc, name, TAKES, args)?;
-    let text = with_text(alloc, name, &args[at..])?;
-    let i = open_to(alloc, &flags.id, vars, own)?;
-    Ok((i, text))
+    let Some(action) = rest.pop() else {
+        return Ok(Reaction::well(alloc, effects));
+    };
+    let effects = effects.with(Effect::Ask(act_of(alloc, &action)?))?;
+    let next = Next::Await(Purpose::Send(action, rest));
+    Ok(Reaction { effects, next })
 }
 
-impl Dialogue {
-    /// Hands over what a terminal gives, piece by piece, each when the one before it was taken.
-    fn hand(
-        &mut self,
-        alloc: Global,
-        vars: &Vars,
-        i: Place,
-        mut rest: Pile<Action>,
-    ) -> Result<HostStep, AllocError>
-        ensures { IfOk result (λ s. handing i rest vars.now self.old ≡ (s, vars.now, self.new)) }
-    {
-        'actions: loop {
-            let Some(action) = rest.pop() else {
-                return Ok(done(Value::new(alloc)));
-            };
-            self.own.ask(i, act_of(alloc, &action)?)?;
-            let Some(answer) = self.next_answer(i) else {
-                return Ok(self.wait_for(i, Purpose::Send(action, rest)));
-            };
-            if let Some(cause) = failure(answer) {
-                return failed(alloc, refused(alloc, &action, cause)?);
-            }
-            count(&mut self.own, i, &action);
+/// Hands over what a terminal gives, piece by piece, each when the one before it was taken.
+pub(crate) fn hand(alloc: Global, actions: Actions) -> Result<Reaction, AllocError>
+    ensures { IfOk result (λ r. r ≡ handing actions) }
+{
+    let rest = piled(alloc, actions)?;
+    hand_behind(alloc, Effects::new(alloc), rest)
+}
+
+/// What was handed over counts.
+fn count(alloc: Global, action: &Action) -> Result<Effects, AllocError>
+    ensures { IfOk result (λ e. e ≡ counting action.now) }
+{
+    match action {
+        Action::Write(text) => Effects::one(alloc, Effect::Alter(Change::Sent(text.len() as u64))),
+        Action::End => Ok(Effects::new(alloc)),
+    }
+}
+
+/// A piece was handed over, or not.
+pub(crate) fn handed(
+    alloc: Global,
+    action: &Action,
+    rest: Pile<Action>,
+    cause: Option<Cause>,
+) -> Result<Reaction, AllocError>
+    ensures { IfOk result (λ r. r ≡ handed_of action.now rest cause) }
+{
+    match cause {
+        None => {
+            let effects = count(alloc, action)?;
+            hand_behind(alloc, effects, rest)
         }
-    }
-
-    /// A piece was handed over, or not.
-    pub(crate) fn on_handed(
-        &mut self,
-        alloc: Global,
-        vars: &Vars,
-        i: Place,
-        action: &Action,
-        rest: Pile<Action>,
-        answer: Answer,
-    ) -> Result<HostStep, AllocError>
-        ensures { IfOk result (λ s. handed i action.now rest vars.now answer self.old ≡ (s, vars.now, self.new)) }
-    {
-        if let Some(cause) = failure(answer) {
-            return failed(alloc, refused(alloc, action, cause)?);
-        }
-        count(&mut self.own, i, action);
-        self.hand(alloc, vars, i, rest)
-    }
-
-    /// Sends bytes to a child's terminal: its echo stands among the output, and the rest is handed over.
-    fn send_to(
-        &mut self,
-        alloc: Global,
-        vars: &Vars,
-        i: Place,
-        bytes: &[u8],
-    ) -> Result<HostStep, AllocError>
-        ensures { IfOk result (λ s. sending_there i bytes.now vars.now self.old ≡ (s, vars.now, self.new)) }
-    {
-        let (echo, actions) = self.own.children.send(alloc, i, bytes)?;
-        self.lanes.echo(i, self.own.clock, echo.as_slice())?;
-        self.hand(alloc, vars, i, piled(alloc, actions)?)
-    }
-
-    /// `send ?-i id? ?--? text`.
-    pub(crate) fn send(
-        &mut self,
-        alloc: Global,
-        vars: &Vars,
-        name: &[u8],
-        args: &[Value],
-    ) -> Result<HostStep, AllocError>
-        ensures { IfOk result (λ s. sending_of name.now args.now vars.now self.old ≡ (s, vars.now, self.new)) }
-    {
-        match said(alloc, send_of(alloc, name, args, vars, &self.own))? {
-            Ok((i, text)) => self.send_to(alloc, vars, i, text.as_slice()),
-            Err(text) => Ok(HostStep::Fail(text)),
+        Some(cause) => {
+            let text = refused(alloc, action, cause)?;
+            Reaction::badly(alloc, Effects::new(alloc), text)
         }
     }
 }

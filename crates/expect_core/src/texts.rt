@@ -8,6 +8,7 @@ use crate::place::Place;
 use child_events::{Cause, cause_name};
 use std::alloc::{AllocError, Global};
 use tcl_commands::quoted;
+use tcl_values::Value;
 use tcl_words::Text;
 
 /// A number in decimal digits. One digit is written at once.
@@ -132,10 +133,10 @@ pub(crate) fn bad_removal(alloc: Global, value: &[u8]) -> Result<Text, AllocErro
 }
 
 /// How it is told whether something holds.
-pub(crate) fn bit(on: bool) -> &'static [u8]
-    ensures { result.now ≡ bit on }
+pub(crate) fn bit(alloc: Global, on: bool) -> Result<Value, AllocError>
+    ensures { IfOk result (λ v. v ≡ bit on) }
 {
-    if on { b"1" } else { b"0" }
+    Value::from_slice(alloc, if on { b"1" } else { b"0" })
 }
 
 /// An argument of `expect` is no flag that may stand there.

@@ -1,18 +1,17 @@
 //! The commands that write to the transcript, and the one that says whether children's output is seen there.
 
-ghost use Rattle.std.specs.Prelude.{◌≡◌, IfOk, ◌++◌, ◌∷◌, [], if◌then◌else◌, ℕ, List};
+ghost use Rattle.std.specs.Prelude.{◌≡◌, IfOk, ◌++◌, ◌∷◌, [], if◌then◌else◌};
 ghost use Rattle.tcl_commands.specs.Says.{Says};
-ghost use Rattle.tcl_commands.specs.Texts.{wrong_args};
-ghost use Rattle.tcl_commands.specs.Said.{Said};
-ghost use Rattle.expect_core.specs.Transcript.{logging as logging_of, logging_as, no_channel as no_channel_text, put_of as put_meant, puts_to as puts_to_of, to_user as user_text, writing};
+ghost use Rattle.expect_core.specs.Transcript.{log_set, log_told, log_word, logging as logging_of, no_channel as no_channel_text, put_of as put_meant, puts_to as puts_to_of, to_user as user_text, writing};
+ghost use Rattle.expect_core.specs.Turns.{done as done_of};
 
-use crate::dialogue::{Dialogue, done, failed};
+use crate::effect::{Effect, Effects};
 use crate::flags::{Takes, bad_flag, flags_of, is, is_flag, with_text};
+use crate::own::Own;
 use crate::texts::bit;
+use crate::turn::{Deed, done};
 use std::alloc::{AllocError, Global};
-use tcl_commands::{Complaint, bad_option, said, wrong_args};
-use tcl_host::HostStep;
-use tcl_subst::Vars;
+use tcl_commands::{Complaint, bad_option, wrong_args};
 use tcl_values::Value;
 use tcl_words::Text;
 
@@ -118,89 +117,72 @@ fn to_user(alloc: Global, name: &[u8], args: &[Value]) -> Result<Text, Complaint
     Ok(Text::from_slice(alloc, text.as_slice())?)
 }
 
-/// A command has too few or too many arguments.
-fn wrong_call(alloc: Global, name: &[u8]) -> Result<HostStep, AllocError>
-    ensures { IfOk result (λ s. s ≡ HostStep.Fail (wrong_args name.now)) }
+/// Writes to the transcript.
+fn write(alloc: Global, text: Text) -> Result<Deed, AllocError>
+    ensures { IfOk result (λ d. d ≡ Deed.Alone (Effect.Tell text ∷ []) (done_of [])) }
 {
-    failed(alloc, wrong_args(alloc, name)?)
+    let effects = Effects::one(alloc, Effect::Tell(text))?;
+    Ok(Deed::Alone(effects, done(Value::new(alloc))))
 }
 
-impl Dialogue {
-    /// Writes a text to the transcript, or is an error.
-    fn write(
-        &mut self,
-        alloc: Global,
-        vars: &Vars,
-        text: Result<Text, Complaint>,
-    ) -> Result<HostStep, AllocError>
-        ensures { (meant : Said (List ℕ)) → Says text meant → IfOk result (λ s. writing meant vars.now self.old ≡ (s, vars.now, self.new)) }
-    {
-        match said(alloc, text)? {
-            Ok(text) => {
-                self.own.tell(text.as_slice())?;
-                Ok(done(Value::new(alloc)))
-            }
-            Err(text) => Ok(HostStep::Fail(text)),
-        }
-    }
+/// `puts ?-nonewline? ?stdout? text`.
+pub(crate) fn puts(alloc: Global, name: &[u8], args: &[Value]) -> Result<Deed, Complaint>
+    ensures { Says result (writing (put_meant name.now args.now)) }
+{
+    let text = put_of(alloc, name, args)?;
+    Ok(write(alloc, text)?)
+}
 
-    /// `puts ?-nonewline? ?stdout? text`.
-    pub(crate) fn puts(
-        &mut self,
-        alloc: Global,
-        vars: &Vars,
-        name: &[u8],
-        args: &[Value],
-    ) -> Result<HostStep, AllocError>
-        ensures { IfOk result (λ s. writing (put_meant name.now args.now) vars.now self.old ≡ (s, vars.now, self.new)) }
-    {
-        self.write(alloc, vars, put_of(alloc, name, args))
-    }
+/// `send_user ?--? text`.
+pub(crate) fn send_user(alloc: Global, name: &[u8], args: &[Value]) -> Result<Deed, Complaint>
+    ensures { Says result (writing (user_text name.now args.now)) }
+{
+    let text = to_user(alloc, name, args)?;
+    Ok(write(alloc, text)?)
+}
 
-    /// `send_user ?--? text`.
-    pub(crate) fn send_user(
-        &mut self,
-        alloc: Global,
-        vars: &Vars,
-        name: &[u8],
-        args: &[Value],
-    ) -> Result<HostStep, AllocError>
-        ensures { IfOk result (λ s. writing (user_text name.now args.now) vars.now self.old ≡ (s, vars.now, self.new)) }
-    {
-        self.write(alloc, vars, to_user(alloc, name, args))
+/// What the word of a `log_user` says: whether output goes to the transcript from now on, or none where that is asked.
+fn log_word(alloc: Global, word: &[u8]) -> Result<Option<bool>, Complaint>
+    ensures { Says result (log_word word.now) }
+{
+    if is(word, b"0") {
+        return Ok(Some(false));
     }
+    if is(word, b"1") {
+        return Ok(Some(true));
+    }
+    if is(word, b"-info") {
+        return Ok(None);
+    }
+    Err(Complaint::Said(bad_option(alloc, word)?))
+}
 
-    /// What the word of a `log_user` says.
-    fn log_as(&mut self, alloc: Global, vars: &Vars, word: &[u8]) -> Result<HostStep, AllocError>
-        ensures { IfOk result (λ s. logging_as word.now vars.now self.old ≡ (s, vars.now, self.new)) }
-    {
-        if is(word, b"0") {
-            self.own.log_user = false;
-            return Ok(done(Value::new(alloc)));
+/// Says whether output goes to the transcript, or tells it.
+fn log(alloc: Global, on: Option<bool>, own: &Own) -> Result<Deed, AllocError>
+    ensures { IfOk result (λ d. d ≡ Deed.Alone (log_set on) (done_of (log_told on own.now))) }
+{
+    match on {
+        Some(on) => {
+            let effects = Effects::one(alloc, Effect::LogUser(on))?;
+            Ok(Deed::Alone(effects, done(Value::new(alloc))))
         }
-        if is(word, b"1") {
-            self.own.log_user = true;
-            return Ok(done(Value::new(alloc)));
+        None => {
+            let value = bit(alloc, own.log_user)?;
+            Ok(Deed::Alone(Effects::new(alloc), done(value)))
         }
-        if is(word, b"-info") {
-            return Ok(done(Value::from_slice(alloc, bit(self.own.log_user))?));
-        }
-        failed(alloc, bad_option(alloc, word)?)
     }
+}
 
-    /// `log_user 0`, `1` or `-info`.
-    pub(crate) fn log_user(
-        &mut self,
-        alloc: Global,
-        vars: &Vars,
-        name: &[u8],
-        args: &[Value],
-    ) -> Result<HostStep, AllocError>
-        ensures { IfOk result (λ s. logging_of name.now args.now vars.now self.old ≡ (s, vars.now, self.new)) }
-    {
-        match args {
-            [word] => self.log_as(alloc, vars, word.as_slice()),
-            _ => wrong_call(alloc, name),
-        }
-    }
+/// `log_user 0`, `1` or `-info`.
+pub(crate) fn log_user(
+    alloc: Global,
+    name: &[u8],
+    args: &[Value],
+    own: &Own,
+) -> Result<Deed, Complaint>
+    ensures { Says result (logging_of name.now args.now own.now) }
+{
+    let word = with_text(alloc, name, args)?;
+    let on = log_word(alloc, word.as_slice())?;
+    Ok(log(alloc, on, own)?)
 }

@@ -7,5 +7,4 @@ pub mod Quieting
 pub mod Readying
 pub mod Sparing
 pub mod Watching
-pub mod Overdue
 pub mod Limiting

@@ -24,7 +24,7 @@ use Rattle.session.specs.Left.{Kept, left, Fed, HandsOut}
 use Rattle.session.specs.Spent.{memory_report, Reports}
 use Rattle.session.specs.Limits.{LimitEnds, EndsPast}
 use Rattle.session.proofs.Sparing.{Spared, SparedStep, SparedTree, tree_spared, outcome_spared}
-use Rattle.session.proofs.Overdue.{Past, PastAfter, outcome_past}
+use Rattle.expect_core.proofs.Overdue.{Past, PastAfter, outcome_past}
 
 -- of a call: what follows it comes to an ending of the script's own, where time is past the limit
 behind_past : (steps : ℕ) (more : Reply → Dialogue → Report) (x : Outcome) → SparedStep (step_to x) → PastAfter x → ((r : Reply) (d : Dialogue) → SparedStep (step_of r) → Past d → Spared (more r d).ending) → Spared (behind steps more x).ending

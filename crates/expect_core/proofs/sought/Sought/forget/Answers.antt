@@ -1,5 +1,5 @@
-use Rattle.std.proofs.Common.{◌≡◌, ◌≢◌, ◌<◌, ℕ, length, sym, ap, subst, ◌∙◌, rules, arith}
-use Rattle.expect_core.specs.Heard.{Watch, watched}
+use Rattle.std.proofs.Common.{◌≡◌, ◌≢◌, sym, ap, ◌∙◌, rules}
+use Rattle.expect_core.specs.Heard.{Watch}
 use Rattle.expect_core.specs.Quiet.{side}
 use Rattle.expect_core.proofs.Hushes.{side_is}
 use Rattle.expect_core.proofs.Vain.{one_forgotten, one_kept}

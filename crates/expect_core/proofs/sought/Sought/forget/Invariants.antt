@@ -1,4 +1,4 @@
-use Rattle.std.proofs.Common.{◌≡◌, ◌≢◌, ◌⊎◌, ℕ, ◌<◌, ◌≤◌}
+use Rattle.std.proofs.Common.{◌≡◌, ℕ, ◌≤◌}
 use Rattle.std.specs.Prelude.{slice_index}
 use Rattle.expect_core.specs.Sought.{Forgets}
 use Rattle.expect_core.proofs.sought.Sought.forget.Given as goal

@@ -1,0 +1,229 @@
+-- The first turn of a call is about the children that the call speaks to.
+use Rattle.std.proofs.Common.{◌≡◌, ℕ, ◌+◌, List, [], ◌∷◌, ◌++◌, length, Bool, true, false, Option, Some, None, Ok, Err, ◌⊎◌, inl, inr, refl, sym, ap, subst, ◌∙◌}
+use Rattle.std.specs.Prelude.{◌==◌, nat_lt, if◌then◌else◌}
+use Rattle.exp_match.specs.declared.list.PatternList.{PatternList}
+use Rattle.exp_match.specs.Arguments.{patterns_of}
+use Rattle.tcl_subst.specs.Variables.{Variables}
+use Rattle.tcl_commands.specs.declared.code.Code.{Code}
+use Rattle.tcl_commands.specs.declared.code.Code.TheVariants as code
+use Rattle.tcl_commands.specs.Said.{Said, ◌>>=◌}
+use Rattle.tcl_host.specs.Calls.{Call, Begin, Resume, AfterWords, AfterBody, Knows}
+use Rattle.expect_core.specs.declared.name.Name.{Name}
+use Rattle.expect_core.specs.declared.name.Name.TheVariants as name
+use Rattle.expect_core.specs.declared.plan.Plan.{Plan}
+use Rattle.expect_core.specs.declared.order.Order.{Order}
+use Rattle.expect_core.specs.declared.turn.Purpose.TheVariants as purpose
+use Rattle.expect_core.specs.declared.turn.Next.TheVariants.{Await}
+use Rattle.expect_core.specs.declared.turn.Deed.{Deed}
+use Rattle.expect_core.specs.declared.turn.Deed.TheVariants.{To, Expect}
+use Rattle.expect_core.specs.declared.own.Own.{Own}
+use Rattle.expect_core.specs.declared.dialogue.Dialogue.{Dialogue}
+use Rattle.expect_core.specs.Flags.{flags_of, bare_words, text_in, option_in}
+use Rattle.expect_core.specs.Ids.{is_open, spoken_to, open_to, if_open}
+use Rattle.expect_core.specs.Owned.{child_of}
+use Rattle.expect_core.specs.Heard.{Watch, IsWatched, deadline_from}
+use Rattle.expect_core.specs.Among.{IsAmong}
+use Rattle.expect_core.specs.Sides.{takes_current, opened, asked_by, with_group, with_groups, sides_of, still_open, spoken, spoken_by}
+use Rattle.expect_core.specs.Turns.{react}
+use Rattle.expect_core.specs.Texts.{too_many}
+use Rattle.expect_core.specs.Spawning.{order_of, ordering}
+use Rattle.expect_core.specs.Sending.{takes, send_of}
+use Rattle.expect_core.specs.Expecting.{patterns_by, span_in, plan_at, plan_by, plan_of, expecting, again, behind}
+use Rattle.expect_core.specs.Again.{continued}
+use Rattle.expect_core.specs.Ends.{id_alone, close_of, if_unwaited, wait_of}
+use Rattle.expect_core.specs.Transcript.{put_of, to_user, log_word}
+use Rattle.expect_core.specs.Options.{takes as option_takes, whose, option_of, size_of, sizing_at, removal_of, removing_at}
+use Rattle.expect_core.specs.Calls.{name_of, named, outer}
+use Rattle.expect_core.specs.Apart.{by_flags, by_option, by_patterns, one as single, each, named_by, on_top, speaks_to}
+use Rattle.expect_core.proofs.Stepping.{Sees, TurnOf, PhaseOf}
+use Rattle.expect_core.proofs.Calling.{SaidOf, NamedOf, Opens, doing_of}
+
+-- what a command reads names the child that it speaks to
+
+abbrev inside : {X : Type 0} → X → Said X → X
+inside d (Ok x) = x
+inside d (Err text) = d
+
+-- both go on from the same
+along : {X Y Z : Type 0} (r : Said X) (f : X → Said Y) (g : X → Said Z) (y : Y) (z : Z) → ((x : X) → f x ≡ Ok y → g x ≡ Ok z) → (r >>= f) ≡ Ok y → (r >>= g) ≡ Ok z
+along (Ok x) f g y z go e = go x e
+along (Err text) f g y z go e = absurd (cc)
+
+past : {X Y P : Type 0} (r : Said X) (f : X → Said Y) (y : Y) → ((x : X) → f x ≡ Ok y → P) → (r >>= f) ≡ Ok y → P
+past (Ok x) f y go e = go x e
+past (Err text) f y go e = absurd (cc)
+
+first : {X Y : Type 0} (r : Said X) (f : X → Said Y) (y : Y) (z : X) → ((x : X) → f x ≡ Ok y → x ≡ z) → (r >>= f) ≡ Ok y → r ≡ Ok z
+first (Ok x) f y z go e = ap Ok (go x e)
+first (Err text) f y z go e = absurd (cc)
+
+if_same : (b : Bool) (k i : ℕ) (text : List ℕ) → (let r : Said ℕ = (if b then Ok k else Err text) in r ≡ Ok i) → k ≡ i
+if_same true k i text e = ap (inside k) e
+if_same false k i text e = absurd (cc)
+
+else_same : (b : Bool) (k i : ℕ) (text : List ℕ) → (let r : Said ℕ = (if b then Err text else Ok k) in r ≡ Ok i) → k ≡ i
+else_same true k i text e = absurd (cc)
+else_same false k i text e = ap (inside k) e
+
+open_speaks : (id : Option (List ℕ)) (vars : Variables) (o : Own) (i : ℕ) → open_to id vars o ≡ Ok i → spoken_to id vars o ≡ Ok i
+open_speaks id vars o i e = first (spoken_to id vars o) (λ k. if_open k o) i i (λ k e. if_same (is_open (child_of k o).standing) k i _ e) e
+
+send_speaks : (word : List ℕ) (args : List (List ℕ)) (vars : Variables) (o : Own) (s : ℕ × List ℕ) → send_of word args vars o ≡ Ok s → by_flags takes word args vars o ≡ Ok s.0
+send_speaks word args vars o s e =
+    along (flags_of word takes args) _ _ s s.0
+    (λ f e. past (text_in word f.1) _ s (λ text e. open_speaks f.0.id vars o s.0 (first (open_to f.0.id vars o) _ s s.0 (λ i e. ap (λ (r : Said (ℕ × List ℕ)). (inside (i, text) r).0) e) e)) e) e
+
+close_speaks : (word : List ℕ) (args : List (List ℕ)) (vars : Variables) (o : Own) (i : ℕ) → close_of word args vars o ≡ Ok i → by_flags id_alone word args vars o ≡ Ok i
+close_speaks word args vars o i e =
+    along (flags_of word id_alone args) _ _ i i (λ f e. past (bare_words word f.1) _ i (λ none e. open_speaks f.0.id vars o i e) e) e
+
+wait_speaks : (word : List ℕ) (args : List (List ℕ)) (vars : Variables) (o : Own) (i : ℕ) → wait_of word args vars o ≡ Ok i → by_flags id_alone word args vars o ≡ Ok i
+wait_speaks word args vars o i e =
+    along (flags_of word id_alone args) _ _ i i
+    (λ f e. past (bare_words word f.1) _ i (λ none e. first (spoken_to f.0.id vars o) (λ k. if_unwaited k o) i i (λ k e. else_same (child_of k o).waited k i _ e) e) e) e
+
+abbrev inside_some : ℕ → Option ℕ → ℕ
+inside_some d (Some i) = i
+inside_some d None = d
+
+whose_speaks : (on : Bool) (id : Option (List ℕ)) (vars : Variables) (o : Own) (i : ℕ)
+    → (let r : Said (Option ℕ) = (if on then Ok None else (open_to id vars o >>= λ k. Ok (Some k))) in r ≡ Ok (Some i))
+    → (let r : Said ℕ = (if on then Err [] else spoken_to id vars o) in r ≡ Ok i)
+whose_speaks true id vars o i e = absurd (cc)
+whose_speaks false id vars o i e = open_speaks id vars o i (first (open_to id vars o) _ (Some i) i (λ k e. ap (λ (r : Said (Option ℕ)). inside_some k (inside None r)) e) e)
+
+option_speaks : (word : List ℕ) (args : List (List ℕ)) (vars : Variables) (o : Own) (s : Option ℕ × Option (List ℕ)) (i : ℕ) → option_of word args vars o ≡ Ok s → s.0 ≡ Some i → by_option word args vars o ≡ Ok i
+option_speaks word args vars o s i e at =
+    along (flags_of word option_takes args) _ _ s i
+    (λ f e. past (option_in word f.1) _ s
+    (λ text e. whose_speaks f.0.on f.0.id vars o i (first (whose f.0 vars o) _ s s.0 (λ k e. ap (λ (r : Said (Option ℕ × Option (List ℕ))). (inside (k, text) r).0) e) e ∙ ap Ok at)) e) e
+
+alone : (r : Said ℕ) (i : ℕ) → r ≡ Ok i → IsAmong i (single r)
+alone r i e = subst (λ (r : Said ℕ). IsAmong i (single r)) (sym e) (inl refl)
+
+-- one that has to be open is known first
+if_opened : (b : Bool) (k : ℕ) (text : List ℕ) (f : ℕ → Said (List ℕ)) (all : List ℕ) → (let r : Said ℕ = (if b then Ok k else Err text) in (r >>= f) ≡ Ok all) → f k ≡ Ok all
+if_opened true k text f all e = e
+if_opened false k text f all e = absurd (cc)
+
+known_first : (r : Said ℕ) (o : Own) (f g : ℕ → Said (List ℕ)) (all : List ℕ) → ((i : ℕ) → f i ≡ Ok all → g i ≡ Ok all) → ((r >>= λ k. if_open k o) >>= f) ≡ Ok all → (r >>= g) ≡ Ok all
+known_first (Ok k) o f g all go e = go k (if_opened (is_open (child_of k o).standing) k _ f all e)
+known_first (Err text) o f g all go e = absurd (cc)
+
+opened_speak : (is : List ℕ) (ids : List (List ℕ)) (vars : Variables) (o : Own) (all : List ℕ) → opened is ids vars o ≡ Ok all → spoken is ids vars o ≡ Ok all
+opened_speak is [] vars o all e = e
+opened_speak is (id ∷ ids) vars o all e =
+    known_first (spoken_to (Some id) vars o) o (λ i. opened (is ++ i ∷ []) ids vars o) (λ i. spoken (is ++ i ∷ []) ids vars o) all
+    (λ i e. opened_speak (is ++ i ∷ []) ids vars o all e) e
+
+asked_speak : (ids : List (List ℕ)) (vars : Variables) (o : Own) (all : List ℕ) (b : Bool)
+    → (let r : Said (List ℕ) = (if b then (open_to None vars o >>= λ i. opened (i ∷ []) ids vars o) else opened [] ids vars o) in r ≡ Ok all)
+    → (let r : Said (List ℕ) = (if b then (spoken_to None vars o >>= λ i. spoken (i ∷ []) ids vars o) else spoken [] ids vars o) in r ≡ Ok all)
+asked_speak ids vars o all true e =
+    known_first (spoken_to None vars o) o (λ i. opened (i ∷ []) ids vars o) (λ i. spoken (i ∷ []) ids vars o) all (λ i e. opened_speak (i ∷ []) ids vars o all e) e
+asked_speak ids vars o all false e = opened_speak [] ids vars o all e
+
+-- those that take part are those that are named
+group_by : (i g : ℕ) (w : Watch) (ws : List Watch) (j : ℕ) → (IsWatched j (with_group i g ws) → (i ≡ j) ⊎ IsWatched j ws) → (a b : Bool)
+    → IsWatched j (if a then w ∷ with_group i g ws else if b then (w.0, w.1 ++ g ∷ []) ∷ ws else (i, g ∷ []) ∷ w ∷ ws) → (i ≡ j) ⊎ IsWatched j (w ∷ ws)
+group_by i g w ws j among true b is =
+    elim is [ inl same ↦ inr (inl same) | inr more ↦ elim (among more) [ inl same ↦ inl same | inr more ↦ inr (inr more) ] ]
+group_by i g w ws j among false true is = inr is
+group_by i g w ws j among false false is = is
+
+group_among : (i g : ℕ) (ws : List Watch) (j : ℕ) → IsWatched j (with_group i g ws) → (i ≡ j) ⊎ IsWatched j ws
+group_among i g [] j is = elim is [ inl same ↦ inl same | inr none ↦ absurd none ]
+group_among i g (w ∷ ws) j is = group_by i g w ws j (group_among i g ws j) (nat_lt w.0 i) (w.0 == i) is
+
+groups_among : (g : ℕ) (is : List ℕ) (ws : List Watch) (j : ℕ) → IsWatched j (with_groups g is ws) → IsAmong j is ⊎ IsWatched j ws
+groups_among g [] ws j part = inr part
+groups_among g (i ∷ is) ws j part =
+    elim (groups_among (g + 1) is (with_group i g ws) j part) [
+      | inl among ↦ inl (inr among)
+      | inr more ↦ elim (group_among i g ws j more) [ inl same ↦ inl (inl same) | inr before ↦ inr before ]
+    ]
+
+sides_among : (list : PatternList) (is : List ℕ) (j : ℕ) → IsWatched j (sides_of list is) → IsAmong j is
+sides_among list is j part = elim (groups_among (if takes_current list then 0 else 1) is [] j part) [ inl among ↦ among | inr none ↦ absurd none ]
+
+module _ (vars : Variables) (o : Own) (p : Plan) (j : ℕ) (part : IsWatched j p.sides) where
+  by_asked : (list : PatternList) (r : Said (List ℕ)) → asked_by list vars o ≡ r → (r >>= λ is. span_in list.timeout vars >>= λ span. Ok (plan_at is list span o.clock)) ≡ Ok p → IsAmong j (each (spoken_by list vars o))
+  by_asked list (Ok is) asked e =
+      let same : sides_of list is ≡ p.sides =
+      past (span_in list.timeout vars) (λ span. Ok (plan_at is list span o.clock)) p (λ span e. ap (λ (r : Said Plan). (inside (plan_at is list span o.clock) r).sides) e) e in
+      let among : IsAmong j is = sides_among list is j (subst (IsWatched j) (sym same) part) in
+      subst (λ (r : Said (List ℕ)). IsAmong j (each r)) (sym (asked_speak list.ids vars o is (takes_current list) asked)) among
+  by_asked list (Err text) asked e = absurd (cc)
+
+  by_list : (r : Said PatternList) → (r >>= λ list. plan_by list vars o) ≡ Ok p → IsAmong j (each (r >>= λ list. spoken_by list vars o))
+  by_list (Ok list) e = by_asked list (asked_by list vars o) refl e
+  by_list (Err text) e = absurd (cc)
+
+plan_speaks : (args : List (List ℕ)) (vars : Variables) (o : Own) (p : Plan) → plan_of args vars o ≡ Ok p → (j : ℕ) → IsWatched j p.sides → IsAmong j (each (by_patterns args vars o))
+plan_speaks args vars o p e j part = by_list vars o p j part (patterns_by args (patterns_of args)) e
+
+module _ (A : ℕ → Type 0) (B : ℕ → Plan → Type 0) where
+  each_said : {X : Type 0} (r : Said X) (f : X → Said Deed) → ((x : X) → r ≡ Ok x → SaidOf A B (f x)) → SaidOf A B (r >>= f)
+  each_said (Ok x) f of = of x refl
+  each_said (Err text) f of = tt
+
+  -- a child more is about nobody that was there before
+  spawn_speaks : (order : Order) (o : Own) (b : Bool) → nat_lt (length o.children) 16 ≡ b → (nat_lt (length o.children) 16 ≡ true → A (length o.children)) →
+      SaidOf A B (if b then Ok (To (length o.children) (react (ordering order) (Await (purpose.Spawn order.words)))) else Err too_many)
+  spawn_speaks order o true room new = new room
+  spawn_speaks order o false room new = tt
+
+  sizing_speaks : (at : Option ℕ) (text : Option (List ℕ)) (o : Own) → ((i : ℕ) → at ≡ Some i → A i) → SaidOf A B (sizing_at at text o)
+  sizing_speaks None None o of = tt
+  sizing_speaks None (Some text) o of = each_said (size_of text) _ (λ n e. tt)
+  sizing_speaks (Some i) None o of = of i refl
+  sizing_speaks (Some i) (Some text) o of = each_said (size_of text) _ (λ n e. of i refl)
+
+  removing_speaks : (at : Option ℕ) (text : Option (List ℕ)) (o : Own) → ((i : ℕ) → at ≡ Some i → A i) → SaidOf A B (removing_at at text o)
+  removing_speaks None None o of = tt
+  removing_speaks None (Some text) o of = each_said (removal_of text) _ (λ on e. tt)
+  removing_speaks (Some i) None o of = of i refl
+  removing_speaks (Some i) (Some text) o of = each_said (removal_of text) _ (λ on e. of i refl)
+
+  expect_speaks : (args : List (List ℕ)) (vars : Variables) (o : Own) → ((i : ℕ) → IsAmong i (each (by_patterns args vars o)) → A i) → SaidOf A B (expecting args vars o)
+  expect_speaks args vars o all = each_said (plan_of args vars o) _ (λ p e i part. all i (plan_speaks args vars o p e i part))
+
+  named_speaks : (n : Name) (word : List ℕ) (args : List (List ℕ)) (vars : Variables) (o : Own) → ((i : ℕ) → IsAmong i (named_by (Some n) word args vars o) → A i) → (nat_lt (length o.children) 16 ≡ true → A (length o.children)) → SaidOf A B (named n word args vars o)
+  named_speaks name.Spawn word args vars o all new = each_said (order_of word args vars) _ (λ order e. spawn_speaks order o (nat_lt (length o.children) 16) refl new)
+  named_speaks name.Send word args vars o all new = each_said (send_of word args vars o) _ (λ s e. all s.0 (alone _ s.0 (send_speaks word args vars o s e)))
+  named_speaks name.SendUser word args vars o all new = each_said (to_user word args) _ (λ text e. tt)
+  named_speaks name.Expect word args vars o all new = expect_speaks args vars o all
+  named_speaks name.ExpContinue word args vars o all new = each_said (continued word args) _ (λ c e. tt)
+  named_speaks name.Close word args vars o all new = each_said (close_of word args vars o) _ (λ i e. all i (alone _ i (close_speaks word args vars o i e)))
+  named_speaks name.Wait word args vars o all new = each_said (wait_of word args vars o) _ (λ i e. all i (alone _ i (wait_speaks word args vars o i e)))
+  named_speaks name.MatchMax word args vars o all new = each_said (option_of word args vars o) _ (λ s e. sizing_speaks s.0 s.1 o (λ i at. all i (alone _ i (option_speaks word args vars o s i e at))))
+  named_speaks name.RemoveNulls word args vars o all new = each_said (option_of word args vars o) _ (λ s e. removing_speaks s.0 s.1 o (λ i at. all i (alone _ i (option_speaks word args vars o s i e at))))
+  named_speaks name.LogUser word args vars o all new = each_said (text_in word args) _ (λ w e. each_said (log_word w) _ (λ on e. tt))
+  named_speaks name.Puts word args vars o all new = each_said (put_of word args) _ (λ text e. tt)
+
+  begun_speaks : (n : Option Name) (word : List ℕ) (args : List (List ℕ)) (vars : Variables) (o : Own) → ((i : ℕ) → IsAmong i (named_by n word args vars o) → A i) → (nat_lt (length o.children) 16 ≡ true → A (length o.children)) → NamedOf A B n word args vars o
+  begun_speaks None word args vars o all new = tt
+  begun_speaks (Some n) word args vars o all new = named_speaks n word args vars o all new
+
+  again_speaks : (p : Plan) (deadline : Option ℕ) (o : Own) → Sees A B p → TurnOf A B (again p deadline o)
+  again_speaks p deadline o sees = doing_of A B _ (each_said (still_open p.order o) (λ all. Ok (Expect (record p { deadline = deadline }))) (λ all e. sees))
+
+  behind_speaks : (c : Code) (value : List ℕ) (ps : List Plan) (o : Own) → ((i : ℕ) → IsAmong i (on_top c ps) → A i) → TurnOf A B (behind c value ps o)
+  behind_speaks c value [] o all = (tt, tt)
+  behind_speaks code.Again value (p ∷ ps) o all = again_speaks p (deadline_from o.clock p.span) o all
+  behind_speaks code.AgainLater value (p ∷ ps) o all = again_speaks p p.deadline o all
+  behind_speaks _ value (p ∷ ps) o all = (tt, tt)
+
+  -- what is under way counts where a call goes on with it, or leaves it
+  abbrev pub LeavesPhase : Call → Type 0
+  LeavesPhase (Resume vars) = Unit {0}
+  LeavesPhase (Knows word) = Unit {0}
+  LeavesPhase call = ⊥
+
+  pub opens : (call : Call) (st : Dialogue) → ((i : ℕ) → IsAmong i (speaks_to call st) → A i) → (nat_lt (length st.own.children) 16 ≡ true → A (length st.own.children)) → (LeavesPhase call → PhaseOf A B st.phase) → Opens A B call st
+  opens (Begin [] vars) st all new under = tt
+  opens (Begin (word ∷ args) vars) st all new under = begun_speaks (name_of word) word args vars st.own all new
+  opens (Resume vars) st all new under = under tt
+  opens (AfterWords words vars) st all new under = expect_speaks words vars st.own all
+  opens (AfterBody c value vars) st all new under = behind_speaks c value st.own.plans (record st.own { plans = outer st.own.plans }) all
+  opens (Knows word) st all new under = under tt

@@ -1,0 +1,120 @@
+-- How a call runs: turn by turn, up to its end or to where it waits.
+use Rattle.std.specs.Prelude.{ℕ, zero, suc, [], ◌∷◌, if◌then◌else◌, Option, Some, None}
+use Rattle.child_events.specs.declared.event.Answer.{Answer}
+use Rattle.tty.specs.Sends.{handed_by}
+use Rattle.tcl_subst.specs.Variables.{Variables}
+use Rattle.tcl_host.specs.declared.host.HostStep.{HostStep}
+use Rattle.tcl_host.specs.declared.host.HostStep.TheVariants as step
+use Rattle.tcl_host.specs.declared.ending.Ending.TheVariants.{TimeLimit}
+use Rattle.expect_core.specs.declared.plan.Met.{Met}
+use Rattle.expect_core.specs.declared.plan.Plan.{Plan}
+use Rattle.expect_core.specs.declared.phase.Phase.{Phase}
+use Rattle.expect_core.specs.declared.phase.Phase.TheVariants.{Idle, At}
+use Rattle.expect_core.specs.declared.phase.Heard.{Heard}
+use Rattle.expect_core.specs.declared.phase.Heard.TheVariants.{Match, Full, TimedOut, OverLimit, NotYet, Ended, Failed}
+use Rattle.expect_core.specs.declared.turn.Reply.{Reply}
+use Rattle.expect_core.specs.declared.turn.Reply.TheVariants.{Done, Fail}
+use Rattle.expect_core.specs.declared.turn.Purpose.{Purpose}
+use Rattle.expect_core.specs.declared.turn.Purpose.TheVariants as purpose
+use Rattle.expect_core.specs.declared.turn.Reaction.{Reaction}
+use Rattle.expect_core.specs.declared.turn.Want.{Want}
+use Rattle.expect_core.specs.declared.turn.Want.TheVariants as want
+use Rattle.expect_core.specs.declared.turn.Stage.{Stage}
+use Rattle.expect_core.specs.declared.turn.Stage.TheVariants.{Over, Act, Look, Send as SendText, Wait}
+use Rattle.expect_core.specs.declared.turn.Turn.{Turn}
+use Rattle.expect_core.specs.declared.own.Own.{Own}
+use Rattle.expect_core.specs.declared.dialogue.Dialogue.{Dialogue}
+use Rattle.expect_core.specs.Lanes.{lane_of, with_answers}
+use Rattle.expect_core.specs.Owned.{child_of, at_moment}
+use Rattle.expect_core.specs.Heard.{at_most, Listened, listen, look}
+use Rattle.expect_core.specs.Answered.{Outcome, owning, failure, first_answer}
+use Rattle.expect_core.specs.Effects.{Performed, performed}
+use Rattle.expect_core.specs.Turns.{at}
+use Rattle.expect_core.specs.Spawning.{spawned}
+use Rattle.expect_core.specs.Sending.{typed, handing, handed}
+use Rattle.expect_core.specs.Ends.{closed, waited, broken}
+use Rattle.expect_core.specs.Expecting.{entry_of, matched, full, late, ending, failing, ended}
+
+-- what follows a turn
+abbrev pub To : Type 0
+To = Turn → Variables → Dialogue → Outcome
+
+abbrev pub step_of : Reply → HostStep
+step_of (Done c value) = step.Done c value
+step_of (Fail text) = step.Fail text
+
+-- an ending in place of what is awaited
+abbrev pub over_limit : Variables → Dialogue → Outcome
+over_limit vars st = (step.Stop TimeLimit, vars, st)
+
+-- a call waits, with so many turns left
+abbrev pub waits : ℕ → Want → Variables → Dialogue → Outcome
+waits n w vars st = (step.Wait, vars, record st { phase = At n w })
+
+-- the action of what was met is evaluated, and the expect kept meanwhile
+abbrev pub acts : Plan → Met → Variables → Dialogue → Outcome
+acts p m vars st = (step.Body (entry_of m.entry p).action, vars, owning (record st.own { plans = record p { met = Some m } ∷ st.own.plans }) st)
+
+-- what the answer to a request comes to
+abbrev pub answered : Purpose → ℕ → Answer → Own → Reaction
+answered (purpose.Spawn words) i a o = spawned i words (failure a)
+answered (purpose.Send x rest) i a o = handed x rest (failure a)
+answered purpose.Close i a o = closed (failure a)
+answered purpose.Wait i a o = waited i a o
+answered (purpose.Fail c) i a o = broken c
+
+-- a wait for a pattern ends, or goes on
+abbrev pub by_heard : To → ℕ → Plan → Heard → Variables → Dialogue → Outcome
+by_heard k n p NotYet vars st = waits n (want.Output p) vars st
+by_heard k n p OverLimit vars st = over_limit vars st
+by_heard k n p (TimedOut d) vars st = k (late p) vars (owning (record st.own { clock = d }) st)
+by_heard k n p (Match i m spans) vars st = k (matched p i m spans st.own) vars st
+by_heard k n p (Full i) vars st = k (full p i st.own) vars st
+by_heard k n p (Ended i) vars st = k (ending p i) vars st
+by_heard k n p (Failed i c) vars st = k (failing i c) vars st
+
+abbrev pub concluded : To → ℕ → Plan → Listened → Variables → Dialogue → Outcome
+concluded k n p (h, lanes, o) vars st = by_heard k n p h vars (record st { lanes = lanes; own = o })
+
+-- the turn behind an answer, at the moment of which it is taken; without one the call waits, unless the last moment has passed
+abbrev pub on_answer : To → ℕ → Want → (Answer → Own → Turn) → Option (ℕ × Answer) → Variables → Dialogue → Outcome
+on_answer k n w made None vars st = if at_most st.horizon st.limit then waits n w vars st else over_limit vars st
+on_answer k n w made (Some (m, a)) vars st = k (made a (at_moment m st.own)) vars (owning (at_moment m st.own) st)
+
+-- the next answer of the child at place i
+abbrev pub awaited : To → ℕ → Want → ℕ → (Answer → Own → Turn) → Variables → Dialogue → Outcome
+awaited k n w i made vars st =
+    let first = first_answer st.limit (lane_of i st.lanes).answers in
+    on_answer k n w made first.0 vars (record st { lanes = with_answers i first.1 st.lanes })
+
+abbrev pub waited_for : To → ℕ → Want → Variables → Dialogue → Outcome
+waited_for k n (want.Answer i why) vars st = awaited k n (want.Answer i why) i (λ a o. at i (answered why i a o)) vars st
+waited_for k n (want.End i p) vars st = awaited k n (want.End i p) i (λ a o. ended p i (failure a) o) vars st
+waited_for k n (want.Output p) vars st = concluded k n p (listen st.limit st.horizon p st.lanes st.own) vars st
+
+-- what a stage comes to, where n turns may follow
+abbrev pub staged : To → ℕ → Stage → Variables → Dialogue → Outcome
+staged k n (Over reply) vars st = (step_of reply, vars, st)
+staged k n (Act p m) vars st = acts p m vars st
+staged k n (Look p) vars st = concluded k n p (look st.limit st.horizon p st.lanes st.own) vars st
+staged k n (SendText i text) vars st = k (at i (handing (handed_by (child_of i st.own).line text).actions)) vars (typed i text st)
+staged k n (Wait w) vars st = waited_for k n w vars st
+
+-- an effect that can't be is an error
+abbrev pub turned : To → ℕ → Stage → Performed → Dialogue → Outcome
+turned k n s (None, vars, o) st = staged k n s vars (owning o st)
+turned k n s (Some text, vars, o) st = (step.Fail text, vars, owning o st)
+
+-- A turn, and those that follow it: n at most.
+abbrev pub run : ℕ → To
+run zero t vars st = over_limit vars st
+run (suc n) t vars st = turned (run n) n t.stage (performed t.child t.effects vars st.own) st
+
+-- how many turns a call may take
+unfoldable pub turns : ℕ
+turns = 18446744073709551615
+
+-- Only a call that waits is resumed, and that leaves another phase than `Idle`: its line is never read, and is there so that there is one.
+abbrev pub resuming : Phase → Variables → Dialogue → Outcome
+resuming Idle vars st = (step.Fail [], vars, st)
+resuming (At n w) vars st = waited_for (run n) n w vars st

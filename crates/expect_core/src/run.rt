@@ -1,0 +1,334 @@
+//! How a call runs: turn by turn, up to its end or to where it waits.
+
+ghost use Rattle.std.specs.Prelude.{◌≡◌, ℕ, None, IfOk, OnOk};
+ghost use Rattle.child_events.specs.declared.event.Answer.{Answer as AnswerOf};
+ghost use Rattle.tcl_subst.specs.Variables.{Variables};
+ghost use Rattle.tty.specs.Sends.{handed_by};
+ghost use Rattle.expect_core.specs.declared.own.Own.{Own as OwnOf};
+ghost use Rattle.expect_core.specs.declared.turn.Turn.{Turn as TurnOf};
+ghost use Rattle.expect_core.specs.declared.turn.Want.{Want as WantOf};
+ghost use Rattle.expect_core.specs.Effects.{performed};
+ghost use Rattle.expect_core.specs.Going.{after, goes};
+ghost use Rattle.expect_core.specs.Owned.{child_of};
+ghost use Rattle.expect_core.specs.Running.{To, acts, answered as answered_of, awaited, by_heard, on_answer, resuming, run as run_of, staged as staged_of, step_of, turned as turned_of, turns, waited_for};
+ghost use Rattle.expect_core.specs.Sending.{typed};
+
+use crate::answers::is_within;
+use crate::dialogue::{Dialogue, failure};
+use crate::ends::{broken, closed, waited};
+use crate::expect::{ended, ending, failing, full, late, matched};
+use crate::listen::{Times, listen, look};
+use crate::own::Own;
+use crate::phase::{Heard, Phase};
+use crate::place::Place;
+use crate::plan::{Met, Plan};
+use crate::send::{hand, handed};
+use crate::spawn::spawned;
+use crate::turn::{Purpose, Reaction, Reply, Stage, Turn, Want};
+use child_events::Answer;
+use std::alloc::{AllocError, Global};
+use tcl_host::{Ending, HostStep};
+use tcl_subst::Vars;
+use tcl_values::Value;
+use tty::Actions;
+
+/// What follows a stage.
+#[derive(Drop)]
+pub enum Went {
+    /// A turn.
+    Turn(Turn),
+    /// Nothing: the call comes to this step.
+    Over(HostStep),
+}
+
+/// How many turns a call may take.
+#[tactic(auto, unfolding(crate::specs::Running::turns))]
+fn all_turns() -> u64
+    ensures { result ≡ turns }
+{
+    18_446_744_073_709_551_615
+}
+
+/// A reply as a step.
+fn step(reply: Reply) -> HostStep
+    ensures { result ≡ step_of reply }
+{
+    match reply {
+        Reply::Done(code, value) => HostStep::Done(code, value),
+        Reply::Fail(text) => HostStep::Fail(text),
+    }
+}
+
+/// What the answer to a request comes to.
+fn answered(
+    alloc: Global,
+    why: Purpose,
+    i: Place,
+    answer: Answer,
+    own: &Own,
+) -> Result<Reaction, AllocError>
+    ensures { IfOk result (λ r. r ≡ answered_of why i answer own.now) }
+{
+    match why {
+        Purpose::Spawn(words) => spawned(alloc, i, &words, failure(answer)),
+        Purpose::Send(action, rest) => handed(alloc, &action, rest, failure(answer)),
+        Purpose::Close => closed(alloc, failure(answer)),
+        Purpose::Wait => waited(alloc, i, answer, own),
+        Purpose::Fail(cause) => broken(alloc, cause),
+    }
+}
+
+impl Dialogue {
+    /// How long a call waits.
+    fn times(&self) -> Times
+        ensures { result ≡ record { limit = self.now.limit; horizon = self.now.horizon } }
+    {
+        Times {
+            limit: self.limit,
+            horizon: self.horizon,
+        }
+    }
+
+    /// An action is evaluated, and the expect kept meanwhile.
+    fn act(&mut self, alloc: Global, mut plan: Plan, met: Met) -> Result<Went, AllocError>
+        ensures { IfOk result (λ r. (k : To) (vars : Variables) → acts plan met vars self.old ≡ goes r k vars self.new) }
+    {
+        let action = Value::from_slice(alloc, plan.action(met.entry))?;
+        plan.met = Some(met);
+        self.own.plans.push(plan)?;
+        Ok(Went::Over(HostStep::Body(action)))
+    }
+
+    /// A wait for a pattern ends, or goes on.
+    fn conclude(
+        &mut self,
+        alloc: Global,
+        left: u64,
+        plan: Plan,
+        heard: &Heard,
+    ) -> Result<Went, AllocError>
+        ensures { IfOk result (λ r. (k : To) (vars : Variables) → by_heard k left plan heard.now vars self.old ≡ goes r k vars self.new) }
+    {
+        match heard {
+            Heard::NotYet => {
+                self.set_phase(Phase::At(left, Want::Output(plan)));
+                Ok(Went::Over(HostStep::Wait))
+            }
+            Heard::OverLimit => Ok(Went::Over(HostStep::Stop(Ending::TimeLimit))),
+            Heard::TimedOut(deadline) => {
+                self.own.clock = *deadline;
+                Ok(Went::Turn(late(alloc, plan)))
+            }
+            Heard::Match(i, entry, spans) => {
+                let turn = matched(alloc, plan, *i, *entry, spans, &mut self.own)?;
+                Ok(Went::Turn(turn))
+            }
+            Heard::Full(i) => {
+                let turn = full(alloc, plan, *i, &mut self.own)?;
+                Ok(Went::Turn(turn))
+            }
+            Heard::Ended(i) => {
+                let turn = ending(alloc, plan, *i)?;
+                Ok(Went::Turn(turn))
+            }
+            Heard::Failed(i, cause) => {
+                let turn = failing(alloc, *i, *cause)?;
+                Ok(Went::Turn(turn))
+            }
+        }
+    }
+
+    /// Begins a wait for a pattern.
+    fn looking(&mut self, alloc: Global, left: u64, plan: Plan) -> Result<Went, AllocError>
+        ensures { IfOk result (λ r. (k : To) (vars : Variables) → staged_of k left (Stage.Look plan) vars self.old ≡ goes r k vars self.new) }
+    {
+        let times = self.times();
+        let heard = look(alloc, times, &plan, &mut self.lanes, &mut self.own)?;
+        self.conclude(alloc, left, plan, &heard)
+    }
+
+    /// Goes on with a wait for a pattern.
+    fn listening(&mut self, alloc: Global, left: u64, plan: Plan) -> Result<Went, AllocError>
+        ensures { IfOk result (λ r. (k : To) (vars : Variables) → waited_for k left (Want.Output plan) vars self.old ≡ goes r k vars self.new) }
+    {
+        let times = self.times();
+        let heard = listen(alloc, times, &plan, &mut self.lanes, &mut self.own)?;
+        self.conclude(alloc, left, plan, &heard)
+    }
+
+    /// The next answer of the child at a place, to whose moment the clock goes.
+    fn next_answer(&mut self, i: Place) -> Option<Answer>
+        ensures { (k : To) (n : ℕ) (w : WantOf) (made : AnswerOf → OwnOf → TurnOf) (vars : Variables) → awaited k n w i made vars self.old ≡ after k n w made result vars self.new }
+    {
+        match self.lanes.take_answer(i, self.limit) {
+            Some((moment, answer)) => {
+                self.own.advance(moment);
+                Some(answer)
+            }
+            None => None,
+        }
+    }
+
+    /// There is no answer yet: the call waits, unless the last moment has passed.
+    fn wait_for(&mut self, left: u64, want: Want) -> HostStep
+        ensures { (k : To) (made : AnswerOf → OwnOf → TurnOf) (vars : Variables) → on_answer k left want made None vars self.old ≡ (result, vars, self.new) }
+    {
+        if is_within(self.horizon, self.limit) {
+            self.set_phase(Phase::At(left, want));
+            HostStep::Wait
+        } else {
+            HostStep::Stop(Ending::TimeLimit)
+        }
+    }
+
+    /// Awaits the answer to a request.
+    fn await_answer(
+        &mut self,
+        alloc: Global,
+        left: u64,
+        i: Place,
+        why: Purpose,
+    ) -> Result<Went, AllocError>
+        ensures { IfOk result (λ r. (k : To) (vars : Variables) → waited_for k left (Want.Answer i why) vars self.old ≡ goes r k vars self.new) }
+    {
+        match self.next_answer(i) {
+            Some(answer) => {
+                let reaction = answered(alloc, why, i, answer, &self.own)?;
+                Ok(Went::Turn(reaction.at(i)))
+            }
+            None => Ok(Went::Over(self.wait_for(left, Want::Answer(i, why)))),
+        }
+    }
+
+    /// Awaits that a child is let go at the end of its output.
+    fn await_end(
+        &mut self,
+        alloc: Global,
+        left: u64,
+        i: Place,
+        plan: Plan,
+    ) -> Result<Went, AllocError>
+        ensures { IfOk result (λ r. (k : To) (vars : Variables) → waited_for k left (Want.End i plan) vars self.old ≡ goes r k vars self.new) }
+    {
+        match self.next_answer(i) {
+            Some(answer) => {
+                let turn = ended(alloc, plan, i, failure(answer), &mut self.own)?;
+                Ok(Went::Turn(turn))
+            }
+            None => Ok(Went::Over(self.wait_for(left, Want::End(i, plan)))),
+        }
+    }
+
+    /// Waits.
+    fn wait(&mut self, alloc: Global, left: u64, want: Want) -> Result<Went, AllocError>
+        ensures { IfOk result (λ r. (k : To) (vars : Variables) → waited_for k left want vars self.old ≡ goes r k vars self.new) }
+    {
+        match want {
+            Want::Answer(i, why) => self.await_answer(alloc, left, i, why),
+            Want::Output(plan) => self.listening(alloc, left, plan),
+            Want::End(i, plan) => self.await_end(alloc, left, i, plan),
+        }
+    }
+
+    /// The terminal of a child takes a text: its echo stands among the output, and the rest is handed over.
+    fn take_text(&mut self, alloc: Global, i: Place, text: &[u8]) -> Result<Actions, AllocError>
+        ensures typed { OnOk result (self.new ≡ typed i text.now self.old) }
+        ensures handed { IfOk result (λ a. a ≡ (handed_by (child_of i self.old.own).line text.now).actions) }
+    {
+        let (echo, actions) = self.own.children.send(alloc, i, text)?;
+        self.lanes.echo(i, self.own.clock, echo.as_slice())?;
+        Ok(actions)
+    }
+
+    /// What a stage comes to.
+    fn staged(&mut self, alloc: Global, left: u64, stage: Stage) -> Result<Went, AllocError>
+        ensures { IfOk result (λ r. (k : To) (vars : Variables) → staged_of k left stage vars self.old ≡ goes r k vars self.new) }
+    {
+        match stage {
+            Stage::Over(reply) => Ok(Went::Over(step(reply))),
+            Stage::Act(plan, met) => self.act(alloc, plan, met),
+            Stage::Look(plan) => self.looking(alloc, left, plan),
+            Stage::Send(i, text) => {
+                let actions = self.take_text(alloc, i, text.as_slice())?;
+                let reaction = hand(alloc, actions)?;
+                Ok(Went::Turn(reaction.at(i)))
+            }
+            Stage::Wait(want) => self.wait(alloc, left, want),
+        }
+    }
+
+    /// A turn's effects, and what its stage comes to.
+    fn turned(
+        &mut self,
+        alloc: Global,
+        vars: &mut Vars,
+        left: u64,
+        turn: Turn,
+    ) -> Result<Went, AllocError>
+        ensures { IfOk result (λ r. (k : To) → turned_of k left turn.stage (performed turn.child turn.effects vars.old self.old.own) self.old ≡ goes r k vars.new self.new) }
+    {
+        let Turn {
+            child,
+            effects,
+            stage,
+        } = turn;
+        match self.own.perform_all(alloc, vars, &child, effects)? {
+            None => self.staged(alloc, left, stage),
+            Some(text) => Ok(Went::Over(HostStep::Fail(text))),
+        }
+    }
+
+    /// A turn, and those that follow it: so many at most.
+    fn run_for(
+        &mut self,
+        alloc: Global,
+        vars: &mut Vars,
+        most: u64,
+        first: Turn,
+    ) -> Result<HostStep, AllocError>
+        ensures { IfOk result (λ s. run_of most first vars.old self.old ≡ (s, vars.new, self.new)) }
+    {
+        let mut left = most;
+        let mut turn = first;
+        'turns: loop {
+            if left == 0 {
+                return Ok(HostStep::Stop(Ending::TimeLimit));
+            }
+            left -= 1;
+            match self.turned(alloc, vars, left, turn)? {
+                Went::Over(step) => return Ok(step),
+                Went::Turn(next) => turn = next,
+            }
+        }
+    }
+
+    /// A turn, and those that follow it.
+    pub(crate) fn run(
+        &mut self,
+        alloc: Global,
+        vars: &mut Vars,
+        first: Turn,
+    ) -> Result<HostStep, AllocError>
+        ensures { IfOk result (λ s. run_of turns first vars.old self.old ≡ (s, vars.new, self.new)) }
+    {
+        self.run_for(alloc, vars, all_turns(), first)
+    }
+
+    /// Goes on with what a call that waits was doing.
+    pub(crate) fn go_on(
+        &mut self,
+        alloc: Global,
+        vars: &mut Vars,
+        phase: Phase,
+    ) -> Result<HostStep, AllocError>
+        ensures { IfOk result (λ s. resuming phase vars.old self.old ≡ (s, vars.new, self.new)) }
+    {
+        match phase {
+            Phase::Idle => Ok(HostStep::Fail(Value::new(alloc))),
+            Phase::At(left, want) => match self.wait(alloc, left, want)? {
+                Went::Over(step) => Ok(step),
+                Went::Turn(next) => self.run_for(alloc, vars, left, next),
+            },
+        }
+    }
+}
