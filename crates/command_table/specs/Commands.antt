@@ -1,5 +1,7 @@
 -- The names of the commands of Tcl(n) and expect(1) that are there.
 use Rattle.std.specs.Prelude.{ℕ, List, codes, Option, Some, None, option_map, bytes_eq, if◌then◌else◌}
+use Rattle.command_table.specs.declared.commands.ValueCommand.{ValueCommand}
+use Rattle.command_table.specs.declared.commands.ValueCommand.TheVariants as value
 use Rattle.command_table.specs.declared.commands.TclCommand.{TclCommand}
 use Rattle.command_table.specs.declared.commands.TclCommand.TheVariants as tcl
 use Rattle.command_table.specs.declared.commands.ExpectCommand.{ExpectCommand}
@@ -7,35 +9,48 @@ use Rattle.command_table.specs.declared.commands.ExpectCommand.TheVariants as ex
 use Rattle.command_table.specs.declared.commands.Command.{Command}
 use Rattle.command_table.specs.declared.commands.Command.TheVariants.{Tcl, Expect}
 
--- the command of the language that a word names
-abbrev pub tcl_command : List ℕ → Option TclCommand
-tcl_command word =
-    if bytes_eq word (codes "set") then Some tcl.Set
-    else if bytes_eq word (codes "incr") then Some tcl.Incr
-    else if bytes_eq word (codes "if") then Some tcl.If
-    else if bytes_eq word (codes "return") then Some tcl.Return
-    else if bytes_eq word (codes "append") then Some tcl.Append
-    else if bytes_eq word (codes "lappend") then Some tcl.Lappend
-    else if bytes_eq word (codes "list") then Some tcl.List
-    else if bytes_eq word (codes "llength") then Some tcl.Llength
-    else if bytes_eq word (codes "lindex") then Some tcl.Lindex
-    else if bytes_eq word (codes "lrange") then Some tcl.Lrange
-    else if bytes_eq word (codes "string") then Some tcl.String
+-- the command that a word names, where it evaluates nothing
+abbrev pub value_command : List ℕ → Option ValueCommand
+value_command word =
+    if bytes_eq word (codes "set") then Some value.Set
+    else if bytes_eq word (codes "incr") then Some value.Incr
+    else if bytes_eq word (codes "return") then Some value.Return
+    else if bytes_eq word (codes "append") then Some value.Append
+    else if bytes_eq word (codes "lappend") then Some value.Lappend
+    else if bytes_eq word (codes "list") then Some value.List
+    else if bytes_eq word (codes "llength") then Some value.Llength
+    else if bytes_eq word (codes "lindex") then Some value.Lindex
+    else if bytes_eq word (codes "lrange") then Some value.Lrange
+    else if bytes_eq word (codes "string") then Some value.String
+    else if bytes_eq word (codes "break") then Some value.Break
+    else if bytes_eq word (codes "continue") then Some value.Continue
+    else if bytes_eq word (codes "error") then Some value.Error
+    else if bytes_eq word (codes "global") then Some value.Global
+    else if bytes_eq word (codes "info") then Some value.Info
+    else if bytes_eq word (codes "unset") then Some value.Unset
+    else None
+
+-- the command that a word names, where it evaluates a script or an expression, defines a procedure or ends the script
+abbrev pub control_command : List ℕ → Option TclCommand
+control_command word =
+    if bytes_eq word (codes "if") then Some tcl.If
     else if bytes_eq word (codes "expr") then Some tcl.Expr
     else if bytes_eq word (codes "while") then Some tcl.While
     else if bytes_eq word (codes "for") then Some tcl.For
     else if bytes_eq word (codes "foreach") then Some tcl.Foreach
-    else if bytes_eq word (codes "break") then Some tcl.Break
-    else if bytes_eq word (codes "continue") then Some tcl.Continue
-    else if bytes_eq word (codes "error") then Some tcl.Error
-    else if bytes_eq word (codes "global") then Some tcl.Global
-    else if bytes_eq word (codes "info") then Some tcl.Info
-    else if bytes_eq word (codes "unset") then Some tcl.Unset
     else if bytes_eq word (codes "catch") then Some tcl.Catch
     else if bytes_eq word (codes "proc") then Some tcl.Proc
     else if bytes_eq word (codes "eval") then Some tcl.Eval
     else if bytes_eq word (codes "exit") then Some tcl.Exit
     else None
+
+abbrev pub value_or_control : Option ValueCommand → List ℕ → Option TclCommand
+value_or_control (Some c) word = Some (tcl.Value c)
+value_or_control None word = control_command word
+
+-- the command of the language that a word names
+abbrev pub tcl_command : List ℕ → Option TclCommand
+tcl_command word = value_or_control (value_command word) word
 
 -- the command of Expect that a word names
 abbrev pub expect_command : List ℕ → Option ExpectCommand

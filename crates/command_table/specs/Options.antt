@@ -2,7 +2,8 @@
 use Rattle.std.specs.Prelude.{ℕ, ◌||◌, List, codes, Option, Some, None, option_map, bytes_eq, if◌then◌else◌}
 use Rattle.command_table.specs.declared.commands.Command.{Command}
 use Rattle.command_table.specs.declared.commands.Command.TheVariants.{Tcl, Expect}
-use Rattle.command_table.specs.declared.commands.TclCommand.TheVariants as tcl
+use Rattle.command_table.specs.declared.commands.TclCommand.TheVariants.{Value}
+use Rattle.command_table.specs.declared.commands.ValueCommand.TheVariants as value
 use Rattle.command_table.specs.declared.commands.ExpectCommand.TheVariants as expect
 use Rattle.command_table.specs.declared.counts.Count.{Count}
 use Rattle.command_table.specs.declared.options.StringOption.{StringOption}
@@ -53,8 +54,8 @@ info_count info.Exists = exactly 1
 
 -- the number of arguments after an option, if the command has it
 abbrev pub option_count : Command → List ℕ → Option Count
-option_count (Tcl tcl.String) word = option_map string_count (string_option word)
-option_count (Tcl tcl.Info) word = option_map info_count (info_option word)
+option_count (Tcl (Value value.String)) word = option_map string_count (string_option word)
+option_count (Tcl (Value value.Info)) word = option_map info_count (info_option word)
 -- log_user -info|0|1
 option_count (Expect expect.LogUser) word = if bytes_eq word (codes "0") || bytes_eq word (codes "1") || bytes_eq word (codes "-info") then Some (exactly 0) else None
 option_count other word = None

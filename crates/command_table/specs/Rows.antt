@@ -1,5 +1,7 @@
 -- The rows of the table, each below its synopsis: of its page in Tcl(n), or of expect(1), without the forms that are not there.
 use Rattle.std.specs.Prelude.{Bool, true, false, Some, None}
+use Rattle.command_table.specs.declared.commands.ValueCommand.{ValueCommand}
+use Rattle.command_table.specs.declared.commands.ValueCommand.TheVariants as value
 use Rattle.command_table.specs.declared.commands.TclCommand.{TclCommand}
 use Rattle.command_table.specs.declared.commands.TclCommand.TheVariants as tcl
 use Rattle.command_table.specs.declared.commands.ExpectCommand.{ExpectCommand}
@@ -24,17 +26,44 @@ plain count words = record { count = count; flags = None; words = words }
 abbrev pub flagged : Own → Bool → Bool → Count → Row
 flagged o id end count = record { count = count; flags = Some (record { own = o; id = id; end = end }); words = texts }
 
-abbrev pub tcl_row : TclCommand → Row
+abbrev pub value_row : ValueCommand → Row
 -- append varName ?value value value ...?
-tcl_row tcl.Append = plain (at_least 1) (Each Name Text Text Text)
+value_row value.Append = plain (at_least 1) (Each Name Text Text Text)
 -- break
-tcl_row tcl.Break = plain (exactly 0) texts
+value_row value.Break = plain (exactly 0) texts
+-- continue
+value_row value.Continue = plain (exactly 0) texts
+-- error message
+value_row value.Error = plain (exactly 1) texts
+-- global ?varname ...?
+value_row value.Global = plain (at_least 0) (Each Name Name Name Name)
+-- incr varName ?increment?
+value_row value.Incr = plain (between 1 2) (Each Name Text Text Text)
+-- info option ?arg arg ...?
+value_row value.Info = plain (at_least 1) Choice
+-- lappend varName ?value value value ...?
+value_row value.Lappend = plain (at_least 1) (Each Name Text Text Text)
+-- lindex list ?index?
+value_row value.Lindex = plain (between 1 2) texts
+-- list ?arg arg ...?
+value_row value.List = plain (at_least 0) texts
+-- llength list
+value_row value.Llength = plain (exactly 1) texts
+-- lrange list first last
+value_row value.Lrange = plain (exactly 3) texts
+-- return ?result?
+value_row value.Return = plain (between 0 1) texts
+-- set varName ?value?
+value_row value.Set = plain (between 1 2) (Each Name Text Text Text)
+-- string option arg ?arg ...?
+value_row value.String = plain (at_least 1) Choice
+-- unset ?name name name ...?
+value_row value.Unset = plain (at_least 0) (Each Name Name Name Name)
+
+abbrev pub tcl_row : TclCommand → Row
+tcl_row (tcl.Value c) = value_row c
 -- catch script ?resultVarName?
 tcl_row tcl.Catch = plain (between 1 2) (Each Script Name Text Text)
--- continue
-tcl_row tcl.Continue = plain (exactly 0) texts
--- error message
-tcl_row tcl.Error = plain (exactly 1) texts
 -- eval arg ?arg ...?
 tcl_row tcl.Eval = plain (at_least 1) (Alone Script)
 -- exit ?returnCode?
@@ -45,34 +74,10 @@ tcl_row tcl.Expr = plain (at_least 1) (Alone Expression)
 tcl_row tcl.For = plain (exactly 4) (Each Script Expression Script Script)
 -- foreach varlist1 list1 body
 tcl_row tcl.Foreach = plain (exactly 3) (Each Name Text Script Text)
--- global ?varname ...?
-tcl_row tcl.Global = plain (at_least 0) (Each Name Name Name Name)
 -- if expr1 ?then? body1 elseif expr2 ?then? body2 elseif ... ?else? ?bodyN?
 tcl_row tcl.If = plain (at_least 2) Test
--- incr varName ?increment?
-tcl_row tcl.Incr = plain (between 1 2) (Each Name Text Text Text)
--- info option ?arg arg ...?
-tcl_row tcl.Info = plain (at_least 1) Choice
--- lappend varName ?value value value ...?
-tcl_row tcl.Lappend = plain (at_least 1) (Each Name Text Text Text)
--- lindex list ?index?
-tcl_row tcl.Lindex = plain (between 1 2) texts
--- list ?arg arg ...?
-tcl_row tcl.List = plain (at_least 0) texts
--- llength list
-tcl_row tcl.Llength = plain (exactly 1) texts
--- lrange list first last
-tcl_row tcl.Lrange = plain (exactly 3) texts
 -- proc name args body
 tcl_row tcl.Proc = plain (exactly 3) (Each Text Text Script Text)
--- return ?result?
-tcl_row tcl.Return = plain (between 0 1) texts
--- set varName ?value?
-tcl_row tcl.Set = plain (between 1 2) (Each Name Text Text Text)
--- string option arg ?arg ...?
-tcl_row tcl.String = plain (at_least 1) Choice
--- unset ?name name name ...?
-tcl_row tcl.Unset = plain (at_least 0) (Each Name Name Name Name)
 -- while test body
 tcl_row tcl.While = plain (exactly 2) (Each Expression Script Text Text)
 

@@ -2,23 +2,16 @@
 
 ghost use Rattle.std.specs.Prelude.{◌≡◌};
 ghost use Rattle.std.specs.Str.{bytes_eq};
-ghost use Rattle.command_table.specs.Commands.{tcl_command, expect_command, command_of};
+ghost use Rattle.command_table.specs.Commands.{value_command, control_command, tcl_command, expect_command, command_of};
 
-/// A command of the language.
+/// A command that reads and changes variables and texts alone.
 #[derive(Clone, Copy, PartialEq, Eq)]
-pub enum TclCommand {
+pub enum ValueCommand {
     Append,
     Break,
-    Catch,
     Continue,
     Error,
-    Eval,
-    Exit,
-    Expr,
-    For,
-    Foreach,
     Global,
-    If,
     Incr,
     Info,
     Lappend,
@@ -26,11 +19,25 @@ pub enum TclCommand {
     List,
     Llength,
     Lrange,
-    Proc,
     Return,
     Set,
     String,
     Unset,
+}
+
+/// A command of the language.
+#[derive(Clone, Copy, PartialEq, Eq)]
+pub enum TclCommand {
+    /// One that evaluates nothing.
+    Value(ValueCommand),
+    Catch,
+    Eval,
+    Exit,
+    Expr,
+    For,
+    Foreach,
+    If,
+    Proc,
     While,
 }
 
@@ -65,32 +72,53 @@ pub fn is(word: &[u8], name: &[u8]) -> bool
     word.len() == name.len() && word == name
 }
 
-/// Finds a command of the language. The names that scripts use most come first.
-pub fn tcl_command(word: &[u8]) -> Option<TclCommand>
-    ensures { result ≡ tcl_command word.now }
+/// Finds a command that evaluates nothing. The names that scripts use most come first.
+fn value_command(word: &[u8]) -> Option<ValueCommand>
+    ensures { result ≡ value_command word.now }
 {
     if is(word, b"set") {
-        Some(TclCommand::Set)
+        Some(ValueCommand::Set)
     } else if is(word, b"incr") {
-        Some(TclCommand::Incr)
-    } else if is(word, b"if") {
-        Some(TclCommand::If)
+        Some(ValueCommand::Incr)
     } else if is(word, b"return") {
-        Some(TclCommand::Return)
+        Some(ValueCommand::Return)
     } else if is(word, b"append") {
-        Some(TclCommand::Append)
+        Some(ValueCommand::Append)
     } else if is(word, b"lappend") {
-        Some(TclCommand::Lappend)
+        Some(ValueCommand::Lappend)
     } else if is(word, b"list") {
-        Some(TclCommand::List)
+        Some(ValueCommand::List)
     } else if is(word, b"llength") {
-        Some(TclCommand::Llength)
+        Some(ValueCommand::Llength)
     } else if is(word, b"lindex") {
-        Some(TclCommand::Lindex)
+        Some(ValueCommand::Lindex)
     } else if is(word, b"lrange") {
-        Some(TclCommand::Lrange)
+        Some(ValueCommand::Lrange)
     } else if is(word, b"string") {
-        Some(TclCommand::String)
+        Some(ValueCommand::String)
+    } else if is(word, b"break") {
+        Some(ValueCommand::Break)
+    } else if is(word, b"continue") {
+        Some(ValueCommand::Continue)
+    } else if is(word, b"error") {
+        Some(ValueCommand::Error)
+    } else if is(word, b"global") {
+        Some(ValueCommand::Global)
+    } else if is(word, b"info") {
+        Some(ValueCommand::Info)
+    } else if is(word, b"unset") {
+        Some(ValueCommand::Unset)
+    } else {
+        None
+    }
+}
+
+/// Finds a command that evaluates a script or an expression, defines a procedure or ends the script.
+fn control_command(word: &[u8]) -> Option<TclCommand>
+    ensures { result ≡ control_command word.now }
+{
+    if is(word, b"if") {
+        Some(TclCommand::If)
     } else if is(word, b"expr") {
         Some(TclCommand::Expr)
     } else if is(word, b"while") {
@@ -99,18 +127,6 @@ pub fn tcl_command(word: &[u8]) -> Option<TclCommand>
         Some(TclCommand::For)
     } else if is(word, b"foreach") {
         Some(TclCommand::Foreach)
-    } else if is(word, b"break") {
-        Some(TclCommand::Break)
-    } else if is(word, b"continue") {
-        Some(TclCommand::Continue)
-    } else if is(word, b"error") {
-        Some(TclCommand::Error)
-    } else if is(word, b"global") {
-        Some(TclCommand::Global)
-    } else if is(word, b"info") {
-        Some(TclCommand::Info)
-    } else if is(word, b"unset") {
-        Some(TclCommand::Unset)
     } else if is(word, b"catch") {
         Some(TclCommand::Catch)
     } else if is(word, b"proc") {
@@ -121,6 +137,16 @@ pub fn tcl_command(word: &[u8]) -> Option<TclCommand>
         Some(TclCommand::Exit)
     } else {
         None
+    }
+}
+
+/// Finds a command of the language.
+pub fn tcl_command(word: &[u8]) -> Option<TclCommand>
+    ensures { result ≡ tcl_command word.now }
+{
+    match value_command(word) {
+        Some(command) => Some(TclCommand::Value(command)),
+        None => control_command(word),
     }
 }
 

@@ -14,7 +14,7 @@ mod rows;
 
 pub use advice::advice_for;
 pub use commands::{
-    Command, ExpectCommand, TclCommand, command_of, expect_command, is, tcl_command,
+    Command, ExpectCommand, TclCommand, ValueCommand, command_of, expect_command, is, tcl_command,
 };
 pub use counts::{Count, fits};
 pub use flags::{Flags, Own, Role, flag_role};
@@ -22,4 +22,4 @@ pub use options::{
     InfoOption, StringOption, info_count, info_option, option_count, string_count, string_option,
 };
 pub use reading::{Kind, Stage, begin, is_short, step, texts};
-pub use rows::{Row, expect_row, row_of, tcl_row};
+pub use rows::{Row, expect_row, row_of, tcl_row, value_row};

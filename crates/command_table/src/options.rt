@@ -3,7 +3,7 @@
 ghost use Rattle.std.specs.Prelude.{◌≡◌};
 ghost use Rattle.command_table.specs.Options.{string_option, string_count, info_option, info_count, option_count};
 
-use crate::commands::{Command, ExpectCommand, TclCommand, is};
+use crate::commands::{Command, ExpectCommand, TclCommand, ValueCommand, is};
 use crate::counts::{Count, exactly};
 
 /// An option of `string`.
@@ -95,11 +95,11 @@ pub fn option_count(command: Command, word: &[u8]) -> Option<Count>
     ensures { result ≡ option_count command word.now }
 {
     match command {
-        Command::Tcl(TclCommand::String) => match string_option(word) {
+        Command::Tcl(TclCommand::Value(ValueCommand::String)) => match string_option(word) {
             None => None,
             Some(option) => Some(string_count(option)),
         },
-        Command::Tcl(TclCommand::Info) => match info_option(word) {
+        Command::Tcl(TclCommand::Value(ValueCommand::Info)) => match info_option(word) {
             None => None,
             Some(option) => Some(info_count(option)),
         },

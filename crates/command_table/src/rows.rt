@@ -1,9 +1,9 @@
 //! The rows of the table.
 
 ghost use Rattle.std.specs.Prelude.{◌≡◌};
-ghost use Rattle.command_table.specs.Rows.{plain, flagged, tcl_row, expect_row, row_of};
+ghost use Rattle.command_table.specs.Rows.{plain, flagged, value_row, tcl_row, expect_row, row_of};
 
-use crate::commands::{Command, ExpectCommand, TclCommand};
+use crate::commands::{Command, ExpectCommand, TclCommand, ValueCommand};
 use crate::counts::{Count, at_least, between, exactly};
 use crate::flags::{Flags, Own};
 use crate::reading::Kind::{Expression, Name, Script, Text};
@@ -43,35 +43,44 @@ fn flagged(own: Own, id: bool, end: bool, count: Count) -> Row
     }
 }
 
+/// The row of a command that evaluates nothing.
+pub fn value_row(command: ValueCommand) -> Row
+    ensures { result ≡ value_row command }
+{
+    match command {
+        ValueCommand::Append => plain(at_least(1), Each(Name, Text, Text, Text)),
+        ValueCommand::Break => plain(exactly(0), texts()),
+        ValueCommand::Continue => plain(exactly(0), texts()),
+        ValueCommand::Error => plain(exactly(1), texts()),
+        ValueCommand::Global => plain(at_least(0), Each(Name, Name, Name, Name)),
+        ValueCommand::Incr => plain(between(1, 2), Each(Name, Text, Text, Text)),
+        ValueCommand::Info => plain(at_least(1), Choice),
+        ValueCommand::Lappend => plain(at_least(1), Each(Name, Text, Text, Text)),
+        ValueCommand::Lindex => plain(between(1, 2), texts()),
+        ValueCommand::List => plain(at_least(0), texts()),
+        ValueCommand::Llength => plain(exactly(1), texts()),
+        ValueCommand::Lrange => plain(exactly(3), texts()),
+        ValueCommand::Return => plain(between(0, 1), texts()),
+        ValueCommand::Set => plain(between(1, 2), Each(Name, Text, Text, Text)),
+        ValueCommand::String => plain(at_least(1), Choice),
+        ValueCommand::Unset => plain(at_least(0), Each(Name, Name, Name, Name)),
+    }
+}
+
 /// The row of a command of the language.
 pub fn tcl_row(command: TclCommand) -> Row
     ensures { result ≡ tcl_row command }
 {
     match command {
-        TclCommand::Append => plain(at_least(1), Each(Name, Text, Text, Text)),
-        TclCommand::Break => plain(exactly(0), texts()),
+        TclCommand::Value(command) => value_row(command),
         TclCommand::Catch => plain(between(1, 2), Each(Script, Name, Text, Text)),
-        TclCommand::Continue => plain(exactly(0), texts()),
-        TclCommand::Error => plain(exactly(1), texts()),
         TclCommand::Eval => plain(at_least(1), Alone(Script)),
         TclCommand::Exit => plain(between(0, 1), texts()),
         TclCommand::Expr => plain(at_least(1), Alone(Expression)),
         TclCommand::For => plain(exactly(4), Each(Script, Expression, Script, Script)),
         TclCommand::Foreach => plain(exactly(3), Each(Name, Text, Script, Text)),
-        TclCommand::Global => plain(at_least(0), Each(Name, Name, Name, Name)),
         TclCommand::If => plain(at_least(2), Test),
-        TclCommand::Incr => plain(between(1, 2), Each(Name, Text, Text, Text)),
-        TclCommand::Info => plain(at_least(1), Choice),
-        TclCommand::Lappend => plain(at_least(1), Each(Name, Text, Text, Text)),
-        TclCommand::Lindex => plain(between(1, 2), texts()),
-        TclCommand::List => plain(at_least(0), texts()),
-        TclCommand::Llength => plain(exactly(1), texts()),
-        TclCommand::Lrange => plain(exactly(3), texts()),
         TclCommand::Proc => plain(exactly(3), Each(Text, Text, Script, Text)),
-        TclCommand::Return => plain(between(0, 1), texts()),
-        TclCommand::Set => plain(between(1, 2), Each(Name, Text, Text, Text)),
-        TclCommand::String => plain(at_least(1), Choice),
-        TclCommand::Unset => plain(at_least(0), Each(Name, Name, Name, Name)),
         TclCommand::While => plain(exactly(2), Each(Expression, Script, Text, Text)),
     }
 }

@@ -6,6 +6,7 @@ pub mod Expects
 pub mod Faults
 pub mod Nested
 pub mod Texts
+pub mod Runs
 pub mod Sights
 pub mod Findings
 pub mod Lines

@@ -11,6 +11,7 @@ mod brackets;
 mod expects;
 mod faults;
 mod findings;
+mod laws;
 mod lines;
 mod nested;
 mod placed;
@@ -21,6 +22,7 @@ mod span;
 mod stretch;
 
 pub use findings::{Findings, check};
+pub use laws::findings_hold;
 pub use lines::{line_of, newlines};
 pub use problem::{Finding, Problem};
 pub use readings::begin_of;

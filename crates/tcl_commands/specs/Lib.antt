@@ -1,5 +1,6 @@
 pub mod Texts
 pub mod Said
+pub mod Given
 pub mod Says
 pub mod Indices
 pub mod Strings

@@ -1,5 +1,5 @@
 -- The options of `string` (string(n)), by bytes; letters are ASCII's.
-use Rattle.std.specs.Prelude.{ℕ, suc, Bool, true, false, List, [], ◌∷◌, length, map, drop, take, ◌-◌, reverse, codes, Option, Some, None, option_map, Ok, Err, pos, bytes_eq, if◌then◌else◌}
+use Rattle.std.specs.Prelude.{ℕ, suc, Bool, true, false, List, [], ◌∷◌, length, map, drop, take, ◌-◌, reverse, Option, Some, None, option_map, Ok, Err, pos, bytes_eq, if◌then◌else◌}
 use Rattle.std.specs.List.{prefix_len}
 use Rattle.std.specs.Ordering.{nat_cmp}
 use Rattle.std.specs.Char.{to_ascii_lowercase, to_ascii_uppercase}
@@ -9,9 +9,11 @@ use Rattle.std.specs.declared.cmp.Ordering.TheVariants as order
 use Rattle.tcl_words.specs.Bytes as ascii
 use Rattle.tcl_words.specs.Lists.{is_white}
 use Rattle.tcl_expr.specs.Number.{number_text}
-use Rattle.tcl_commands.specs.declared.verbs.StringOption.{StringOption}
-use Rattle.tcl_commands.specs.declared.verbs.StringOption.TheVariants.{Length, Index, Range, Equal, Compare, First, ToLower, ToUpper, Trim}
-use Rattle.tcl_commands.specs.Texts.{wrong_args, bad_option}
+use Rattle.command_table.specs.declared.options.StringOption.{StringOption}
+use Rattle.command_table.specs.declared.options.StringOption.TheVariants.{Length, Index, Range, Equal, Compare, First, ToLower, ToUpper, Trim}
+use Rattle.command_table.specs.Options.{string_option, string_count}
+use Rattle.tcl_commands.specs.Texts.{bad_option}
+use Rattle.tcl_commands.specs.Given.{arg, if_fits}
 use Rattle.tcl_commands.specs.Said.{Said, ◌>>=◌}
 use Rattle.tcl_commands.specs.Indices.{index_of, between}
 
@@ -57,56 +59,22 @@ byte_at t i = index_of (length t) i >>= λ at. Ok (between at at t)
 abbrev pub bytes_between : List ℕ → List ℕ → List ℕ → Said (List ℕ)
 bytes_between t i j = index_of (length t) i >>= λ from. index_of (length t) j >>= λ to. Ok (between from to t)
 
--- the options of one text
-abbrev pub of_one : StringOption → List ℕ → Option (Said (List ℕ))
-of_one Length t = Some (Ok (count_text (length t)))
-of_one ToLower t = Some (Ok (map to_ascii_lowercase t))
-of_one ToUpper t = Some (Ok (map to_ascii_uppercase t))
-of_one Trim t = Some (Ok (trimmed t))
-of_one option t = None
-
--- the options of two texts
-abbrev pub of_two : StringOption → List ℕ → List ℕ → Option (Said (List ℕ))
-of_two Index t i = Some (byte_at t i)
-of_two Equal a b = Some (Ok (bit_text (bytes_eq a b)))
-of_two Compare a b = Some (Ok (order_text (slice_cmp nat_cmp a b)))
-of_two First a b = Some (Ok (place_text (first_place a b)))
-of_two option a b = None
-
--- the option of three texts
-abbrev pub of_three : StringOption → List ℕ → List ℕ → List ℕ → Option (Said (List ℕ))
-of_three Range t i j = Some (bytes_between t i j)
-of_three option a b c = None
-
-abbrev pub string_by : StringOption → List (List ℕ) → Option (Said (List ℕ))
-string_by option [] = None
-string_by option (a ∷ []) = of_one option a
-string_by option (a ∷ b ∷ []) = of_two option a b
-string_by option (a ∷ b ∷ c ∷ []) = of_three option a b c
-string_by option (a ∷ b ∷ c ∷ d ∷ more) = None
-
-abbrev pub option_of : List ℕ → Option StringOption
-option_of word =
-    if bytes_eq word (codes "length") then Some Length
-    else if bytes_eq word (codes "index") then Some Index
-    else if bytes_eq word (codes "range") then Some Range
-    else if bytes_eq word (codes "equal") then Some Equal
-    else if bytes_eq word (codes "compare") then Some Compare
-    else if bytes_eq word (codes "first") then Some First
-    else if bytes_eq word (codes "tolower") then Some ToLower
-    else if bytes_eq word (codes "toupper") then Some ToUpper
-    else if bytes_eq word (codes "trim") then Some Trim
-    else None
-
-abbrev pub if_counted : List ℕ → Option (Said (List ℕ)) → Said (List ℕ)
-if_counted command None = Err (wrong_args command)
-if_counted command (Some said) = said
+-- an option with its texts
+abbrev pub string_by : StringOption → List (List ℕ) → Said (List ℕ)
+string_by Length args = Ok (count_text (length (arg 0 args)))
+string_by Index args = byte_at (arg 0 args) (arg 1 args)
+string_by Range args = bytes_between (arg 0 args) (arg 1 args) (arg 2 args)
+string_by Equal args = Ok (bit_text (bytes_eq (arg 0 args) (arg 1 args)))
+string_by Compare args = Ok (order_text (slice_cmp nat_cmp (arg 0 args) (arg 1 args)))
+string_by First args = Ok (place_text (first_place (arg 0 args) (arg 1 args)))
+string_by ToLower args = Ok (map to_ascii_lowercase (arg 0 args))
+string_by ToUpper args = Ok (map to_ascii_uppercase (arg 0 args))
+string_by Trim args = Ok (trimmed (arg 0 args))
 
 -- an unknown option comes before a wrong count
 abbrev pub string_named : List ℕ → List ℕ → Option StringOption → List (List ℕ) → Said (List ℕ)
 string_named command word None args = Err (bad_option word)
-string_named command word (Some option) args = if_counted command (string_by option args)
+string_named command word (Some option) args = if_fits (string_count option) command args (string_by option args)
 
 abbrev pub string : List ℕ → List (List ℕ) → Said (List ℕ)
-string command [] = Err (wrong_args command)
-string command (word ∷ args) = string_named command word (option_of word) args
+string command args = string_named command (arg 0 args) (string_option (arg 0 args)) (drop 1 args)

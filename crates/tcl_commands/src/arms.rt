@@ -5,7 +5,8 @@ ghost use Rattle.tcl_commands.specs.Arms.{with_arm, tests, bodies, body, ends, o
 ghost use Rattle.tcl_commands.specs.Says.{Says};
 
 use crate::complaint::Complaint;
-use crate::texts::{is, wrong};
+use crate::texts::wrong;
+use command_table::is;
 use std::alloc::{AllocError, Global};
 use std::marker::Model;
 use tcl_values::Value;

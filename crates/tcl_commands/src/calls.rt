@@ -10,8 +10,9 @@ ghost use Rattle.tcl_words.specs.Lists.{written};
 
 use crate::complaint::Complaint;
 use crate::formals::{Formal, Formals};
-use crate::texts::{is, not_set, wrong};
+use crate::texts::{not_set, wrong};
 use crate::values::packed;
+use command_table::is;
 use std::alloc::{AllocError, Global};
 use tcl_subst::Vars;
 use tcl_values::Value;

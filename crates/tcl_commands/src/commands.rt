@@ -1,47 +1,65 @@
 //! The commands that read and change variables and texts alone.
 
 ghost use Rattle.std.specs.Prelude.{◌≡◌, IfOk};
-ghost use Rattle.tcl_commands.specs.Plain.{plain};
+ghost use Rattle.tcl_commands.specs.Plain.{allowed, plain};
 
 use crate::code::Code;
-use crate::ends::{error, leaves, returns};
+use crate::ends::returns;
+use crate::given::arg;
 use crate::lists::{lindex, list, llength, lrange};
 use crate::strings::string;
-use crate::told::told;
+use crate::told::{error, told, wrong_call};
 use crate::variables::{append, global, incr, info, lappend, set, unset};
-use crate::verbs::Plain;
+use command_table::{ValueCommand, fits, value_row};
 use std::alloc::{AllocError, Global};
 use tcl_subst::Vars;
 use tcl_values::Value;
+use tcl_words::Text;
+
+/// Runs a command. Its row allows the number of its arguments.
+fn allowed(
+    alloc: Global,
+    kind: ValueCommand,
+    command: &[u8],
+    args: &[Value],
+    vars: &mut Vars,
+) -> Result<(Code, Value), AllocError>
+    ensures { IfOk result (λ r. allowed kind command.now args.now vars.old ≡ (r.0, r.1, vars.new)) }
+{
+    match kind {
+        ValueCommand::Set => set(alloc, args, vars),
+        ValueCommand::Unset => unset(alloc, args, vars),
+        ValueCommand::Incr => incr(alloc, args, vars),
+        ValueCommand::Append => append(alloc, args, vars),
+        ValueCommand::Lappend => lappend(alloc, args, vars),
+        ValueCommand::List => told(alloc, list(alloc, args)),
+        ValueCommand::Llength => told(alloc, llength(alloc, args)),
+        ValueCommand::Lindex => told(alloc, lindex(alloc, args)),
+        ValueCommand::Lrange => told(alloc, lrange(alloc, args)),
+        ValueCommand::Break => Ok((Code::Break, Value::new(alloc))),
+        ValueCommand::Continue => Ok((Code::Continue, Value::new(alloc))),
+        ValueCommand::Return => returns(alloc, args),
+        ValueCommand::Global => global(alloc, args, vars),
+        ValueCommand::Error => error(alloc, Text::from_slice(alloc, arg(args, 0))?),
+        ValueCommand::String => told(alloc, string(alloc, command, args)),
+        ValueCommand::Info => told(alloc, info(alloc, command, args, vars)),
+    }
+}
 
 /// Runs a command by its word and its arguments: how it ends, and its value or the text of its error.
 ///
 /// A call that finds no memory may have changed variables.
 pub fn plain(
     alloc: Global,
-    kind: Plain,
+    kind: ValueCommand,
     command: &[u8],
     args: &[Value],
     vars: &mut Vars,
 ) -> Result<(Code, Value), AllocError>
     ensures { IfOk result (λ r. plain kind command.now args.now vars.old ≡ (r.0, r.1, vars.new)) }
 {
-    match kind {
-        Plain::Set => set(alloc, command, args, vars),
-        Plain::Unset => unset(alloc, args, vars),
-        Plain::Incr => incr(alloc, command, args, vars),
-        Plain::Append => append(alloc, command, args, vars),
-        Plain::Lappend => lappend(alloc, command, args, vars),
-        Plain::List => told(alloc, list(alloc, args)),
-        Plain::Llength => told(alloc, llength(alloc, command, args)),
-        Plain::Lindex => told(alloc, lindex(alloc, command, args)),
-        Plain::Lrange => told(alloc, lrange(alloc, command, args)),
-        Plain::Break => leaves(alloc, Code::Break, command, args),
-        Plain::Continue => leaves(alloc, Code::Continue, command, args),
-        Plain::Return => returns(alloc, command, args),
-        Plain::Global => global(alloc, args, vars),
-        Plain::Error => told(alloc, error(alloc, command, args)),
-        Plain::String => told(alloc, string(alloc, command, args)),
-        Plain::Info => told(alloc, info(alloc, command, args, vars)),
+    if !fits(value_row(kind).count, args.len()) {
+        return wrong_call(alloc, command);
     }
+    allowed(alloc, kind, command, args, vars)
 }

@@ -5,7 +5,8 @@ ghost use Rattle.tcl_commands.specs.Indices.{place_of, index_of, before, up_to, 
 ghost use Rattle.tcl_commands.specs.Says.{Says};
 
 use crate::complaint::Complaint;
-use crate::texts::{bad_index, is};
+use crate::texts::bad_index;
+use command_table::is;
 use std::alloc::{AllocError, Global};
 use tcl_expr::read_number;
 use tcl_values::{Elements, Value};

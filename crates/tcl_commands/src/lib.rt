@@ -9,6 +9,7 @@ mod commands;
 mod complaint;
 mod ends;
 mod formals;
+mod given;
 mod groups;
 mod indices;
 mod joining;
@@ -37,4 +38,4 @@ pub use texts::{
 };
 pub use told::said;
 pub use values::{as_number, list_of, texts_of};
-pub use verbs::{Plain, Verb, verb_of};
+pub use verbs::{Verb, verb_of};

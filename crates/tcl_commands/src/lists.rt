@@ -7,8 +7,8 @@ ghost use Rattle.tcl_commands.specs.Says.{Says};
 ghost use Rattle.tcl_words.specs.Lists.{written};
 
 use crate::complaint::Complaint;
+use crate::given::arg;
 use crate::indices::{element_at, elements_between, index_of};
-use crate::texts::wrong;
 use crate::values::{count_text, limited, list_of, packed};
 use std::alloc::Global;
 use tcl_values::Value;
@@ -49,13 +49,12 @@ fn list_of_one(alloc: Global, value: &Value) -> Result<Value, Complaint>
 }
 
 /// `llength list`
-pub(crate) fn llength(alloc: Global, command: &[u8], args: &[Value]) -> Result<Value, Complaint>
-    ensures { Says result (llength command.now args.now) }
+pub(crate) fn llength(alloc: Global, args: &[Value]) -> Result<Value, Complaint>
+    ensures { Says result (llength args.now) }
 {
     match args {
-        [] => Err(wrong(alloc, command)),
-        [l] => list_length(alloc, l),
-        [_, _, ..] => Err(wrong(alloc, command)),
+        [] => list_length(alloc, &Value::new(alloc)),
+        [l, ..] => list_length(alloc, l),
     }
 }
 
@@ -67,14 +66,13 @@ fn list_length(alloc: Global, list: &Value) -> Result<Value, Complaint>
 }
 
 /// `lindex list ?index?`
-pub(crate) fn lindex(alloc: Global, command: &[u8], args: &[Value]) -> Result<Value, Complaint>
-    ensures { Says result (lindex command.now args.now) }
+pub(crate) fn lindex(alloc: Global, args: &[Value]) -> Result<Value, Complaint>
+    ensures { Says result (lindex args.now) }
 {
     match args {
-        [] => Err(wrong(alloc, command)),
+        [] => Ok(Value::new(alloc)),
         [l] => Ok(l.shared(alloc)?),
-        [l, i] => list_element(alloc, l, i.as_slice()),
-        [_, _, _, ..] => Err(wrong(alloc, command)),
+        [l, i, ..] => list_element(alloc, l, i.as_slice()),
     }
 }
 
@@ -87,15 +85,12 @@ fn list_element(alloc: Global, list: &Value, index: &[u8]) -> Result<Value, Comp
 }
 
 /// `lrange list from to`
-pub(crate) fn lrange(alloc: Global, command: &[u8], args: &[Value]) -> Result<Value, Complaint>
-    ensures { Says result (lrange command.now args.now) }
+pub(crate) fn lrange(alloc: Global, args: &[Value]) -> Result<Value, Complaint>
+    ensures { Says result (lrange args.now) }
 {
     match args {
-        [] => Err(wrong(alloc, command)),
-        [_] => Err(wrong(alloc, command)),
-        [_, _] => Err(wrong(alloc, command)),
-        [l, i, j] => list_range(alloc, l, i.as_slice(), j.as_slice()),
-        [_, _, _, _, ..] => Err(wrong(alloc, command)),
+        [] => list_range(alloc, &Value::new(alloc), &[], &[]),
+        [l, ..] => list_range(alloc, l, arg(args, 1), arg(args, 2)),
     }
 }
 

@@ -3,14 +3,15 @@
 ghost use Rattle.std.specs.Prelude.{◌≡◌, map, IfOk};
 ghost use Rattle.std.specs.Char.{to_ascii_lowercase, to_ascii_uppercase};
 ghost use Rattle.tcl_commands.specs.Says.{Says};
-ghost use Rattle.tcl_commands.specs.Strings.{byte_at, bytes_between, of_one, of_two, of_three, if_counted, string_by, string, bit_text, order_text, place_text, first_place};
+ghost use Rattle.tcl_commands.specs.Strings.{byte_at, bytes_between, string_by, string, bit_text, order_text, place_text, first_place};
 
 use crate::complaint::Complaint;
+use crate::given::{arg, others};
 use crate::indices::{between, index_of};
-use crate::texts::{bad_option, is, wrong};
+use crate::texts::{bad_option, wrong};
 use crate::values::count_text;
-use crate::verbs::{StringOption, option_of};
 use crate::white::trimmed;
+use command_table::{StringOption, fits, is, string_count, string_option};
 use memchr::memmem;
 use std::alloc::{AllocError, Global};
 use std::cmp::Ordering;
@@ -21,105 +22,34 @@ use tcl_words::Text;
 pub(crate) fn string(alloc: Global, command: &[u8], args: &[Value]) -> Result<Value, Complaint>
     ensures { Says result (string command.now args.now) }
 {
-    match args {
-        [] => Err(wrong(alloc, command)),
-        [word, rest @ ..] => match option_of(word.as_slice()) {
-            None => Err(Complaint::Said(bad_option(alloc, word.as_slice())?)),
-            Some(option) => string_by(alloc, command, option, rest),
-        },
+    match string_option(arg(args, 0)) {
+        None => Err(Complaint::Said(bad_option(alloc, arg(args, 0))?)),
+        Some(option) => {
+            let texts = others(args);
+            if fits(string_count(option), texts.len()) {
+                return string_by(alloc, option, texts);
+            }
+            Err(wrong(alloc, command))
+        }
     }
 }
 
-fn string_by(
-    alloc: Global,
-    command: &[u8],
-    option: StringOption,
-    args: &[Value],
-) -> Result<Value, Complaint>
-    ensures { Says result (if_counted command.now (string_by option args.now)) }
+/// Runs an option of `string` with the arguments after it.
+fn string_by(alloc: Global, option: StringOption, args: &[Value]) -> Result<Value, Complaint>
+    ensures { Says result (string_by option args.now) }
 {
-    match args {
-        [] => Err(wrong(alloc, command)),
-        [a] => of_one(alloc, command, option, a.as_slice()),
-        [a, b] => of_two(alloc, command, option, a.as_slice(), b.as_slice()),
-        [a, b, c] => of_three(
-            alloc,
-            command,
-            option,
-            a.as_slice(),
-            b.as_slice(),
-            c.as_slice(),
-        ),
-        [_, _, _, _, ..] => Err(wrong(alloc, command)),
-    }
-}
-
-/// The options of one text.
-fn of_one(
-    alloc: Global,
-    command: &[u8],
-    option: StringOption,
-    text: &[u8],
-) -> Result<Value, Complaint>
-    ensures { Says result (if_counted command.now (of_one option text.now)) }
-{
+    let a = arg(args, 0);
+    let b = arg(args, 1);
     match option {
-        StringOption::Length => Ok(count_text(alloc, text.len())?),
-        StringOption::ToLower => Ok(lower(alloc, text)?),
-        StringOption::ToUpper => Ok(upper(alloc, text)?),
-        StringOption::Trim => Ok(Value::from_slice(alloc, trimmed(text))?),
-        StringOption::Index => Err(wrong(alloc, command)),
-        StringOption::Range => Err(wrong(alloc, command)),
-        StringOption::Equal => Err(wrong(alloc, command)),
-        StringOption::Compare => Err(wrong(alloc, command)),
-        StringOption::First => Err(wrong(alloc, command)),
-    }
-}
-
-/// The options of two texts.
-fn of_two(
-    alloc: Global,
-    command: &[u8],
-    option: StringOption,
-    a: &[u8],
-    b: &[u8],
-) -> Result<Value, Complaint>
-    ensures { Says result (if_counted command.now (of_two option a.now b.now)) }
-{
-    match option {
-        StringOption::Length => Err(wrong(alloc, command)),
-        StringOption::ToLower => Err(wrong(alloc, command)),
-        StringOption::ToUpper => Err(wrong(alloc, command)),
-        StringOption::Trim => Err(wrong(alloc, command)),
+        StringOption::Length => Ok(count_text(alloc, a.len())?),
         StringOption::Index => byte_at(alloc, a, b),
-        StringOption::Range => Err(wrong(alloc, command)),
+        StringOption::Range => bytes_between(alloc, a, b, arg(args, 2)),
         StringOption::Equal => Ok(bit_text(alloc, is(a, b))?),
         StringOption::Compare => Ok(order_text(alloc, a.cmp(&b))?),
         StringOption::First => Ok(place_text(alloc, first_place(a, b))?),
-    }
-}
-
-/// The option of three texts.
-fn of_three(
-    alloc: Global,
-    command: &[u8],
-    option: StringOption,
-    a: &[u8],
-    b: &[u8],
-    c: &[u8],
-) -> Result<Value, Complaint>
-    ensures { Says result (if_counted command.now (of_three option a.now b.now c.now)) }
-{
-    match option {
-        StringOption::Length => Err(wrong(alloc, command)),
-        StringOption::ToLower => Err(wrong(alloc, command)),
-        StringOption::ToUpper => Err(wrong(alloc, command)),
-        StringOption::Trim => Err(wrong(alloc, command)),
-        StringOption::Index => Err(wrong(alloc, command)),
-        StringOption::Range => bytes_between(alloc, a, b, c),
-        StringOption::Equal => Err(wrong(alloc, command)),
-        StringOption::Compare => Err(wrong(alloc, command)),
-        StringOption::First => Err(wrong(alloc, command)),
+        StringOption::ToLower => Ok(lower(alloc, a)?),
+        StringOption::ToUpper => Ok(upper(alloc, a)?),
+        StringOption::Trim => Ok(Value::from_slice(alloc, trimmed(a))?),
     }
 }
 

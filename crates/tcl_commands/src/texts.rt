@@ -1,7 +1,6 @@
 //! Texts of errors.
 
 ghost use Rattle.std.specs.Prelude.{◌≡◌, ◌≢◌, ◌++◌, take, IfOk};
-ghost use Rattle.std.specs.Str.{bytes_eq};
 ghost use Rattle.tcl_commands.specs.Says.{Complains};
 ghost use Rattle.tcl_commands.specs.Texts.{bad_list, too_long, too_deep, is_missing, quoted, wrong_args, bad_option, bad_index, expected_number, variable_fault, not_read, not_set, not_unset, word_fault, expr_fault};
 
@@ -10,14 +9,6 @@ use std::alloc::{AllocError, Global};
 use tcl_expr::ExprFault;
 use tcl_subst::SubstFault;
 use tcl_words::{Text, WordFault};
-
-/// Whether a word is this name. One of another length costs no call.
-#[inline(always)]
-pub(crate) fn is(word: &[u8], name: &[u8]) -> bool
-    ensures { result ≡ bytes_eq word.now name.now }
-{
-    word.len() == name.len() && word == name
-}
 
 /// A text is no list.
 pub fn bad_list() -> &'static [u8]

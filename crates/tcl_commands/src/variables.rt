@@ -2,7 +2,7 @@
 
 ghost use Rattle.std.specs.Prelude.{◌≡◌, ℕ, List, IfOk, Ok};
 ghost use Rattle.std.specs.List.{flat_map};
-ghost use Rattle.tcl_commands.specs.Plain.{read, written_to, set, unset, global, old_number, sum, incremented, set_if_said, incr, append, lappend, exists, info};
+ghost use Rattle.tcl_commands.specs.Plain.{read, written_to, set, unset, global, old_number, sum, incremented, set_if_said, increment, incr, append, lappend, info_by, info};
 ghost use Rattle.tcl_commands.specs.Said.{Said as Meant, told, on_changed};
 ghost use Rattle.tcl_commands.specs.Says.{Says};
 ghost use Rattle.tcl_commands.specs.Texts.{not_set};
@@ -11,10 +11,12 @@ ghost use Rattle.tcl_subst.specs.Writes.{set_to, appended, elements_appended};
 
 use crate::code::Code;
 use crate::complaint::Complaint;
+use crate::given::{arg, others};
 use crate::strings::bit_text;
-use crate::texts::{bad_option, is, is_missing, not_read, not_set, not_unset, wrong};
-use crate::told::{error, told, wrong_call};
+use crate::texts::{bad_option, is_missing, not_read, not_set, not_unset, wrong};
+use crate::told::{error, told};
 use crate::values::{as_number, number_text, packed};
+use command_table::{InfoOption, fits, info_count, info_option};
 use std::alloc::{AllocError, Global};
 use tcl_subst::Vars;
 use tcl_values::Value;
@@ -49,17 +51,15 @@ fn set_to(
 /// `set name ?value?`
 pub(crate) fn set(
     alloc: Global,
-    command: &[u8],
     args: &[Value],
     vars: &mut Vars,
 ) -> Result<(Code, Value), AllocError>
-    ensures { IfOk result (λ r. set command.now args.now vars.old ≡ (r.0, r.1, vars.new)) }
+    ensures { IfOk result (λ r. set args.now vars.old ≡ (r.0, r.1, vars.new)) }
 {
     match args {
-        [] => wrong_call(alloc, command),
+        [] => told(alloc, read(alloc, &[], vars)),
         [name] => told(alloc, read(alloc, name.as_slice(), vars)),
-        [name, value] => set_to(alloc, name.as_slice(), value, vars),
-        [_, _, _, ..] => wrong_call(alloc, command),
+        [name, value, ..] => set_to(alloc, name.as_slice(), value, vars),
     }
 }
 
@@ -150,33 +150,26 @@ fn set_if_said(
     }
 }
 
-/// `incr name ?number?`
-pub(crate) fn incr(
-    alloc: Global,
-    command: &[u8],
-    args: &[Value],
-    vars: &mut Vars,
-) -> Result<(Code, Value), AllocError>
-    ensures { IfOk result (λ r. incr command.now args.now vars.old ≡ (r.0, r.1, vars.new)) }
+/// Returns what `incr` adds: 1 if nothing is given.
+fn increment(args: &[Value]) -> &[u8]
+    ensures { result.now ≡ increment args.now }
 {
     match args {
-        [] => wrong_call(alloc, command),
-        [name] => increment(alloc, name.as_slice(), b"1", vars),
-        [name, by] => increment(alloc, name.as_slice(), by.as_slice(), vars),
-        [_, _, _, ..] => wrong_call(alloc, command),
+        [_, by, ..] => by.as_slice(),
+        _ => b"1",
     }
 }
 
-fn increment(
+/// `incr name ?number?`
+pub(crate) fn incr(
     alloc: Global,
-    name: &[u8],
-    by: &[u8],
+    args: &[Value],
     vars: &mut Vars,
 ) -> Result<(Code, Value), AllocError>
-    ensures { IfOk result (λ r. set_if_said name.now (incremented name.now by.now vars.old) vars.old ≡ (r.0, r.1, vars.new)) }
+    ensures { IfOk result (λ r. incr args.now vars.old ≡ (r.0, r.1, vars.new)) }
 {
-    let value = incremented(alloc, name, by, vars);
-    set_if_said(alloc, name, value, vars)
+    let value = incremented(alloc, arg(args, 0), increment(args), vars);
+    set_if_said(alloc, arg(args, 0), value, vars)
 }
 
 /// All bytes of texts.
@@ -193,16 +186,12 @@ fn joined(alloc: Global, texts: &[Value]) -> Result<Text, AllocError>
 /// `append name text ..`
 pub(crate) fn append(
     alloc: Global,
-    command: &[u8],
     args: &[Value],
     vars: &mut Vars,
 ) -> Result<(Code, Value), AllocError>
-    ensures { IfOk result (λ r. append command.now args.now vars.old ≡ (r.0, r.1, vars.new)) }
+    ensures { IfOk result (λ r. append args.now vars.old ≡ (r.0, r.1, vars.new)) }
 {
-    match args {
-        [] => wrong_call(alloc, command),
-        [name, texts @ ..] => append_to(alloc, name.as_slice(), texts, vars),
-    }
+    append_to(alloc, arg(args, 0), others(args), vars)
 }
 
 fn append_to(
@@ -234,34 +223,20 @@ fn append_bytes(
 /// `lappend name value ..`
 pub(crate) fn lappend(
     alloc: Global,
-    command: &[u8],
     args: &[Value],
     vars: &mut Vars,
 ) -> Result<(Code, Value), AllocError>
-    ensures { IfOk result (λ r. lappend command.now args.now vars.old ≡ (r.0, r.1, vars.new)) }
+    ensures { IfOk result (λ r. lappend args.now vars.old ≡ (r.0, r.1, vars.new)) }
 {
-    match args {
-        [] => wrong_call(alloc, command),
-        [name, values @ ..] => lappend_to(alloc, name.as_slice(), values, vars),
-    }
-}
-
-fn lappend_to(
-    alloc: Global,
-    name: &[u8],
-    values: &[Value],
-    vars: &mut Vars,
-) -> Result<(Code, Value), AllocError>
-    ensures { IfOk result (λ r. written_to name.now vars.old (with_value (elements_appended values.now) name.now vars.old) ≡ (r.0, r.1, vars.new)) }
-{
-    let more = packed(alloc, values)?;
+    let name = arg(args, 0);
+    let more = packed(alloc, others(args))?;
     match vars.append_elements(name, &more) {
         Ok(()) => told(alloc, read(alloc, name, vars)),
         Err(fault) => error(alloc, not_set(alloc, name, fault)?),
     }
 }
 
-/// `info exists name`
+/// `info option arg ..`
 pub(crate) fn info(
     alloc: Global,
     command: &[u8],
@@ -270,23 +245,28 @@ pub(crate) fn info(
 ) -> Result<Value, Complaint>
     ensures { Says result (info command.now args.now vars.now) }
 {
-    match args {
-        [] => Err(wrong(alloc, command)),
-        [option, rest @ ..] => {
-            if is(option.as_slice(), b"exists") {
-                return exists(alloc, command, rest, vars);
+    match info_option(arg(args, 0)) {
+        None => Err(Complaint::Said(bad_option(alloc, arg(args, 0))?)),
+        Some(option) => {
+            let words = others(args);
+            if fits(info_count(option), words.len()) {
+                return info_by(alloc, option, words, vars);
             }
-            Err(Complaint::Said(bad_option(alloc, option.as_slice())?))
+            Err(wrong(alloc, command))
         }
     }
 }
 
-fn exists(alloc: Global, command: &[u8], args: &[Value], vars: &Vars) -> Result<Value, Complaint>
-    ensures { Says result (exists command.now args.now vars.now) }
+/// Runs an option of `info` with the arguments after it.
+fn info_by(
+    alloc: Global,
+    option: InfoOption,
+    args: &[Value],
+    vars: &Vars,
+) -> Result<Value, Complaint>
+    ensures { Says result (info_by option args.now vars.now) }
 {
-    match args {
-        [] => Err(wrong(alloc, command)),
-        [name] => Ok(bit_text(alloc, vars.exists(name.as_slice()))?),
-        [_, _, ..] => Err(wrong(alloc, command)),
+    match option {
+        InfoOption::Exists => Ok(bit_text(alloc, vars.exists(arg(args, 0)))?),
     }
 }
