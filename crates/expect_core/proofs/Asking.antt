@@ -7,7 +7,8 @@ use Rattle.tcl_commands.specs.declared.code.Code.TheVariants as code
 use Rattle.tcl_host.specs.declared.host.HostStep.{HostStep}
 use Rattle.tcl_host.specs.declared.host.HostStep.TheVariants.{Done, Body, Words, Stop, Unknown, Memory}
 use Rattle.tcl_host.specs.Calls.{Call, Begin, AfterBody}
-use Rattle.expect_core.specs.declared.name.Name.{Name}
+use Rattle.command_table.specs.declared.commands.ExpectCommand.{ExpectCommand}
+use Rattle.command_table.specs.Commands.{expect_command}
 use Rattle.expect_core.specs.declared.plan.Plan.{Plan}
 use Rattle.expect_core.specs.declared.turn.Reply.TheVariants.{Done as DoneReply}
 use Rattle.expect_core.specs.declared.own.Own.{Own}
@@ -16,7 +17,7 @@ use Rattle.expect_core.specs.Answered.{Outcome, idle, owning}
 use Rattle.expect_core.specs.Turns.{over}
 use Rattle.expect_core.specs.Expecting.{behind}
 use Rattle.expect_core.specs.Running.{run, turns}
-use Rattle.expect_core.specs.Calls.{name_of, knows, began, outer, outcome}
+use Rattle.expect_core.specs.Calls.{knows, began, outer, outcome}
 use Rattle.expect_core.specs.Laws.{behind_call, step_to, goes_back, IsBegin, AsksForScripts, IsAnswer, AnswersAsked}
 use Rattle.expect_core.proofs.Calling.{IsUnknown, MayAnswer}
 use Rattle.expect_core.proofs.Steady.{steady_outcome}
@@ -67,14 +68,14 @@ each_answer call st = answer_of call st tt
 may_unknown : (call : Call) (x : Outcome) → MayAnswer (step_to x) call (behind_call x) → step_to x ≡ Unknown → IsUnknown call
 may_unknown call (s, vars, st) may is = subst (λ (s : HostStep). MayAnswer s call st) is may
 
-no_name : (n : Option Name) (word : List ℕ) (args : List (List ℕ)) (vars : Variables) (st : Dialogue) → is_some n ≡ false → step_to (began n word args vars st) ≡ Unknown
+no_name : (n : Option ExpectCommand) (word : List ℕ) (args : List (List ℕ)) (vars : Variables) (st : Dialogue) → is_some n ≡ false → step_to (began n word args vars st) ≡ Unknown
 no_name None word args vars st none = refl
 no_name (Some n) word args vars st none = absurd (let differs : true ≡ false = none in cc)
 
 unknown : (word : List ℕ) (args : List (List ℕ)) (vars : Variables) (st : Dialogue) → (step_to (outcome (Begin (word ∷ args) vars) st) ≡ Unknown) ↔ (knows word ≡ false)
 unknown word args vars st = (
   λ is. may_unknown (Begin (word ∷ args) vars) (outcome (Begin (word ∷ args) vars) st) (steady_outcome (Begin (word ∷ args) vars) st).1 is,
-  λ none. no_name (name_of word) word args vars (idle st) none,
+  λ none. no_name (expect_command word) word args vars (idle st) none,
 )
 
 pub answers_asked : AnswersAsked

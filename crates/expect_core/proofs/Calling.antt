@@ -6,7 +6,8 @@ use Rattle.tcl_commands.specs.Said.{Said}
 use Rattle.tcl_host.specs.declared.host.HostStep.{HostStep}
 use Rattle.tcl_host.specs.declared.host.HostStep.TheVariants as step
 use Rattle.tcl_host.specs.Calls.{Call, Begin, Resume, AfterWords, AfterBody, Knows}
-use Rattle.expect_core.specs.declared.name.Name.{Name}
+use Rattle.command_table.specs.declared.commands.ExpectCommand.{ExpectCommand}
+use Rattle.command_table.specs.Commands.{expect_command}
 use Rattle.expect_core.specs.declared.plan.Plan.{Plan}
 use Rattle.expect_core.specs.declared.turn.Deed.{Deed}
 use Rattle.expect_core.specs.declared.turn.Deed.TheVariants.{Alone, To, Expect}
@@ -17,7 +18,7 @@ use Rattle.expect_core.specs.Answered.{Outcome, idle, owning}
 use Rattle.expect_core.specs.Turns.{doing}
 use Rattle.expect_core.specs.Expecting.{expecting, behind}
 use Rattle.expect_core.specs.Running.{run, turns, resuming}
-use Rattle.expect_core.specs.Calls.{name_of, knows, named, filling, filled, began, outer, outcome}
+use Rattle.expect_core.specs.Calls.{knows, named, filling, filled, began, outer, outcome}
 use Rattle.expect_core.specs.Laws.{IsBegin}
 use Rattle.expect_core.proofs.Stepping.{MayCome, Sees, TurnOf, PhaseOf, Kept, After, at_of, run_keeps, resuming_keeps}
 
@@ -59,14 +60,14 @@ module _ (A : ℕ → Type 0) (B : ℕ → Plan → Type 0) where
   doing_of (Ok (Expect p)) of = (tt, of)
   doing_of (Err text) of = (tt, tt)
 
-  abbrev pub NamedOf : Option Name → List ℕ → List (List ℕ) → Variables → Own → Type 0
+  abbrev pub NamedOf : Option ExpectCommand → List ℕ → List (List ℕ) → Variables → Own → Type 0
   NamedOf None word args vars o = Unit {0}
   NamedOf (Some n) word args vars o = SaidOf (named n word args vars o)
 
   -- a call begins with such, or goes on with such
   abbrev pub Opens : Call → Dialogue → Type 0
   Opens (Begin [] vars) st = Unit {0}
-  Opens (Begin (word ∷ args) vars) st = NamedOf (name_of word) word args vars st.own
+  Opens (Begin (word ∷ args) vars) st = NamedOf (expect_command word) word args vars st.own
   Opens (Resume vars) st = PhaseOf A B st.phase
   Opens (AfterWords words vars) st = SaidOf (expecting words vars st.own)
   Opens (AfterBody c value vars) st = TurnOf A B (behind c value st.own.plans (record st.own { plans = outer st.own.plans }))
@@ -83,13 +84,13 @@ module _ (A : ℕ → Type 0) (B : ℕ → Plan → Type 0) (mine : (i : ℕ) (p
   filled_keeps words None said vars st of held = called (Begin words vars) (run turns (doing said) vars (idle st)) (run_keeps A B mine P k turns (doing said) vars st (doing_of A B said of) held)
   filled_keeps words (Some text) said vars st of held = (held, tt, tt)
 
-  began_keeps : (n : Option Name) (word : List ℕ) (args : List (List ℕ)) (vars : Variables) (st : Dialogue) → name_of word ≡ n → NamedOf A B n word args vars st.own → P (idle st) → CalledAfter (Begin (word ∷ args) vars) (began n word args vars (idle st))
+  began_keeps : (n : Option ExpectCommand) (word : List ℕ) (args : List (List ℕ)) (vars : Variables) (st : Dialogue) → expect_command word ≡ n → NamedOf A B n word args vars st.own → P (idle st) → CalledAfter (Begin (word ∷ args) vars) (began n word args vars (idle st))
   began_keeps None word args vars st is of held = (held, tt, ap is_some is)
   began_keeps (Some n) word args vars st is of held = filled_keeps (word ∷ args) (filling n args) (named n word args vars st.own) vars st of held
 
   pub outcome_keeps : (call : Call) (st : Dialogue) → Opens A B call st → P (idle st) → CalledAfter call (outcome call st)
   outcome_keeps (Begin [] vars) st of held = (held, tt, tt)
-  outcome_keeps (Begin (word ∷ args) vars) st of held = began_keeps (name_of word) word args vars st refl of held
+  outcome_keeps (Begin (word ∷ args) vars) st of held = began_keeps (expect_command word) word args vars st refl of held
   outcome_keeps (Resume vars) st of held = called (Resume vars) (resuming st.phase vars (idle st)) (resuming_keeps A B mine P k st.phase vars st of held)
   outcome_keeps (AfterWords words vars) st of held =
       called (AfterWords words vars) (run turns (doing (expecting words vars st.own)) vars (idle st)) (run_keeps A B mine P k turns (doing (expecting words vars st.own)) vars st (doing_of A B (expecting words vars st.own) of) held)

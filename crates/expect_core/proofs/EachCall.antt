@@ -11,7 +11,8 @@ use Rattle.tcl_host.specs.declared.host.HostStep.TheVariants as step
 use Rattle.tcl_host.specs.declared.ending.Ending.TheVariants.{TimeLimit}
 use Rattle.tcl_host.specs.Calls.{Call, Begin, Resume, AfterWords, AfterBody, Knows}
 use Rattle.expect_core.specs.declared.lanes.Lane.{Lane}
-use Rattle.expect_core.specs.declared.name.Name.{Name}
+use Rattle.command_table.specs.declared.commands.ExpectCommand.{ExpectCommand}
+use Rattle.command_table.specs.Commands.{expect_command}
 use Rattle.expect_core.specs.declared.plan.Plan.{Plan}
 use Rattle.expect_core.specs.declared.phase.Phase.{Phase}
 use Rattle.expect_core.specs.declared.phase.Phase.TheVariants.{Idle, At}
@@ -36,7 +37,7 @@ use Rattle.expect_core.specs.Turns.{at, doing}
 use Rattle.expect_core.specs.Sending.{typed, handing}
 use Rattle.expect_core.specs.Expecting.{expecting, behind, ended}
 use Rattle.expect_core.specs.Running.{To, step_of, answered, concluded, on_answer, awaited, waited_for, staged, turned, run, turns, resuming}
-use Rattle.expect_core.specs.Calls.{name_of, named, filling, filled, began, begun, outer, outcome, onward, resumed}
+use Rattle.expect_core.specs.Calls.{named, filling, filled, began, begun, outer, outcome, onward, resumed}
 use Rattle.expect_core.proofs.Times.{past}
 use Rattle.expect_core.proofs.LaneFacts.{IsBeyond, within, answers_twice}
 use Rattle.expect_core.proofs.Growing.{IsLaterAnswer, MoreAnswers, more_answers, Fits, answers_there}
@@ -196,13 +197,13 @@ module _ (e : Event) where
   filled_onward None said vars st g = run_onward turns (doing said) vars st g
   filled_onward (Some text) said vars st g = refl
 
-  began_onward : (n : Option Name) (word : List ℕ) (args : List (List ℕ)) (vars : Variables) (st : Dialogue) → Good (idle st) → began n word args vars (offered e (idle st)) ≡ onward e (began n word args vars (idle st))
+  began_onward : (n : Option ExpectCommand) (word : List ℕ) (args : List (List ℕ)) (vars : Variables) (st : Dialogue) → Good (idle st) → began n word args vars (offered e (idle st)) ≡ onward e (began n word args vars (idle st))
   began_onward None word args vars st g = refl
   began_onward (Some n) word args vars st g = filled_onward (filling n args) (named n word args vars st.own) vars st g
 
   begun_onward : (words : List (List ℕ)) (vars : Variables) (st : Dialogue) → Good (idle st) → begun words vars (offered e (idle st)) ≡ onward e (begun words vars (idle st))
   begun_onward [] vars st g = refl
-  begun_onward (word ∷ args) vars st g = began_onward (name_of word) word args vars st g
+  begun_onward (word ∷ args) vars st g = began_onward (expect_command word) word args vars st g
 
   -- the law: a call with an event more
   pub outcome_onward : (call : Call) (st : Dialogue) → Good st → outcome call (offered e st) ≡ onward e (outcome call st)

@@ -12,6 +12,9 @@ pub mod Listening
 pub mod Turns
 pub mod Hushes
 pub mod Vain
+pub mod Recalling
+mod Counting
+pub mod Pausing
 pub mod Keeping
 pub mod Siding
 pub mod Waits

@@ -13,9 +13,9 @@ use Rattle.tcl_commands.specs.declared.code.Code.{Code}
 use Rattle.tcl_commands.specs.declared.code.Code.TheVariants as code
 use Rattle.tcl_commands.specs.Said.{Said, ◌>>=◌}
 use Rattle.tcl_host.specs.Calls.{Call, Begin, Resume, AfterWords, AfterBody, Knows}
-use Rattle.expect_core.specs.declared.name.Name.{Name}
-use Rattle.expect_core.specs.declared.name.Name.TheVariants as name
-use Rattle.expect_core.specs.declared.flags.Takes.{Takes}
+use Rattle.command_table.specs.declared.commands.ExpectCommand.{ExpectCommand}
+use Rattle.command_table.specs.declared.commands.ExpectCommand.TheVariants as command
+use Rattle.command_table.specs.Commands.{expect_command}
 use Rattle.expect_core.specs.declared.request.Act.{Act}
 use Rattle.expect_core.specs.declared.plan.Plan.{Plan}
 use Rattle.expect_core.specs.declared.phase.Phase.{Phase}
@@ -27,7 +27,7 @@ use Rattle.expect_core.specs.declared.child.Child.{Child}
 use Rattle.expect_core.specs.declared.own.Own.{Own}
 use Rattle.expect_core.specs.declared.dialogue.Dialogue.{Dialogue}
 use Rattle.expect_core.specs.Owned.{nobody, child_as, with_child, asked, told, logged, seen}
-use Rattle.expect_core.specs.Flags.{flags_of}
+use Rattle.expect_core.specs.Flags.{arguments}
 use Rattle.expect_core.specs.Ids.{has_id, id_of, or_no_such, spoken_to}
 use Rattle.expect_core.specs.Among.{IsAmong}
 use Rattle.expect_core.specs.Sides.{takes_current, spoken, spoken_by}
@@ -35,11 +35,8 @@ use Rattle.expect_core.specs.Expecting.{patterns_by}
 use Rattle.expect_core.specs.Texts.{id_at}
 use Rattle.expect_core.specs.Answered.{Outcome}
 use Rattle.expect_core.specs.Effects.{changed}
-use Rattle.expect_core.specs.Calls.{name_of, outer, outcome, fresh}
-use Rattle.expect_core.specs.Apart.{by_flags, by_option, by_patterns, one, each, named_by, under_way, speaks_to, on_top}
-use Rattle.expect_core.specs.Sending.{takes}
-use Rattle.expect_core.specs.Ends.{id_alone}
-use Rattle.expect_core.specs.Options.{takes as option_takes}
+use Rattle.expect_core.specs.Calls.{outer, outcome, fresh}
+use Rattle.expect_core.specs.Apart.{by_id, by_option, by_patterns, one, each, named_by, under_way, speaks_to, on_top}
 use Rattle.expect_core.specs.Numbered.{IsPlace, NamesAChild, AreOfPlaces, IsOfPlaces, OwnNumbered, Numbered}
 use Rattle.expect_core.proofs.Stepping.{PhaseOf, ChildOf, Kept}
 use Rattle.expect_core.proofs.Calling.{pick, outcome_keeps}
@@ -102,22 +99,22 @@ by_list list vars o k =
     (along IsPlace AreAll (spoken_to None vars o) _ (spoken_place None vars o k) (λ i at. spoken_places (i ∷ []) list.ids vars o k (one_more [] i none_place at)))
     (spoken_places [] list.ids vars o k none_place)
 
-flags_place : (t : Takes) (word : List ℕ) (args : List (List ℕ)) (vars : Variables) (o : Own) → OwnNumbered o → AreAll (one (by_flags t word args vars o))
-flags_place t word args vars o k = one_place _ (past IsPlace (flags_of word t args) _ (λ f. spoken_place f.0.id vars o k))
+id_place : (c : ExpectCommand) (word : List ℕ) (args : List (List ℕ)) (vars : Variables) (o : Own) → OwnNumbered o → AreAll (one (by_id c word args vars o))
+id_place c word args vars o k = one_place _ (past IsPlace (arguments c word args) _ (λ f. spoken_place f.0.id vars o k))
 
-option_place : (word : List ℕ) (args : List (List ℕ)) (vars : Variables) (o : Own) → OwnNumbered o → AreAll (one (by_option word args vars o))
-option_place word args vars o k = one_place _ (past IsPlace (flags_of word option_takes args) _ (λ f. pick (Gives IsPlace) f.0.on _ _ tt (spoken_place f.0.id vars o k)))
+option_place : (c : ExpectCommand) (word : List ℕ) (args : List (List ℕ)) (vars : Variables) (o : Own) → OwnNumbered o → AreAll (one (by_option c word args vars o))
+option_place c word args vars o k = one_place _ (past IsPlace (arguments c word args) _ (λ f. pick (Gives IsPlace) f.0.on _ _ tt (spoken_place f.0.id vars o k)))
 
 patterns_place : (args : List (List ℕ)) (vars : Variables) (o : Own) → OwnNumbered o → AreAll (each (by_patterns args vars o))
 patterns_place args vars o k = each_place _ (past AreAll (patterns_by args (patterns_of args)) _ (λ list. by_list list vars o k))
 
-named_places : (n : Option Name) (word : List ℕ) (args : List (List ℕ)) (vars : Variables) (o : Own) → OwnNumbered o → AreAll (named_by n word args vars o)
-named_places (Some name.Send) word args vars o k = flags_place takes word args vars o k
-named_places (Some name.Expect) word args vars o k = patterns_place args vars o k
-named_places (Some name.Close) word args vars o k = flags_place id_alone word args vars o k
-named_places (Some name.Wait) word args vars o k = flags_place id_alone word args vars o k
-named_places (Some name.MatchMax) word args vars o k = option_place word args vars o k
-named_places (Some name.RemoveNulls) word args vars o k = option_place word args vars o k
+named_places : (c : Option ExpectCommand) (word : List ℕ) (args : List (List ℕ)) (vars : Variables) (o : Own) → OwnNumbered o → AreAll (named_by c word args vars o)
+named_places (Some command.Send) word args vars o k = id_place command.Send word args vars o k
+named_places (Some command.Expect) word args vars o k = patterns_place args vars o k
+named_places (Some command.Close) word args vars o k = id_place command.Close word args vars o k
+named_places (Some command.Wait) word args vars o k = id_place command.Wait word args vars o k
+named_places (Some command.MatchMax) word args vars o k = option_place command.MatchMax word args vars o k
+named_places (Some command.RemoveNulls) word args vars o k = option_place command.RemoveNulls word args vars o k
 named_places _ word args vars o k = none_place
 
 on_top_places : (c : Code) (ps : List Plan) → AreOfPlaces ps → AreAll (on_top c ps)
@@ -196,7 +193,7 @@ numbered = record {
 -- all that a call speaks to
 speaks_places : (call : Call) (st : Dialogue) → OwnNumbered st.own → IsOfPlaces st.phase → AreAll (speaks_to call st)
 speaks_places (Begin [] vars) st k at = none_place
-speaks_places (Begin (word ∷ args) vars) st k at = named_places (name_of word) word args vars st.own k
+speaks_places (Begin (word ∷ args) vars) st k at = named_places (expect_command word) word args vars st.own k
 speaks_places (Resume vars) st k at = among_places st.phase at
 speaks_places (AfterWords words vars) st k at = patterns_place words vars st.own k
 speaks_places (AfterBody c value vars) st k at = on_top_places c st.own.plans k.placed

@@ -1,15 +1,17 @@
 -- The first turn of a call is about the children that the call speaks to.
 use Rattle.std.proofs.Common.{◌≡◌, ℕ, ◌+◌, List, [], ◌∷◌, ◌++◌, length, Bool, true, false, Option, Some, None, Ok, Err, ◌⊎◌, inl, inr, refl, sym, ap, subst, ◌∙◌}
-use Rattle.std.specs.Prelude.{◌==◌, nat_lt, if◌then◌else◌}
+use Rattle.std.specs.Prelude.{◌==◌, nat_lt, slice_get, if◌then◌else◌}
 use Rattle.exp_match.specs.declared.list.PatternList.{PatternList}
 use Rattle.exp_match.specs.Arguments.{patterns_of}
 use Rattle.tcl_subst.specs.Variables.{Variables}
 use Rattle.tcl_commands.specs.declared.code.Code.{Code}
 use Rattle.tcl_commands.specs.declared.code.Code.TheVariants as code
+use Rattle.tcl_commands.specs.Given.{arg}
 use Rattle.tcl_commands.specs.Said.{Said, ◌>>=◌}
 use Rattle.tcl_host.specs.Calls.{Call, Begin, Resume, AfterWords, AfterBody, Knows}
-use Rattle.expect_core.specs.declared.name.Name.{Name}
-use Rattle.expect_core.specs.declared.name.Name.TheVariants as name
+use Rattle.command_table.specs.declared.commands.ExpectCommand.{ExpectCommand}
+use Rattle.command_table.specs.declared.commands.ExpectCommand.TheVariants as command
+use Rattle.command_table.specs.Commands.{expect_command}
 use Rattle.expect_core.specs.declared.plan.Plan.{Plan}
 use Rattle.expect_core.specs.declared.order.Order.{Order}
 use Rattle.expect_core.specs.declared.turn.Purpose.TheVariants as purpose
@@ -18,7 +20,7 @@ use Rattle.expect_core.specs.declared.turn.Deed.{Deed}
 use Rattle.expect_core.specs.declared.turn.Deed.TheVariants.{To, Expect}
 use Rattle.expect_core.specs.declared.own.Own.{Own}
 use Rattle.expect_core.specs.declared.dialogue.Dialogue.{Dialogue}
-use Rattle.expect_core.specs.Flags.{flags_of, bare_words, text_in, option_in}
+use Rattle.expect_core.specs.Flags.{arguments}
 use Rattle.expect_core.specs.Ids.{is_open, spoken_to, open_to, if_open}
 use Rattle.expect_core.specs.Owned.{child_of}
 use Rattle.expect_core.specs.Heard.{Watch, IsWatched, deadline_from}
@@ -27,14 +29,14 @@ use Rattle.expect_core.specs.Sides.{takes_current, opened, asked_by, with_group,
 use Rattle.expect_core.specs.Turns.{react}
 use Rattle.expect_core.specs.Texts.{too_many}
 use Rattle.expect_core.specs.Spawning.{order_of, ordering}
-use Rattle.expect_core.specs.Sending.{takes, send_of}
+use Rattle.expect_core.specs.Sending.{send_of}
 use Rattle.expect_core.specs.Expecting.{patterns_by, span_in, plan_at, plan_by, plan_of, expecting, again, behind}
 use Rattle.expect_core.specs.Again.{continued}
-use Rattle.expect_core.specs.Ends.{id_alone, close_of, if_unwaited, wait_of}
+use Rattle.expect_core.specs.Ends.{close_of, if_unwaited, wait_of}
 use Rattle.expect_core.specs.Transcript.{put_of, to_user, log_word}
-use Rattle.expect_core.specs.Options.{takes as option_takes, whose, option_of, size_of, sizing_at, removal_of, removing_at}
-use Rattle.expect_core.specs.Calls.{name_of, named, outer}
-use Rattle.expect_core.specs.Apart.{by_flags, by_option, by_patterns, one as single, each, named_by, on_top, speaks_to}
+use Rattle.expect_core.specs.Options.{whose, option_of, size_of, sizing_at, removal_of, removing_at}
+use Rattle.expect_core.specs.Calls.{named, outer}
+use Rattle.expect_core.specs.Apart.{by_id, by_option, by_patterns, one as single, each, named_by, on_top, speaks_to}
 use Rattle.expect_core.proofs.Stepping.{Sees, TurnOf, PhaseOf}
 use Rattle.expect_core.proofs.Calling.{SaidOf, NamedOf, Opens, doing_of}
 
@@ -68,19 +70,17 @@ else_same false k i text e = ap (inside k) e
 open_speaks : (id : Option (List ℕ)) (vars : Variables) (o : Own) (i : ℕ) → open_to id vars o ≡ Ok i → spoken_to id vars o ≡ Ok i
 open_speaks id vars o i e = first (spoken_to id vars o) (λ k. if_open k o) i i (λ k e. if_same (is_open (child_of k o).standing) k i _ e) e
 
-send_speaks : (word : List ℕ) (args : List (List ℕ)) (vars : Variables) (o : Own) (s : ℕ × List ℕ) → send_of word args vars o ≡ Ok s → by_flags takes word args vars o ≡ Ok s.0
+send_speaks : (word : List ℕ) (args : List (List ℕ)) (vars : Variables) (o : Own) (s : ℕ × List ℕ) → send_of word args vars o ≡ Ok s → by_id command.Send word args vars o ≡ Ok s.0
 send_speaks word args vars o s e =
-    along (flags_of word takes args) _ _ s s.0
-    (λ f e. past (text_in word f.1) _ s (λ text e. open_speaks f.0.id vars o s.0 (first (open_to f.0.id vars o) _ s s.0 (λ i e. ap (λ (r : Said (ℕ × List ℕ)). (inside (i, text) r).0) e) e)) e) e
+    along (arguments command.Send word args) _ _ s s.0
+    (λ f e. open_speaks f.0.id vars o s.0 (first (open_to f.0.id vars o) _ s s.0 (λ i e. ap (λ (r : Said (ℕ × List ℕ)). (inside (i, arg 0 f.1) r).0) e) e)) e
 
-close_speaks : (word : List ℕ) (args : List (List ℕ)) (vars : Variables) (o : Own) (i : ℕ) → close_of word args vars o ≡ Ok i → by_flags id_alone word args vars o ≡ Ok i
-close_speaks word args vars o i e =
-    along (flags_of word id_alone args) _ _ i i (λ f e. past (bare_words word f.1) _ i (λ none e. open_speaks f.0.id vars o i e) e) e
+close_speaks : (word : List ℕ) (args : List (List ℕ)) (vars : Variables) (o : Own) (i : ℕ) → close_of word args vars o ≡ Ok i → by_id command.Close word args vars o ≡ Ok i
+close_speaks word args vars o i e = along (arguments command.Close word args) _ _ i i (λ f e. open_speaks f.0.id vars o i e) e
 
-wait_speaks : (word : List ℕ) (args : List (List ℕ)) (vars : Variables) (o : Own) (i : ℕ) → wait_of word args vars o ≡ Ok i → by_flags id_alone word args vars o ≡ Ok i
+wait_speaks : (word : List ℕ) (args : List (List ℕ)) (vars : Variables) (o : Own) (i : ℕ) → wait_of word args vars o ≡ Ok i → by_id command.Wait word args vars o ≡ Ok i
 wait_speaks word args vars o i e =
-    along (flags_of word id_alone args) _ _ i i
-    (λ f e. past (bare_words word f.1) _ i (λ none e. first (spoken_to f.0.id vars o) (λ k. if_unwaited k o) i i (λ k e. else_same (child_of k o).waited k i _ e) e) e) e
+    along (arguments command.Wait word args) _ _ i i (λ f e. first (spoken_to f.0.id vars o) (λ k. if_unwaited k o) i i (λ k e. else_same (child_of k o).waited k i _ e) e) e
 
 abbrev inside_some : ℕ → Option ℕ → ℕ
 inside_some d (Some i) = i
@@ -92,11 +92,10 @@ whose_speaks : (on : Bool) (id : Option (List ℕ)) (vars : Variables) (o : Own)
 whose_speaks true id vars o i e = absurd (cc)
 whose_speaks false id vars o i e = open_speaks id vars o i (first (open_to id vars o) _ (Some i) i (λ k e. ap (λ (r : Said (Option ℕ)). inside_some k (inside None r)) e) e)
 
-option_speaks : (word : List ℕ) (args : List (List ℕ)) (vars : Variables) (o : Own) (s : Option ℕ × Option (List ℕ)) (i : ℕ) → option_of word args vars o ≡ Ok s → s.0 ≡ Some i → by_option word args vars o ≡ Ok i
-option_speaks word args vars o s i e at =
-    along (flags_of word option_takes args) _ _ s i
-    (λ f e. past (option_in word f.1) _ s
-    (λ text e. whose_speaks f.0.on f.0.id vars o i (first (whose f.0 vars o) _ s s.0 (λ k e. ap (λ (r : Said (Option ℕ × Option (List ℕ))). (inside (k, text) r).0) e) e ∙ ap Ok at)) e) e
+option_speaks : (c : ExpectCommand) (word : List ℕ) (args : List (List ℕ)) (vars : Variables) (o : Own) (s : Option ℕ × Option (List ℕ)) (i : ℕ) → option_of c word args vars o ≡ Ok s → s.0 ≡ Some i → by_option c word args vars o ≡ Ok i
+option_speaks c word args vars o s i e at =
+    along (arguments c word args) _ _ s i
+    (λ f e. whose_speaks f.0.on f.0.id vars o i (first (whose f.0 vars o) _ s s.0 (λ k e. ap (λ (r : Said (Option ℕ × Option (List ℕ))). (inside (k, slice_get f.1 0) r).0) e) e ∙ ap Ok at)) e
 
 alone : (r : Said ℕ) (i : ℕ) → r ≡ Ok i → IsAmong i (single r)
 alone r i e = subst (λ (r : Said ℕ). IsAmong i (single r)) (sym e) (inl refl)
@@ -188,20 +187,20 @@ module _ (A : ℕ → Type 0) (B : ℕ → Plan → Type 0) where
   expect_speaks : (args : List (List ℕ)) (vars : Variables) (o : Own) → ((i : ℕ) → IsAmong i (each (by_patterns args vars o)) → A i) → SaidOf A B (expecting args vars o)
   expect_speaks args vars o all = each_said (plan_of args vars o) _ (λ p e i part. all i (plan_speaks args vars o p e i part))
 
-  named_speaks : (n : Name) (word : List ℕ) (args : List (List ℕ)) (vars : Variables) (o : Own) → ((i : ℕ) → IsAmong i (named_by (Some n) word args vars o) → A i) → (nat_lt (length o.children) 16 ≡ true → A (length o.children)) → SaidOf A B (named n word args vars o)
-  named_speaks name.Spawn word args vars o all new = each_said (order_of word args vars) _ (λ order e. spawn_speaks order o (nat_lt (length o.children) 16) refl new)
-  named_speaks name.Send word args vars o all new = each_said (send_of word args vars o) _ (λ s e. all s.0 (alone _ s.0 (send_speaks word args vars o s e)))
-  named_speaks name.SendUser word args vars o all new = each_said (to_user word args) _ (λ text e. tt)
-  named_speaks name.Expect word args vars o all new = expect_speaks args vars o all
-  named_speaks name.ExpContinue word args vars o all new = each_said (continued word args) _ (λ c e. tt)
-  named_speaks name.Close word args vars o all new = each_said (close_of word args vars o) _ (λ i e. all i (alone _ i (close_speaks word args vars o i e)))
-  named_speaks name.Wait word args vars o all new = each_said (wait_of word args vars o) _ (λ i e. all i (alone _ i (wait_speaks word args vars o i e)))
-  named_speaks name.MatchMax word args vars o all new = each_said (option_of word args vars o) _ (λ s e. sizing_speaks s.0 s.1 o (λ i at. all i (alone _ i (option_speaks word args vars o s i e at))))
-  named_speaks name.RemoveNulls word args vars o all new = each_said (option_of word args vars o) _ (λ s e. removing_speaks s.0 s.1 o (λ i at. all i (alone _ i (option_speaks word args vars o s i e at))))
-  named_speaks name.LogUser word args vars o all new = each_said (text_in word args) _ (λ w e. each_said (log_word w) _ (λ on e. tt))
-  named_speaks name.Puts word args vars o all new = each_said (put_of word args) _ (λ text e. tt)
+  named_speaks : (c : ExpectCommand) (word : List ℕ) (args : List (List ℕ)) (vars : Variables) (o : Own) → ((i : ℕ) → IsAmong i (named_by (Some c) word args vars o) → A i) → (nat_lt (length o.children) 16 ≡ true → A (length o.children)) → SaidOf A B (named c word args vars o)
+  named_speaks command.Spawn word args vars o all new = each_said (order_of word args vars) _ (λ order e. spawn_speaks order o (nat_lt (length o.children) 16) refl new)
+  named_speaks command.Send word args vars o all new = each_said (send_of word args vars o) _ (λ s e. all s.0 (alone _ s.0 (send_speaks word args vars o s e)))
+  named_speaks command.SendUser word args vars o all new = each_said (to_user word args) _ (λ text e. tt)
+  named_speaks command.Expect word args vars o all new = expect_speaks args vars o all
+  named_speaks command.ExpContinue word args vars o all new = each_said (continued word args) _ (λ c e. tt)
+  named_speaks command.Close word args vars o all new = each_said (close_of word args vars o) _ (λ i e. all i (alone _ i (close_speaks word args vars o i e)))
+  named_speaks command.Wait word args vars o all new = each_said (wait_of word args vars o) _ (λ i e. all i (alone _ i (wait_speaks word args vars o i e)))
+  named_speaks command.MatchMax word args vars o all new = each_said (option_of command.MatchMax word args vars o) _ (λ s e. sizing_speaks s.0 s.1 o (λ i at. all i (alone _ i (option_speaks command.MatchMax word args vars o s i e at))))
+  named_speaks command.RemoveNulls word args vars o all new = each_said (option_of command.RemoveNulls word args vars o) _ (λ s e. removing_speaks s.0 s.1 o (λ i at. all i (alone _ i (option_speaks command.RemoveNulls word args vars o s i e at))))
+  named_speaks command.LogUser word args vars o all new = each_said (arguments command.LogUser word args) _ (λ f e. each_said (log_word (arg 0 f.1)) _ (λ on e. tt))
+  named_speaks command.Puts word args vars o all new = each_said (put_of word args) _ (λ text e. tt)
 
-  begun_speaks : (n : Option Name) (word : List ℕ) (args : List (List ℕ)) (vars : Variables) (o : Own) → ((i : ℕ) → IsAmong i (named_by n word args vars o) → A i) → (nat_lt (length o.children) 16 ≡ true → A (length o.children)) → NamedOf A B n word args vars o
+  begun_speaks : (n : Option ExpectCommand) (word : List ℕ) (args : List (List ℕ)) (vars : Variables) (o : Own) → ((i : ℕ) → IsAmong i (named_by n word args vars o) → A i) → (nat_lt (length o.children) 16 ≡ true → A (length o.children)) → NamedOf A B n word args vars o
   begun_speaks None word args vars o all new = tt
   begun_speaks (Some n) word args vars o all new = named_speaks n word args vars o all new
 
@@ -222,7 +221,7 @@ module _ (A : ℕ → Type 0) (B : ℕ → Plan → Type 0) where
 
   pub opens : (call : Call) (st : Dialogue) → ((i : ℕ) → IsAmong i (speaks_to call st) → A i) → (nat_lt (length st.own.children) 16 ≡ true → A (length st.own.children)) → (LeavesPhase call → PhaseOf A B st.phase) → Opens A B call st
   opens (Begin [] vars) st all new under = tt
-  opens (Begin (word ∷ args) vars) st all new under = begun_speaks (name_of word) word args vars st.own all new
+  opens (Begin (word ∷ args) vars) st all new under = begun_speaks (expect_command word) word args vars st.own all new
   opens (Resume vars) st all new under = under tt
   opens (AfterWords words vars) st all new under = expect_speaks words vars st.own all
   opens (AfterBody c value vars) st all new under = behind_speaks c value st.own.plans (record st.own { plans = outer st.own.plans }) all

@@ -3,15 +3,15 @@ use Rattle.std.specs.Prelude.{◌≡◌, ◌≢◌, ℕ, ◌+◌, ◌<◌, ◌==
 use Rattle.std.specs.List.{filter}
 use Rattle.child_events.specs.declared.event.Event.{Event}
 use Rattle.child_events.specs.declared.event.Event.TheVariants as event
+use Rattle.command_table.specs.declared.commands.ExpectCommand.{ExpectCommand}
+use Rattle.command_table.specs.declared.commands.ExpectCommand.TheVariants as command
+use Rattle.command_table.specs.Commands.{expect_command}
 use Rattle.exp_match.specs.Arguments.{patterns_of}
 use Rattle.tcl_subst.specs.Variables.{Variables}
 use Rattle.tcl_commands.specs.declared.code.Code.{Code}
 use Rattle.tcl_commands.specs.declared.code.Code.TheVariants as code
 use Rattle.tcl_commands.specs.Said.{Said, ◌>>=◌}
 use Rattle.tcl_host.specs.Calls.{Call, Begin, Resume, AfterWords, AfterBody, Knows}
-use Rattle.expect_core.specs.declared.flags.Takes.{Takes}
-use Rattle.expect_core.specs.declared.name.Name.{Name}
-use Rattle.expect_core.specs.declared.name.Name.TheVariants as name
 use Rattle.expect_core.specs.declared.request.Request.{Request}
 use Rattle.expect_core.specs.declared.plan.Plan.{Plan}
 use Rattle.expect_core.specs.declared.phase.Phase.{Phase}
@@ -22,16 +22,13 @@ use Rattle.expect_core.specs.declared.own.Own.{Own}
 use Rattle.expect_core.specs.declared.dialogue.Dialogue.{Dialogue}
 use Rattle.expect_core.specs.Lanes.{lane_of, place, offered}
 use Rattle.expect_core.specs.Owned.{child_of}
-use Rattle.expect_core.specs.Flags.{flags_of}
+use Rattle.expect_core.specs.Flags.{arguments}
 use Rattle.expect_core.specs.Ids.{spoken_to}
-use Rattle.expect_core.specs.Sending.{takes}
 use Rattle.expect_core.specs.Among.{IsAmong}
 use Rattle.expect_core.specs.Heard.{places_of, IsWatched}
 use Rattle.expect_core.specs.Sides.{spoken_by}
 use Rattle.expect_core.specs.Expecting.{patterns_by}
-use Rattle.expect_core.specs.Ends.{id_alone}
-use Rattle.expect_core.specs.Options.{takes as option_takes}
-use Rattle.expect_core.specs.Calls.{name_of, outcome, fresh}
+use Rattle.expect_core.specs.Calls.{outcome, fresh}
 use Rattle.expect_core.specs.Laws.{behind_call}
 
 -- what was asked of the child at a place
@@ -46,12 +43,12 @@ Untouched j old new =
 -- The children that a call speaks to, at their places; an error stands for none. A command speaks to the child with the id behind its `-i`
 -- or, without it, to the one that was spawned last; an expect to each that takes part in it.
 
-abbrev pub by_flags : Takes → List ℕ → List (List ℕ) → Variables → Own → Said ℕ
-by_flags takes word args vars o = flags_of word takes args >>= λ f. spoken_to f.0.id vars o
+abbrev pub by_id : ExpectCommand → List ℕ → List (List ℕ) → Variables → Own → Said ℕ
+by_id c word args vars o = arguments c word args >>= λ f. spoken_to f.0.id vars o
 
 -- with `-d` to none
-abbrev pub by_option : List ℕ → List (List ℕ) → Variables → Own → Said ℕ
-by_option word args vars o = flags_of word option_takes args >>= λ f. if f.0.on then Err [] else spoken_to f.0.id vars o
+abbrev pub by_option : ExpectCommand → List ℕ → List (List ℕ) → Variables → Own → Said ℕ
+by_option c word args vars o = arguments c word args >>= λ f. if f.0.on then Err [] else spoken_to f.0.id vars o
 
 abbrev pub by_patterns : List (List ℕ) → Variables → Own → Said (List ℕ)
 by_patterns args vars o = patterns_by args (patterns_of args) >>= λ list. spoken_by list vars o
@@ -64,13 +61,13 @@ abbrev pub each : Said (List ℕ) → List ℕ
 each (Ok is) = is
 each (Err text) = []
 
-abbrev pub named_by : Option Name → List ℕ → List (List ℕ) → Variables → Own → List ℕ
-named_by (Some name.Send) word args vars o = one (by_flags takes word args vars o)
-named_by (Some name.Expect) word args vars o = each (by_patterns args vars o)
-named_by (Some name.Close) word args vars o = one (by_flags id_alone word args vars o)
-named_by (Some name.Wait) word args vars o = one (by_flags id_alone word args vars o)
-named_by (Some name.MatchMax) word args vars o = one (by_option word args vars o)
-named_by (Some name.RemoveNulls) word args vars o = one (by_option word args vars o)
+abbrev pub named_by : Option ExpectCommand → List ℕ → List (List ℕ) → Variables → Own → List ℕ
+named_by (Some command.Send) word args vars o = one (by_id command.Send word args vars o)
+named_by (Some command.Expect) word args vars o = each (by_patterns args vars o)
+named_by (Some command.Close) word args vars o = one (by_id command.Close word args vars o)
+named_by (Some command.Wait) word args vars o = one (by_id command.Wait word args vars o)
+named_by (Some command.MatchMax) word args vars o = one (by_option command.MatchMax word args vars o)
+named_by (Some command.RemoveNulls) word args vars o = one (by_option command.RemoveNulls word args vars o)
 named_by other word args vars o = []
 
 -- Those that what is under way is about. At the end of one child's output its expect may go on with the others behind its action.
@@ -92,7 +89,7 @@ on_top c ps = []
 
 abbrev pub speaks_to : Call → Dialogue → List ℕ
 speaks_to (Begin [] vars) st = []
-speaks_to (Begin (word ∷ args) vars) st = named_by (name_of word) word args vars st.own
+speaks_to (Begin (word ∷ args) vars) st = named_by (expect_command word) word args vars st.own
 speaks_to (Resume vars) st = under_way st.phase
 speaks_to (AfterWords words vars) st = each (by_patterns words vars st.own)
 speaks_to (AfterBody c value vars) st = on_top c st.own.plans

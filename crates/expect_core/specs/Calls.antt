@@ -1,15 +1,15 @@
 -- What each call of a dialogue comes to.
-use Rattle.std.specs.Prelude.{◌≡◌, ℕ, List, [], ◌∷◌, codes, Bool, true, false, IsTrue, is_some, if◌then◌else◌, Option, Some, None}
-use Rattle.std.specs.Str.{bytes_eq}
+use Rattle.std.specs.Prelude.{◌≡◌, ℕ, List, [], ◌∷◌, Bool, true, false, IsTrue, is_some, Option, Some, None}
 use Rattle.child_events.specs.declared.event.Event.{Event}
+use Rattle.command_table.specs.declared.commands.ExpectCommand.{ExpectCommand}
+use Rattle.command_table.specs.declared.commands.ExpectCommand.TheVariants as command
+use Rattle.command_table.specs.Commands.{expect_command}
 use Rattle.tcl_subst.specs.Variables.{Variables}
 use Rattle.tcl_commands.specs.declared.code.Code.{Code}
 use Rattle.tcl_commands.specs.Said.{Said}
 use Rattle.tcl_host.specs.declared.host.HostStep.{HostStep}
 use Rattle.tcl_host.specs.declared.host.HostStep.TheVariants.{Done, Fail, Body, Words, Wait, Stop, Unknown, Memory}
 use Rattle.tcl_host.specs.Calls.{Call, Begin, Resume, AfterWords, AfterBody, Knows, Reply, Stepped, Known}
-use Rattle.expect_core.specs.declared.name.Name.{Name}
-use Rattle.expect_core.specs.declared.name.Name.TheVariants as name
 use Rattle.expect_core.specs.declared.plan.Plan.{Plan}
 use Rattle.expect_core.specs.declared.phase.Phase.TheVariants as phase
 use Rattle.expect_core.specs.declared.turn.Deed.{Deed}
@@ -27,56 +27,40 @@ use Rattle.expect_core.specs.Transcript.{put_of, to_user, writing, logging}
 use Rattle.expect_core.specs.Options.{sizing, removing}
 use Rattle.expect_core.specs.Running.{run, turns, resuming}
 
--- the command that a word names
-abbrev pub name_of : List ℕ → Option Name
-name_of word =
-    if bytes_eq word (codes "send") then Some name.Send
-    else if bytes_eq word (codes "expect") then Some name.Expect
-    else if bytes_eq word (codes "exp_continue") then Some name.ExpContinue
-    else if bytes_eq word (codes "puts") then Some name.Puts
-    else if bytes_eq word (codes "spawn") then Some name.Spawn
-    else if bytes_eq word (codes "exp_send") then Some name.Send
-    else if bytes_eq word (codes "send_user") then Some name.SendUser
-    else if bytes_eq word (codes "close") then Some name.Close
-    else if bytes_eq word (codes "wait") then Some name.Wait
-    else if bytes_eq word (codes "match_max") then Some name.MatchMax
-    else if bytes_eq word (codes "remove_nulls") then Some name.RemoveNulls
-    else if bytes_eq word (codes "log_user") then Some name.LogUser
-    else None
-
+-- a word names a command of Expect
 abbrev pub knows : List ℕ → Bool
-knows word = is_some (name_of word)
+knows word = is_some (expect_command word)
 
 -- what a command does
-abbrev pub named : Name → List ℕ → List (List ℕ) → Variables → Own → Said Deed
-named name.Spawn word args vars o = spawning word args vars o
-named name.Send word args vars o = sending word args vars o
-named name.SendUser word args vars o = writing (to_user word args)
-named name.Expect word args vars o = expecting args vars o
-named name.ExpContinue word args vars o = continuing word args
-named name.Close word args vars o = closing word args vars o
-named name.Wait word args vars o = waiting word args vars o
-named name.MatchMax word args vars o = sizing word args vars o
-named name.RemoveNulls word args vars o = removing word args vars o
-named name.LogUser word args vars o = logging word args o
-named name.Puts word args vars o = writing (put_of word args)
+abbrev pub named : ExpectCommand → List ℕ → List (List ℕ) → Variables → Own → Said Deed
+named command.Spawn word args vars o = spawning word args vars o
+named command.Send word args vars o = sending word args vars o
+named command.SendUser word args vars o = writing (to_user word args)
+named command.Expect word args vars o = expecting args vars o
+named command.ExpContinue word args vars o = continuing word args
+named command.Close word args vars o = closing word args vars o
+named command.Wait word args vars o = waiting word args vars o
+named command.MatchMax word args vars o = sizing word args vars o
+named command.RemoveNulls word args vars o = removing word args vars o
+named command.LogUser word args vars o = logging word args o
+named command.Puts word args vars o = writing (put_of word args)
 
 -- an argument of `expect` that is a list of all others has its words filled first
-abbrev pub filling : Name → List (List ℕ) → Option (List ℕ)
-filling name.Expect args = listed args
+abbrev pub filling : ExpectCommand → List (List ℕ) → Option (List ℕ)
+filling command.Expect args = listed args
 filling other args = None
 
 abbrev pub filled : Option (List ℕ) → Said Deed → Variables → Dialogue → Outcome
 filled None said vars st = run turns (doing said) vars st
 filled (Some text) said vars st = (Words text, vars, st)
 
-abbrev pub began : Option Name → List ℕ → List (List ℕ) → Variables → Dialogue → Outcome
+abbrev pub began : Option ExpectCommand → List ℕ → List (List ℕ) → Variables → Dialogue → Outcome
 began None word args vars st = (Unknown, vars, st)
-began (Some n) word args vars st = filled (filling n args) (named n word args vars st.own) vars st
+began (Some c) word args vars st = filled (filling c args) (named c word args vars st.own) vars st
 
 abbrev pub begun : List (List ℕ) → Variables → Dialogue → Outcome
 begun [] vars st = (Unknown, vars, st)
-begun (word ∷ args) vars st = began (name_of word) word args vars st
+begun (word ∷ args) vars st = began (expect_command word) word args vars st
 
 abbrev pub resumed : Variables → Dialogue → Outcome
 resumed vars st = resuming st.phase vars (idle st)

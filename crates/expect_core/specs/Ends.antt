@@ -1,14 +1,14 @@
 -- A child is let go, and its end is asked for.
-use Rattle.std.specs.Prelude.{ℕ, ◌+◌, List, [], ◌∷◌, ◌++◌, codes, true, false, if◌then◌else◌, Option, Some, None, Ok, Err}
+use Rattle.std.specs.Prelude.{ℕ, ◌+◌, List, [], ◌∷◌, ◌++◌, codes, if◌then◌else◌, Option, Some, None, Ok, Err}
 use Rattle.std.specs.Fmt.{decimal}
 use Rattle.tcl_words.specs.Bytes as ascii
+use Rattle.command_table.specs.declared.commands.ExpectCommand.TheVariants as command
 use Rattle.child_events.specs.declared.event.Answer.{Answer}
 use Rattle.child_events.specs.declared.event.Answer.TheVariants as answer
 use Rattle.child_events.specs.declared.event.Cause.{Cause}
 use Rattle.child_events.specs.declared.event.Cause.TheVariants as cause
 use Rattle.tcl_subst.specs.Variables.{Variables}
 use Rattle.tcl_commands.specs.Said.{Said, ◌>>=◌}
-use Rattle.expect_core.specs.declared.flags.Takes.{Takes}
 use Rattle.expect_core.specs.declared.request.Act.TheVariants as act
 use Rattle.expect_core.specs.declared.child.Standing.TheVariants as standing
 use Rattle.expect_core.specs.declared.child.Change.TheVariants.{Stand, Waited}
@@ -19,7 +19,7 @@ use Rattle.expect_core.specs.declared.turn.Reaction.{Reaction}
 use Rattle.expect_core.specs.declared.turn.Deed.{Deed}
 use Rattle.expect_core.specs.declared.turn.Deed.TheVariants.{To}
 use Rattle.expect_core.specs.declared.own.Own.{Own}
-use Rattle.expect_core.specs.Flags.{flags_of, bare_words}
+use Rattle.expect_core.specs.Flags.{arguments}
 use Rattle.expect_core.specs.Owned.{child_of}
 use Rattle.expect_core.specs.Ids.{open_to, spoken_to}
 use Rattle.expect_core.specs.Texts.{with_cause, waited_for, number_of_cause}
@@ -27,11 +27,8 @@ use Rattle.expect_core.specs.Turns.{react, done, well, badly}
 
 -- close ?-i id?, wait ?-i id?
 
-abbrev pub id_alone : Takes
-id_alone = record { own = None; id = true; end = false }
-
 abbrev pub close_of : List ℕ → List (List ℕ) → Variables → Own → Said ℕ
-close_of name args vars o = flags_of name id_alone args >>= λ f. bare_words name f.1 >>= λ none. open_to f.0.id vars o
+close_of name args vars o = arguments command.Close name args >>= λ f. open_to f.0.id vars o
 
 abbrev pub closing : List ℕ → List (List ℕ) → Variables → Own → Said Deed
 closing name args vars o = close_of name args vars o >>= λ i. Ok (To i (react (Ask act.Close ∷ []) (Await purpose.Close)))
@@ -50,7 +47,7 @@ abbrev pub if_unwaited : ℕ → Own → Said ℕ
 if_unwaited i o = if (child_of i o).waited then Err (waited_for (child_of i o).id) else Ok i
 
 abbrev pub wait_of : List ℕ → List (List ℕ) → Variables → Own → Said ℕ
-wait_of name args vars o = flags_of name id_alone args >>= λ f. bare_words name f.1 >>= λ none. spoken_to f.0.id vars o >>= λ i. if_unwaited i o
+wait_of name args vars o = arguments command.Wait name args >>= λ f. spoken_to f.0.id vars o >>= λ i. if_unwaited i o
 
 abbrev pub waiting : List ℕ → List (List ℕ) → Variables → Own → Said Deed
 waiting name args vars o = wait_of name args vars o >>= λ i. Ok (To i (react (Alter Waited ∷ Ask act.Wait ∷ []) (Await purpose.Wait)))

@@ -1,29 +1,18 @@
--- The flags of a command: words that begin with a minus and stand before its arguments.
-use Rattle.std.specs.Prelude.{ℕ, ◌==◌, List, [], ◌∷◌, codes, Bool, true, false, not, ◌&&◌, if◌then◌else◌, Option, Some, None, Ok, Err, ⊤}
-use Rattle.std.specs.Str.{bytes_eq}
-use Rattle.tcl_words.specs.Bytes as ascii
-use Rattle.tcl_commands.specs.Said.{Said}
+-- The arguments of a command, as its row of the table has them: flags, and then as many words as it allows.
+use Rattle.std.specs.Prelude.{ℕ, List, [], ◌∷◌, length, codes, Bool, true, false, if◌then◌else◌, Option, Some, None, Ok, Err}
+use Rattle.command_table.specs.declared.commands.ExpectCommand.{ExpectCommand}
+use Rattle.command_table.specs.declared.flags.Flags.{Flags as Takes}
+use Rattle.command_table.specs.declared.flags.Role.{Role}
+use Rattle.command_table.specs.declared.flags.Role.TheVariants.{Word, End, Alone, Id, Bad}
+use Rattle.command_table.specs.Counts.{fits}
+use Rattle.command_table.specs.Flags.{flag_role}
+use Rattle.command_table.specs.Rows.{expect_row}
+use Rattle.tcl_commands.specs.Said.{Said, ◌>>=◌}
 use Rattle.tcl_commands.specs.Texts.{quoted, wrong_args}
-use Rattle.expect_core.specs.declared.flags.Switch.{Switch}
-use Rattle.expect_core.specs.declared.flags.Switch.TheVariants.{NoEcho, Default, Timer}
-use Rattle.expect_core.specs.declared.flags.Takes.{Takes}
 use Rattle.expect_core.specs.declared.flags.Flags.{Flags}
-
-abbrev pub begins_with_minus : List ℕ → Bool
-begins_with_minus [] = false
-begins_with_minus (b ∷ bs) = b == ascii.minus
 
 abbrev pub bad_flag : List ℕ → List ℕ
 bad_flag word = quoted (codes "bad flag ") word
-
-abbrev pub switch_word : Switch → List ℕ
-switch_word NoEcho = codes "-noecho"
-switch_word Default = codes "-d"
-switch_word Timer = codes "-continue_timer"
-
-abbrev pub is_own : Option Switch → List ℕ → Bool
-is_own None w = false
-is_own (Some s) w = bytes_eq w (switch_word s)
 
 abbrev pub no_flags : Flags
 no_flags = record { id = None; on = false }
@@ -32,34 +21,30 @@ no_flags = record { id = None; on = false }
 abbrev pub Flagged : Type 0
 Flagged = Said (Flags × List (List ℕ))
 
--- The flags of a command of this name, where `due` says whether the id of an `-i` is next. `--` ends them where the command takes it.
+-- by what a word is: that it stands among the others, or after it a flag of the command's own or an `-i`
+abbrev pub by_role : Role → Flags → List ℕ → List (List ℕ) → Flagged → Flagged → Flagged
+by_role Word f w ws own id = Ok (f, w ∷ ws)
+by_role End f w ws own id = Ok (f, ws)
+by_role Alone f w ws own id = own
+by_role Id f w ws own id = id
+by_role Bad f w ws own id = Err (bad_flag w)
+
+-- The flags of a command of this name, where `due` says whether the id of an `-i` is next.
 abbrev pub flags_from : List ℕ → Takes → Bool → Flags → List (List ℕ) → Flagged
 flags_from name takes true f [] = Err (wrong_args name)
 flags_from name takes true f (w ∷ ws) = flags_from name takes false (record f { id = Some w }) ws
 flags_from name takes false f [] = Ok (f, [])
 flags_from name takes false f (w ∷ ws) =
-    if not (begins_with_minus w) then Ok (f, w ∷ ws)
-    else if takes.end && bytes_eq w (codes "--") then Ok (f, ws)
-    else if is_own takes.own w then flags_from name takes false (record f { on = true }) ws
-    else if takes.id && bytes_eq w (codes "-i") then flags_from name takes true f ws
-    else Err (bad_flag w)
+    by_role (flag_role takes w) f w ws (flags_from name takes false (record f { on = true }) ws) (flags_from name takes true f ws)
 
 abbrev pub flags_of : List ℕ → Takes → List (List ℕ) → Flagged
 flags_of name takes words = flags_from name takes false no_flags words
 
--- no argument behind the flags
-abbrev pub bare_words : List ℕ → List (List ℕ) → Said ⊤
-bare_words name [] = Ok tt
-bare_words name (w ∷ ws) = Err (wrong_args name)
+abbrev pub flags_if : Option Takes → List ℕ → List (List ℕ) → Flagged
+flags_if None name words = Ok (no_flags, words)
+flags_if (Some takes) name words = flags_of name takes words
 
--- one
-abbrev pub text_in : List ℕ → List (List ℕ) → Said (List ℕ)
-text_in name [] = Err (wrong_args name)
-text_in name (text ∷ []) = Ok text
-text_in name (text ∷ other ∷ more) = Err (wrong_args name)
-
--- one, or none
-abbrev pub option_in : List ℕ → List (List ℕ) → Said (Option (List ℕ))
-option_in name [] = Ok None
-option_in name (text ∷ []) = Ok (Some text)
-option_in name (text ∷ other ∷ more) = Err (wrong_args name)
+-- the flags and arguments of a command
+abbrev pub arguments : ExpectCommand → List ℕ → List (List ℕ) → Flagged
+arguments c name words =
+    flags_if (expect_row c).flags name words >>= λ f. if fits (expect_row c).count (length f.1) then Ok f else Err (wrong_args name)

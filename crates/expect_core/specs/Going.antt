@@ -2,6 +2,7 @@
 use Rattle.std.specs.Prelude.{ℕ, Option, Some, None}
 use Rattle.child_events.specs.declared.event.Answer.{Answer}
 use Rattle.tcl_subst.specs.Variables.{Variables}
+use Rattle.tcl_host.specs.declared.host.HostStep.TheVariants.{Wait}
 use Rattle.expect_core.specs.declared.run.Went.{Went}
 use Rattle.expect_core.specs.declared.run.Went.TheVariants as went
 use Rattle.expect_core.specs.declared.turn.Want.{Want}
@@ -14,6 +15,7 @@ use Rattle.expect_core.specs.Running.{To, on_answer}
 abbrev pub goes : Went → To → Variables → Dialogue → Outcome
 goes (went.Turn t) k vars st = k t vars st
 goes (went.Over step) k vars st = (step, vars, st)
+goes (went.Listens known) k vars st = (Wait, vars, st)
 
 -- behind an answer that was taken, or without one
 abbrev pub after : To → ℕ → Want → (Answer → Own → Turn) → Option Answer → Variables → Dialogue → Outcome

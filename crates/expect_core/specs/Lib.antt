@@ -26,6 +26,7 @@ pub mod Transcript
 pub mod Options
 pub mod Running
 pub mod Going
+pub mod Known
 pub mod Calls
 pub mod Good
 pub mod Numbered

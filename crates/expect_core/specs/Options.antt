@@ -1,33 +1,30 @@
 -- match_max and remove_nulls: what is told or set of one child, or of children to come.
-use Rattle.std.specs.Prelude.{ℕ, nat_le, ◌&&◌, List, [], ◌∷◌, codes, Bool, true, false, if◌then◌else◌, Option, Some, None, Ok, Err, ℤ, pos, negsuc}
+use Rattle.std.specs.Prelude.{ℕ, nat_le, ◌&&◌, List, [], ◌∷◌, codes, Bool, true, false, if◌then◌else◌, Option, Some, None, Ok, Err, ℤ, pos, negsuc, slice_get}
 use Rattle.std.specs.Str.{bytes_eq}
 use Rattle.std.specs.Fmt.{decimal}
+use Rattle.command_table.specs.declared.commands.ExpectCommand.{ExpectCommand}
+use Rattle.command_table.specs.declared.commands.ExpectCommand.TheVariants as command
 use Rattle.tcl_expr.specs.Number.{number_of}
 use Rattle.tcl_subst.specs.Variables.{Variables}
 use Rattle.tcl_commands.specs.Said.{Said, ◌>>=◌}
-use Rattle.expect_core.specs.declared.flags.Switch.TheVariants.{Default}
 use Rattle.expect_core.specs.declared.flags.Flags.{Flags}
-use Rattle.expect_core.specs.declared.flags.Takes.{Takes}
 use Rattle.expect_core.specs.declared.child.Change.TheVariants.{Size, Removal}
 use Rattle.expect_core.specs.declared.effect.Effect.TheVariants.{Alter}
 use Rattle.expect_core.specs.declared.turn.Deed.{Deed}
 use Rattle.expect_core.specs.declared.own.Own.{Own}
-use Rattle.expect_core.specs.Flags.{flags_of, option_in}
+use Rattle.expect_core.specs.Flags.{arguments}
 use Rattle.expect_core.specs.Owned.{size_at, removes_at}
 use Rattle.expect_core.specs.Ids.{open_to}
 use Rattle.expect_core.specs.Texts.{bad_size, bad_removal, bit}
 use Rattle.expect_core.specs.Turns.{done, over_at}
-
-abbrev pub takes : Takes
-takes = record { own = Some Default; id = true; end = false }
 
 -- whose option is meant: that of the child at a place, or with `-d` that of children to come
 abbrev pub whose : Flags → Variables → Own → Said (Option ℕ)
 whose f vars o = if f.on then Ok None else (open_to f.id vars o >>= λ i. Ok (Some i))
 
 -- and the text of what is set, if it is set
-abbrev pub option_of : List ℕ → List (List ℕ) → Variables → Own → Said (Option ℕ × Option (List ℕ))
-option_of name args vars o = flags_of name takes args >>= λ f. option_in name f.1 >>= λ text. whose f.0 vars o >>= λ at. Ok (at, text)
+abbrev pub option_of : ExpectCommand → List ℕ → List (List ℕ) → Variables → Own → Said (Option ℕ × Option (List ℕ))
+option_of c name args vars o = arguments c name args >>= λ f. whose f.0 vars o >>= λ at. Ok (at, slice_get f.1 0)
 
 -- match_max ?-d? ?-i id? ?size?
 
@@ -44,7 +41,7 @@ sizing_at at None o = Ok (over_at at [] (done (decimal (size_at at o))))
 sizing_at at (Some text) o = size_of text >>= λ n. Ok (over_at at (Alter (Size n) ∷ []) (done []))
 
 abbrev pub sizing : List ℕ → List (List ℕ) → Variables → Own → Said Deed
-sizing name args vars o = option_of name args vars o >>= λ s. sizing_at s.0 s.1 o
+sizing name args vars o = option_of command.MatchMax name args vars o >>= λ s. sizing_at s.0 s.1 o
 
 -- remove_nulls ?-d? ?-i id? ?value?
 
@@ -59,4 +56,4 @@ removing_at at None o = Ok (over_at at [] (done (bit (removes_at at o))))
 removing_at at (Some text) o = removal_of text >>= λ on. Ok (over_at at (Alter (Removal on) ∷ []) (done []))
 
 abbrev pub removing : List ℕ → List (List ℕ) → Variables → Own → Said Deed
-removing name args vars o = option_of name args vars o >>= λ s. removing_at s.0 s.1 o
+removing name args vars o = option_of command.RemoveNulls name args vars o >>= λ s. removing_at s.0 s.1 o

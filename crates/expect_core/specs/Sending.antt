@@ -1,13 +1,14 @@
 -- send ?-i id? ?--? text
-use Rattle.std.specs.Prelude.{ℕ, List, [], ◌∷◌, ◌++◌, length, codes, true, Option, Some, None, Ok}
+use Rattle.std.specs.Prelude.{ℕ, List, [], ◌∷◌, ◌++◌, length, codes, Option, Some, None, Ok}
 use Rattle.child_events.specs.declared.event.Cause.{Cause}
 use Rattle.child_events.specs.Queue.{with_echo}
+use Rattle.command_table.specs.declared.commands.ExpectCommand.TheVariants as command
 use Rattle.tty.specs.declared.action.Action.{Action}
 use Rattle.tty.specs.declared.action.Action.TheVariants.{Write, End}
 use Rattle.tty.specs.Sends.{line_after, echo_of}
 use Rattle.tcl_subst.specs.Variables.{Variables}
+use Rattle.tcl_commands.specs.Given.{arg}
 use Rattle.tcl_commands.specs.Said.{Said, ◌>>=◌}
-use Rattle.expect_core.specs.declared.flags.Takes.{Takes}
 use Rattle.expect_core.specs.declared.request.Act.{Act}
 use Rattle.expect_core.specs.declared.request.Act.TheVariants as act
 use Rattle.expect_core.specs.declared.child.Change.TheVariants.{Sent}
@@ -20,7 +21,7 @@ use Rattle.expect_core.specs.declared.turn.Deed.{Deed}
 use Rattle.expect_core.specs.declared.turn.Deed.TheVariants.{To}
 use Rattle.expect_core.specs.declared.own.Own.{Own}
 use Rattle.expect_core.specs.declared.dialogue.Dialogue.{Dialogue}
-use Rattle.expect_core.specs.Flags.{flags_of, text_in}
+use Rattle.expect_core.specs.Flags.{arguments}
 use Rattle.expect_core.specs.Lanes.{lane_of, with_items}
 use Rattle.expect_core.specs.Owned.{child_of, with_line}
 use Rattle.expect_core.specs.Ids.{open_to}
@@ -28,12 +29,9 @@ use Rattle.expect_core.specs.Texts.{with_cause}
 use Rattle.expect_core.specs.Turns.{react, well, badly}
 use Rattle.expect_core.specs.Answered.{owning}
 
-abbrev pub takes : Takes
-takes = record { own = None; id = true; end = true }
-
 -- the child and the text
 abbrev pub send_of : List ℕ → List (List ℕ) → Variables → Own → Said (ℕ × List ℕ)
-send_of name args vars o = flags_of name takes args >>= λ f. text_in name f.1 >>= λ text. open_to f.0.id vars o >>= λ i. Ok (i, text)
+send_of name args vars o = arguments command.Send name args >>= λ f. open_to f.0.id vars o >>= λ i. Ok (i, arg 0 f.1)
 
 abbrev pub sending : List ℕ → List (List ℕ) → Variables → Own → Said Deed
 sending name args vars o = send_of name args vars o >>= λ s. Ok (To s.0 (react [] (SendText s.1)))

@@ -2,14 +2,12 @@
 use Rattle.std.specs.Prelude.{ℕ, ◌+◌, nat_lt, List, [], ◌∷◌, ◌++◌, length, codes, Bool, true, false, slice_index_or, if◌then◌else◌, Option, Some, None, Result, Ok, Err}
 use Rattle.std.specs.Fmt.{decimal}
 use Rattle.child_events.specs.declared.event.Cause.{Cause}
+use Rattle.command_table.specs.declared.commands.ExpectCommand.TheVariants as command
 use Rattle.tty.specs.declared.modes.Modes.{Modes}
 use Rattle.tty.specs.declared.modes.BadMode.{BadMode}
 use Rattle.tty.specs.Modes.{sane, read as read_modes}
 use Rattle.tcl_subst.specs.Variables.{Variables}
 use Rattle.tcl_commands.specs.Said.{Said, ◌>>=◌, list_of}
-use Rattle.tcl_commands.specs.Texts.{wrong_args}
-use Rattle.expect_core.specs.declared.flags.Switch.TheVariants.{NoEcho}
-use Rattle.expect_core.specs.declared.flags.Takes.{Takes}
 use Rattle.expect_core.specs.declared.request.Act.TheVariants as act
 use Rattle.expect_core.specs.declared.child.Standing.TheVariants as standing
 use Rattle.expect_core.specs.declared.child.Change.TheVariants.{Stand}
@@ -22,13 +20,10 @@ use Rattle.expect_core.specs.declared.turn.Deed.{Deed}
 use Rattle.expect_core.specs.declared.turn.Deed.TheVariants.{To}
 use Rattle.expect_core.specs.declared.order.Order.{Order}
 use Rattle.expect_core.specs.declared.own.Own.{Own}
-use Rattle.expect_core.specs.Flags.{flags_of}
+use Rattle.expect_core.specs.Flags.{arguments}
 use Rattle.expect_core.specs.Scoped.{optional}
 use Rattle.expect_core.specs.Texts.{id_at, spawn_line, not_executed, too_many, bad_stty}
 use Rattle.expect_core.specs.Turns.{react, done, badly}
-
-abbrev pub takes : Takes
-takes = record { own = Some NoEcho; id = false; end = true }
 
 abbrev pub modes_in : List (List ℕ) → Result Modes BadMode → Said Modes
 modes_in words (Ok modes) = Ok modes
@@ -45,12 +40,8 @@ modes_of vars = optional (codes "stty_init") vars >>= modes_by
 abbrev pub order_by : Bool → List (List ℕ) → Variables → Said Order
 order_by quiet words vars = modes_of vars >>= λ modes. Ok (record { quiet = quiet; words = words; modes = modes })
 
-abbrev pub ordered : List ℕ → Bool → List (List ℕ) → Variables → Said Order
-ordered name quiet [] vars = Err (wrong_args name)
-ordered name quiet (w ∷ ws) vars = order_by quiet (w ∷ ws) vars
-
 abbrev pub order_of : List ℕ → List (List ℕ) → Variables → Said Order
-order_of name args vars = flags_of name takes args >>= λ f. ordered name f.0.on f.1 vars
+order_of name args vars = arguments command.Spawn name args >>= λ f. order_by f.0.on f.1 vars
 
 -- what it writes to the transcript
 abbrev pub announcing : Bool → List (List ℕ) → List Effect

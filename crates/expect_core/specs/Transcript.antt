@@ -2,6 +2,9 @@
 use Rattle.std.specs.Prelude.{ℕ, List, [], ◌∷◌, ◌++◌, codes, Bool, true, false, if◌then◌else◌, Option, Some, None, Ok, Err}
 use Rattle.std.specs.Str.{bytes_eq}
 use Rattle.tcl_words.specs.Bytes as ascii
+use Rattle.command_table.specs.declared.commands.ExpectCommand.TheVariants as command
+use Rattle.command_table.specs.Flags.{begins_with_minus}
+use Rattle.tcl_commands.specs.Given.{arg}
 use Rattle.tcl_commands.specs.Said.{Said, ◌>>=◌}
 use Rattle.tcl_commands.specs.Texts.{wrong_args, bad_option}
 use Rattle.expect_core.specs.declared.effect.Effect.{Effect}
@@ -9,25 +12,36 @@ use Rattle.expect_core.specs.declared.effect.Effect.TheVariants.{Tell, LogUser}
 use Rattle.expect_core.specs.declared.turn.Deed.{Deed}
 use Rattle.expect_core.specs.declared.turn.Deed.TheVariants.{Alone}
 use Rattle.expect_core.specs.declared.own.Own.{Own}
-use Rattle.expect_core.specs.Flags.{flags_of, begins_with_minus, bad_flag, text_in}
+use Rattle.expect_core.specs.Flags.{bad_flag, arguments}
 use Rattle.expect_core.specs.Texts.{bit}
 use Rattle.expect_core.specs.Turns.{done}
 
 -- puts ?-nonewline? ?stdout? text
 
+-- a text with a newline behind it, or without
+abbrev pub ended : Bool → List ℕ → List ℕ
+ended line text = if line then text ++ ascii.newline ∷ [] else text
+
 abbrev pub no_channel : List ℕ → List ℕ
 no_channel w = if begins_with_minus w then bad_flag w else bad_option w
 
 abbrev pub puts_to : Bool → List ℕ → List ℕ → Said (List ℕ)
-puts_to line w text = if bytes_eq w (codes "stdout") then Ok (if line then text ++ ascii.newline ∷ [] else text) else Err (no_channel w)
+puts_to line w text = if bytes_eq w (codes "stdout") then Ok (ended line text) else Err (no_channel w)
+
+-- by a text, or a channel and a text
+abbrev pub put_to : List ℕ → Bool → List (List ℕ) → Said (List ℕ)
+put_to name line (text ∷ []) = Ok (ended line text)
+put_to name line (channel ∷ text ∷ []) = puts_to line channel text
+put_to name line other = Err (wrong_args name)
+
+-- a word behind which others stand may be `-nonewline`
+abbrev pub put_words : List ℕ → List (List ℕ) → Said (List ℕ)
+put_words name (w ∷ next ∷ more) = if bytes_eq w (codes "-nonewline") then put_to name false (next ∷ more) else put_to name true (w ∷ next ∷ more)
+put_words name args = put_to name true args
 
 -- what is written
 abbrev pub put_of : List ℕ → List (List ℕ) → Said (List ℕ)
-put_of name [] = Err (wrong_args name)
-put_of name (text ∷ []) = Ok (text ++ ascii.newline ∷ [])
-put_of name (w ∷ text ∷ []) = if bytes_eq w (codes "-nonewline") then Ok text else puts_to true w text
-put_of name (w ∷ channel ∷ text ∷ []) = if bytes_eq w (codes "-nonewline") then puts_to false channel text else Err (wrong_args name)
-put_of name (w ∷ channel ∷ text ∷ other ∷ more) = Err (wrong_args name)
+put_of name args = arguments command.Puts name args >>= λ f. put_words name f.1
 
 abbrev pub writing : Said (List ℕ) → Said Deed
 writing said = said >>= λ text. Ok (Alone (Tell text ∷ []) (done []))
@@ -35,7 +49,7 @@ writing said = said >>= λ text. Ok (Alone (Tell text ∷ []) (done []))
 -- send_user ?--? text
 
 abbrev pub to_user : List ℕ → List (List ℕ) → Said (List ℕ)
-to_user name args = flags_of name (record { own = None; id = false; end = true }) args >>= λ f. text_in name f.1
+to_user name args = arguments command.SendUser name args >>= λ f. Ok (arg 0 f.1)
 
 -- log_user 0, 1 or -info
 
@@ -56,4 +70,4 @@ log_told None o = bit o.log_user
 log_told (Some on) o = []
 
 abbrev pub logging : List ℕ → List (List ℕ) → Own → Said Deed
-logging name args o = text_in name args >>= λ w. log_word w >>= λ on. Ok (Alone (log_set on) (done (log_told on o)))
+logging name args o = arguments command.LogUser name args >>= λ f. log_word (arg 0 f.1) >>= λ on. Ok (Alone (log_set on) (done (log_told on o)))

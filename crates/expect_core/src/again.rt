@@ -5,8 +5,9 @@ ghost use Rattle.tcl_commands.specs.Says.{Says};
 ghost use Rattle.expect_core.specs.Again.{again_code, continued as continued_of, continuing};
 
 use crate::effect::Effects;
-use crate::flags::{Flags, Switch, Takes, bare, flags_of};
+use crate::flags::{Flags, arguments};
 use crate::turn::{Deed, Reply};
+use command_table::ExpectCommand;
 use std::alloc::Global;
 use tcl_commands::{Code, Complaint};
 use tcl_values::Value;
@@ -15,13 +16,7 @@ use tcl_values::Value;
 fn continued(alloc: Global, name: &[u8], args: &[Value]) -> Result<Code, Complaint>
     ensures { Says result (continued_of name.now args.now) }
 {
-    let takes = Takes {
-        own: Some(Switch::Timer),
-        id: false,
-        end: false,
-    };
-    let (flags, at) = flags_of(alloc, name, takes, args)?;
-    bare(alloc, name, &args[at..])?;
+    let (flags, _) = arguments(alloc, ExpectCommand::ExpContinue, name, args)?;
     Ok(code_of(&flags))
 }
 

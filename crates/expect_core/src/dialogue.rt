@@ -78,6 +78,7 @@ impl Dialogue {
         ensures lived { IsTrue self.new.lives → IsTrue self.old.lives }
         ensures ticks { OutlivesTicks event self.old self.new }
         ensures came { Good self.old → IsTrue self.new.lives → self.new ≡ offered event self.old }
+        ensures waits { (self.new.phase ≡ self.old.phase) × (self.new.own ≡ self.old.own) }
     {
         if !self.lives {
             return;
@@ -98,7 +99,8 @@ impl Dialogue {
 
     /// Adds what an event of a child brings.
     fn add(&mut self, child: u8, moment: u64, what: What) -> Result<(), AllocError>
-        ensures { Good self.old → OnOk result (self.new ≡ offered (Event.Child child moment what) self.old) }
+        ensures came { Good self.old → OnOk result (self.new ≡ offered (Event.Child child moment what) self.old) }
+        ensures waits { (self.new.phase ≡ self.old.phase) × (self.new.own ≡ self.old.own) }
     {
         self.horizon = self.horizon.max(moment);
         self.lanes.add(child, self.horizon, what)?;

@@ -8,7 +8,7 @@ ghost use Rattle.expect_core.specs.Owned.{child_of};
 
 use crate::child::{Change, Standing};
 use crate::effect::{Effect, Effects};
-use crate::flags::{Takes, bare, flags_of};
+use crate::flags::arguments;
 use crate::ids::{open_to, spoken_to};
 use crate::own::Own;
 use crate::place::Place;
@@ -16,17 +16,12 @@ use crate::request::Act;
 use crate::texts::{decimal, number_of_cause, waited_for, with_cause};
 use crate::turn::{Deed, Next, Purpose, Reaction, done};
 use child_events::{Answer, Cause};
+use command_table::ExpectCommand;
 use std::alloc::{AllocError, Global};
 use tcl_commands::Complaint;
 use tcl_subst::Vars;
 use tcl_values::Value;
 use tcl_words::Text;
-
-const ID_ALONE: Takes = Takes {
-    own: None,
-    id: true,
-    end: false,
-};
 
 /// The child, where no `wait` has asked for its end.
 fn unwaited(alloc: Global, i: Place, own: &Own) -> Result<Place, Complaint>
@@ -48,8 +43,7 @@ pub(crate) fn close(
 ) -> Result<Deed, Complaint>
     ensures { Says result (closing name.now args.now vars.now own.now) }
 {
-    let (flags, at) = flags_of(alloc, name, ID_ALONE, args)?;
-    bare(alloc, name, &args[at..])?;
+    let (flags, _) = arguments(alloc, ExpectCommand::Close, name, args)?;
     let i = open_to(alloc, &flags.id, vars, own)?;
     let effects = Effects::one(alloc, Effect::Ask(Act::Close))?;
     let next = Next::Await(Purpose::Close);
@@ -66,8 +60,7 @@ pub(crate) fn wait(
 ) -> Result<Deed, Complaint>
     ensures { Says result (waiting name.now args.now vars.now own.now) }
 {
-    let (flags, at) = flags_of(alloc, name, ID_ALONE, args)?;
-    bare(alloc, name, &args[at..])?;
+    let (flags, _) = arguments(alloc, ExpectCommand::Wait, name, args)?;
     let i = unwaited(alloc, spoken_to(alloc, &flags.id, vars, own)?, own)?;
     let effects = Effects::one(alloc, Effect::Alter(Change::Waited))?.with(Effect::Ask(Act::Wait))?;
     let next = Next::Await(Purpose::Wait);

@@ -4,6 +4,7 @@
 mod again;
 mod answers;
 mod awaited;
+mod calls;
 mod child;
 mod deadline;
 mod dialogue;
@@ -14,10 +15,10 @@ mod flags;
 mod host;
 mod ids;
 mod kept;
+mod known;
 mod lanes;
 mod laws;
 mod listen;
-mod name;
 mod options;
 mod order;
 mod own;
@@ -41,6 +42,7 @@ mod turn;
 
 pub use deadline::sooner;
 pub use dialogue::Dialogue;
+pub use host::DialogueHost;
 pub use laws::{children_apart, dialogue_laws};
 pub use place::Place;
 pub use plan::{Groups, Met, Plan, Sides};

@@ -1,14 +1,16 @@
 //! A wait for patterns of several children.
 
-ghost use Rattle.std.specs.Prelude.{◌≡◌, ◌<◌, ◌+◌, List, length, IfOk, box_value, option_map};
+ghost use Rattle.std.specs.Prelude.{◌≡◌, ◌<◌, ◌+◌, List, length, IfOk, OnOk, box_value, option_map};
 ghost use Rattle.expect_core.specs.declared.lanes.Lane.{Lane};
 ghost use Rattle.expect_core.specs.declared.own.Own.{Own};
 ghost use Rattle.expect_core.specs.Heard.{at_most as is_at_most, lapse, watched, Listened, chosen_of, decided, tested, heard, heads as heads_of, listen as listen_of, look as look_of};
 ghost use Rattle.expect_core.specs.Quiet.{side, AreQuiet, AreQuietBut, GoesOnQuiet, GoesOnQuietBut, TrimsNone};
 ghost use Rattle.expect_core.specs.Sought.{IsSought, AreSought, GoesOnSought, FoundNone};
+ghost use Rattle.expect_core.specs.Known.{Knows};
 ghost use Rattle.expect_core.specs.Hearing.{goes, turns, Takes, turned, at_child, IsFewer};
 
 use crate::answers::is_within;
+use crate::known::Known;
 use crate::lanes::Lanes;
 use crate::own::Own;
 use crate::phase::Heard;
@@ -281,17 +283,14 @@ fn turn<'l>(
     times: Times,
     plan: &'l Plan,
     matchers: &mut Matchers<'l>,
-    quiet: &mut Quiet,
-    sought: &mut Sought,
+    known: &mut Known,
     lanes: &mut Lanes,
     own: &mut Own,
 ) -> Result<Option<Box<Heard>>, AllocError>
-    requires quiet { AreQuiet plan.now quiet.old own.old }
-    requires sought { AreSought plan.now sought.old own.old }
+    requires knows { Knows plan.now known.old own.old }
     ensures turned { IfOk result (λ r. (k : List Lane → Own → Listened) → turned times plan.now lanes.old own.old k ≡ turns (option_map box_value r) lanes.new own.new k) }
     ensures fewer { IfOk result (λ r. IsFewer (option_map box_value r) lanes.old lanes.new) }
-    ensures quiet { IfOk result (λ r. GoesOnQuiet (option_map box_value r) plan.now quiet.new own.new) }
-    ensures sought { IfOk result (λ r. GoesOnSought (option_map box_value r) plan.now sought.new own.new) }
+    ensures knows { OnOk result (Knows plan.now known.new own.new) }
 {
     let Some(child) = next_child(alloc, times, plan, lanes)? else {
         return Ok(Some(too_late(alloc, times, plan.deadline)?));
@@ -300,8 +299,21 @@ fn turn<'l>(
         return Ok(Some(too_late(alloc, times, plan.deadline)?));
     };
     own.advance(moment);
-    let heard = hear(alloc, plan, matchers, quiet, sought, child, item, own)?;
-    Ok(heard)
+    let heard = hear(
+        alloc,
+        plan,
+        matchers,
+        &mut known.quiet,
+        &mut known.sought,
+        child,
+        item,
+        own,
+    )?;
+    let Some(decided) = heard else {
+        return Ok(None);
+    };
+    *known = Known::nothing(alloc);
+    Ok(Some(decided))
 }
 
 /// Takes items until the patterns decide, or none is there in time. Each test goes on with the matchers of those before it.
@@ -310,81 +322,64 @@ fn hear_all<'l>(
     times: Times,
     plan: &'l Plan,
     matchers: &mut Matchers<'l>,
-    quiet: &mut Quiet,
-    sought: &mut Sought,
+    known: &mut Known,
     lanes: &mut Lanes,
     own: &mut Own,
 ) -> Result<Box<Heard>, AllocError>
-    requires quiet { AreQuiet plan.now quiet.old own.old }
-    requires sought { AreSought plan.now sought.old own.old }
-    ensures { IfOk result (λ h. listen_of times.limit times.horizon plan.now lanes.old own.old ≡ (h.value, lanes.new, own.new)) }
+    requires knows { Knows plan.now known.old own.old }
+    ensures heard { IfOk result (λ h. listen_of times.limit times.horizon plan.now lanes.old own.old ≡ (h.value, lanes.new, own.new)) }
+    ensures knows { OnOk result (Knows plan.now known.new own.new) }
 {
     'turns: loop {
-        match turn(alloc, times, plan, matchers, quiet, sought, lanes, own)? {
+        match turn(alloc, times, plan, matchers, known, lanes, own)? {
             Some(heard) => return Ok(heard),
             None => continue,
         }
     }
 }
 
-/// Takes items until the patterns decide, or none is there in time.
+/// Takes items until the patterns decide, or none is there in time. It goes on with what is known of the bytes, and leaves what is known then.
 pub(crate) fn listen<'l>(
     alloc: Global,
     times: Times,
     plan: &'l Plan,
+    known: &mut Known,
     lanes: &mut Lanes,
     own: &mut Own,
 ) -> Result<Box<Heard>, AllocError>
-    ensures { IfOk result (λ h. listen_of times.limit times.horizon plan.now lanes.old own.old ≡ (h.value, lanes.new, own.new)) }
+    requires knows { Knows plan.now known.old own.old }
+    ensures heard { IfOk result (λ h. listen_of times.limit times.horizon plan.now lanes.old own.old ≡ (h.value, lanes.new, own.new)) }
+    ensures knows { OnOk result (Knows plan.now known.new own.new) }
 {
     let mut matchers: Matchers<'l> = Matchers::new(alloc);
-    let mut quiet = Quiet::new(alloc, plan.sides.list.len())?;
-    let mut sought = Sought::new();
-    hear_all(
-        alloc,
-        times,
-        plan,
-        &mut matchers,
-        &mut quiet,
-        &mut sought,
-        lanes,
-        own,
-    )
+    hear_all(alloc, times, plan, &mut matchers, known, lanes, own)
 }
 
-/// Tests the kept bytes first.
+/// Tests the kept bytes first, of which nothing is known. It gives what is known of them then.
 pub(crate) fn look<'l>(
     alloc: Global,
     times: Times,
     plan: &'l Plan,
     lanes: &mut Lanes,
     own: &mut Own,
-) -> Result<Box<Heard>, AllocError>
-    ensures { IfOk result (λ h. look_of times.limit times.horizon plan.now lanes.old own.old ≡ (h.value, lanes.new, own.new)) }
+) -> Result<(Box<Heard>, Known), AllocError>
+    ensures heard { IfOk result (λ r. look_of times.limit times.horizon plan.now lanes.old own.old ≡ (r.0.value, lanes.new, own.new)) }
+    ensures knows { IfOk result (λ r. Knows plan.now r.1 own.new) }
 {
     let mut matchers: Matchers<'l> = Matchers::new(alloc);
-    let mut quiet = Quiet::new(alloc, plan.sides.list.len())?;
-    let mut sought = Sought::new();
+    let mut known = Known::new(alloc, plan.sides.list.len())?;
     let tested = test(
         alloc,
         plan,
         &mut matchers,
-        &mut quiet,
-        &mut sought,
+        &mut known.quiet,
+        &mut known.sought,
         &None,
         own,
     )?;
     if let Some(heard) = tested {
-        return Ok(heard);
+        return Ok((heard, Known::nothing(alloc)));
     }
-    hear_all(
-        alloc,
-        times,
-        plan,
-        &mut matchers,
-        &mut quiet,
-        &mut sought,
-        lanes,
-        own,
-    )
+    let heard = hear_all(alloc, times, plan, &mut matchers, &mut known, lanes, own)?;
+    Ok((heard, known))
 }

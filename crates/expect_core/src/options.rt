@@ -5,23 +5,18 @@ ghost use Rattle.expect_core.specs.Options.{option_of, removal_of, removing, rem
 
 use crate::child::Change;
 use crate::effect::{Effect, Effects};
-use crate::flags::{Flags, Switch, Takes, flags_of, is, with_option};
+use crate::flags::{Flags, arguments, first};
 use crate::ids::open_to;
 use crate::own::Own;
 use crate::place::Place;
 use crate::texts::{bad_removal, bad_size, bit, decimal};
 use crate::turn::{Deed, done};
+use command_table::{ExpectCommand, is};
 use std::alloc::Global;
 use tcl_commands::Complaint;
 use tcl_expr::read_number;
 use tcl_subst::Vars;
 use tcl_values::Value;
-
-const TAKES: Takes = Takes {
-    own: Some(Switch::Default),
-    id: true,
-    end: false,
-};
 
 /// Whose option is meant: that of a child, or with `-d` that of children to come.
 fn whose(alloc: Global, flags: &Flags, vars: &Vars, own: &Own) -> Result<Option<Place>, Complaint>
@@ -36,16 +31,17 @@ fn whose(alloc: Global, flags: &Flags, vars: &Vars, own: &Own) -> Result<Option<
 /// Whose option is meant, and the text of what is set, if it is set.
 fn option_of(
     alloc: Global,
+    command: ExpectCommand,
     name: &[u8],
     args: &[Value],
     vars: &Vars,
     own: &Own,
 ) -> Result<(Option<Place>, Option<Value>), Complaint>
-    ensures { Says result (option_of name.now args.now vars.now own.now) }
+    ensures { Says result (option_of command name.now args.now vars.now own.now) }
 {
-    let (flags, at) = flags_of(alloc, name, TAKES, args)?;
-    let text = with_option(alloc, name, &args[at..])?;
-    Ok((whose(alloc, &flags, vars, own)?, text))
+    let (flags, at) = arguments(alloc, command, name, args)?;
+    let whose = whose(alloc, &flags, vars, own)?;
+    Ok((whose, first(alloc, &args[at..])?))
 }
 
 /// How many bytes a text says that are kept.
@@ -106,7 +102,7 @@ pub(crate) fn match_max(
 ) -> Result<Deed, Complaint>
     ensures { Says result (sizing name.now args.now vars.now own.now) }
 {
-    let (at, text) = option_of(alloc, name, args, vars, own)?;
+    let (at, text) = option_of(alloc, ExpectCommand::MatchMax, name, args, vars, own)?;
     size(alloc, at, &text, own)
 }
 
@@ -138,6 +134,6 @@ pub(crate) fn remove_nulls(
 ) -> Result<Deed, Complaint>
     ensures { Says result (removing name.now args.now vars.now own.now) }
 {
-    let (at, text) = option_of(alloc, name, args, vars, own)?;
+    let (at, text) = option_of(alloc, ExpectCommand::RemoveNulls, name, args, vars, own)?;
     removal(alloc, &at, &text, own)
 }

@@ -3,13 +3,14 @@
 ghost use Rattle.std.specs.Prelude.{◌≡◌, [], slice_index_or};
 ghost use Rattle.tty.specs.Modes.{read as read_modes};
 ghost use Rattle.tcl_commands.specs.Says.{Says};
-ghost use Rattle.expect_core.specs.Spawning.{modes_in, modes_by as modes_by_of, modes_of as modes_named, order_of as order_meant, order_by, ordered};
+ghost use Rattle.expect_core.specs.Spawning.{modes_in, modes_by as modes_by_of, modes_of as modes_named, order_of as order_meant, order_by};
 
-use crate::flags::{Switch, Takes, flags_of};
+use crate::flags::arguments;
 use crate::scoped::optional;
 use crate::texts::bad_stty;
+use command_table::ExpectCommand;
 use std::alloc::Global;
-use tcl_commands::{Complaint, list_of, texts_of, wrong_args};
+use tcl_commands::{Complaint, list_of, texts_of};
 use tcl_subst::Vars;
 use tcl_values::Value;
 use tcl_words::{Text, Texts};
@@ -68,12 +69,6 @@ fn modes_of(alloc: Global, vars: &Vars) -> Result<Modes, Complaint>
     modes_by(alloc, optional(alloc, vars, b"stty_init")?)
 }
 
-const TAKES: Takes = Takes {
-    own: Some(Switch::NoEcho),
-    id: false,
-    end: true,
-};
-
 /// What is started, by its words.
 fn started(alloc: Global, quiet: bool, words: &[Value], vars: &Vars) -> Result<Order, Complaint>
     ensures { Says result (order_by quiet words.now vars.now) }
@@ -86,22 +81,6 @@ fn started(alloc: Global, quiet: bool, words: &[Value], vars: &Vars) -> Result<O
     })
 }
 
-/// What is started, where there is a program.
-fn ordered(
-    alloc: Global,
-    name: &[u8],
-    quiet: bool,
-    words: &[Value],
-    vars: &Vars,
-) -> Result<Order, Complaint>
-    ensures { Says result (ordered name.now quiet words.now vars.now) }
-{
-    if words.is_empty() {
-        return Err(Complaint::Said(wrong_args(alloc, name)?));
-    }
-    started(alloc, quiet, words, vars)
-}
-
 /// What the arguments of a spawn say.
 pub(crate) fn order_of(
     alloc: Global,
@@ -111,6 +90,6 @@ pub(crate) fn order_of(
 ) -> Result<Order, Complaint>
     ensures { Says result (order_meant name.now args.now vars.now) }
 {
-    let (flags, at) = flags_of(alloc, name, TAKES, args)?;
-    ordered(alloc, name, flags.on, &args[at..], vars)
+    let (flags, at) = arguments(alloc, ExpectCommand::Spawn, name, args)?;
+    started(alloc, flags.on, &args[at..], vars)
 }

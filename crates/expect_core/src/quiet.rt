@@ -1,6 +1,6 @@
 //! Children whose bytes needn't be tested again.
 
-ghost use Rattle.std.specs.Prelude.{◌≡◌, IfOk, slice_set};
+ghost use Rattle.std.specs.Prelude.{◌≡◌, [], IfOk, slice_set};
 ghost use Rattle.expect_core.specs.Quiet.{marked, spared, unmarked};
 
 use crate::place::Place;
@@ -22,6 +22,15 @@ impl Model for Quiet {
 }
 
 impl Quiet {
+    /// No mark, and no room for one. It allocates nothing.
+    pub(crate) fn none(alloc: Global) -> Quiet
+        ensures { result ≡ [] }
+    {
+        Quiet {
+            marks: Vec::new(alloc),
+        }
+    }
+
     /// No mark at any of so many. Of one child alone nothing is remembered, and no memory is taken.
     pub(crate) fn new(alloc: Global, sides: usize) -> Result<Quiet, AllocError>
         ensures { IfOk result (λ q. q ≡ unmarked sides) }

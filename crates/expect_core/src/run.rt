@@ -4,11 +4,13 @@ ghost use Rattle.std.specs.Prelude.{◌≡◌, ℕ, None, IfOk, OnOk};
 ghost use Rattle.child_events.specs.declared.event.Answer.{Answer as AnswerOf};
 ghost use Rattle.tcl_subst.specs.Variables.{Variables};
 ghost use Rattle.tty.specs.Sends.{handed_by};
+ghost use Rattle.expect_core.specs.declared.dialogue.Dialogue.{Dialogue as DialogueOf};
 ghost use Rattle.expect_core.specs.declared.own.Own.{Own as OwnOf};
 ghost use Rattle.expect_core.specs.declared.turn.Turn.{Turn as TurnOf};
 ghost use Rattle.expect_core.specs.declared.turn.Want.{Want as WantOf};
 ghost use Rattle.expect_core.specs.Effects.{performed};
 ghost use Rattle.expect_core.specs.Going.{after, goes};
+ghost use Rattle.expect_core.specs.Known.{Knows, KnowsAt, KnowsIn, KnowsOf, LeavesKnown};
 ghost use Rattle.expect_core.specs.Owned.{child_of};
 ghost use Rattle.expect_core.specs.Running.{To, acts, answered as answered_of, awaited, by_heard, on_answer, resuming, run as run_of, staged as staged_of, step_of, turned as turned_of, turns, waited_for};
 ghost use Rattle.expect_core.specs.Sending.{typed};
@@ -17,6 +19,7 @@ use crate::answers::is_within;
 use crate::dialogue::{Dialogue, failure};
 use crate::ends::{broken, closed, waited};
 use crate::expect::{ended, ending, failing, full, late, matched};
+use crate::known::Known;
 use crate::listen::{Times, listen, look};
 use crate::own::Own;
 use crate::phase::{Heard, Phase};
@@ -39,6 +42,41 @@ pub enum Went {
     Turn(Turn),
     /// Nothing: the call comes to this step.
     Over(HostStep),
+    /// Nothing: the call waits for output, of which this is known.
+    Listens(Known),
+}
+
+/// A call that is over, or waits.
+#[derive(Drop)]
+pub struct Paused {
+    /// What it comes to.
+    pub(crate) step: HostStep,
+    /// What is known of the output that it waits for.
+    pub(crate) known: Known,
+}
+
+impl Paused {
+    /// A call of which no output is known.
+    pub(crate) fn at(alloc: Global, step: HostStep) -> Paused
+        ensures step { result.step ≡ step }
+        ensures knows { (st : DialogueOf) → KnowsIn result.known st }
+    {
+        Paused {
+            step,
+            known: Known::nothing(alloc),
+        }
+    }
+
+    /// A call that waits for output, of which this is known.
+    fn listening(known: Known) -> Paused
+        ensures step { result.step ≡ HostStep.Wait }
+        ensures known { result.known ≡ known }
+    {
+        Paused {
+            step: HostStep::Wait,
+            known,
+        }
+    }
 }
 
 /// How many turns a call may take.
@@ -91,7 +129,8 @@ impl Dialogue {
 
     /// An action is evaluated, and the expect kept meanwhile.
     fn act(&mut self, alloc: Global, mut plan: Plan, met: Met) -> Result<Went, AllocError>
-        ensures { IfOk result (λ r. (k : To) (vars : Variables) → acts plan met vars self.old ≡ goes r k vars self.new) }
+        ensures goes { IfOk result (λ r. (k : To) (vars : Variables) → acts plan met vars self.old ≡ goes r k vars self.new) }
+        ensures knows { IfOk result (λ r. LeavesKnown r self.new) }
     {
         let action = Value::from_slice(alloc, plan.action(met.entry))?;
         plan.met = Some(met);
@@ -106,13 +145,16 @@ impl Dialogue {
         left: u64,
         plan: Plan,
         heard: &Heard,
+        known: Known,
     ) -> Result<Went, AllocError>
-        ensures { IfOk result (λ r. (k : To) (vars : Variables) → by_heard k left plan heard.now vars self.old ≡ goes r k vars self.new) }
+        requires { Knows plan known self.old.own }
+        ensures goes { IfOk result (λ r. (k : To) (vars : Variables) → by_heard k left plan heard.now vars self.old ≡ goes r k vars self.new) }
+        ensures knows { IfOk result (λ r. LeavesKnown r self.new) }
     {
         match heard {
             Heard::NotYet => {
                 self.set_phase(Phase::At(left, Want::Output(plan)));
-                Ok(Went::Over(HostStep::Wait))
+                Ok(Went::Listens(known))
             }
             Heard::OverLimit => Ok(Went::Over(HostStep::Stop(Ending::TimeLimit))),
             Heard::TimedOut(deadline) => {
@@ -140,20 +182,37 @@ impl Dialogue {
 
     /// Begins a wait for a pattern.
     fn looking(&mut self, alloc: Global, left: u64, plan: Plan) -> Result<Went, AllocError>
-        ensures { IfOk result (λ r. (k : To) (vars : Variables) → staged_of k left (Stage.Look plan) vars self.old ≡ goes r k vars self.new) }
+        ensures goes { IfOk result (λ r. (k : To) (vars : Variables) → staged_of k left (Stage.Look plan) vars self.old ≡ goes r k vars self.new) }
+        ensures knows { IfOk result (λ r. LeavesKnown r self.new) }
     {
         let times = self.times();
-        let heard = look(alloc, times, &plan, &mut self.lanes, &mut self.own)?;
-        self.conclude(alloc, left, plan, &heard)
+        let (heard, known) = look(alloc, times, &plan, &mut self.lanes, &mut self.own)?;
+        self.conclude(alloc, left, plan, &heard, known)
     }
 
     /// Goes on with a wait for a pattern.
-    fn listening(&mut self, alloc: Global, left: u64, plan: Plan) -> Result<Went, AllocError>
-        ensures { IfOk result (λ r. (k : To) (vars : Variables) → waited_for k left (Want.Output plan) vars self.old ≡ goes r k vars self.new) }
+    fn listening(
+        &mut self,
+        alloc: Global,
+        left: u64,
+        plan: Plan,
+        known: Known,
+    ) -> Result<Went, AllocError>
+        requires { Knows plan known self.old.own }
+        ensures goes { IfOk result (λ r. (k : To) (vars : Variables) → waited_for k left (Want.Output plan) vars self.old ≡ goes r k vars self.new) }
+        ensures knows { IfOk result (λ r. LeavesKnown r self.new) }
     {
         let times = self.times();
-        let heard = listen(alloc, times, &plan, &mut self.lanes, &mut self.own)?;
-        self.conclude(alloc, left, plan, &heard)
+        let mut known = known;
+        let heard = listen(
+            alloc,
+            times,
+            &plan,
+            &mut known,
+            &mut self.lanes,
+            &mut self.own,
+        )?;
+        self.conclude(alloc, left, plan, &heard, known)
     }
 
     /// The next answer of the child at a place, to whose moment the clock goes.
@@ -189,7 +248,8 @@ impl Dialogue {
         i: Place,
         why: Purpose,
     ) -> Result<Went, AllocError>
-        ensures { IfOk result (λ r. (k : To) (vars : Variables) → waited_for k left (Want.Answer i why) vars self.old ≡ goes r k vars self.new) }
+        ensures goes { IfOk result (λ r. (k : To) (vars : Variables) → waited_for k left (Want.Answer i why) vars self.old ≡ goes r k vars self.new) }
+        ensures knows { IfOk result (λ r. LeavesKnown r self.new) }
     {
         match self.next_answer(i) {
             Some(answer) => {
@@ -208,7 +268,8 @@ impl Dialogue {
         i: Place,
         plan: Plan,
     ) -> Result<Went, AllocError>
-        ensures { IfOk result (λ r. (k : To) (vars : Variables) → waited_for k left (Want.End i plan) vars self.old ≡ goes r k vars self.new) }
+        ensures goes { IfOk result (λ r. (k : To) (vars : Variables) → waited_for k left (Want.End i plan) vars self.old ≡ goes r k vars self.new) }
+        ensures knows { IfOk result (λ r. LeavesKnown r self.new) }
     {
         match self.next_answer(i) {
             Some(answer) => {
@@ -219,13 +280,21 @@ impl Dialogue {
         }
     }
 
-    /// Waits.
-    fn wait(&mut self, alloc: Global, left: u64, want: Want) -> Result<Went, AllocError>
-        ensures { IfOk result (λ r. (k : To) (vars : Variables) → waited_for k left want vars self.old ≡ goes r k vars self.new) }
+    /// Waits. What is known is of the output that is awaited.
+    fn wait(
+        &mut self,
+        alloc: Global,
+        left: u64,
+        want: Want,
+        known: Known,
+    ) -> Result<Went, AllocError>
+        requires { KnowsOf want known self.old.own }
+        ensures goes { IfOk result (λ r. (k : To) (vars : Variables) → waited_for k left want vars self.old ≡ goes r k vars self.new) }
+        ensures knows { IfOk result (λ r. LeavesKnown r self.new) }
     {
         match want {
             Want::Answer(i, why) => self.await_answer(alloc, left, i, why),
-            Want::Output(plan) => self.listening(alloc, left, plan),
+            Want::Output(plan) => self.listening(alloc, left, plan, known),
             Want::End(i, plan) => self.await_end(alloc, left, i, plan),
         }
     }
@@ -242,7 +311,8 @@ impl Dialogue {
 
     /// What a stage comes to.
     fn staged(&mut self, alloc: Global, left: u64, stage: Stage) -> Result<Went, AllocError>
-        ensures { IfOk result (λ r. (k : To) (vars : Variables) → staged_of k left stage vars self.old ≡ goes r k vars self.new) }
+        ensures goes { IfOk result (λ r. (k : To) (vars : Variables) → staged_of k left stage vars self.old ≡ goes r k vars self.new) }
+        ensures knows { IfOk result (λ r. LeavesKnown r self.new) }
     {
         match stage {
             Stage::Over(reply) => Ok(Went::Over(step(reply))),
@@ -253,7 +323,7 @@ impl Dialogue {
                 let reaction = hand(alloc, actions)?;
                 Ok(Went::Turn(reaction.at(i)))
             }
-            Stage::Wait(want) => self.wait(alloc, left, want),
+            Stage::Wait(want) => self.wait(alloc, left, want, Known::nothing(alloc)),
         }
     }
 
@@ -265,7 +335,8 @@ impl Dialogue {
         left: u64,
         turn: Turn,
     ) -> Result<Went, AllocError>
-        ensures { IfOk result (λ r. (k : To) → turned_of k left turn.stage (performed turn.child turn.effects vars.old self.old.own) self.old ≡ goes r k vars.new self.new) }
+        ensures goes { IfOk result (λ r. (k : To) → turned_of k left turn.stage (performed turn.child turn.effects vars.old self.old.own) self.old ≡ goes r k vars.new self.new) }
+        ensures knows { IfOk result (λ r. LeavesKnown r self.new) }
     {
         let Turn {
             child,
@@ -285,18 +356,20 @@ impl Dialogue {
         vars: &mut Vars,
         most: u64,
         first: Turn,
-    ) -> Result<HostStep, AllocError>
-        ensures { IfOk result (λ s. run_of most first vars.old self.old ≡ (s, vars.new, self.new)) }
+    ) -> Result<Paused, AllocError>
+        ensures runs { IfOk result (λ p. run_of most first vars.old self.old ≡ (p.step, vars.new, self.new)) }
+        ensures knows { IfOk result (λ p. KnowsIn p.known self.new) }
     {
         let mut left = most;
         let mut turn = first;
         'turns: loop {
             if left == 0 {
-                return Ok(HostStep::Stop(Ending::TimeLimit));
+                return Ok(Paused::at(alloc, HostStep::Stop(Ending::TimeLimit)));
             }
             left -= 1;
             match self.turned(alloc, vars, left, turn)? {
-                Went::Over(step) => return Ok(step),
+                Went::Over(step) => return Ok(Paused::at(alloc, step)),
+                Went::Listens(known) => return Ok(Paused::listening(known)),
                 Went::Turn(next) => turn = next,
             }
         }
@@ -308,8 +381,9 @@ impl Dialogue {
         alloc: Global,
         vars: &mut Vars,
         first: Turn,
-    ) -> Result<HostStep, AllocError>
-        ensures { IfOk result (λ s. run_of turns first vars.old self.old ≡ (s, vars.new, self.new)) }
+    ) -> Result<Paused, AllocError>
+        ensures runs { IfOk result (λ p. run_of turns first vars.old self.old ≡ (p.step, vars.new, self.new)) }
+        ensures knows { IfOk result (λ p. KnowsIn p.known self.new) }
     {
         self.run_for(alloc, vars, all_turns(), first)
     }
@@ -320,13 +394,17 @@ impl Dialogue {
         alloc: Global,
         vars: &mut Vars,
         phase: Phase,
-    ) -> Result<HostStep, AllocError>
-        ensures { IfOk result (λ s. resuming phase vars.old self.old ≡ (s, vars.new, self.new)) }
+        known: Known,
+    ) -> Result<Paused, AllocError>
+        requires { KnowsAt phase known self.old.own }
+        ensures runs { IfOk result (λ p. resuming phase vars.old self.old ≡ (p.step, vars.new, self.new)) }
+        ensures knows { IfOk result (λ p. KnowsIn p.known self.new) }
     {
         match phase {
-            Phase::Idle => Ok(HostStep::Fail(Value::new(alloc))),
-            Phase::At(left, want) => match self.wait(alloc, left, want)? {
-                Went::Over(step) => Ok(step),
+            Phase::Idle => Ok(Paused::at(alloc, HostStep::Fail(Value::new(alloc)))),
+            Phase::At(left, want) => match self.wait(alloc, left, want, known)? {
+                Went::Over(step) => Ok(Paused::at(alloc, step)),
+                Went::Listens(known) => Ok(Paused::listening(known)),
                 Went::Turn(next) => self.run_for(alloc, vars, left, next),
             },
         }

@@ -6,7 +6,7 @@ ghost use Rattle.expect_core.specs.Sending.{act_of as act_meant, counting, hande
 
 use crate::child::Change;
 use crate::effect::{Effect, Effects};
-use crate::flags::{Takes, flags_of, with_text};
+use crate::flags::{arguments, text};
 use crate::ids::open_to;
 use crate::own::Own;
 use crate::place::Place;
@@ -14,6 +14,7 @@ use crate::request::Act;
 use crate::texts::with_cause;
 use crate::turn::{Deed, Next, Purpose, Reaction};
 use child_events::Cause;
+use command_table::ExpectCommand;
 use std::alloc::{AllocError, Global};
 use tcl_commands::Complaint;
 use tcl_host::Pile;
@@ -21,12 +22,6 @@ use tcl_subst::Vars;
 use tcl_values::Value;
 use tcl_words::Text;
 use tty::{Action, Actions};
-
-const TAKES: Takes = Takes {
-    own: None,
-    id: true,
-    end: true,
-};
 
 /// `send ?-i id? ?--? text`.
 pub(crate) fn send(
@@ -38,9 +33,9 @@ pub(crate) fn send(
 ) -> Result<Deed, Complaint>
     ensures { Says result (sending name.now args.now vars.now own.now) }
 {
-    let (flags, at) = flags_of(alloc, name, TAKES, args)?;
-    let text = with_text(alloc, name, &args[at..])?;
+    let (flags, at) = arguments(alloc, ExpectCommand::Send, name, args)?;
     let i = open_to(alloc, &flags.id, vars, own)?;
+    let text = text(alloc, &args[at..])?;
     let effects = Effects::new(alloc);
     let next = Next::Send(text);
     Ok(Deed::To(i, Reaction { effects, next }))

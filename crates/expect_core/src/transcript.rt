@@ -1,15 +1,16 @@
 //! The commands that write to the transcript, and the one that says whether children's output is seen there.
 
-ghost use Rattle.std.specs.Prelude.{◌≡◌, IfOk, ◌++◌, ◌∷◌, [], if◌then◌else◌};
+ghost use Rattle.std.specs.Prelude.{◌≡◌, IfOk, ◌∷◌, []};
 ghost use Rattle.tcl_commands.specs.Says.{Says};
-ghost use Rattle.expect_core.specs.Transcript.{log_set, log_told, log_word, logging as logging_of, no_channel as no_channel_text, put_of as put_meant, puts_to as puts_to_of, to_user as user_text, writing};
+ghost use Rattle.expect_core.specs.Transcript.{ended as ended_of, log_set, log_told, log_word, logging as logging_of, no_channel as no_channel_text, put_of as put_meant, put_to, put_words, puts_to as puts_to_of, to_user as user_text, writing};
 ghost use Rattle.expect_core.specs.Turns.{done as done_of};
 
 use crate::effect::{Effect, Effects};
-use crate::flags::{Takes, bad_flag, flags_of, is, is_flag, with_text};
+use crate::flags::{arguments, bad_flag, text};
 use crate::own::Own;
 use crate::texts::bit;
 use crate::turn::{Deed, done};
+use command_table::{ExpectCommand, is};
 use std::alloc::{AllocError, Global};
 use tcl_commands::{Complaint, bad_option, wrong_args};
 use tcl_values::Value;
@@ -19,16 +20,15 @@ use tcl_words::Text;
 fn no_channel(alloc: Global, word: &[u8]) -> Result<Text, AllocError>
     ensures { IfOk result (λ t. t ≡ no_channel_text word.now) }
 {
-    if is_flag(word) {
-        bad_flag(alloc, word)
-    } else {
-        bad_option(alloc, word)
+    match word {
+        [b'-', ..] => bad_flag(alloc, word),
+        _ => bad_option(alloc, word),
     }
 }
 
 /// A text with a newline behind it, or without.
 fn ended(alloc: Global, line: bool, text: &[u8]) -> Result<Text, AllocError>
-    ensures { IfOk result (λ t. t ≡ (if line then text.now ++ 10 ∷ [] else text.now)) }
+    ensures { IfOk result (λ t. t ≡ ended_of line text.now) }
 {
     let mut text = Text::from_slice(alloc, text)?;
     if line {
@@ -47,46 +47,26 @@ fn puts_to(alloc: Global, line: bool, channel: &[u8], text: &[u8]) -> Result<Tex
     Err(Complaint::Said(no_channel(alloc, channel)?))
 }
 
-/// What `puts` writes that has two arguments.
-fn puts_two(alloc: Global, name: &[u8], word: &[u8], text: &[u8]) -> Result<Text, Complaint>
-    ensures { Says result (put_meant name.now (word.now ∷ text.now ∷ [])) }
+/// What `puts` writes by a text, or a channel and a text.
+fn put_to(alloc: Global, name: &[u8], line: bool, words: &[Value]) -> Result<Text, Complaint>
+    ensures { Says result (put_to name.now line words.now) }
 {
-    if is(word, b"-nonewline") {
-        return Ok(Text::from_slice(alloc, text)?);
-    }
-    puts_to(alloc, true, word, text)
-}
-
-/// What `puts` writes that has three arguments.
-fn puts_three(
-    alloc: Global,
-    name: &[u8],
-    word: &[u8],
-    channel: &[u8],
-    text: &[u8],
-) -> Result<Text, Complaint>
-    ensures { Says result (put_meant name.now (word.now ∷ channel.now ∷ text.now ∷ [])) }
-{
-    if is(word, b"-nonewline") {
-        return puts_to(alloc, false, channel, text);
-    }
-    Err(Complaint::Said(wrong_args(alloc, name)?))
-}
-
-/// What `puts` writes whose first arguments are these.
-fn puts_behind(
-    alloc: Global,
-    name: &[u8],
-    word: &[u8],
-    second: &[u8],
-    others: &[Value],
-) -> Result<Text, Complaint>
-    ensures { Says result (put_meant name.now (word.now ∷ second.now ∷ others.now)) }
-{
-    match others {
-        [] => puts_two(alloc, name, word, second),
-        [text] => puts_three(alloc, name, word, second, text.as_slice()),
+    match words {
+        [text] => Ok(ended(alloc, line, text.as_slice())?),
+        [channel, text] => puts_to(alloc, line, channel.as_slice(), text.as_slice()),
         _ => Err(Complaint::Said(wrong_args(alloc, name)?)),
+    }
+}
+
+/// What `puts` writes by its words, of which one or more may follow `-nonewline`.
+fn put_words(alloc: Global, name: &[u8], words: &[Value]) -> Result<Text, Complaint>
+    ensures { Says result (put_words name.now words.now) }
+{
+    match words {
+        [first, rest @ ..] if !rest.is_empty() && is(first.as_slice(), b"-nonewline") => {
+            put_to(alloc, name, false, rest)
+        }
+        _ => put_to(alloc, name, true, words),
     }
 }
 
@@ -94,26 +74,16 @@ fn puts_behind(
 fn put_of(alloc: Global, name: &[u8], args: &[Value]) -> Result<Text, Complaint>
     ensures { Says result (put_meant name.now args.now) }
 {
-    match args {
-        [] => Err(Complaint::Said(wrong_args(alloc, name)?)),
-        [text] => Ok(ended(alloc, true, text.as_slice())?),
-        [word, second, others @ ..] => {
-            puts_behind(alloc, name, word.as_slice(), second.as_slice(), others)
-        }
-    }
+    let (_, at) = arguments(alloc, ExpectCommand::Puts, name, args)?;
+    put_words(alloc, name, &args[at..])
 }
 
 /// What `send_user` writes.
 fn to_user(alloc: Global, name: &[u8], args: &[Value]) -> Result<Text, Complaint>
     ensures { Says result (user_text name.now args.now) }
 {
-    let takes = Takes {
-        own: None,
-        id: false,
-        end: true,
-    };
-    let (_, at) = flags_of(alloc, name, takes, args)?;
-    let text = with_text(alloc, name, &args[at..])?;
+    let (_, at) = arguments(alloc, ExpectCommand::SendUser, name, args)?;
+    let text = text(alloc, &args[at..])?;
     Ok(Text::from_slice(alloc, text.as_slice())?)
 }
 
@@ -182,7 +152,8 @@ pub(crate) fn log_user(
 ) -> Result<Deed, Complaint>
     ensures { Says result (logging_of name.now args.now own.now) }
 {
-    let word = with_text(alloc, name, args)?;
+    let (_, at) = arguments(alloc, ExpectCommand::LogUser, name, args)?;
+    let word = text(alloc, &args[at..])?;
     let on = log_word(alloc, word.as_slice())?;
     Ok(log(alloc, on, own)?)
 }

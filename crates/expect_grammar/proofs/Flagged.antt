@@ -3,11 +3,12 @@ use Rattle.std.proofs.Common.{◌≡◌, ℕ, Bool, true, false, ◌&&◌, List,
 use Rattle.std.proofs.lemmas.Bool.{and_parts, and_from, and_right, false_from_ne_true}
 use Rattle.std.specs.Str.{bytes_eq}
 use Rattle.tcl_words.specs.Lists.{begins_with}
-use Rattle.expect_core.specs.Flags.{begins_with_minus, switch_word, is_own, no_flags, Flagged, flags_from, flags_of}
+use Rattle.command_table.specs.Flags.{begins_with_minus, is_own}
+use Rattle.expect_core.specs.Flags.{no_flags, Flagged, flags_from, flags_of}
 use Rattle.expect_core.specs.declared.flags.Flags.{Flags}
-use Rattle.expect_core.specs.declared.flags.Switch.{Switch}
-use Rattle.expect_core.specs.declared.flags.Switch.TheVariants as switch
-use Rattle.expect_core.specs.declared.flags.Takes.{Takes}
+use Rattle.command_table.specs.declared.flags.Own.{Own}
+use Rattle.command_table.specs.declared.flags.Own.TheVariants as switch
+use Rattle.command_table.specs.declared.flags.Flags.{Flags as Takes}
 use Rattle.expect_grammar.specs.FlagRules.{IsSwitch, IsFlag, Stand, End, Wrong, Say, Fail}
 use Rattle.expect_grammar.proofs.Words.{found, never}
 
@@ -16,29 +17,31 @@ minus_is : (word : List ℕ) → begins_with_minus word ≡ begins_with 45 word
 minus_is [] = refl
 minus_is (b ∷ s) = refl
 
-is_switch : (s : Switch) → IsSwitch (switch_word s) s
-is_switch switch.NoEcho = IsSwitch.noecho
-is_switch switch.Default = IsSwitch.default
-is_switch switch.Timer = IsSwitch.continue_timer
-
 -- no command's own flag is `-i`
-id_isnt_own : (own : Option Switch) → is_own own (codes "-i") ≡ false
-id_isnt_own None = refl
-id_isnt_own (Some switch.NoEcho) = refl
-id_isnt_own (Some switch.Default) = refl
-id_isnt_own (Some switch.Timer) = refl
+id_isnt_own : (own : Own) → is_own own (codes "-i") ≡ false
+id_isnt_own switch.None = refl
+id_isnt_own switch.NoEcho = refl
+id_isnt_own switch.Default = refl
+id_isnt_own switch.Timer = refl
+
+-- a word that is one of them
+module _ (P : List ℕ → Own → Type 0) (holds : (word : List ℕ) (s : Own) → IsSwitch word s → P word s) where
+  own_is_switch : (own : Own) (word : List ℕ) → is_own own word ≡ true → P word own
+  own_is_switch switch.None word is = absurd (never (sym is))
+  own_is_switch switch.NoEcho word is = found word (codes "-noecho") (λ w. P w switch.NoEcho) (holds (codes "-noecho") switch.NoEcho IsSwitch.noecho) is
+  own_is_switch switch.Default word is = found word (codes "-d") (λ w. P w switch.Default) (holds (codes "-d") switch.Default IsSwitch.default) is
+  own_is_switch switch.Timer word is = found word (codes "-continue_timer") (λ w. P w switch.Timer) (holds (codes "-continue_timer") switch.Timer IsSwitch.continue_timer) is
 
 module _ (takes : Takes) where
   -- ---- What the tests find
 
-  own_test : (word : List ℕ) (s : Switch) → takes.own ≡ Some s → IsSwitch word s → is_own takes.own word ≡ true
+  own_test : (word : List ℕ) (s : Own) → takes.own ≡ s → IsSwitch word s → is_own takes.own word ≡ true
   own_test word s e IsSwitch.noecho = ap (λ own. is_own own word) e
   own_test word s e IsSwitch.default = ap (λ own. is_own own word) e
   own_test word s e IsSwitch.continue_timer = ap (λ own. is_own own word) e
 
-  own_flag : (own : Option Switch) (word : List ℕ) → takes.own ≡ own → is_own own word ≡ true → IsFlag takes word
-  own_flag None word e is = absurd (never (sym is))
-  own_flag (Some s) word e is = found word (switch_word s) (λ w. IsFlag takes w) (IsFlag.own (switch_word s) s e (is_switch s)) is
+  own_flag : (word : List ℕ) → is_own takes.own word ≡ true → IsFlag takes word
+  own_flag word is = own_is_switch (λ w s. takes.own ≡ s → IsFlag takes w) (λ w s is e. IsFlag.own w s e is) takes.own word is refl
 
   id_flag : (word : List ℕ) → takes.id && bytes_eq word (codes "-i") ≡ true → IsFlag takes word
   id_flag word is = let p = and_parts takes.id _ is in found word (codes "-i") (λ w. IsFlag takes w) (IsFlag.id p.0) p.1
@@ -55,7 +58,7 @@ module _ (takes : Takes) where
   -- ---- From the rules to the function
 
   module _ (name : List ℕ) where
-    own_is : (f : Flags) (word : List ℕ) (rest : List (List ℕ)) (s : Switch) → takes.own ≡ Some s → IsSwitch word s
+    own_is : (f : Flags) (word : List ℕ) (rest : List (List ℕ)) (s : Own) → takes.own ≡ s → IsSwitch word s
         → flags_from name takes false f (word ∷ rest) ≡ flags_from name takes false (record f { on = true }) rest
     own_is f word rest s e IsSwitch.noecho = rw (and_right takes.end false refl, own_test word s e IsSwitch.noecho) refl
     own_is f word rest s e IsSwitch.default = rw (and_right takes.end false refl, own_test word s e IsSwitch.default) refl
@@ -78,7 +81,7 @@ module _ (takes : Takes) where
     failed : (f : Flags) (behind : List (List ℕ)) (text : List ℕ) → Wrong name takes behind text → flags_from name takes false f behind ≡ Err text
     failed f behind text (Wrong.unknown word rest minus other) =
         let end = false_from_ne_true (takes.end && bytes_eq word (codes "--")) (λ is. other (end_flag word is)) in
-        let own = false_from_ne_true (is_own takes.own word) (λ is. other (own_flag takes.own word refl is)) in
+        let own = false_from_ne_true (is_own takes.own word) (λ is. other (own_flag word is)) in
         let id = false_from_ne_true (takes.id && bytes_eq word (codes "-i")) (λ is. other (id_flag word is)) in
         rw (minus_is word ∙ minus, end, own, id) refl
     failed f behind text (Wrong.no_id e) = id_is f [] e
@@ -102,7 +105,7 @@ module _ (takes : Takes) where
     at_end : (f : Flags) (words rest : List (List ℕ)) → End takes words rest → Outcome f words
     at_end f words rest h = Outcome.good f words rest (Stand.none f words) h
 
-    switched : (f : Flags) (word : List ℕ) (rest : List (List ℕ)) (s : Switch) → takes.own ≡ Some s → IsSwitch word s → Outcome (record f { on = true }) rest → Outcome f (word ∷ rest)
+    switched : (f : Flags) (word : List ℕ) (rest : List (List ℕ)) (s : Own) → takes.own ≡ s → IsSwitch word s → Outcome (record f { on = true }) rest → Outcome f (word ∷ rest)
     switched f word rest s e is (Outcome.good g behind ws h end) = Outcome.good g behind ws (Stand.own f g word rest behind s e is h) end
     switched f word rest s e is (Outcome.wrong g behind text h bad) = Outcome.wrong g behind text (Stand.own f g word rest behind s e is h) bad
 
@@ -110,9 +113,9 @@ module _ (takes : Takes) where
     identified f word rest e (Outcome.good g behind ws h end) = Outcome.good g behind ws (Stand.id f g word rest behind e h) end
     identified f word rest e (Outcome.wrong g behind text h bad) = Outcome.wrong g behind text (Stand.id f g word rest behind e h) bad
 
-    own_first : (f : Flags) (word : List ℕ) (rest : List (List ℕ)) (own : Option Switch) → takes.own ≡ own → is_own own word ≡ true → Both rest → Outcome f (word ∷ rest)
-    own_first f word rest None e is b = absurd (never (sym is))
-    own_first f word rest (Some s) e is b = found word (switch_word s) (λ w. Outcome f (w ∷ rest)) (switched f (switch_word s) rest s e (is_switch s) (b.0 (record f { on = true }))) is
+    own_first : (f : Flags) (word : List ℕ) (rest : List (List ℕ)) → is_own takes.own word ≡ true → Both rest → Outcome f (word ∷ rest)
+    own_first f word rest is b =
+        own_is_switch (λ w s. takes.own ≡ s → Outcome f (w ∷ rest)) (λ w s is e. switched f w rest s e is (b.0 (record f { on = true }))) takes.own word is refl
 
     first : (f : Flags) (word : List ℕ) (rest : List (List ℕ)) → Both rest → Outcome f (word ∷ rest)
     first f word rest b = by_minus (begins_with 45 word) refl
@@ -123,7 +126,7 @@ module _ (takes : Takes) where
         by_id minus end own false is = Outcome.wrong f (word ∷ rest) _ (Stand.none f (word ∷ rest)) (Wrong.unknown word rest minus (no_flag word end own is))
 
         by_own : begins_with 45 word ≡ true → takes.end && bytes_eq word (codes "--") ≡ false → (t : Bool) → is_own takes.own word ≡ t → Outcome f (word ∷ rest)
-        by_own minus end true is = own_first f word rest takes.own refl is b
+        by_own minus end true is = own_first f word rest is b
         by_own minus end false is = by_id minus end is (takes.id && bytes_eq word (codes "-i")) refl
 
         by_end : begins_with 45 word ≡ true → (t : Bool) → takes.end && bytes_eq word (codes "--") ≡ t → Outcome f (word ∷ rest)

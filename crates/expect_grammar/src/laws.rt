@@ -1,4 +1,4 @@
-//! The laws of the rules. Their functions do nothing: their contracts are the laws.
+//! The laws of the rules. The functions do nothing at run time: their contracts are the laws.
 
 ghost use Rattle.std.specs.Prelude.{◌≡◌, ◌↔◌, ◌⊎◌, ℕ, Bool, true, List, Ok, Err};
 ghost use Rattle.regex.specs.Failures.{IsPattern};
@@ -17,14 +17,15 @@ ghost use Rattle.tty.specs.declared.modes.BadMode.{BadMode};
 ghost use Rattle.tty.specs.declared.modes.Modes.{Modes};
 ghost use Rattle.expect_core.specs.Flags.{flags_of};
 ghost use Rattle.expect_core.specs.declared.flags.Flags.{Flags};
-ghost use Rattle.expect_core.specs.declared.flags.Takes.{Takes};
+ghost use Rattle.command_table.specs.declared.flags.Flags.{Flags as Takes};
 ghost use Rattle.expect_grammar.specs.ArgumentRules.{Write, AreBad};
 ghost use Rattle.expect_grammar.specs.FlagRules.{Say, Fail};
 ghost use Rattle.expect_grammar.specs.ModeRules.{SetModes, FirstBad};
 ghost use Rattle.expect_grammar.specs.PatternTexts.{IsRead};
 
-/// The law of `expect`'s arguments: they are read as a list of patterns just where the rules give them that one, and a fault is told just where the rules
-/// find that first bad argument. So the rules give one list or one bad argument, and never both.
+/// States the law of the arguments of `expect`. They are read as a list of patterns exactly if the
+/// rules give that list. An error is returned exactly if the rules find that first bad argument.
+/// The rules therefore give one list or one bad argument, and never both.
 pub fn argument_rules()
     ensures list { (args : List (List ℕ)) (list : PatternList) → (patterns_of args ≡ Ok list) ↔ Write args list }
     ensures fault { (args : List (List ℕ)) (f : PatternFault) → (patterns_of args ≡ Err f) ↔ AreBad args f }
@@ -33,8 +34,9 @@ pub fn argument_rules()
     ensures never_both { (args : List (List ℕ)) (list : PatternList) (f : PatternFault) → Write args list → ¬ AreBad args f }
 {}
 
-/// The law of `stty_init`'s words: they leave modes just where the rules give them those, and a word is told just where the rules find that first bad one.
-/// So the rules leave one set of modes or find one bad word, and never both.
+/// States the law of the words of `stty_init`. They give modes exactly if the rules give them, and
+/// an error exactly if the rules find that first bad word. The rules therefore give one set of
+/// modes or one bad word, and never both.
 pub fn mode_rules()
     ensures modes { (words : List (List ℕ)) (m : Modes) → (read words ≡ Ok m) ↔ SetModes words m }
     ensures fault { (words : List (List ℕ)) (e : BadMode) → (read words ≡ Err e) ↔ FirstBad words e.at }
@@ -43,9 +45,11 @@ pub fn mode_rules()
     ensures never_both { (words : List (List ℕ)) (m : Modes) (at : ℕ) → SetModes words m → ¬ FirstBad words at }
 {}
 
-/// The law of the flags of commands other than `expect`: they are read, and words are left behind them, just where the rules say that they say this and leave
-/// these, and a command fails with a text just where the rules find that first wrong thing. So of any words the rules find one thing that the flags say and
-/// one rest, or one text, and never both.
+/// States the law of the flags of commands other than `expect`. They are read with a meaning and a
+/// rest exactly if the rules give these. A command fails with a text exactly if the rules find that
+/// first error.
+///
+/// For any words, the rules therefore give one meaning and one rest, or one text, and never both.
 pub fn flag_rules()
     ensures flags { (name : List ℕ) (takes : Takes) (words : List (List ℕ)) (f : Flags) (rest : List (List ℕ)) → (flags_of name takes words ≡ Ok (f, rest)) ↔ Say takes words f rest }
     ensures fault { (name : List ℕ) (takes : Takes) (words : List (List ℕ)) (text : List ℕ) → (flags_of name takes words ≡ Err text) ↔ Fail name takes words text }
@@ -55,8 +59,9 @@ pub fn flag_rules()
     ensures always { (name : List ℕ) (takes : Takes) (words : List (List ℕ)) → ((f : Flags) × (rest : List (List ℕ)) × Say takes words f rest) ⊎ ((text : List ℕ) × Fail name takes words text) }
 {}
 
-/// The law of regular patterns: `regex` reads the text of each, whether or not case counts, and the text nests no deeper than `regex` allows. So it refuses
-/// none but for want of memory, and a build that was refused otherwise was refused for the size of its program alone.
+/// States the law of regular patterns. `regex` parses the text of each pattern, with or without
+/// case, and the text nests no deeper than `regex` allows. It therefore refuses none, except for
+/// memory. A build that fails for another reason fails because the program would be too big.
 pub fn patterns_are_read()
     ensures rules { (text : List ℕ) (nocase : Bool) → RePattern text → IsRead nocase text }
     ensures read { (text : List ℕ) (nocase : Bool) → is_pattern text ≡ true → IsRead nocase text }

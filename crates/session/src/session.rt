@@ -22,7 +22,7 @@ use crate::show::{ending_of, shown, shown_last};
 use crate::watched::Watched;
 use crate::watcher::{Nobody, Watcher};
 use child_events::Event;
-use expect_core::{Dialogue, Pairs, Plan, Request, Settings};
+use expect_core::{DialogueHost, Pairs, Plan, Request, Settings};
 use std::alloc::{AllocError, Global};
 use std::collections::VecDeque;
 use std::marker::Model;
@@ -62,7 +62,7 @@ fn is_memory(pause: &Pause) -> bool
 }
 
 /// Runs on to the next pause, and says whether no memory was refused.
-fn run_on(machine: &mut Machine, dialogue: &mut Dialogue, meter: &mut Meter) -> bool
+fn run_on(machine: &mut Machine, dialogue: &mut DialogueHost, meter: &mut Meter) -> bool
     requires { IsTrue dialogue.old.lives → Good dialogue.old }
     ensures { IsTrue result → Ran machine.old.engine machine.old.mode (left_of meter.old) dialogue.old machine.new.engine machine.new.mode (left_of meter.new) dialogue.new }
 {
@@ -70,7 +70,7 @@ fn run_on(machine: &mut Machine, dialogue: &mut Dialogue, meter: &mut Meter) -> 
     if is_memory(&pause) {
         return false;
     }
-    dialogue.lives()
+    dialogue.state().lives()
 }
 
 /// The requests from a place on.
@@ -103,7 +103,7 @@ fn lay_ready(
 fn lay_behind(
     alloc: Global,
     ready: &mut VecDeque<Request>,
-    dialogue: &Dialogue,
+    dialogue: &DialogueHost,
     asked: usize,
     ran: bool,
 ) -> bool
@@ -112,7 +112,7 @@ fn lay_behind(
     ensures spent { result ≡ false → ready.new.items ≡ [] }
 {
     if ran {
-        if let Ok(()) = lay_ready(alloc, ready, rest_of(dialogue.requests(), asked)) {
+        if let Ok(()) = lay_ready(alloc, ready, rest_of(dialogue.state().requests(), asked)) {
             return true;
         }
     }
@@ -125,7 +125,7 @@ fn lay_behind(
 fn go_on(
     alloc: Global,
     machine: &mut Machine,
-    dialogue: &mut Dialogue,
+    dialogue: &mut DialogueHost,
     meter: &mut Meter,
     ready: &mut VecDeque<Request>,
 ) -> bool
@@ -134,7 +134,7 @@ fn go_on(
     ensures ready { IsTrue result → ready.new.items ≡ ready.old.items ++ drop (length dialogue.old.own.requests) dialogue.new.own.requests }
     ensures spent { result ≡ false → ready.new.items ≡ [] }
 {
-    let asked = dialogue.requests().len();
+    let asked = dialogue.state().requests().len();
     let ran = run_on(machine, dialogue, meter);
     lay_behind(alloc, ready, dialogue, asked, ran)
 }
@@ -153,25 +153,25 @@ fn run_over_watched<W: Watcher + Drop>(
     if is_memory(&pause) {
         return false;
     }
-    watched.dialogue.lives()
+    watched.dialogue.state().lives()
 }
 
 /// A dialogue to which nothing comes, for the place of one that is lent.
-fn nothing(alloc: Global) -> Result<Dialogue, AllocError> {
+fn nothing(alloc: Global) -> Result<DialogueHost, AllocError> {
     let settings = Settings {
         steps: 0,
         limit_ms: None,
         env: Pairs::new(alloc),
         tells_vars: false,
     };
-    Dialogue::new(alloc, &settings)
+    DialogueHost::new(alloc, &settings)
 }
 
 /// Runs on as `run_on` does, and shows a watcher what is met on the way. The watcher is given back.
 fn run_watched<W: Watcher + Drop>(
     alloc: Global,
     machine: &mut Machine,
-    dialogue: &mut Dialogue,
+    dialogue: &mut DialogueHost,
     meter: &mut Meter,
     watcher: W,
 ) -> (bool, W)
@@ -199,7 +199,7 @@ fn run_watched<W: Watcher + Drop>(
 fn go_on_watched<W: Watcher + Drop>(
     alloc: Global,
     machine: &mut Machine,
-    dialogue: &mut Dialogue,
+    dialogue: &mut DialogueHost,
     meter: &mut Meter,
     ready: &mut VecDeque<Request>,
     watcher: W,
@@ -210,14 +210,14 @@ fn go_on_watched<W: Watcher + Drop>(
     ensures spent { result.0 ≡ false → ready.new.items ≡ [] }
     ensures seen { IsTrue result.0 → Sights W.sees (met_by_run machine.old.engine (left_of meter.old) machine.old.mode dialogue.old) watcher (met_by_run machine.new.engine (left_of meter.new) machine.new.mode dialogue.new) result.1 }
 {
-    let asked = dialogue.requests().len();
+    let asked = dialogue.state().requests().len();
     let (ran, watcher) = run_watched(alloc, machine, dialogue, meter, watcher);
     let lives = lay_behind(alloc, ready, dialogue, asked, ran);
     (lives, watcher)
 }
 
 /// Puts events behind what came, one after another.
-fn offer_all(dialogue: &mut Dialogue, events: Vec<Event>)
+fn offer_all(dialogue: &mut DialogueHost, events: Vec<Event>)
     ensures lived { IsTrue dialogue.new.lives → IsTrue dialogue.old.lives }
     ensures came { Good dialogue.old → IsTrue dialogue.new.lives → dialogue.new ≡ extended events.items dialogue.old }
 {
@@ -235,7 +235,7 @@ pub struct Session {
     /// Whether its report tells the variables.
     tells_vars: bool,
     machine: Machine,
-    dialogue: Dialogue,
+    dialogue: DialogueHost,
     meter: Meter,
     /// Copies of the requests that are to be handed out.
     ready: VecDeque<Request>,
@@ -275,7 +275,7 @@ impl Session {
     {
         let vars = first_variables(alloc, settings.env.as_slice())?;
         let mut machine = Machine::new(alloc, source, vars)?;
-        let mut dialogue = Dialogue::new(alloc, settings)?;
+        let mut dialogue = DialogueHost::new(alloc, settings)?;
         let bound = bounded(settings.steps);
         let mut meter = Meter::new(bound);
         let mut ready = VecDeque::new(alloc);
@@ -401,7 +401,7 @@ impl Session {
     pub fn next_request(&mut self) -> Option<Request>
         ensures { HandsOut self.old result self.new }
     {
-        if self.handed >= self.dialogue.requests().len() {
+        if self.handed >= self.dialogue.state().requests().len() {
             return None;
         }
         match self.ready.pop_front() {
@@ -434,7 +434,7 @@ impl Session {
         ensures { HasShown self.now result.now }
     {
         if self.lives {
-            self.dialogue.transcript()
+            self.dialogue.state().transcript()
         } else {
             &[]
         }
@@ -453,7 +453,7 @@ impl Session {
         }
         match self.machine.end() {
             Some(_) => None,
-            None => self.dialogue.deadline(),
+            None => self.dialogue.state().deadline(),
         }
     }
 
@@ -462,7 +462,7 @@ impl Session {
         ensures { HasAsked self.now result.now }
     {
         if self.lives {
-            self.dialogue.requests()
+            self.dialogue.state().requests()
         } else {
             &[]
         }
@@ -494,7 +494,7 @@ impl Session {
         ensures { result ≡ answering self.now }
     {
         if self.goes_on() {
-            self.dialogue.answering()
+            self.dialogue.state().answering()
         } else {
             None
         }
@@ -505,7 +505,7 @@ impl Session {
         ensures { MatchOption result (expecting self.now ≡ None) (λ p. expecting self.now ≡ Some p.now) }
     {
         if self.goes_on() {
-            self.dialogue.expecting()
+            self.dialogue.state().expecting()
         } else {
             None
         }
@@ -515,7 +515,7 @@ impl Session {
     pub fn buffer_copied(&self, alloc: Global, child: u8) -> Result<Text, AllocError>
         ensures { IfOk result (λ t. t ≡ buffer_of child self.now.dialogue.own.children) }
     {
-        self.dialogue.buffer_copied(alloc, child)
+        self.dialogue.state().buffer_copied(alloc, child)
     }
 
     /// How many items that came from a child no command has taken yet: pieces of its output, its end, a failure to read it. The echo of what
@@ -523,7 +523,7 @@ impl Session {
     pub fn untaken(&self, child: u8) -> usize
         ensures { result ≡ untaken_of child self.now.dialogue.lanes }
     {
-        self.dialogue.untaken(child)
+        self.dialogue.state().untaken(child)
     }
 
     /// What came of it so far. Memory is asked for, and refused, only where the session lives.

@@ -7,7 +7,7 @@ ghost use Rattle.session.specs.Shown.{shown as shown_of};
 
 use crate::place::Places;
 use crate::report::{Counts, Report};
-use expect_core::{Dialogue, Pairs};
+use expect_core::{DialogueHost, Pairs};
 use std::alloc::{AllocError, Global};
 use tcl_eval::{Code, End, Machine, Origin};
 use tcl_host::Ending;
@@ -107,7 +107,7 @@ fn said(
     trail: Places,
     steps: u64,
     vars: Pairs,
-    dialogue: &Dialogue,
+    dialogue: &DialogueHost,
 ) -> Result<Report, AllocError>
     ensures { IfOk result (λ r. r ≡ said_with ending fault trail steps vars dialogue.now) }
 {
@@ -115,11 +115,11 @@ fn said(
         ending,
         fault,
         trail,
-        transcript: Text::from_slice(alloc, dialogue.transcript())?,
+        transcript: Text::from_slice(alloc, dialogue.state().transcript())?,
         vars,
-        requests: dialogue.requests_copied(alloc)?,
+        requests: dialogue.state().requests_copied(alloc)?,
         sent: Counts {
-            list: dialogue.sent(alloc)?,
+            list: dialogue.state().sent(alloc)?,
         },
         steps,
     })
@@ -132,7 +132,7 @@ pub(crate) fn shown(
     tells: bool,
     machine: &Machine,
     left: u64,
-    dialogue: &Dialogue,
+    dialogue: &DialogueHost,
 ) -> Result<Report, AllocError>
     ensures { IfOk result (λ r. r ≡ told tells (shown_of bound machine.now.engine machine.now.mode left dialogue.now)) }
 {
@@ -168,11 +168,11 @@ fn said_last(
     trail: Places,
     steps: u64,
     vars: Pairs,
-    dialogue: &mut Dialogue,
+    dialogue: &mut DialogueHost,
 ) -> Result<Report, AllocError>
     ensures { IfOk result (λ r. r ≡ said_with ending fault trail steps vars dialogue.old) }
 {
-    let counts = dialogue.sent(alloc)?;
+    let counts = dialogue.state().sent(alloc)?;
     let (transcript, requests) = dialogue.give_told();
     Ok(Report {
         ending,
@@ -193,7 +193,7 @@ pub(crate) fn shown_last(
     tells: bool,
     machine: &Machine,
     left: u64,
-    dialogue: &mut Dialogue,
+    dialogue: &mut DialogueHost,
 ) -> Result<Report, AllocError>
     ensures { IfOk result (λ r. r ≡ told tells (shown_of bound machine.now.engine machine.now.mode left dialogue.old)) }
 {

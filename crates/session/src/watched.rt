@@ -4,7 +4,7 @@ ghost use Rattle.std.specs.Prelude.{◌≡◌};
 ghost use Rattle.session.specs.Watching.{Sees, met_by};
 
 use crate::watcher::Watcher;
-use expect_core::Dialogue;
+use expect_core::DialogueHost;
 use tcl_commands::Code;
 use tcl_host::{Host, HostStep, Values};
 use tcl_subst::Vars;
@@ -13,7 +13,7 @@ use tcl_values::Value;
 /// A dialogue, and who sees what its expects meet. It answers as the dialogue does.
 #[derive(Drop)]
 pub(crate) struct Watched<W: Watcher + Drop> {
-    pub dialogue: Dialogue,
+    pub dialogue: DialogueHost,
     pub watcher: W,
 }
 
@@ -26,8 +26,9 @@ impl<W: Watcher + Drop> Watched<W> {
         let HostStep::Body(_) = step else {
             return;
         };
-        if let Some(plan) = self.dialogue.acting() {
-            self.watcher.met(plan, vars, self.dialogue.requests());
+        let dialogue = self.dialogue.state();
+        if let Some(plan) = dialogue.acting() {
+            self.watcher.met(plan, vars, dialogue.requests());
         }
     }
 }

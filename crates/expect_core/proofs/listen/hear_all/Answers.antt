@@ -1,8 +1,6 @@
 use Rattle.std.proofs.Common.{◌≡◌, ◌∙◌, None, refl}
 use Rattle.std.specs.Prelude.{box_value, option_map}
 use Rattle.expect_core.proofs.Turns.{listens_on}
-use Rattle.expect_core.proofs.Hushes.{quiet_on}
-use Rattle.expect_core.proofs.Vain.{sought_on}
 use Rattle.expect_core.proofs.listen.hear_all.Goals as goal
 
 pub turns-preserved : goal.turns-preserved
@@ -12,6 +10,5 @@ turns-preserved c =
     let none : option_map box_value r.field-0 ≡ None = rw c.in-None.is refl in (
       listens_on c.args.times c.args.plan.now c.turns.lanes c.turn.new.lanes c.turns.own c.turn.new.own heard none r.ensures.turned r.ensures.fewer
           ∙ c.turns.invariant.0,
-      quiet_on heard c.args.plan.now c.turn.new.quiet c.turn.new.own none r.ensures.quiet,
-      sought_on c.args.plan.now heard c.turn.new.sought c.turn.new.own none r.ensures.sought,
+      r.ensures.knows,
     )

@@ -8,8 +8,8 @@ use Rattle.expect_core.specs.Expecting.{ended}
 use Rattle.expect_core.specs.Going.{after}
 use Rattle.expect_core.proofs.dialogue.Dialogue.await_end.Goals as goal
 
-pub returns-in-None : goal.returns-in-None
-returns-in-None c = λ k vars.
+pub returns-in-None-clause-goes : goal.returns-in-None-clause-goes
+returns-in-None-clause-goes c = λ k vars.
     let w = want.End c.args.i c.args.plan in
     let made : Answer → Own → Turn = λ a o. ended c.args.plan c.args.i (failure a) o in
     c.next_answer.ensures k c.args.left w made vars
