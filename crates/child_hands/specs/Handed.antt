@@ -1,4 +1,4 @@
--- What a hand asks, puts and starts.
+-- The requests, answers and readers of a hand.
 use Rattle.std.specs.Prelude.{◌≡◌, ℕ, ◌+◌, ◌^◌, ◌≤◌, Bool, true, false, ◌&&◌, ◌==◌, List, [], ◌∷◌, ◌++◌, length, Option, None, Some, IfSome, ⊤, ◌≢◌, slice_get, if◌then◌else◌}
 use Rattle.std.specs.declared.io.traits.Read.{Ghosts as ReadGhosts}
 use Rattle.child_events.specs.declared.event.Answer.TheVariants as reply
@@ -37,18 +37,19 @@ is_ok (reply.Fail cause) = false
 is_ok (reply.Exit status) = false
 is_ok reply.Killed = false
 
--- 1 where the answer is a failure
+-- 1 if the answer is a failure, otherwise 0.
 abbrev pub failure_of : Reply → ℕ
 failure_of (reply.Fail cause) = 1
 failure_of reply.Ok = 0
 failure_of (reply.Exit status) = 0
 failure_of reply.Killed = 0
 
--- the answer says that a child was started
+-- The answer says that a child was started.
 abbrev pub starts : Request → Reply → Bool
 starts request answer = is_spawn request.act && is_ok answer
 
--- where a hand is: its keeper's calls and failures, what was taken and put, and the places
+-- The state of a hand: its keeper's numbers of calls and failures, the items taken and put, and the places of the
+-- children.
 pub record At (I W R : Type 0) : Type 0 where
   pub made : ℕ
   pub failed : ℕ
@@ -57,13 +58,13 @@ pub record At (I W R : Type 0) : Type 0 where
   pub works : List W
   pub readers : List R
 
--- this stands at the place now, and the other places are as they were
+-- x is at this index now, and the other places are unchanged.
 pub record PutsAt {X : Type 0} (index : ℕ) (x : X) (old new : List X) : Type 0 where
   pub here : slice_get new index ≡ Some x
   pub others : (i : ℕ) → i ≢ index → slice_get new i ≡ slice_get old i
 
 module _ {K O : Type 0} {g : Ghosts K O} {r : ReadGhosts O} where
-  -- the requests of a ring
+  -- The requests among items.
   abbrev pub requests_of : List (Item K O g r) → List Request
   requests_of [] = []
   requests_of (Ask request ∷ xs) = request ∷ requests_of xs
@@ -73,7 +74,7 @@ module _ {K O : Type 0} {g : Ghosts K O} {r : ReadGhosts O} where
   requests_of (Answer s a ∷ xs) = requests_of xs
   requests_of (Stop ∷ xs) = requests_of xs
 
-  -- how many of the answers are failures
+  -- The number of failures among the answers.
   abbrev pub failures_of : List (Item K O g r) → ℕ
   failures_of [] = 0
   failures_of (Answer s a ∷ xs) = failure_of a.answer + failures_of xs
@@ -83,7 +84,7 @@ module _ {K O : Type 0} {g : Ghosts K O} {r : ReadGhosts O} where
   failures_of (ReadFail s c e ∷ xs) = failures_of xs
   failures_of (Stop ∷ xs) = failures_of xs
 
-  -- what an item asks of a hand
+  -- What an item asks of a hand.
   abbrev pub order_of : Item K O g r → Order
   order_of (Ask request) = Do request
   order_of Stop = Halt
@@ -92,14 +93,15 @@ module _ {K O : Type 0} {g : Ghosts K O} {r : ReadGhosts O} where
   order_of (ReadFail s c e) = Nothing
   order_of (Answer s a) = Nothing
 
-  -- each request was answered once, in order, by the keeper's calls of the numbers after n, as an item of the script
+  -- Each request was answered once, in order, by the keeper's calls after number n. The answers are items of this
+  -- script.
   abbrev pub AreAnswers : ℕ → ℕ → ℕ → List Request → List (Item K O g r) → Type 0
   AreAnswers script name n [] [] = ⊤
   AreAnswers script name n (q ∷ qs) (Answer s a ∷ xs) =
       (s ≡ script) × (a.name ≡ name) × (a.call ≡ n + 1) × (a.request ≡ q) × AreAnswers script name (n + 1) qs xs
   AreAnswers script name n qs xs = ⊥
 
-  -- the number of the call that first started this child
+  -- The number of the call that first started this child.
   abbrev pub spawn_call : ℕ → List (Item K O g r) → Option ℕ
   spawn_call child [] = None
   spawn_call child (Answer s a ∷ xs) = (if (a.request.child == child) && starts a.request a.answer then Some a.call else spawn_call child xs)
@@ -109,30 +111,32 @@ module _ {K O : Type 0} {g : Ghosts K O} {r : ReadGhosts O} where
   spawn_call child (Ask q ∷ xs) = spawn_call child xs
   spawn_call child (Stop ∷ xs) = spawn_call child xs
 
-  -- the bytes that the keeper gives in the call that first started the child are those of the finished ring
+  -- The keeper gave a reader in the call that first started the child. The finished ring contains what that reader
+  -- read.
   abbrev pub IsWorkOf : ℕ → ℕ → ℕ → List (Item K O g r) → FeedIn (Item K O g r) → Finished (Item K O g r) → Type 0
   IsWorkOf script child name put was f =
       EndsRingOf was f
       × ((call : ℕ) × (bytes : Option (List ℕ)) × (spawn_call child put ≡ Some call) × g.gives name call bytes × IsPumpList script child bytes (all_put f))
 
-  -- the place of a child whose ring's end was `was`, after these answers were put
+  -- The place of a child whose ring had the end `was`, after these answers were put.
   abbrev pub IsWork : ℕ → ℕ → ℕ → List (Item K O g r) → FeedIn (Item K O g r) → Work K O g r → Type 0
   IsWork script child name put was (Free fresh) = SameIn was fresh.feed × (spawn_call child put ≡ None)
   IsWork script child name put was (Ended finished) = IfSome finished (IsWorkOf script child name put was)
 
-  -- the places of the children 1, 2 and so on
+  -- The places of the children 1, 2 and so on.
   abbrev pub AreWorks : ℕ → ℕ → List (Item K O g r) → List (FeedIn (Item K O g r)) → List (Work K O g r) → Type 0
   AreWorks script name put feeds works =
       (i : ℕ) (was : FeedIn (Item K O g r)) (work : Work K O g r)
       → slice_get feeds i ≡ Some was → slice_get works i ≡ Some work → IsWork script (i + 1) name put was work
 
-  -- between these two lists of answers this child was started by that call, where it wasn't before, and no other child was
+  -- Between these two lists of answers, this call started the child, unless it had been started before. No other child
+  -- was started.
   pub record StartsAt (child call : ℕ) (put put' : List (Item K O g r)) : Type 0 where
     pub others : (c : ℕ) → c ≢ child → spawn_call c put' ≡ spawn_call c put
     pub first : spawn_call child put ≡ None → spawn_call child put' ≡ Some call
     pub later : (k : ℕ) → spawn_call child put ≡ Some k → spawn_call child put' ≡ Some k
 
-  -- a running reader, after these answers were put
+  -- A running reader, after these answers were put.
   abbrev pub IsReader : ℕ → ℕ → List (Item K O g r) → List (FeedIn (Item K O g r)) → Reader K O g r → Type 0
   IsReader script name put feeds reader =
       (was : FeedIn (Item K O g r)) → slice_get feeds reader.index ≡ Some was
@@ -143,63 +147,65 @@ module _ {K O : Type 0} {g : Ghosts K O} {r : ReadGhosts O} where
   AreReaders script name put feeds [] = ⊤
   AreReaders script name put feeds (x ∷ xs) = IsReader script name put feeds x × AreReaders script name put feeds xs
 
-  -- the places of the children, and their readers
+  -- The places of the children, and their readers.
   pub record ArePlaces (script name : ℕ) (put : List (Item K O g r)) (feeds : List (FeedIn (Item K O g r))) (works : List (Work K O g r)) (readers : List (Reader K O g r)) : Type 0 where
     pub free : AreWorks script name put feeds works
     pub busy : AreReaders script name put feeds readers
 
-  -- a child's first place was taken
+  -- The free place of a child was taken.
   abbrev pub TakesPlace : ℕ → Fresh K O g r → List (Work K O g r) → List (Work K O g r) → Type 0
   TakesPlace index fresh works works' = (slice_get works index ≡ Some (Free fresh)) × PutsAt index (Ended None) works works'
 
-  -- the place isn't free
+  -- The place isn't free.
   abbrev pub IsTaken : ℕ → List (Work K O g r) → Type 0
   IsTaken index works = (fresh : Fresh K O g r) → slice_get works index ≢ Some (Free fresh)
 
-  -- the places after a child gave a reader of these bytes
+  -- The places after a child was given a reader of these bytes.
   abbrev pub KeepsWorks : ℕ → ℕ → Option (List ℕ) → List (Work K O g r) → List (Reader K O g r) → List (Work K O g r) → List (Reader K O g r) → Type 0
   KeepsWorks script child bytes works readers works' readers' =
       (name call : ℕ) (put put' : List (Item K O g r)) (feeds : List (FeedIn (Item K O g r)))
       → g.gives name call bytes → StartsAt child call put put' → ArePlaces script name put feeds works readers → ArePlaces script name put' feeds works' readers'
 
-  -- a hand that has taken and put these items, since its keeper had made `start` calls, of which `before` had failed
+  -- A hand that has taken and put these items. When it began, its keeper had made `start` calls, and `before` of them
+  -- had failed.
   pub record IsGoing (script name start before made failed : ℕ) (taken put : List (Item K O g r)) (feeds : List (FeedIn (Item K O g r))) (works : List (Work K O g r)) (readers : List (Reader K O g r)) : Type 0 where
     pub answers : AreAnswers script name start (requests_of taken) put
     pub calls : made ≡ start + length (requests_of taken)
     pub fails : before + failures_of put ≤ failed
     pub places : ArePlaces script name put feeds works readers
 
-  -- what a hand that went on from there has come to
+  -- The state of a hand that went on from another state.
   abbrev pub GoesOn : ℕ → ℕ → At (Item K O g r) (Work K O g r) (Reader K O g r) → At (Item K O g r) (Work K O g r) (Reader K O g r) → Type 0
   GoesOn script name a b =
       (start before : ℕ) (feeds : List (FeedIn (Item K O g r)))
       → IsGoing script name start before a.made a.failed a.taken a.put feeds a.works a.readers
       → IsGoing script name start before b.made b.failed b.taken b.put feeds b.works b.readers
 
-  -- one request more was taken and answered
+  -- One more request was taken and answered.
   abbrev pub KeepsGoing : ℕ → ℕ → Request → At (Item K O g r) (Work K O g r) (Reader K O g r) → At (Item K O g r) (Work K O g r) (Reader K O g r) → Type 0
   KeepsGoing script name request a b = (taken : List (Item K O g r)) → GoesOn script name (record a { taken = taken }) (record b { taken = taken ++ Ask request ∷ [] })
 
   abbrev pub EndsInStop : List (Item K O g r) → Type 0
   EndsInStop taken = (xs : List (Item K O g r)) × (taken ≡ xs ++ Stop ∷ [])
 
-  -- A hand ends behind the stop, where its keeper has no number left, or where the ring for its answers is full and the end that takes them is gone.
+  -- A hand ends after `Stop`, or if its keeper has no number left. It also ends if the ring for its answers is full and
+  -- has no taking end.
   abbrev pub IsEnded : Outcome → ℕ → ℕ → List (Item K O g r) → Type 0
   IsEnded Stopped made space taken = EndsInStop taken
   IsEnded Exhausted made space taken = 2 ^ 63 ≤ made
   IsEnded Left made space taken = space ≡ 0
 
-  -- these places can stand for those
+  -- These places and readers can replace those.
   abbrev pub KeepsPlaces : List (Work K O g r) → List (Reader K O g r) → List (Work K O g r) → List (Reader K O g r) → Type 0
   KeepsPlaces works readers works' readers' =
       (script name : ℕ) (put : List (Item K O g r)) (feeds : List (FeedIn (Item K O g r)))
       → ArePlaces script name put feeds works readers → ArePlaces script name put feeds works' readers'
 
-  -- what a reader put stands at its child's place, if that can be had
+  -- The items that a reader put are at its child's place, if they are available.
   abbrev pub EndsReader : Reader K O g r → List (Work K O g r) → List (Work K O g r) → Type 0
   EndsReader reader works works' = (readers : List (Reader K O g r)) → KeepsPlaces works (readers ++ reader ∷ []) works' readers
 
-  -- what a hand that was given these comes to
+  -- The result of a hand that was given these.
   pub record IsHandEnd (script : ℕ) (keeper : K) (asks : FeedOut (Item K O g r)) (answers : FeedIn (Item K O g r)) (works : List (Work K O g r)) (e : HandEnd K O g r) : Type 0 where
     pub made : ℕ
     pub failed : ℕ

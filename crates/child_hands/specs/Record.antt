@@ -1,4 +1,4 @@
--- A record of events, and the items of the ring through which it goes.
+-- A record of events, and the items of its ring.
 use Rattle.std.specs.Prelude.{ℕ, ◌≤◌, List, [], ◌∷◌}
 use Rattle.std.specs.List.{flat_map}
 use Rattle.child_events.specs.declared.event.HallEvent.{HallEvent}
@@ -10,12 +10,12 @@ abbrev pub moment_in : HallEvent → ℕ
 moment_in (hall.Child s c m x) = m
 moment_in (hall.Tick m) = m
 
--- no moment is below the one before it, and the first is not below this one
+-- The moments don't decrease, and none is below `least`.
 abbrev pub AscendsFrom : ℕ → List HallEvent → Type 0
 AscendsFrom least [] = Unit {0}
 AscendsFrom least (e ∷ es) = (least ≤ moment_in e) × AscendsFrom (moment_in e) es
 
--- moments don't go back
+-- The moments don't decrease.
 abbrev pub Ascends : List HallEvent → Type 0
 Ascends es = AscendsFrom 0 es
 
@@ -23,7 +23,7 @@ abbrev pub events_at : LogItem → List HallEvent
 events_at (Event e) = e ∷ []
 events_at (Still m) = []
 
--- the events among items
+-- The events among items.
 abbrev pub events_in : List LogItem → List HallEvent
 events_in xs = flat_map events_at xs
 
@@ -31,7 +31,7 @@ abbrev pub moment_at : LogItem → ℕ
 moment_at (Event e) = moment_in e
 moment_at (Still m) = m
 
--- no moment of an item is below the one before it, and the first is not below this one
+-- The moments of the items don't decrease, and none is below `least`.
 abbrev pub ItemsAscendFrom : ℕ → List LogItem → Type 0
 ItemsAscendFrom least [] = Unit {0}
 ItemsAscendFrom least (x ∷ xs) = (least ≤ moment_at x) × ItemsAscendFrom (moment_at x) xs

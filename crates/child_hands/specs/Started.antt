@@ -1,4 +1,4 @@
--- What came of starting a reader.
+-- The result of starting a reader.
 use Rattle.std.specs.Prelude.{◌≡◌, ℕ}
 use Rattle.std.specs.declared.io.traits.Read.{Ghosts as ReadGhosts}
 use Rattle.child_hands.specs.declared.keeper.Keeper.{Ghosts}
@@ -9,7 +9,7 @@ use Rattle.child_hands.specs.declared.reader.Started.TheVariants.{Running, Refus
 use Rattle.child_hands.specs.Pumped.{IsRead}
 
 module _ {K O : Type 0} {g : Ghosts K O} {r : ReadGhosts O} where
-  -- a reader of that device runs for the child's ring, or the ring is read to its end
+  -- A reader of the device runs for the child's ring, or the ring is finished.
   abbrev pub IsStarted : ℕ → ℕ → FeedIn (Item K O g r) → O → Started K O g r → Type 0
   IsStarted script child was out (Running handle) =
       (handle.promise.script ≡ script) × (handle.promise.child ≡ child) × (handle.promise.feed.value ≡ was) × (handle.promise.out.value ≡ out)

@@ -1,4 +1,4 @@
--- Requests and answers, as a keeper tells of them.
+-- Requests and answers of a keeper's calls.
 use Rattle.std.specs.Prelude.{ℕ, Result, Ok, Err}
 use Rattle.child_events.specs.declared.event.Cause.{Cause}
 use Rattle.child_events.specs.declared.event.Answer.{Answer}
@@ -9,7 +9,7 @@ use Rattle.expect_core.specs.declared.request.Request.{Request}
 abbrev pub asked_of : ℕ → Act → Request
 asked_of child act = record { child = child; act = act }
 
--- the answer that a call's result stands for
+-- The answer for a call's result.
 abbrev pub answer_of : {X : Type 0} → Result X Cause → Answer
 answer_of (Ok x) = answer.Ok
 answer_of (Err cause) = answer.Fail cause

@@ -1,4 +1,4 @@
-//! The children of a script: their places, and the readers that run.
+//! The children of a script: their places, and the running readers.
 
 ghost use Rattle.std.specs.Prelude.{◌≡◌, ◌<◌, ◌≤◌, ◌++◌, ◌∷◌, [], length, vec_len, MatchOption};
 ghost use Rattle.feed_rings.specs.Ends.{put_items};
@@ -15,7 +15,7 @@ use std::mem;
 use std::sync::Wait;
 use std::thread::Threads;
 
-/// The places of a script's children, from child 1 on, and the readers that run.
+/// The places of a script's children, from child 1 on, and the running readers.
 #[derive(Drop)]
 pub struct Children<K: Keeper> {
     pub works: Vec<Work<K>>,
@@ -23,7 +23,7 @@ pub struct Children<K: Keeper> {
 }
 
 impl<K: Keeper> Children<K> {
-    /// Children of whom none has a reader yet.
+    /// Creates the places of children without readers.
     pub fn new(alloc: Global, works: Vec<Work<K>>) -> Children<K>
         ensures { (result.works.items ≡ works.items) × (result.readers.items ≡ []) }
     {
@@ -33,7 +33,7 @@ impl<K: Keeper> Children<K> {
         }
     }
 
-    /// Takes the ring's end of a child that has had no reader.
+    /// Takes the free place of a child. `None` if it isn't free.
     fn take_place(&mut self, index: usize) -> Option<Fresh<K>>
         requires { index < vec_len self.old.works }
         ensures readers { self.new.readers ≡ self.old.readers }
@@ -50,7 +50,7 @@ impl<K: Keeper> Children<K> {
         }
     }
 
-    /// Keeps what a child's reader put.
+    /// Keeps the items that a child's reader put.
     fn keep(&mut self, index: usize, finished: Option<Finished<Item<K>>>)
         requires { index < vec_len self.old.works }
         ensures readers { self.new.readers ≡ self.old.readers }
@@ -60,7 +60,7 @@ impl<K: Keeper> Children<K> {
         drop(mem::replace(&mut self.works[index], Work::Ended(finished)));
     }
 
-    /// Starts a reader for a child, where it has had none.
+    /// Starts a reader for a child, if its place is free.
     pub fn place<W: Threads + Wait + Copy + Send + 'static>(
         &mut self,
         rt: W,
@@ -93,7 +93,7 @@ impl<K: Keeper> Children<K> {
         }
     }
 
-    /// Waits for a reader.
+    /// Waits for a reader to end.
     fn end_one<W: Threads>(&mut self, rt: &W, reader: Reader<K>)
         ensures readers { self.new.readers ≡ self.old.readers }
         ensures size { vec_len self.new.works ≡ vec_len self.old.works }
@@ -106,7 +106,7 @@ impl<K: Keeper> Children<K> {
         }
     }
 
-    /// Waits for all readers.
+    /// Waits for all readers to end.
     pub fn end_all<W: Threads>(&mut self, rt: &W)
         ensures kept { KeepsPlaces self.old.works.items self.old.readers.items self.new.works.items self.new.readers.items }
         ensures size { vec_len self.new.works ≡ vec_len self.old.works }

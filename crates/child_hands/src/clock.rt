@@ -1,7 +1,7 @@
-//! What tells the time.
+//! Clocks.
 
-/// Tells moments. It may go back; whoever reads it sees to that.
+/// A clock. It may go back; its reader must handle that.
 pub trait Clock {
-    /// The moment, in milliseconds since a start of the clock's own.
+    /// Returns the time in milliseconds since an origin of the clock's own.
     fn now(&mut self) -> u64;
 }

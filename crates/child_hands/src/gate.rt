@@ -1,7 +1,8 @@
-//! What lets requests pass.
+//! Gates for requests.
 
-/// Says when a request may be carried out, so that an order among several scripts can be brought about.
+/// Decides when a request may be carried out, so that requests of several scripts can be ordered.
 pub trait Gate {
-    /// Whether a request of this script to this child may be carried out now; `turn` counts how often it was refused so far.
+    /// Returns whether a request of this script to this child may be carried out now. `turn` is the
+    /// number of earlier refusals.
     fn pass(&self, script: u8, child: u8, turn: u64) -> bool;
 }

@@ -1,4 +1,4 @@
-//! A hand: carries out a script's requests, and starts a reader for each child.
+//! A hand: the thread that carries out a script's requests and starts a reader for each child.
 
 ghost use Rattle.std.specs.Prelude.{◌≡◌, ◌+◌, ◌^◌, ◌<◌, ◌≤◌, [], ◌∷◌, ◌++◌, IfSome, is_some, vec_len};
 ghost use Rattle.child_hands.specs.Told.{answer_of};
@@ -16,13 +16,13 @@ use std::alloc::Global;
 use std::sync::{Arc, Wait};
 use std::thread::Threads;
 
-/// How many calls a keeper has numbers for.
+/// The most calls of a keeper.
 const CALLS: u64 = 1 << 63;
 
-/// How often a request is refused at most.
+/// The most refusals of a request.
 const REFUSALS: u64 = 10_000;
 
-/// A hand's ends of its two rings, and the bell on which it rests.
+/// The ends of a hand's two rings, and its bell.
 #[derive(Drop)]
 struct Ends<K: Keeper> {
     asks: FeedOut<Item<K>>,
@@ -30,7 +30,7 @@ struct Ends<K: Keeper> {
     bell: Bell,
 }
 
-/// How a hand has ended, and how many requests were forced.
+/// Why a hand has ended, and the number of forced requests.
 #[derive(Drop)]
 struct Obeyed {
     outcome: Outcome,
@@ -46,7 +46,7 @@ fn answer_to(outcome: Result<(), Cause>) -> Answer
     }
 }
 
-/// Asks the keeper, once. A child that was started gives its output.
+/// Calls the keeper once. For a child that was started, returns the device to read its output from.
 fn ask<K: Keeper>(keeper: &mut K, request: &Request) -> (Answer, Option<K::Out>)
     requires { K.made keeper.old < 2 ^ 63 }
     ensures name { K.named keeper.new ≡ K.named keeper.old }
@@ -69,7 +69,7 @@ fn ask<K: Keeper>(keeper: &mut K, request: &Request) -> (Answer, Option<K::Out>)
     }
 }
 
-/// Asks the keeper once, puts the answer, and starts a reader where a child was started.
+/// Calls the keeper once, puts the answer, and starts a reader if a child was started.
 fn carry_out<K: Keeper + Send + 'static, W: Threads + Wait + Copy + Send + 'static>(
     rt: W,
     alloc: Global,
@@ -111,7 +111,8 @@ fn order_in<K: Keeper>(item: Item<K>) -> Order
     }
 }
 
-/// Whether the gate lets a request pass. It is asked again at once where it doesn't, but not for ever.
+/// Returns whether the gate lets a request pass. Asks again at once after a refusal, a limited
+/// number of times.
 fn passes<G: Gate>(gate: &G, script: u8, child: u8) -> bool {
     for turn in 0..REFUSALS {
         if gate.pass(script, child, turn) {
@@ -121,7 +122,7 @@ fn passes<G: Gate>(gate: &G, script: u8, child: u8) -> bool {
     false
 }
 
-/// Carries out what is asked. No request is taken before there is room for its answer.
+/// Carries out requests. Takes a request only if there is room for its answer.
 fn obey<K: Keeper + Send + 'static, G: Gate, W: Threads + Wait + Copy + Send + 'static>(
     rt: W,
     alloc: Global,
@@ -171,12 +172,14 @@ fn obey<K: Keeper + Send + 'static, G: Gate, W: Threads + Wait + Copy + Send + '
     unreachable!()
 }
 
-/// Carries out the requests of a script until the stop, and waits for its children's readers.
+/// Carries out the requests of a script until `Stop`, and waits for the readers of its children.
 ///
-/// Each request waits for the gate, which is asked again at once after a refusal; after 10,000 refusals the request is
-/// carried out all the same, and counts as forced. The keeper is dropped before the readers are waited for, so that each
-/// child's input ends. The bell is the one to which the ring of the requests and from which that of the answers was made;
-/// place k of `works` is that of child k + 1.
+/// Each request waits for the gate, which is asked again at once after a refusal. After 10,000
+/// refusals the request is carried out anyway, and is counted as forced. The keeper is dropped
+/// before the readers are waited for, so that each child's input ends.
+///
+/// `bell` must be the bell that the ring of requests rings, and that the ring of answers was made
+/// to put from. `works[k]` is the place of child k + 1.
 pub fn hand<
     K: Keeper + Send + Drop + 'static,
     G: Gate + Drop,

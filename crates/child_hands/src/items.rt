@@ -1,4 +1,4 @@
-//! What goes through the rings between a desk, a hand and a child's reader.
+//! The items of the rings between a desk, a hand and a child's reader.
 
 ghost use Rattle.std.specs.Prelude.{◌≡◌};
 
@@ -8,23 +8,23 @@ use child_events::{Answer, Cause};
 use expect_core::Request;
 use std::marker::PhantomData;
 
-/// A keeper's answer, which is known to be what the keeper told at that call.
+/// A keeper's answer, with the proof that the keeper gave it in that call.
 #[derive(Drop)]
 pub struct Answered<K: Keeper> {
-    /// The keeper's name.
+    /// The name of the keeper.
     pub name: u64,
-    /// The call's number.
+    /// The number of the call.
     pub call: u64,
-    /// What was asked.
+    /// The request.
     pub request: Request,
-    /// What came of it.
+    /// The answer.
     pub answer: Answer,
     of: PhantomData<K>,
     pub ghost told: { ∥ K.told name call request answer ∥₁ },
 }
 
 impl<K: Keeper> Answered<K> {
-    /// The answer of a call.
+    /// Creates the answer of a call.
     pub fn new(name: u64, call: u64, request: Request, answer: Answer) -> Self
         requires { K.told name call request answer }
         ensures { (result.name ≡ name) × (result.call ≡ call) × (result.request ≡ request) × (result.answer ≡ answer) }
@@ -39,19 +39,19 @@ impl<K: Keeper> Answered<K> {
     }
 }
 
-/// What goes through a ring. Scripts have the numbers 1 to 64, children 1 to 16.
+/// An item of a ring. Scripts are numbered 1 to 64, children 1 to 16.
 #[derive(Drop)]
 pub enum Item<K: Keeper> {
-    /// A reader's: a child wrote this.
+    /// From a reader: a child wrote this piece.
     Out { script: u8, child: u8, piece: Piece },
-    /// A reader's last: a child's output has ended.
+    /// The last item of a reader: the child's output has ended.
     End { script: u8, child: u8 },
-    /// A reader's last: no more can be read of a child's output.
+    /// The last item of a reader: reading the child's output failed.
     ReadFail { script: u8, child: u8, cause: Cause },
-    /// A hand's: what came of a request.
+    /// From a hand: the answer to a request.
     Answer { script: u8, answered: Answered<K> },
-    /// To a hand: a request to be carried out.
+    /// To a hand: a request to carry out.
     Ask(Request),
-    /// To a hand: no request follows.
+    /// To a hand: no further request.
     Stop,
 }

@@ -1,4 +1,4 @@
-//! What a keeper of children tells of its calls.
+//! Keepers of children, and the contracts of their calls.
 
 ghost use Rattle.std.specs.Prelude.{◌≡◌, ◌+◌, ◌^◌, ◌<◌, ◌≤◌, ℕ, List, Option, IfOk, OnErr};
 ghost use Rattle.child_events.specs.declared.event.Answer.{Answer};
@@ -10,29 +10,32 @@ use child_events::{Answer, Cause};
 use std::io::Read;
 use tcl_words::{Text, Texts};
 
-/// Starts children and carries out what is asked of them.
+/// Starts children and carries out requests to them.
 ///
-/// What `told` and `gives` mean is the keeper's own. Code that is generic over keepers knows them from a call alone.
+/// Each keeper defines the meaning of `told` and `gives`. Code that is generic over keepers learns
+/// them only from calls.
 pub trait Keeper {
-    /// What a child's output is read from.
+    /// The device from which a child's output is read.
     type Out: Read + Send + Drop + 'static;
 
-    /// Its name.
+    /// The name of the keeper.
     ghost named: { Self → ℕ };
 
-    /// How many calls were made.
+    /// The number of calls.
     ghost made: { Self → ℕ };
 
-    /// How many of them failed.
+    /// The number of calls that failed.
     ghost failed: { Self → ℕ };
 
-    /// The call of this number by the keeper of this name was this request, and this was its answer.
+    /// The call with this number of the keeper with this name was this request, and had this
+    /// answer.
     ghost told: { ℕ → ℕ → Request → Answer → Type 0 };
 
-    /// That call handed out a reader of these bytes, where the reader tells them.
+    /// That call returned a reader of these bytes, as far as the reader knows its bytes.
     ghost gives: { ℕ → ℕ → Option (List ℕ) → Type 0 };
 
-    /// Starts a child: the program and its arguments.
+    /// Starts a child with this program and its arguments. Returns the device to read its output
+    /// from.
     fn spawn(&mut self, child: u8, argv: &Texts) -> Result<Self::Out, Cause>
         requires { made self.old < 2 ^ 63 }
         ensures name { named self.new ≡ named self.old }
@@ -42,7 +45,7 @@ pub trait Keeper {
         ensures gives { IfOk result (λ out. gives (named self.new) (made self.new) (Self.Out.remaining out)) }
         ensures fails { OnErr result (failed self.old < failed self.new) };
 
-    /// Hands bytes to a child.
+    /// Writes bytes to a child.
     fn write(&mut self, child: u8, bytes: &Text) -> Result<(), Cause>
         requires { made self.old < 2 ^ 63 }
         ensures name { named self.new ≡ named self.old }
@@ -51,7 +54,7 @@ pub trait Keeper {
         ensures told { told (named self.new) (made self.new) (asked_of child (Write bytes.now)) (answer_of result) }
         ensures fails { OnErr result (failed self.old < failed self.new) };
 
-    /// Ends a child's input.
+    /// Ends the input of a child.
     fn end(&mut self, child: u8) -> Result<(), Cause>
         requires { made self.old < 2 ^ 63 }
         ensures name { named self.new ≡ named self.old }
@@ -60,7 +63,7 @@ pub trait Keeper {
         ensures told { told (named self.new) (made self.new) (asked_of child End) (answer_of result) }
         ensures fails { OnErr result (failed self.old < failed self.new) };
 
-    /// Lets a child go.
+    /// Closes a child.
     fn close(&mut self, child: u8) -> Result<(), Cause>
         requires { made self.old < 2 ^ 63 }
         ensures name { named self.new ≡ named self.old }
@@ -69,7 +72,7 @@ pub trait Keeper {
         ensures told { told (named self.new) (made self.new) (asked_of child Close) (answer_of result) }
         ensures fails { OnErr result (failed self.old < failed self.new) };
 
-    /// Waits for a child's end.
+    /// Waits for a child to end. Returns how it ended, or a failure.
     fn wait(&mut self, child: u8) -> Answer
         requires { made self.old < 2 ^ 63 }
         ensures name { named self.new ≡ named self.old }
@@ -78,15 +81,15 @@ pub trait Keeper {
         ensures told { told (named self.new) (made self.new) (asked_of child Wait) result }
         ensures fails { IsFailure result → failed self.old < failed self.new };
 
-    /// Its name.
+    /// Returns the name of the keeper.
     fn name(&self) -> u64
         ensures { result ≡ named self.now };
 
-    /// How many calls were made.
+    /// Returns the number of calls.
     fn calls(&self) -> u64
         ensures { result ≡ made self.now };
 
-    /// How many of them failed.
+    /// Returns the number of calls that failed.
     fn failures(&self) -> u64
         ensures { result ≡ failed self.now };
 }

@@ -1,8 +1,9 @@
-//! The threads between a script's desk and its children: a hand that carries out requests, and a reader for each child.
+//! The threads between a script's desk and its children: a hand that carries out requests, and a
+//! reader for each child.
 //!
-//! A hand takes requests from one ring, asks a [`Keeper`] to carry them out, and puts its answers into another ring; each child's reader puts what
-//! the child wrote into a ring of its own. Everybody rests on a bell where there is nothing to do. [`Clock`] tells the time, and a [`Gate`] lets a
-//! request pass.
+//! A hand takes requests from one ring, calls a [`Keeper`] to carry them out, and puts the answers
+//! into another ring. The reader of a child puts the child's output into a ring of its own. A
+//! thread without work rests on its bell. [`Clock`] is the time, and a [`Gate`] orders requests.
 #![tactic(auto)]
 
 pub mod children;

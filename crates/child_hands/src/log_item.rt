@@ -1,12 +1,12 @@
-//! What goes through the ring of a worker's record.
+//! The items of a worker's record.
 
 use child_events::HallEvent;
 
-/// What a worker puts into the ring of its record.
+/// An item that a worker puts into the ring of its record.
 #[derive(Drop)]
 pub enum LogItem {
-    /// An event that its hall took.
+    /// An event that the worker's hall took.
     Event(HallEvent),
-    /// No event of an earlier moment comes behind this.
+    /// No later event has an earlier moment than this.
     Still(u64),
 }

@@ -1,14 +1,14 @@
-//! What a hand is to do.
+//! Orders to a hand.
 
 use expect_core::Request;
 
 /// What an item asks of a hand.
 #[derive(Drop)]
 pub enum Order {
-    /// To carry out a request.
+    /// Carry out a request.
     Do(Request),
-    /// To end.
+    /// End.
     Halt,
-    /// Nothing: the item isn't one for a hand.
+    /// Do nothing: the item isn't for a hand.
     Nothing,
 }

@@ -1,4 +1,4 @@
-//! Pieces of what a child writes.
+//! Pieces of a child's output.
 
 ghost use Rattle.std.specs.Prelude.{◌≡◌, ◌≤◌, [], length, vec_len, vec_capacity, IfOk};
 
@@ -6,7 +6,7 @@ use std::alloc::{AllocError, Global};
 use std::marker::Model;
 use tcl_words::Text;
 
-/// Bytes that a child wrote, 1 to 4,096. A contract sees the list.
+/// 1 to 4,096 bytes that a child wrote. A contract sees a list.
 #[derive(Drop)]
 pub struct Piece {
     text: Text,
@@ -23,7 +23,7 @@ impl Model for Piece {
 }
 
 impl Piece {
-    /// A piece of these bytes, copied.
+    /// Creates a piece from a copy of these bytes. Requires 1 to 4,096 bytes.
     pub fn new(alloc: Global, bytes: &[u8]) -> Result<Piece, AllocError>
         requires { (1 ≤ length bytes.now) × (length bytes.now ≤ 4096) }
         ensures { IfOk result (λ p. (p ≡ bytes.now) × (1 ≤ length p) × (length p ≤ 4096)) }
@@ -33,7 +33,7 @@ impl Piece {
         })
     }
 
-    /// Its bytes.
+    /// Returns the bytes.
     pub fn text(&self) -> &Text
         ensures bytes { result.now ≡ self.now }
         ensures size { (1 ≤ length self.now) × (length self.now ≤ 4096) }
@@ -41,7 +41,7 @@ impl Piece {
         &self.text
     }
 
-    /// Its bytes, with no growth.
+    /// Returns the bytes without copying them.
     pub fn into_text(self) -> Text
         ensures bytes { result ≡ self }
         ensures size { (1 ≤ length self) × (length self ≤ 4096) }
@@ -50,7 +50,8 @@ impl Piece {
         text
     }
 
-    /// Its bytes once more, in room that was made before.
+    /// Returns a copy of the bytes in a buffer that is already allocated. Requires an empty buffer
+    /// with a capacity of at least 4,096 bytes.
     pub fn copied_into(&self, room: Vec<u8>) -> Text
         requires { (room.items ≡ []) × (4096 ≤ vec_capacity room) }
         ensures { result ≡ self.now }

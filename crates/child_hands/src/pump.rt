@@ -1,4 +1,4 @@
-//! Reads what a child writes, and puts it in pieces.
+//! Reads a child's output and puts it into a ring, in pieces.
 
 ghost use Rattle.std.specs.Prelude.{◌≡◌, ◌+◌, ◌^◌, ◌<◌, ◌≤◌, [], ◌∷◌, ◌++◌, IfSome, ℕ, List, Option};
 ghost use Rattle.feed_rings.specs.Ends.{put_items, all_put, SameIn};
@@ -12,16 +12,18 @@ use std::alloc::Global;
 use std::io::{ErrorKind, Read};
 use std::sync::Wait;
 
-/// How often a child's output is read at most.
+/// The most reads of a child's output.
 const READS: u64 = 1 << 40;
 
-/// How many bytes are read at once.
+/// The most bytes in one read.
 const SIZE: usize = 4096;
 
-/// Reads pieces to the end or a failure, and puts them. None where the taking end of the ring is gone.
+/// Reads a device to its end or a failure, and puts its bytes in pieces. `None` if the taking end
+/// of the ring is gone.
 ///
-/// An interrupted read is tried again. A refused piece ends the list with the cause `Memory`, and a failed read, or the last
-/// of all reads that it may make, with `Other`. The bell is the one from which the ring was made to put.
+/// An interrupted read is tried again. If a piece is refused memory, the list ends with the cause
+/// `Memory`. If a read fails, or the limit on reads is reached, it ends with the cause `Other`.
+/// `bell` must be the bell that the ring was made to put from.
 pub fn pump<K: Keeper, R: Read, W: Wait>(
     rt: &W,
     alloc: Global,
@@ -44,7 +46,7 @@ pub fn pump<K: Keeper, R: Read, W: Wait>(
     feed.finish()
 }
 
-/// Puts the pieces, and gives the last item.
+/// Puts the pieces, and returns the last item.
 fn put_pieces<K: Keeper, R: Read, W: Wait>(
     rt: &W,
     alloc: Global,
@@ -88,7 +90,7 @@ fn put_pieces<K: Keeper, R: Read, W: Wait>(
     Some(read_failure(script, child, Cause::Other))
 }
 
-/// Puts a read failure in place of what a reader would have put. None where the ring has no room for it.
+/// Puts a read failure instead of a reader's items. `None` if the ring has no room for it.
 pub fn give_up<K: Keeper>(script: u8, child: u8, feed: FeedIn<Item<K>>) -> Option<Finished<Item<K>>>
     requires { put_items feed ≡ [] }
     ensures { (bytes : Option (List ℕ)) → IsRead script child bytes feed result }

@@ -1,4 +1,4 @@
-//! A child's reader in a thread of its own.
+//! A child's reader in its own thread.
 
 ghost use Rattle.std.specs.Prelude.{◌≡◌, ℕ, []};
 ghost use mathlib.Core.List.{Mem};
@@ -18,17 +18,17 @@ use std::sync::{Arc, Wait};
 use std::thread;
 use std::thread::{Promise, PromisedHandle, Threads};
 
-/// How many bytes of stack a reader and a hand have each.
+/// The stack size of a reader and of a hand, in bytes.
 pub const STACK: usize = 262_144;
 
-/// What a reader's thread promises of what it put.
+/// The promise of a reader's thread about the items it puts.
 #[derive(Drop)]
 pub struct Reads<K: Keeper> {
     pub script: u8,
     pub child: u8,
-    /// The end into which it puts.
+    /// The end of the ring into which it puts.
     pub feed: Snapshot<FeedIn<Item<K>>>,
-    /// What it reads.
+    /// The device that it reads.
     pub out: Snapshot<K::Out>,
 }
 
@@ -36,16 +36,17 @@ impl<K: Keeper> Promise<Option<Finished<Item<K>>>> for Reads<K> {
     ghost kept_by = { λ p r. IsRead p.script p.child (K.Out.remaining p.out.value) p.feed.value r };
 }
 
-/// What came of starting a reader.
+/// The result of starting a reader.
 #[derive(Drop)]
 pub enum Started<K: Keeper> {
-    /// It runs.
+    /// The reader runs.
     Running(PromisedHandle<Option<Finished<Item<K>>>, Reads<K>>),
-    /// No thread could be started: a read failure was put in place of all that it would have put.
+    /// No thread could be started. A read failure was put instead.
     Refused(Option<Finished<Item<K>>>),
 }
 
-/// Reads to the end and puts what it reads; or puts a read failure in its place, where the flag says that no thread could be started.
+/// Reads a device to its end and puts its bytes. If `refused` is set, no thread could be started,
+/// and a read failure is put instead.
 fn read<K: Keeper, R: Read + Drop, W: Wait + Copy>(
     rt: W,
     alloc: Global,
@@ -65,9 +66,10 @@ fn read<K: Keeper, R: Read + Drop, W: Wait + Copy>(
     pump(&rt, alloc, &bell, script, child, &mut device, feed)
 }
 
-/// Starts a thread that reads to the end, and puts what it reads.
+/// Starts a thread that reads a device to its end, and puts its bytes.
 ///
-/// Where none can be started, the closure that would have run in it comes back; a flag tells it to put a read failure.
+/// If no thread can be started, its closure is returned and runs here. A flag tells it to put a
+/// read failure.
 pub fn start<K: Keeper + Send + 'static, W: Threads + Wait + Copy + Send + 'static>(
     rt: W,
     alloc: Global,
@@ -102,7 +104,7 @@ pub fn start<K: Keeper + Send + 'static, W: Threads + Wait + Copy + Send + 'stat
     }
 }
 
-/// A flag that isn't raised, twice the same.
+/// Creates a flag that is not set, with two owners.
 fn shared_flag(alloc: Global) -> Result<(Arc<AtomicBool>, Arc<AtomicBool>), AllocError> {
     let flag = Arc::new(alloc, AtomicBool::new(false))?;
     let same = Arc::try_clone(&flag)?;

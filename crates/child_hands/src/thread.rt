@@ -1,4 +1,4 @@
-//! A hand in a thread of its own.
+//! A hand in its own thread.
 
 ghost use Rattle.std.specs.Prelude.{◌≡◌, ℕ, [], IfSome};
 ghost use mathlib.Core.List.{Mem};
@@ -15,7 +15,7 @@ use std::sync::{Arc, Wait};
 use std::thread;
 use std::thread::{Promise, PromisedHandle, Threads};
 
-/// What a hand's thread promises of its end.
+/// The promise of a hand's thread about its end.
 #[derive(Drop)]
 pub struct Obeys<K: Keeper> {
     pub script: u8,
@@ -29,7 +29,8 @@ impl<K: Keeper> Promise<HandEnd<K>> for Obeys<K> {
     ghost kept_by = { λ p e. IsHandEnd p.script p.keeper.value p.asks.value p.answers.value p.works.value.items e };
 }
 
-/// Runs a hand in a thread. None where no thread can be started: then all that was given is dropped.
+/// Runs a hand in its own thread. `None` if no thread can be started; all arguments are then
+/// dropped.
 pub fn start_hand<
     K: Keeper + Send + Drop + 'static,
     G: Gate + Send + Sync + Drop + 'static,

@@ -1,4 +1,4 @@
-//! The places of a script's children, and what a hand gives back.
+//! The places of a script's children, and the result of a hand.
 
 ghost use Rattle.std.specs.Prelude.{◌≡◌, [], length};
 ghost use Rattle.feed_rings.specs.Ends.{put_items};
@@ -8,18 +8,18 @@ use crate::{Item, Keeper};
 use feed_rings::{Bell, FeedIn, FeedOut, Finished};
 use std::thread::PromisedHandle;
 
-/// What a child's reader will put into, with the bell on which it rests.
+/// The ring end of a child without a reader, with the reader's bell.
 #[derive(Drop)]
 pub struct Fresh<K: Keeper> {
-    /// The end of the child's ring.
+    /// The putting end of the child's ring.
     pub feed: FeedIn<Item<K>>,
-    /// The bell from which that ring was made to put.
+    /// The bell that the ring was made to put from.
     pub bell: Bell,
     pub ghost empty: { length (put_items feed) ≡ 0 },
 }
 
 impl<K: Keeper> Fresh<K> {
-    /// A ring's end into which nothing was put yet.
+    /// Wraps a ring end into which nothing was put yet.
     pub fn new(feed: FeedIn<Item<K>>, bell: Bell) -> Self
         requires { put_items feed ≡ [] }
         ensures { result.feed ≡ feed }
@@ -31,13 +31,13 @@ impl<K: Keeper> Fresh<K> {
 /// The place of a child.
 #[derive(Drop)]
 pub enum Work<K: Keeper> {
-    /// No reader yet.
+    /// The child has no reader yet.
     Free(Fresh<K>),
-    /// What its reader put, if that can be had. While it reads, this is None.
+    /// The items that the child's reader put, if they are available. `None` while it reads.
     Ended(Option<Finished<Item<K>>>),
 }
 
-/// A reader that runs, and the place of its child, from 0.
+/// A running reader, and the index of its child, from 0.
 #[derive(Drop)]
 pub struct Reader<K: Keeper> {
     pub index: usize,
@@ -47,25 +47,25 @@ pub struct Reader<K: Keeper> {
 /// Why a hand has ended.
 #[derive(Clone, Copy, PartialEq, Eq)]
 pub enum Outcome {
-    /// It took the stop.
+    /// It took `Stop`.
     Stopped,
-    /// Its keeper has no number left for another call.
+    /// Its keeper has made the most calls possible.
     Exhausted,
-    /// The ring for its answers is full, and the end that takes them is gone.
+    /// The ring for its answers is full, and has no taking end.
     Left,
 }
 
-/// What is left of a hand.
+/// The result of a hand.
 #[derive(Drop)]
 pub struct HandEnd<K: Keeper> {
     /// The place of each child, from child 1 on.
     pub works: Vec<Work<K>>,
-    /// All answers that were put, if that can be had.
+    /// All answers that were put, if they are available.
     pub answers: Option<Finished<Item<K>>>,
-    /// The end from which the requests were taken.
+    /// The end from which requests were taken.
     pub asks: FeedOut<Item<K>>,
-    /// Why it has ended.
+    /// Why the hand has ended.
     pub outcome: Outcome,
-    /// How many requests were carried out though the gate never let them pass.
+    /// The number of requests that were carried out although the gate refused them.
     pub forced: u64,
 }

@@ -1,4 +1,4 @@
-//! Tells the threads of a script that the script is over.
+//! Notifies the threads of a script that the script has ended.
 
 use libc::net::POLLIN;
 use libc::types::pollfd;
@@ -7,16 +7,17 @@ use std::os::fd::{AsRawFd, RawFd};
 use std::rt::Files;
 use std::sync::atomic::{AtomicBool, Ordering};
 
-/// Whether a script is over. Once it is, a pipe is ready for reading, which wakes the threads that wait for their own descriptors.
+/// Whether a script has ended. Once it has, a pipe becomes readable, which wakes the threads that
+/// wait for their own descriptors.
 #[derive(Drop)]
 pub struct Cancellation {
     is_cancelled: AtomicBool,
-    /// Without a pipe, threads look once a second.
+    /// Without a pipe, threads check once a second.
     pipe: Option<(PipeReader, PipeWriter)>,
 }
 
 impl Cancellation {
-    /// Of a script that goes on.
+    /// Creates the state of a script that is running.
     pub fn new(rt: &impl Files) -> Cancellation {
         Cancellation {
             is_cancelled: AtomicBool::new(false),
@@ -24,7 +25,7 @@ impl Cancellation {
         }
     }
 
-    /// The script is over: its children are to end, and no thread waits for them any longer.
+    /// Marks the script as ended. Its children must end, and no thread waits for them any longer.
     pub fn cancel(&self) {
         self.is_cancelled.store(true, Ordering::SeqCst);
         if let Some((_, input)) = &self.pipe {
@@ -36,7 +37,7 @@ impl Cancellation {
         self.is_cancelled.load(Ordering::SeqCst)
     }
 
-    /// What poll(2) is asked, to return once the script is over.
+    /// Returns the entry for poll(2) that becomes ready once the script has ended.
     pub(crate) fn asked(&self) -> pollfd {
         let fd: RawFd = match &self.pipe {
             Some((output, _)) => output.as_raw_fd(),

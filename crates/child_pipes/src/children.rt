@@ -18,13 +18,14 @@ use std::time::{Clock, Duration};
 use std::{io, mem, thread};
 use tcl_words::{Text, Texts};
 
-/// How many children a script has at most.
+/// The most children of a script.
 const CHILDREN: usize = 16;
 
-/// How many bytes a pipe takes at once when it is ready (PIPE_BUF).
+/// The most bytes that a pipe accepts at once when it is ready (PIPE_BUF).
 const ROOM: usize = 4_096;
 
-/// The shortest and the longest pause between two looks at a child that is waited for, in microseconds.
+/// The shortest and the longest pause between two checks of a child that is waited for, in
+/// microseconds.
 const PAUSE: u64 = 50;
 
 const LONGEST_PAUSE: u64 = 20_000;
@@ -37,7 +38,7 @@ struct Place {
 }
 
 impl Place {
-    /// Hands bytes to the child, but no longer than its script goes on.
+    /// Writes bytes to the child. Gives up once its script has ended.
     fn write(&mut self, bytes: &[u8]) -> Result<(), Cause> {
         let Some(input) = &mut self.input else {
             return Err(Cause::Broken);
@@ -65,7 +66,7 @@ impl Place {
     }
 }
 
-/// The children of one script. When they go, the script is over.
+/// The children of one script. When they are dropped, the script counts as ended.
 pub(crate) struct Children<R: Programs + Wait + Clock + Drop> {
     rt: R,
     alloc: Global,
@@ -73,12 +74,12 @@ pub(crate) struct Children<R: Programs + Wait + Clock + Drop> {
     script: u64,
     places: Vec<Option<Place>>,
     reaper: Reaper,
-    /// Takes the standard errors of children, where each has its own.
+    /// Takes the standard errors of children, if each child has its own.
     errors: Option<ErrorPipes>,
     cancellation: Arc<Cancellation>,
 }
 
-/// The cause that an error of the system stands for.
+/// Returns the cause for an error of the system.
 fn cause_of(error: &io::Error) -> Cause {
     match error.kind() {
         ErrorKind::NotFound => Cause::NotFound,
@@ -89,7 +90,7 @@ fn cause_of(error: &io::Error) -> Cause {
     }
 }
 
-/// The answer that an exit status stands for.
+/// Returns the answer for an exit status.
 fn answer_of(status: ExitStatus) -> Answer {
     match status.code() {
         Some(code) => Answer::Exit(u8::try_from(code).unwrap_or(u8::MAX)),
@@ -97,7 +98,7 @@ fn answer_of(status: ExitStatus) -> Answer {
     }
 }
 
-/// The program and its words, where the program is UTF-8.
+/// Splits a program and its arguments. `None` if the program's name is not UTF-8.
 fn split(argv: &Texts) -> Option<(&str, &[Text])> {
     let (program, words) = argv.as_slice().split_first()?;
     let program = std::str::from_utf8(program.as_slice()).ok()?;
@@ -105,7 +106,8 @@ fn split(argv: &Texts) -> Option<(&str, &[Text])> {
 }
 
 impl<R: Programs + Wait + Clock + Drop> Children<R> {
-    /// No children of the script of a number.
+    /// Creates the places of a script's children, with no child. `script` is the number of the
+    /// script.
     pub(crate) fn new(
         rt: R,
         alloc: Global,
@@ -160,7 +162,7 @@ impl<R: Programs + Wait + Clock + Drop> Children<R> {
         Ok((held, theirs))
     }
 
-    /// Keeps a child's standard error for who reads it, where it has one of its own.
+    /// Keeps a child's standard error until it is taken, if the child has its own.
     fn put_errors(&self, out: Option<ChildStderr>) -> Result<(), AllocError> {
         let (Some(errors), Some(out)) = (&self.errors, out) else {
             return Ok(());
@@ -169,7 +171,7 @@ impl<R: Programs + Wait + Clock + Drop> Children<R> {
         errors.put(&self.rt, ErrorPipe { script, out })
     }
 
-    /// Starts a child: the program and its words.
+    /// Starts a child with this program and its arguments.
     pub(crate) fn start(&mut self, child: u8, argv: &Texts) -> Result<Output, Cause> {
         let Some((program, words)) = split(argv) else {
             return Err(Cause::Other);
@@ -210,7 +212,7 @@ impl<R: Programs + Wait + Clock + Drop> Children<R> {
         Ok(Output::new(out, theirs))
     }
 
-    /// Hands bytes to a child.
+    /// Writes bytes to a child.
     pub(crate) fn write(&mut self, child: u8, bytes: &[u8]) -> Result<(), Cause> {
         match self.place(child) {
             Some(place) => place.write(bytes),
@@ -218,7 +220,7 @@ impl<R: Programs + Wait + Clock + Drop> Children<R> {
         }
     }
 
-    /// Ends a child's input.
+    /// Ends the input of a child.
     pub(crate) fn end(&mut self, child: u8) -> Result<(), Cause> {
         let Some(place) = self.place(child) else {
             return Err(Cause::Other);
@@ -227,7 +229,7 @@ impl<R: Programs + Wait + Clock + Drop> Children<R> {
         Ok(())
     }
 
-    /// Ends a child's input, and drops what it writes from then on.
+    /// Ends the input of a child, and drops its later output.
     pub(crate) fn close(&mut self, child: u8) -> Result<(), Cause> {
         self.end(child)?;
         let Some(place) = self.place(child) else {
@@ -237,7 +239,7 @@ impl<R: Programs + Wait + Clock + Drop> Children<R> {
         Ok(())
     }
 
-    /// Waits for a child's end, but no longer than its script goes on.
+    /// Waits for a child to end. Gives up once its script has ended.
     pub(crate) fn wait(&mut self, child: u8) -> Answer {
         let place = usize::from(child)
             .checked_sub(1)
@@ -249,7 +251,7 @@ impl<R: Programs + Wait + Clock + Drop> Children<R> {
     }
 }
 
-/// Waits for a child's end, but no longer than its script goes on.
+/// Waits for a child to end. Gives up once its script has ended.
 fn wait_for<R: Wait + Clock>(rt: &R, held: &Held) -> Answer {
     let mut pause = PAUSE;
     for _ in rt.forever() {

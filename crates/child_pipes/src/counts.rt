@@ -1,10 +1,10 @@
-//! How many calls a keeper has answered, and how many of them failed.
+//! Counts the calls of a keeper, and the calls that failed.
 
 ghost use Rattle.std.specs.Prelude.{◌≡◌, ◌+◌, ◌^◌, ◌<◌, ◌≤◌, Bool, if◌then◌else◌};
 
 use std::marker::Model;
 
-/// A count of calls and of those that failed, seen as the pair of both.
+/// The number of calls, and of calls that failed. A contract sees a pair.
 #[derive(Drop)]
 pub struct Counts {
     calls: u64,
@@ -22,7 +22,7 @@ impl Model for Counts {
 }
 
 impl Counts {
-    /// No calls.
+    /// Creates a count of no calls.
     pub fn new() -> Counts
         ensures { result ≡ (0, 0) }
     {
@@ -32,7 +32,7 @@ impl Counts {
         }
     }
 
-    /// One call more, which failed or not.
+    /// Adds a call. `failed` tells whether it failed.
     pub fn count(&mut self, failed: bool)
         requires { self.old.0 < 2 ^ 63 }
         ensures calls { self.new.0 ≡ self.old.0 + 1 }
@@ -45,14 +45,14 @@ impl Counts {
         }
     }
 
-    /// How many calls there were.
+    /// Returns the number of calls.
     pub fn calls(&self) -> u64
         ensures { result ≡ self.now.0 }
     {
         self.calls
     }
 
-    /// How many of them failed.
+    /// Returns the number of calls that failed.
     pub fn failures(&self) -> u64
         ensures { result ≡ self.now.1 }
     {

@@ -1,11 +1,11 @@
-//! The standard errors of children that have one of their own.
+//! The standard errors of children that have their own.
 
 use std::alloc::{AllocError, Global};
 use std::mem;
 use std::process::ChildStderr;
 use std::sync::{Arc, Mutex, Wait};
 
-/// The standard error of a child: a pipe that somebody is to read.
+/// The standard error of a child: a pipe to be read.
 #[derive(Drop)]
 pub struct ErrorPipe {
     /// The number of the child's script, from 1.
@@ -13,7 +13,7 @@ pub struct ErrorPipe {
     pub out: ChildStderr,
 }
 
-/// The standard errors of children that were started, until somebody takes them to read them. Many may hold it.
+/// The standard errors of started children, until they are taken. It can have several owners.
 #[derive(Drop)]
 pub struct ErrorPipes {
     alloc: Global,
@@ -21,13 +21,13 @@ pub struct ErrorPipes {
 }
 
 impl ErrorPipes {
-    /// No pipes yet.
+    /// Creates an empty list.
     pub fn new(alloc: Global) -> Result<ErrorPipes, AllocError> {
         let held = Arc::new(alloc, Mutex::new(Vec::new(alloc)))?;
         Ok(ErrorPipes { alloc, held })
     }
 
-    /// The same pipes, for another holder.
+    /// Returns the same list for another owner.
     pub fn shared(&self) -> Result<ErrorPipes, AllocError> {
         Ok(ErrorPipes {
             alloc: self.alloc,
@@ -35,7 +35,7 @@ impl ErrorPipes {
         })
     }
 
-    /// Keeps a pipe for who reads it. If memory is refused, the pipe is closed.
+    /// Keeps a pipe until it is taken. If memory is refused, the pipe is closed.
     pub(crate) fn put(&self, rt: &impl Wait, pipe: ErrorPipe) -> Result<(), AllocError> {
         let mut held = self.held.lock(rt);
         let Ok(()) = held.push(pipe) else {
@@ -44,7 +44,7 @@ impl ErrorPipes {
         Ok(())
     }
 
-    /// Takes those that came since the last call, in their order.
+    /// Takes the pipes that were added since the last call, in order.
     pub fn take(&self, rt: &impl Wait) -> Vec<ErrorPipe> {
         let mut held = self.held.lock(rt);
         mem::replace(&mut *held, Vec::new(self.alloc))

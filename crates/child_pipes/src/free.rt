@@ -1,4 +1,4 @@
-//! A gate that is open.
+//! A gate that is always open.
 
 use child_hands::Gate;
 

@@ -4,9 +4,10 @@ use std::alloc::Global;
 use std::io::{PipeWriter, Write};
 use std::process::{Child, SystemProcess};
 
-/// What a guard does, for sh(1). It reads `+N` as a child is started and `-N` once nothing is left of it. If its input ends while some are
-/// left, it sends SIGHUP to all that they started, and SIGKILL a second later. `grow` adds to the numbers in `k` those of the sessions and of
-/// the children of the ones that are there.
+/// The script of a guard, for sh(1). It reads `+N` when a child is started, and `-N` once none of
+/// its processes is left. If its input ends while some are left, it sends SIGHUP to all processes
+/// that they started, and SIGKILL a second later. `grow` adds to `k` the processes in the sessions
+/// of those in `k`, and their children.
 pub(crate) const GUARD: &str = r#"
 trap '' INT TERM HUP QUIT
 k=' '
@@ -48,7 +49,7 @@ esac
 #[derive(Drop)]
 pub struct Guard {
     input: PipeWriter,
-    /// It ends once its input is closed.
+    /// The process ends once its input is closed.
     _process: Child<SystemProcess>,
 }
 
@@ -60,7 +61,8 @@ impl Guard {
         }
     }
 
-    /// Tells it of a child: `+` as it is started, `-` once nothing is left of it.
+    /// Notifies the guard of a child: `+` when it is started, `-` once none of its processes is
+    /// left.
     pub(crate) fn tell(&mut self, alloc: Global, mark: char, id: u32) {
         if let Ok(line) = format!(in alloc; "{mark}{id}\n") {
             drop(self.input.write_all(line.as_bytes()));

@@ -6,12 +6,12 @@ use std::process::{Child, SystemProcess};
 use std::sync::atomic::{AtomicBool, Ordering};
 use std::sync::{Arc, Mutex, Wait};
 
-/// Which child of a run it is.
+/// The identity of a child in a run.
 #[derive(Clone, Copy)]
 pub(crate) struct Name {
-    /// Its script's number, from 1.
+    /// The number of its script, from 1.
     pub(crate) script: u64,
-    /// Its own number, among the children of its script.
+    /// Its number among the children of its script.
     pub(crate) child: u8,
 }
 
@@ -21,9 +21,9 @@ pub(crate) struct Held {
     pub(crate) id: u32,
     pub(crate) name: Name,
     pub(crate) process: Mutex<Child<SystemProcess>>,
-    /// Whether its script closed it: what it writes from then on is dropped.
+    /// Whether its script closed it. Its later output is dropped.
     is_closed: AtomicBool,
-    /// Whether its script is over.
+    /// Whether its script has ended.
     pub(crate) cancellation: Arc<Cancellation>,
 }
 
@@ -54,7 +54,7 @@ impl Held {
         self.cancellation.is_cancelled()
     }
 
-    /// Whether it goes on. One that the system can't tell of doesn't.
+    /// Returns whether it is running. False if the system doesn't know.
     pub(crate) fn is_alive(&self, rt: &impl Wait) -> bool {
         match self.process.lock(rt).try_wait() {
             Ok(status) => status.is_none(),
@@ -62,7 +62,7 @@ impl Held {
         }
     }
 
-    /// Sends SIGKILL to it alone.
+    /// Sends SIGKILL only to the child itself.
     pub(crate) fn kill(&self, rt: &impl Wait) {
         let _ = self.process.lock(rt).kill();
     }

@@ -1,4 +1,4 @@
-//! Real children over pipes and their ends, the system's clock, and a gate that is open.
+//! Real children over pipes and their ends, the system's clock, and a gate that is always open.
 #![tactic(auto)]
 
 mod cancellation;

@@ -1,30 +1,31 @@
-//! Which programs are started in a session of their own.
+//! Decides which programs are started in a session of their own.
 
 use std::alloc::Global;
 use std::io::{self, Read};
 use std::os::unix::fs::PermissionsExt;
 use std::{env, fs, str};
 
-/// What gives a program a session of its own, and then becomes that program.
+/// The program that starts a new session and then becomes another program.
 pub(crate) const SETSID: &str = "/usr/bin/setsid";
 
-/// The mode bits of a file that anybody may execute, and of one that somebody may.
+/// The mode bits for execution by anyone, and by at least someone.
 const ANYBODY: u32 = 0o001;
 
 const SOMEBODY: u32 = 0o111;
 
-/// What the system makes of a file that is to be executed.
+/// How the system treats a file to be executed.
 #[derive(Clone, Copy, PartialEq, Eq)]
 enum Kind {
     /// There is no such file, or it can't be executed.
     Missing,
     /// It is executed.
     Program,
-    /// It is refused as no program, where setsid(1) would hand it to a shell, or its interpreter is missing.
+    /// The system refuses it, while setsid(1) would pass it to a shell. Or its interpreter is
+    /// missing.
     Otherwise,
 }
 
-/// Whether a file may be executed.
+/// Returns whether a file may be executed.
 fn is_executable(rt: &HostRuntime, path: &str, bits: u32) -> bool {
     match fs::metadata(rt, path) {
         Ok(found) => found.is_file() && found.permissions().mode() & bits != 0,
@@ -40,7 +41,7 @@ fn interpreter_of(line: &[u8]) -> Option<&str> {
     str::from_utf8(words.next()?).ok()
 }
 
-/// What the system makes of a file that may be executed.
+/// Returns how the system treats a file to be executed.
 fn kind_of(rt: &HostRuntime, path: &str) -> Kind {
     if !is_executable(rt, path, SOMEBODY) {
         return Kind::Missing;
@@ -61,8 +62,9 @@ fn kind_of(rt: &HostRuntime, path: &str) -> Kind {
     }
 }
 
-/// Whether a program can be started through setsid(1): whether the file that execvp(3) would find is one that the system executes. Any other is
-/// started without, so that the system says what is wrong with it.
+/// Returns whether a program can be started through setsid(1): the system executes the file that
+/// execvp(3) would find. Any other program is started without it, so that the system reports the
+/// error.
 pub(crate) fn is_led_by_setsid(rt: &HostRuntime, alloc: Global, program: &str) -> io::Result<bool> {
     if kind_of(rt, SETSID) != Kind::Program {
         return Ok(false);

@@ -1,4 +1,4 @@
-//! What a child writes.
+//! The output of a child.
 
 use crate::held::Held;
 use crate::ready::is_ready;
@@ -9,11 +9,13 @@ use std::os::fd::AsRawFd;
 use std::process::ChildStdout;
 use std::sync::Arc;
 
-/// How many pieces of a closed child's output are read and dropped, so that it can end by itself. After them its output is closed.
+/// The number of pieces of a closed child's output that are read and dropped, so that the child can
+/// end by itself. After that its output is closed.
 const DROPPED: u8 = 16;
 
-/// The output of a child. A read fails once the child's script is over, also one that waits, so a reader never outlives its script. Of a child
-/// that its script closed, the output is read and dropped.
+/// The output of a child. Once the child's script has ended, reads fail, including one that waits.
+/// A reader therefore never outlives its script. The output of a child that its script closed is
+/// read and dropped.
 #[derive(Drop)]
 pub struct Output {
     out: ChildStdout,

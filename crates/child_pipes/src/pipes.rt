@@ -1,4 +1,4 @@
-//! A keeper of the system's processes.
+//! A keeper of real processes.
 
 ghost use Rattle.std.specs.Prelude.{◌≡◌, ◌+◌, ◌^◌, ◌<◌, ◌≤◌, OnErr};
 
@@ -16,10 +16,12 @@ use std::sync::{Arc, Wait};
 use std::time::Clock;
 use tcl_words::{Text, Texts};
 
-/// A keeper of the system's processes, over pipes. When it goes, the input of each child ends.
+/// A keeper of real processes, over pipes. When it is dropped, the input of each child ends.
 ///
-/// A program is looked for in the folders of `PATH` where its name has no slash. It gets a pipe for its input and one for its output, and this
-/// process's environment and folder. Its standard error is this process's, or a pipe that `errors` takes. No contract can say what becomes of it: `told` and `gives` say nothing.
+/// A program is searched in the folders of `PATH` if its name contains no slash. It gets a pipe for
+/// its input and one for its output, and this process's environment and folder. Its standard error
+/// is that of this process, or a pipe that `errors` takes. No contract can tell what the program
+/// does: `told` and `gives` are always true.
 #[derive(Drop)]
 pub struct Pipes<R: Programs + Wait + Clock + Drop> {
     name: u64,
@@ -28,8 +30,9 @@ pub struct Pipes<R: Programs + Wait + Clock + Drop> {
 }
 
 impl<R: Programs + Wait + Clock + Drop> Pipes<R> {
-    /// A keeper of this name, which is its script's number less 1, with no children. The reaper takes each that it starts. Once its script is cancelled, or the keeper is dropped, no
-    /// call waits for a child any longer, and the children are to end.
+    /// Creates a keeper without children. Its name is the number of its script minus 1. The reaper
+    /// takes each child that it starts. Once the script is cancelled or the keeper is dropped, no
+    /// call waits for a child any longer, and the children must end.
     pub fn new(
         rt: R,
         alloc: Global,

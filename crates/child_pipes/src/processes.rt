@@ -1,19 +1,20 @@
-//! The processes of the system, as proc(5) tells them.
+//! The processes of the system, as in proc(5).
 
 use std::alloc::{AllocError, Global};
 
-/// A process that has not ended. Two of one number differ in their start.
+/// A process that has not ended. Two processes with the same number differ in their start.
 #[derive(Clone, Copy)]
 pub struct Process {
     pub(crate) id: u32,
     parent: u32,
     session: u32,
-    /// In ticks of the system since it was booted.
+    /// The start time, in clock ticks of the system since its boot.
     start: u64,
 }
 
 impl Process {
-    /// The process of a text of /proc/N/stat, unless it is a zombie or dead. Its name comes second, in parentheses, and may hold any byte.
+    /// Parses the text of /proc/N/stat. `None` for a zombie or a dead process. The name is the
+    /// second field, in parentheses, and may contain any byte.
     pub(crate) fn of_stat(text: &[u8]) -> Option<Process> {
         let name = memchr::memrchr(b')', text)?;
         let mut fields = text[name..].split(|b| *b == b' ').skip(1);
@@ -37,7 +38,7 @@ impl Process {
     }
 }
 
-/// The number that a field has in decimal digits.
+/// Returns the number in a field of decimal digits.
 fn number(field: &[u8]) -> Option<u64> {
     std::str::from_utf8(field).ok()?.parse::<u64>().ok()
 }
@@ -46,7 +47,7 @@ fn id(field: &[u8]) -> Option<u32> {
     u32::try_from(number(field)?).ok()
 }
 
-/// Whether a process is one of these.
+/// Returns whether a process is in the list.
 fn is_among(process: Process, list: &[Process]) -> bool {
     for other in list {
         if process.is(*other) {
@@ -56,7 +57,8 @@ fn is_among(process: Process, list: &[Process]) -> bool {
     false
 }
 
-/// Whether a process was started by one of these, or is of the session of one, unless that is this process's own session.
+/// Returns whether a process was started by one of these. The session of one of these also counts,
+/// unless it is this process's own session.
 fn is_of(process: Process, list: &[Process], own_session: Option<u32>) -> bool {
     for other in list {
         let is_apart = own_session.is_some_and(|own| own != process.session);
@@ -67,7 +69,7 @@ fn is_of(process: Process, list: &[Process], own_session: Option<u32>) -> bool {
     false
 }
 
-/// The session of the process of a number.
+/// Returns the session of the process with this number.
 fn session_of(id: u32, all: &[Process]) -> Option<u32> {
     for process in all {
         if process.id == id {
@@ -77,8 +79,8 @@ fn session_of(id: u32, all: &[Process]) -> Option<u32> {
     None
 }
 
-/// Of all processes those that a child of this process started: itself, its session, those that were known before, what any of these started,
-/// and the sessions of these.
+/// Returns the processes that belong to a child: the child, its session, the processes known
+/// before, what these started, and their sessions.
 pub(crate) fn group_of(
     alloc: Global,
     all: &[Process],
@@ -108,7 +110,7 @@ pub(crate) fn group_of(
     Ok(group)
 }
 
-/// Adds processes to those that are known.
+/// Adds processes to the known ones.
 pub(crate) fn learn(known: &mut Vec<Process>, group: &[Process]) -> Result<(), AllocError> {
     for process in group {
         if !is_among(*process, known.as_slice()) {

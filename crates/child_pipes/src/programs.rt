@@ -1,4 +1,4 @@
-//! What starts programs, sees them and ends them.
+//! Starts programs, lists processes and sends signals.
 
 use crate::guard::{GUARD, Guard};
 use crate::lookup::{SETSID, is_led_by_setsid};
@@ -9,19 +9,21 @@ use std::process::{Child, Command, Stdio, SystemProcess};
 use std::{fs, io};
 use tcl_words::Text;
 
-/// A program that was started, and what writes its input.
+/// A program that was started, and the pipe to its input.
 #[derive(Drop)]
 pub struct Started {
-    /// What writes its input.
+    /// The pipe to its input.
     pub input: PipeWriter,
-    /// The program, whose output is a pipe.
+    /// The program. Its output is a pipe.
     pub child: Child<SystemProcess>,
 }
 
 /// The system's programs and processes.
 pub trait Programs {
-    /// Starts a program with pipes for its input and output, and a session of its own. Its standard error is a pipe too, or this process's. It is
-    /// looked for in the folders of `PATH` if its name has no slash. Words that aren't UTF-8 go through sh(1); without setsid(1) they are an error.
+    /// Starts a program in a session of its own, with pipes for its input and output. Its standard
+    /// error is a pipe too, or that of this process. It is searched in the folders of `PATH` if its
+    /// name contains no slash. Arguments that aren't UTF-8 are passed through sh(1). Without
+    /// setsid(1) they are an error.
     fn start(
         &self,
         alloc: Global,
@@ -30,20 +32,20 @@ pub trait Programs {
         has_error_pipe: bool,
     ) -> io::Result<Started>;
 
-    /// Starts what ends children if this process is killed.
+    /// Starts a guard, which ends children if this process is killed.
     fn start_guard(&self, alloc: Global) -> io::Result<Guard>;
 
-    /// The processes that there are. Without /proc, none.
+    /// Returns the processes of the system. Empty without /proc.
     fn processes(&self, alloc: Global) -> Result<Vec<Process>, AllocError>;
 
-    /// What /proc/self/status says of this process (proc(5)), if it can be read.
+    /// Returns the text of /proc/self/status (proc(5)), if it can be read.
     fn own_status(&self) -> Option<String>;
 
-    /// Sends a signal to processes, by the `kill` that sh(1) has built in. Without sh(1), none is sent.
+    /// Sends a signal to processes, with the built-in `kill` of sh(1). Without sh(1), none is sent.
     fn signal(&self, alloc: Global, signal: &str, ids: &[u32]);
 }
 
-/// The command of a program: the program itself, or setsid(1) that becomes it.
+/// Returns the command that runs a program: the program itself, or setsid(1), which becomes it.
 fn command_of(rt: &HostRuntime, alloc: Global, program: &str) -> io::Result<Command> {
     if !is_led_by_setsid(rt, alloc, program)? {
         return Ok(Command::new(alloc, program)?);
@@ -54,7 +56,8 @@ fn command_of(rt: &HostRuntime, alloc: Global, program: &str) -> io::Result<Comm
     Ok(command)
 }
 
-/// What sh(1) does with words whose bytes are written as printf(1) reads them with `%b`: it becomes the program with these words.
+/// A script for sh(1). It decodes arguments that are encoded for `%b` of printf(1), and becomes the
+/// program with these arguments.
 const DECODE: &str = "\
     exprun_left=$#
     while [ \"$exprun_left\" -gt 0 ]; do
@@ -65,7 +68,7 @@ const DECODE: &str = "\
     done
     exec \"$0\" \"$@\"";
 
-/// The bytes of a word, each written as printf(1) reads it with `%b`.
+/// Encodes the bytes of an argument for `%b` of printf(1).
 fn encoded(alloc: Global, word: &[u8]) -> Result<String, AllocError> {
     let mut text = String::new(alloc);
     for byte in word {
@@ -77,7 +80,7 @@ fn encoded(alloc: Global, word: &[u8]) -> Result<String, AllocError> {
     Ok(text)
 }
 
-/// Whether all words are UTF-8, as the arguments of a command have to be.
+/// Returns whether all arguments are UTF-8, which a command requires.
 fn are_texts(words: &[Text]) -> bool {
     for word in words {
         if std::str::from_utf8(word.as_slice()).is_err() {
@@ -87,7 +90,7 @@ fn are_texts(words: &[Text]) -> bool {
     true
 }
 
-/// The command of a program with words of any bytes, which sh(1) makes of text.
+/// Returns the command that runs a program with arguments of any bytes, through sh(1).
 fn command_by_shell(
     rt: &HostRuntime,
     alloc: Global,
@@ -111,7 +114,7 @@ fn command_by_shell(
     Ok(command)
 }
 
-/// The command of a program with these words.
+/// Returns the command that runs a program with these arguments.
 fn command_with(
     rt: &HostRuntime,
     alloc: Global,
@@ -128,7 +131,8 @@ fn command_with(
     Ok(command)
 }
 
-/// Starts a command with a pipe for its input, made here: a write to it is one call of the system, where one to a `ChildStdin` is four.
+/// Starts a command with a pipe for its input that is created here. A write to it is one system
+/// call, while a write to a `ChildStdin` is four.
 fn start_with_input(rt: &HostRuntime, mut command: Command) -> io::Result<Started> {
     let (theirs, input) = io::pipe(rt)?;
     command.stdin(theirs);
@@ -136,7 +140,7 @@ fn start_with_input(rt: &HostRuntime, mut command: Command) -> io::Result<Starte
     Ok(Started { input, child })
 }
 
-/// Runs a command of sh(1) that sends a signal to processes.
+/// Sends a signal to processes with a command of sh(1).
 fn kill(rt: &HostRuntime, alloc: Global, signal: &str, ids: &[u32]) -> io::Result<()> {
     let mut command = Command::new(alloc, "/bin/sh")?;
     command.arg("-c")?;

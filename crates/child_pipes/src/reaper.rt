@@ -1,4 +1,4 @@
-//! All children of a run, until nothing is left of them.
+//! All children of a run, until none of their processes is left.
 
 use crate::guard::Guard;
 use crate::held::{Held, Name};
@@ -11,13 +11,14 @@ use std::sync::{Arc, Mutex, Wait};
 /// When children are ended.
 #[derive(Clone, Copy)]
 pub struct Terms {
-    /// How many milliseconds a child may take to end by itself, once its script is over.
+    /// The grace period, in milliseconds: how long a child may take to end by itself after its
+    /// script has ended.
     pub grace: u64,
-    /// Whether this holds also once its script has closed it.
+    /// Whether the grace period also begins when the script closes the child.
     pub hangs_up: bool,
 }
 
-/// A child, and what was seen of the processes that it started.
+/// A child, and the processes that it is known to have started.
 #[derive(Drop)]
 struct Ward {
     held: Arc<Held>,
@@ -32,15 +33,16 @@ struct Shared {
     guard: Mutex<Option<Guard>>,
 }
 
-/// The children of a run, each until it and all that it started have ended. Many may hold it.
+/// The children of a run. Each is kept until it and all processes that it started have ended. It
+/// can have several owners.
 #[derive(Drop)]
 pub struct Reaper {
     alloc: Global,
     shared: Arc<Shared>,
 }
 
-/// What a look at all children has found: the processes of the system, once they were asked for, and the numbers of those that are to be sent
-/// SIGHUP and SIGKILL.
+/// The result of a check of all children: the system's processes, once they were read, and the
+/// numbers of those to be sent SIGHUP and SIGKILL.
 #[derive(Drop)]
 struct Found {
     alloc: Global,
@@ -59,7 +61,7 @@ impl Found {
         }
     }
 
-    /// What is left of a child's processes.
+    /// Returns the processes left of a child.
     fn group_of<R: Programs>(&mut self, rt: &R, ward: &Ward) -> Result<Vec<Process>, AllocError> {
         let all = match self.all.take() {
             Some(all) => all,
@@ -75,7 +77,7 @@ impl Found {
         group
     }
 
-    /// Has processes sent the signal of a stage.
+    /// Schedules the signal of a stage for processes.
     fn condemn(&mut self, stage: Stage, group: &[Process]) -> Result<(), AllocError> {
         let ids = match stage {
             Stage::HungUp { .. } => &mut self.hangs,
@@ -99,7 +101,8 @@ impl Found {
 }
 
 impl Ward {
-    /// Brings a child on its way, if it may be let go. What a child left that has ended itself has no grace. Returns whether anything is left.
+    /// Advances the stage of a child, if it must end. The processes left by a child that has ended
+    /// get no grace period. Returns whether any process is left.
     fn advance<R: Programs + Wait>(
         &mut self,
         rt: &R,
@@ -134,7 +137,7 @@ impl Ward {
 }
 
 impl Reaper {
-    /// No children yet. A guard is told of those that come, if there is one.
+    /// Creates an empty collection. New children are reported to the guard, if there is one.
     pub fn new(alloc: Global, terms: Terms, guard: Option<Guard>) -> Result<Reaper, AllocError> {
         let shared = Shared {
             terms,
@@ -147,7 +150,7 @@ impl Reaper {
         })
     }
 
-    /// The same children, for another holder.
+    /// Returns the same collection for another owner.
     pub fn shared(&self) -> Result<Reaper, AllocError> {
         Ok(Reaper {
             alloc: self.alloc,
@@ -159,7 +162,7 @@ impl Reaper {
         self.shared.terms
     }
 
-    /// Takes a child that was started.
+    /// Adds a child that was started.
     pub(crate) fn adopt(&self, rt: &impl Wait, held: Arc<Held>) -> Result<(), AllocError> {
         self.tell_guard(rt, '+', held.id);
         let ward = Ward {
@@ -181,7 +184,7 @@ impl Reaper {
         }
     }
 
-    /// The children that still run, or that left processes behind that still run.
+    /// Returns the children that still run, or whose processes still run.
     pub(crate) fn left(&self, rt: &impl Wait) -> Result<Vec<Name>, AllocError> {
         let mut left = Vec::new(self.alloc);
         let wards = self.shared.wards.lock(rt);
@@ -191,13 +194,14 @@ impl Reaper {
         Ok(left)
     }
 
-    /// Whether nothing is left of any child.
+    /// Returns whether no process is left of any child.
     pub(crate) fn is_empty(&self, rt: &impl Wait) -> bool {
         self.shared.wards.lock(rt).is_empty()
     }
 
-    /// Looks after each child at a moment, in milliseconds: ends those whose time is over, and forgets those of which nothing is left. Where
-    /// memory is refused, a child stays as it is until the next time.
+    /// Checks each child, at a time in milliseconds. Ends those whose grace period is over, and
+    /// removes those without processes. If memory is refused, a child is unchanged until the next
+    /// check.
     pub(crate) fn sweep<R: Programs + Wait>(&self, rt: &R, terms: Terms, moment: u64) {
         let mut found = Found::new(self.alloc);
         let mut wards = self.shared.wards.lock(rt);

@@ -1,27 +1,27 @@
-//! How a child is brought to its end.
+//! The stages in which a child is ended.
 
 ghost use Rattle.std.specs.Prelude.{◌≡◌};
 ghost use Rattle.child_pipes.specs.Stage.{stage_after};
 
-/// How many milliseconds lie between SIGHUP and SIGKILL, and between one SIGKILL and the next.
+/// The time between SIGHUP and SIGKILL, and between one SIGKILL and the next, in milliseconds.
 const PAUSE: u64 = 1_000;
 
-/// How far a child is on its way to its end. Moments are in milliseconds.
+/// The stage of a child. Times are in milliseconds.
 #[derive(Clone, Copy, PartialEq, Eq)]
 pub enum Stage {
-    /// Its script needs it.
+    /// Its script is running.
     Kept,
-    /// It may end by itself, since this moment.
+    /// It may end by itself since this time.
     LetGo { since: u64 },
-    /// What was left of it was sent SIGHUP, at this moment.
+    /// The processes left were sent SIGHUP at this time.
     HungUp { since: u64 },
-    /// What was left of it was sent SIGKILL, at this moment.
+    /// The processes left were sent SIGKILL at this time.
     Killed { since: u64 },
 }
 
 impl Stage {
-    /// The stage at a moment, of a child that may be let go. It has `grace` milliseconds to end by itself before it is hung up, and is killed a
-    /// second after that, and once a second from then on.
+    /// Returns the stage at a time of a child that must end. After `grace` milliseconds it gets
+    /// SIGHUP. A second after that it gets SIGKILL, and then once a second.
     pub fn after(self, grace: u64, moment: u64) -> Stage
         ensures { result ≡ stage_after self grace moment }
     {

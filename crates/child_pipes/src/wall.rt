@@ -3,7 +3,8 @@
 use child_hands::Clock;
 use std::time::{Clock as SystemClock, Instant};
 
-/// Counts the milliseconds since it was made. Where the system's clock can't be read, it stands still.
+/// Counts the milliseconds since it was created. If the system's clock can't be read, it stands
+/// still.
 #[derive(Drop)]
 pub struct Wall<R: SystemClock + Drop> {
     rt: R,
@@ -12,7 +13,7 @@ pub struct Wall<R: SystemClock + Drop> {
 }
 
 impl<R: SystemClock + Drop> Wall<R> {
-    /// A clock that is at 0 now.
+    /// Creates a clock that is at 0 now.
     pub fn new(rt: R) -> Wall<R> {
         let start = Instant::now(&rt).ok();
         Wall { rt, start, last: 0 }
@@ -20,17 +21,17 @@ impl<R: SystemClock + Drop> Wall<R> {
 }
 
 impl<R: SystemClock + Copy + Drop> Wall<R> {
-    /// Another clock that tells the same moments.
+    /// Returns another clock with the same origin.
     pub fn again(&self) -> Wall<R> {
         Wall::since(self.rt, self.start)
     }
 
-    /// When it was at 0.
+    /// Returns the time at which it was at 0.
     pub(crate) fn start(&self) -> Option<Instant> {
         self.start
     }
 
-    /// A clock that was at 0 at a time.
+    /// Creates a clock that was at 0 at this time.
     pub(crate) fn since(rt: R, start: Option<Instant>) -> Wall<R> {
         Wall { rt, start, last: 0 }
     }

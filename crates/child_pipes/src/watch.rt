@@ -1,4 +1,4 @@
-//! The thread that looks after children.
+//! The thread that watches over the children of a run.
 
 use crate::held::Name;
 use crate::programs::Programs;
@@ -16,22 +16,24 @@ use std::thread::{JoinHandle, Threads};
 use std::time::{Clock, Duration, Instant};
 use tcl_words::Text;
 
-/// How many milliseconds lie between two looks while scripts run.
+/// The time between two checks while scripts run, in milliseconds.
 const PAUSE: u64 = 100;
 
-/// The most milliseconds between two looks once all scripts are over.
+/// The most milliseconds between two checks after all scripts have ended.
 const LAST_PAUSE: u64 = 16;
 
-/// How many milliseconds children have to end once all scripts are over, beside twice the grace.
+/// How long children may take to end after all scripts have ended, in milliseconds, in addition to
+/// twice the grace period.
 const REST: u64 = 3_000;
 
-/// After how many milliseconds it is told which children the run waits for.
+/// The time after which the children that the run waits for are named, in milliseconds.
 const QUIET: u64 = 1_500;
 
-/// How many bytes of stack the thread has.
+/// The stack size of the thread, in bytes.
 const STACK: usize = 262_144;
 
-/// A thread that looks after the children of a run: it waits for those that have ended, and ends those that outlive their scripts.
+/// A thread that watches over the children of a run. It waits for those that have ended, and ends
+/// those that outlive their scripts.
 #[derive(Drop)]
 pub struct Watch {
     reaper: Reaper,
@@ -42,8 +44,8 @@ pub struct Watch {
 }
 
 impl Watch {
-    /// Starts to watch. If no thread can be started, children are looked after in `stop` alone. Once all scripts are over, the children that the
-    /// run still waits for are named on `errors`.
+    /// Starts to watch. If no thread can be started, only `stop` checks the children. After all
+    /// scripts have ended, the children that the run still waits for are named on `errors`.
     pub fn start<
         R: Programs + Threads + Wait + Clock + Copy + Send + Drop + 'static,
         E: Write + Copy + Send + Drop + 'static,
@@ -75,7 +77,8 @@ impl Watch {
         })
     }
 
-    /// Waits until nothing is left of any child, for at most twice the grace and three seconds. All scripts are over.
+    /// Waits until no process is left of any child, for at most twice the grace period and three
+    /// seconds. All scripts must have ended.
     pub fn stop<R: Programs + Threads + Wait + Clock + Copy + Drop, E: Write + Copy + Drop>(
         self,
         rt: R,
@@ -100,7 +103,7 @@ impl Watch {
     }
 }
 
-/// Looks after children until the scripts are over and nothing is left of any child.
+/// Checks children until the scripts have ended and no process is left of any child.
 fn look_after<R: Programs + Wait + Clock + Copy + Drop, E: Write + Copy + Drop>(
     rt: R,
     alloc: Global,
@@ -127,7 +130,8 @@ fn look_after<R: Programs + Wait + Clock + Copy + Drop, E: Write + Copy + Drop>(
     end_all(&rt, alloc, &reaper, &stop, &mut clock, errors);
 }
 
-/// When children are ended once all scripts are over: at once, if a signal stopped the run.
+/// Returns when children are ended after all scripts have ended: at once if a signal stopped the
+/// run.
 fn terms_of(reaper: &Reaper, stop: &Stop) -> Terms {
     match stop.signal() {
         Some(_) => Terms {
@@ -138,13 +142,13 @@ fn terms_of(reaper: &Reaper, stop: &Stop) -> Terms {
     }
 }
 
-/// Puts a number behind a text.
+/// Appends a number.
 fn push_number(alloc: Global, text: &mut Text, number: u64) -> Result<(), AllocError> {
     let digits = number.to_string(alloc)?;
     text.extend(digits.as_bytes())
 }
 
-/// The line that names children that go on.
+/// Returns the line that names the children left.
 fn line_of(alloc: Global, names: &[Name]) -> Result<Text, AllocError> {
     let mut text = Text::from_slice(alloc, b"exprun: waits for")?;
     for at in 0..names.len() {
@@ -157,7 +161,7 @@ fn line_of(alloc: Global, names: &[Name]) -> Result<Text, AllocError> {
     Ok(text)
 }
 
-/// Names the children of which something is left. Where memory is refused or a write fails, it is passed over.
+/// Names the children that have processes left. Does nothing if memory is refused or a write fails.
 fn tell_left<E: Write + Drop>(rt: &impl Wait, alloc: Global, reaper: &Reaper, mut errors: E) {
     let Ok(names) = reaper.left(rt) else {
         return;
@@ -167,7 +171,7 @@ fn tell_left<E: Write + Drop>(rt: &impl Wait, alloc: Global, reaper: &Reaper, mu
     }
 }
 
-/// Looks after children until nothing is left of any, or their time is over.
+/// Checks children until no process is left of any, or their time is over.
 fn end_all<R: Programs + Wait + Clock + Copy + Drop, E: Write + Copy + Drop>(
     rt: &R,
     alloc: Global,

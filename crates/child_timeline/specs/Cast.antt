@@ -1,4 +1,5 @@
--- What a cast of asciinema says, of version 2 or 3: a header, and behind it a line for each event, which has a time, a code and a text.
+-- Reads a cast of asciinema, of version 2 or 3. A cast is a header line, followed by one line per event with its time,
+-- code and text.
 use Rattle.std.specs.Prelude.{ℕ, ◌+◌, ◌/◌, nat_le, List, [], ◌∷◌, codes, Bool, true, false, ◌==◌, if◌then◌else◌, Option, Some, None, option_map, option_and_then, Result, Ok, Err}
 use Rattle.std.specs.Str.{bytes_eq, is_utf8}
 use Rattle.json.specs.Json.{Json, document}
@@ -17,26 +18,27 @@ use Rattle.child_timeline.specs.Line.{◌>>=◌, or_fault, status_of, says_nothi
 use Rattle.child_timeline.specs.Timeline.{with_line, silence}
 use Rattle.child_timeline.specs.Seconds.{micros_of}
 
--- the JSON value that bytes are
+-- The JSON value that the bytes encode, or `None`.
 abbrev pub value_of : List ℕ → Option Json
 value_of bytes = if is_utf8 bytes then document bytes else None
 
--- the times of a version count from the event before, as in version 3, or from the start, as in version 2
+-- How a version gives the times of events. True: since the previous event (version 3). False: since the start (version
+-- 2).
 abbrev pub counts_on : List ℕ → Option Bool
 counts_on version =
     if bytes_eq version (codes "3") then Some true
     else if bytes_eq version (codes "2") then Some false
     else None
 
--- the version that a header names
+-- The version that a header names.
 abbrev pub version_of : Json → Option (List ℕ)
 version_of header = option_and_then as_number (get (codes "version") header)
 
--- how the times count, by a header's bytes
+-- How the times count, by the bytes of the header.
 abbrev pub header_counts_on : List ℕ → Option Bool
 header_counts_on bytes = option_and_then (λ header. option_and_then counts_on (version_of header)) (value_of bytes)
 
--- an event's time, its code and its text
+-- The time, the code and the text of an event.
 abbrev pub Scene : Type 0
 Scene = List ℕ × (List ℕ × List ℕ)
 
@@ -47,16 +49,16 @@ scene_in j =
     (option_and_then as_str (item_at 1 j)))
     (option_and_then as_number (item_at 0 j))
 
--- a clock of at most 9,000,000,000,000,000 microseconds
+-- The clock is at most 9,000,000,000,000,000 microseconds.
 abbrev pub within : ℕ → ℕ → Result ℕ TimelineFault
 within n clock = if nat_le clock 9000000000000000 then Ok clock else Err (fault.Moment n)
 
--- the clock of an event behind one at this clock, in microseconds; it never falls
+-- The clock of the event that follows one at clock `last`, in microseconds. It never falls.
 abbrev pub clock_after : ℕ → Bool → ℕ → ℕ → Result ℕ TimelineFault
 clock_after n true last time = within n (last + time)
 clock_after n false last time = if nat_le last time then within n time else Err (fault.Back n)
 
--- what an event is in a timeline: its output, the end of the program, or nothing
+-- The timeline's line for an event: output, the end of the program, or nothing.
 abbrev pub line_of_scene : ℕ → ℕ → List ℕ → List ℕ → Result Line TimelineFault
 line_of_scene n clock code text =
     if bytes_eq code (codes "o") then Ok (line.Child (At (clock / 1000)) 1 (what.Out text))
@@ -66,7 +68,7 @@ line_of_scene n clock code text =
 abbrev pub at_clock : ℕ → Timeline → ℕ → Line → Result Reel TimelineFault
 at_clock n t clock l = with_line n t l >>= λ u. Ok (record { timeline = u; clock = clock })
 
--- what the event of line n makes of what came before it
+-- The reel after the event of line n.
 abbrev pub with_scene : ℕ → Bool → Reel → Scene → Result Reel TimelineFault
 with_scene n on r s = do
   time ← or_fault (fault.Moment n) (micros_of s.0)
@@ -74,7 +76,7 @@ with_scene n on r s = do
   said ← line_of_scene n clock s.1.0 s.1.1
   at_clock n r.timeline clock said
 
--- and its bytes: an empty line and a comment say nothing
+-- The reel after the bytes of line n. An empty line and a comment change nothing.
 abbrev pub with_event : ℕ → Bool → Reel → List ℕ → Result Reel TimelineFault
 with_event n on r bytes =
     if says_nothing bytes then Ok r
@@ -84,15 +86,15 @@ abbrev pub with_all : ℕ → Bool → Reel → List (List ℕ) → Result Reel 
 with_all n on r [] = Ok r
 with_all n on r (w ∷ ws) = with_event n on r w >>= λ q. with_all (n + 1) on q ws
 
--- at the end the output ends
+-- Adds the end of the output at the end.
 abbrev pub closed : Reel → Result Timeline TimelineFault
 closed r = with_line 1 r.timeline (line.Child (After 0) 1 what.Eof)
 
--- the start
+-- The reel before the first event.
 abbrev pub unplayed : Reel
 unplayed = record { timeline = silence; clock = 0 }
 
--- what stands behind a header
+-- The timeline of the lines after a header.
 abbrev pub events_from : Bool → List ℕ → Result Timeline TimelineFault
 events_from on text = with_all 2 on unplayed (parts ascii.newline text) >>= closed
 
@@ -103,11 +105,11 @@ abbrev pub cast_of_parts : List (List ℕ) → Result Timeline TimelineFault
 cast_of_parts [] = Err fault.Header
 cast_of_parts (w ∷ ws) = behind_header w ws
 
--- the timeline of a cast: its output is that of child 1
+-- The timeline of a cast. Its output is the output of child 1.
 abbrev pub cast_of : List ℕ → Result Timeline TimelineFault
 cast_of text = cast_of_parts (parts ascii.newline text)
 
--- a text that is a cast: it begins with the brace of its header
+-- The text is a cast: it begins with `{`, as a header does.
 abbrev pub is_cast : List ℕ → Bool
 is_cast [] = false
 is_cast (b ∷ bs) = b == ascii.open_brace

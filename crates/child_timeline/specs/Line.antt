@@ -1,4 +1,4 @@
--- What a line of a timeline says, or its fault: the first one from the left.
+-- The content of a timeline's line, or its error: the first one from the left.
 use Rattle.std.specs.Prelude.{◌≡◌, ◌≢◌, ℕ, nat_le, option_map, List, [], ◌∷◌, codes, Bool, true, ◌&&◌, ◌||◌, ◌==◌, if◌then◌else◌, Option, Some, None, Result, Ok, Err}
 use Rattle.std.specs.Str.{bytes_eq}
 use Rattle.child_events.specs.declared.event.Answer.{Answer}
@@ -17,7 +17,7 @@ use Rattle.tcl_words.specs.Bytes as ascii
 use Rattle.child_timeline.specs.Words.{after_blanks, first_word, behind_word}
 use Rattle.child_timeline.specs.Quoted.{text_from}
 
--- one reading and then another, which the first fault stops
+-- Reads one part and then the next. The first error ends the reading.
 infixl 10 ◌>>=◌
 abbrev pub ◌>>=◌ : {A B : Type 0} → Result A TimelineFault → (A → Result B TimelineFault) → Result B TimelineFault
 Ok x >>= f = f x
@@ -27,12 +27,12 @@ abbrev pub or_fault : {A : Type 0} → TimelineFault → Option A → Result A T
 or_fault f None = Err f
 or_fault f (Some x) = Ok x
 
--- nothing stands behind
+-- No words may follow.
 abbrev pub alone : {A : Type 0} → ℕ → A → List ℕ → Result A TimelineFault
 alone n x [] = Ok x
 alone n x (b ∷ bs) = Err (fault.Shape n)
 
--- a moment, or, with a plus, the time since the line before, in milliseconds
+-- A moment, or with a plus sign the time since the previous line, in milliseconds.
 abbrev pub when_of : List ℕ → Option When
 when_of [] = None
 when_of (b ∷ bs) = if b == ascii.plus then option_map After (number_of bs) else option_map At (number_of (b ∷ bs))
@@ -44,11 +44,11 @@ abbrev pub child_number : ℕ → Option ℕ → Result ℕ TimelineFault
 child_number n None = Err (fault.Child n)
 child_number n (Some c) = if is_child c then Ok c else Err (fault.Child n)
 
--- the child that the first words name, or child 1
+-- The child that the first two words name, or child 1.
 abbrev pub child_in : ℕ → List ℕ → Result ℕ TimelineFault
 child_in n t = if bytes_eq (first_word t) (codes "child") then child_number n (number_of (first_word (behind_word t))) else Ok 1
 
--- the words behind them
+-- The words after those that name a child.
 abbrev pub behind_child : List ℕ → List ℕ
 behind_child t = if bytes_eq (first_word t) (codes "child") then behind_word (behind_word t) else t
 
@@ -56,21 +56,21 @@ abbrev pub status_number : ℕ → Option ℕ → Result Answer TimelineFault
 status_number n None = Err (fault.Status n)
 status_number n (Some s) = if nat_le s 255 then Ok (answer.Exit s) else Err (fault.Status n)
 
--- how a child ends: its status, or `killed`
+-- How a child ends: an exit status, or `killed`.
 abbrev pub status_of : ℕ → List ℕ → Result Answer TimelineFault
 status_of n w = if bytes_eq w (codes "killed") then Ok answer.Killed else status_number n (number_of w)
 
 abbrev pub text_of : ℕ → List ℕ → Result What TimelineFault
 text_of n bs = or_fault (fault.Text n) (text_from Plain bs) >>= λ t. Ok (what.Out t)
 
--- the end of an output, or its loss
+-- The end of an output, or a read failure.
 abbrev pub ending_of : ℕ → List ℕ → List ℕ → Result What TimelineFault
 ending_of n w t =
     if bytes_eq w (codes "end") then alone n what.Eof t
     else if bytes_eq w (codes "fail") then (or_fault (fault.Cause n) (cause_of (first_word t)) >>= λ c. alone n (what.ReadFail c) (behind_word t))
     else Err (fault.Shape n)
 
--- what comes from a child
+-- The content of a child's event.
 abbrev pub what_of : ℕ → List ℕ → Result What TimelineFault
 what_of n [] = Err (fault.Shape n)
 what_of n (b ∷ bs) = if b == ascii.quote then text_of n bs else ending_of n (first_word (b ∷ bs)) (behind_word (b ∷ bs))
@@ -81,7 +81,7 @@ child_line n at t = do
   w ← what_of n (behind_child t)
   Ok (line.Child at c w)
 
--- what happens at a moment
+-- The event of a line that begins with a moment.
 abbrev pub event_line : ℕ → When → List ℕ → Result Line TimelineFault
 event_line n at t = if bytes_eq (first_word t) (codes "tick") then alone n (line.Tick at) (behind_word t) else child_line n at t
 
@@ -94,14 +94,14 @@ exit_of_child n c t =
     then (status_of n (first_word (behind_word t)) >>= λ a. alone n (line.Exit (record { child = c; answer = a })) (behind_word (behind_word t)))
     else Err (fault.Shape n)
 
--- how a child ends
+-- A line that tells how a child ends.
 abbrev pub exit_line : ℕ → List ℕ → Result Line TimelineFault
 exit_line n t = child_in n t >>= λ c. exit_of_child n c (behind_child t)
 
 abbrev pub is_of_exit : List ℕ → Bool
 is_of_exit w = bytes_eq w (codes "child") || bytes_eq w (codes "exit")
 
--- nothing, or a comment
+-- No words, or a comment.
 abbrev pub says_nothing : List ℕ → Bool
 says_nothing [] = true
 says_nothing (b ∷ bs) = b == ascii.hash
@@ -112,11 +112,11 @@ words_line n t =
     else if is_of_exit (first_word t) then exit_line n t
     else moment_line n t
 
--- what line n says
+-- The content of line n.
 abbrev pub line_of : ℕ → List ℕ → Result Line TimelineFault
 line_of n bytes = words_line n (after_blanks bytes)
 
--- what a reading answers that may end for want of memory
+-- The result of a reading that may also fail because memory was refused.
 abbrev pub Reads : {A : Type 0} → Result A TimelineFault → Result A TimelineFault → Type 0
 Reads (Ok x) meant = meant ≡ Ok x
 Reads (Err f) meant = f ≢ fault.Memory → meant ≡ Err f

@@ -1,11 +1,11 @@
--- A text between quotes: the bytes that it says.
+-- Reads a text between quotes: the bytes that it stands for.
 use Rattle.std.specs.Prelude.{ℕ, ◌+◌, ◌-◌, ◌*◌, ◌<◌, nat_le, List, [], ◌∷◌, ◌==◌, ◌&&◌, if◌then◌else◌, Option, Some, None, option_map}
 use Rattle.child_timeline.specs.declared.quoted.Part.{Part}
 use Rattle.child_timeline.specs.declared.quoted.Part.TheVariants.{Plain, Escape, High, Low, Closed}
 use Rattle.tcl_words.specs.Bytes as ascii
 use Rattle.child_timeline.specs.Words.{is_blank}
 
--- what a byte behind a backslash stands for
+-- The byte that an escape stands for: a backslash and this byte.
 abbrev pub escaped : ℕ → Option ℕ
 escaped b =
     if b == ascii.quote then Some ascii.quote
@@ -15,7 +15,7 @@ escaped b =
     else if b == ascii.letter_t then Some ascii.tab
     else None
 
--- how much a hexadecimal digit counts, in lower or upper case
+-- The value of a hexadecimal digit, in lower or upper case.
 abbrev pub hex_digit : ℕ → Option ℕ
 hex_digit b =
     if nat_le ascii.digit_0 b && nat_le b ascii.digit_9 then Some (b - ascii.digit_0)
@@ -23,14 +23,14 @@ hex_digit b =
     else if nat_le ascii.capital_a b && nat_le b ascii.capital_f then Some (b - ascii.capital_a + 10)
     else None
 
--- a byte of the text, or none, and the part that goes on behind it
+-- The byte that is read, or `None`, and the state after it.
 abbrev pub Step : Type 0
 Step = Option ℕ × Part
 
 abbrev pub plain_byte : ℕ → Step
 plain_byte b = (Some b, Plain)
 
--- what a byte does within a part: a quote ends the text, and behind it stand blanks alone
+-- Reads one byte in a state. A quote ends the text, and only blanks may follow it.
 abbrev pub step : Part → ℕ → Option Step
 step Plain b =
     if b == ascii.quote then Some (None, Closed)
@@ -45,7 +45,7 @@ abbrev pub in_front : Option ℕ → List ℕ → List ℕ
 in_front None bs = bs
 in_front (Some b) bs = b ∷ bs
 
--- the text is whole where its quote was there
+-- The text is complete once its closing quote was read.
 abbrev pub at_end : Part → Option (List ℕ)
 at_end Plain = None
 at_end Escape = None
@@ -57,12 +57,12 @@ abbrev pub behind : Option Step → (Part → Option (List ℕ)) → Option (Lis
 behind None more = None
 behind (Some s) more = option_map (in_front s.0) (more s.1)
 
--- the bytes that a text says from a part on; none where it is no text
+-- The bytes that a text stands for, from this state on. `None` if it is malformed.
 abbrev pub text_from : Part → List ℕ → Option (List ℕ)
 text_from p [] = at_end p
 text_from p (b ∷ bs) = behind (step p b) (λ q. text_from q bs)
 
--- the first digit that a part keeps is one
+-- The first digit in a state is a hexadecimal digit's value.
 abbrev pub IsPart : Part → Type 0
 IsPart Plain = Unit {0}
 IsPart Escape = Unit {0}

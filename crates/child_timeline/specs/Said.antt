@@ -1,4 +1,4 @@
--- What a text says that children say: a cast, a typescript, or lines of a timeline.
+-- The timeline of a text: a cast, a typescript, or lines of a timeline.
 use Rattle.std.specs.Prelude.{ℕ, List, if◌then◌else◌, Result}
 use Rattle.child_timeline.specs.declared.fault.TimelineFault.{TimelineFault}
 use Rattle.child_timeline.specs.declared.timeline.Timeline.{Timeline}

@@ -13,17 +13,17 @@ brings_answer what.Eof = false
 brings_answer (what.ReadFail cause) = false
 brings_answer (what.Answer a) = true
 
--- whether an event answers a request
+-- The event is an answer to a request.
 abbrev pub is_answer : HallEvent → Bool
 is_answer (hall.Child s c m w) = brings_answer w
 is_answer (hall.Tick m) = false
 
--- it is of the first script, or of all
+-- The event is of script 1, or is a tick.
 abbrev pub IsOfFirst : HallEvent → Type 0
 IsOfFirst (hall.Child s c m w) = s ≡ 1
 IsOfFirst (hall.Tick m) = Unit {0}
 
--- An event of a timeline: it is of script 1 and within a log's limits, and is no answer.
+-- An event of a timeline. It is of script 1, is within the limits of a log, and is no answer.
 pub record IsTold (e : HallEvent) : Type 0 where
   pub first : IsOfFirst e
   pub within : IsTrue (fits e)

@@ -1,5 +1,5 @@
--- What script(1) wrote: a line that says when it was started, what was shown, and a line that says when it was done; and how its timing says when each part
--- was shown, in the classic or in the advanced format (script(1), --logging-format).
+-- Typescripts of script(1): a line with the start time, the output, and a line with the end time. The timing file gives
+-- the time of each part of the output, in the classic or the advanced format (script(1), --logging-format).
 use Rattle.std.specs.Prelude.{ℕ, ◌+◌, ◌/◌, nat_le, List, [], ◌∷◌, take, drop, length, codes, Bool, true, false, not, ◌&&◌, ◌==◌, if◌then◌else◌, Result, Ok, Err}
 use Rattle.std.specs.Char.{is_ascii_digit}
 use Rattle.std.specs.Str.{bytes_eq}
@@ -22,11 +22,11 @@ use Rattle.child_timeline.specs.Cast.{within}
 abbrev pub begins_with : List ℕ → List ℕ → Bool
 begins_with words bytes = bytes_eq (take (length words) bytes) words
 
--- a text that script(1) wrote
+-- The text is a typescript of script(1).
 abbrev pub is_typescript : List ℕ → Bool
 is_typescript text = begins_with (codes "Script started on ") text
 
--- what stands behind the first line
+-- The bytes after the first line.
 abbrev pub behind_line : List ℕ → List ℕ
 behind_line [] = []
 behind_line (b ∷ bs) = if b == ascii.newline then bs else behind_line bs
@@ -35,21 +35,21 @@ abbrev pub is_empty : List ℕ → Bool
 is_empty [] = true
 is_empty (b ∷ bs) = false
 
--- the newline that script(1) puts behind what was shown, and its last line
+-- The newline that script(1) writes after the output, and its last line.
 abbrev pub is_end : List ℕ → Bool
 is_end [] = false
 is_end (b ∷ bs) = begins_with (ascii.newline ∷ codes "Script done on ") (b ∷ bs) && is_empty (behind_line bs)
 
--- what stands in front of them
+-- The bytes before them.
 abbrev pub before_end : List ℕ → List ℕ
 before_end [] = []
 before_end (b ∷ bs) = if is_end (b ∷ bs) then [] else b ∷ before_end bs
 
--- what was shown
+-- The output in a typescript.
 abbrev pub shown : List ℕ → List ℕ
 shown text = before_end (behind_line text)
 
--- an entry of a timing begins with its kind; in the classic format there is none, and each entry is output
+-- In the advanced format, an entry begins with its kind. The classic format has no kind, and each entry is output.
 abbrev pub is_kind : List ℕ → Bool
 is_kind [] = false
 is_kind (c ∷ []) = not (is_ascii_digit c)
@@ -61,17 +61,17 @@ kind_of t = if is_kind (first_word t) then first_word t else codes "O"
 abbrev pub behind_kind : List ℕ → List ℕ
 behind_kind t = if is_kind (first_word t) then behind_word t else t
 
--- what an entry says, and how many bytes are shown then
+-- The line that an entry stands for, and the number of bytes shown after it.
 abbrev pub Said : Type 0
 Said = Line × ℕ
 
--- output: so many bytes of the text behind those that are shown
+-- An entry of output: the next `count` bytes of the text.
 abbrev pub output : ℕ → ℕ → List ℕ → ℕ → ℕ → Result Said TimelineFault
 output n clock body at count =
     if nat_le (at + count) (length body) then Ok (line.Child (At (clock / 1000)) 1 (what.Out (take count (drop at body))), at + count)
     else Err (fault.Event n)
 
--- a word of the header: the program's exit, or something else
+-- A word of the header: the program's exit status, or another word, which is ignored.
 abbrev pub header : ℕ → ℕ → List ℕ → Result Said TimelineFault
 header n at words =
     if bytes_eq (first_word words) (codes "EXIT_CODE") then (status_of n (first_word (behind_word words)) >>= λ a. Ok (line.Exit (record { child = 1; answer = a }), at))
@@ -86,7 +86,7 @@ said_by n clock body at kind words =
 abbrev pub played : ℕ → Timeline → ℕ → Said → Result Tape TimelineFault
 played n t clock s = with_line n t s.0 >>= λ u. Ok (record { timeline = u; clock = clock; at = s.1 })
 
--- an entry, whose time counts from the entry before
+-- Adds an entry. Its time counts from the previous entry.
 abbrev pub with_entry : ℕ → List ℕ → Tape → List ℕ → Result Tape TimelineFault
 with_entry n body p t = do
   time ← or_fault (fault.Moment n) (micros_of (first_word (behind_kind t)))
@@ -97,7 +97,7 @@ with_entry n body p t = do
 abbrev pub with_words : ℕ → List ℕ → Tape → List ℕ → Result Tape TimelineFault
 with_words n body p t = if is_empty t then Ok p else with_entry n body p t
 
--- the line n of a timing
+-- Adds line n of a timing file.
 abbrev pub with_timing : ℕ → List ℕ → Tape → List ℕ → Result Tape TimelineFault
 with_timing n body p bytes = with_words n body p (after_blanks bytes)
 
@@ -105,23 +105,23 @@ abbrev pub with_timings : ℕ → List ℕ → Tape → List (List ℕ) → Resu
 with_timings n body p [] = Ok p
 with_timings n body p (w ∷ ws) = with_timing n body p w >>= λ q. with_timings (n + 1) body q ws
 
--- what no entry showed is shown at the end
+-- Bytes that no entry covers are shown at the end.
 abbrev pub with_rest : Timeline → List ℕ → Result Timeline TimelineFault
 with_rest t rest = if is_empty rest then Ok t else with_line 1 t (line.Child (After 0) 1 (what.Out rest))
 
--- and then the output ends
+-- Adds the remaining bytes and the end of the output.
 abbrev pub wound_up : List ℕ → Tape → Result Timeline TimelineFault
 wound_up body p = with_rest p.timeline (drop p.at body) >>= λ u. with_line 1 u (line.Child (After 0) 1 what.Eof)
 
--- nothing is shown yet
+-- The tape before the first entry.
 abbrev pub unwound : Tape
 unwound = record { timeline = silence; clock = 0; at = 0 }
 
--- the timeline of what was shown, without a timing: all at once
+-- The timeline of an output without a timing file: all at once.
 abbrev pub typescript_of : List ℕ → Result Timeline TimelineFault
 typescript_of text = wound_up (shown text) unwound
 
--- and with one
+-- The timeline of an output with a timing file.
 abbrev pub timed_by : List ℕ → List ℕ → Result Timeline TimelineFault
 timed_by body timing = with_timings 1 body unwound (parts ascii.newline timing) >>= wound_up body
 

@@ -1,4 +1,4 @@
-//! Casts of asciinema.
+//! Reads casts of asciinema.
 
 ghost use Rattle.std.specs.Prelude.{◌≡◌, ◌≤◌, ◌+◌, option_map, option_and_then, IfOk};
 ghost use Rattle.json.specs.Value.{value_view};
@@ -20,7 +20,7 @@ use tcl_words::Text;
 /// The last moment of a cast, in microseconds.
 const CLOCK_LIMIT: u64 = 9_000_000_000_000_000;
 
-/// The value that bytes are, if they are one.
+/// Parses a JSON value. `None` if the bytes are none.
 fn value<'a>(
     alloc: Global,
     bytes: &'a [u8],
@@ -37,7 +37,8 @@ fn value<'a>(
     }
 }
 
-/// Whether the times of a version count from the event before.
+/// Returns whether the times of a version count from the previous event. `None` for an unknown
+/// version.
 fn counts_on(version: &str) -> Option<bool>
     ensures { result ≡ counts_on_of version.now }
 {
@@ -50,7 +51,7 @@ fn counts_on(version: &str) -> Option<bool>
     }
 }
 
-/// The same of the version that a header names.
+/// Like `counts_on`, for the version that a header names.
 fn version_counts_on(header: &Value<'_>) -> Option<bool>
     ensures { result ≡ option_and_then counts_on_of (version_of (value_view header.now)) }
 {
@@ -58,7 +59,7 @@ fn version_counts_on(header: &Value<'_>) -> Option<bool>
     counts_on(version)
 }
 
-/// The same of a header's bytes.
+/// Like `version_counts_on`, for the bytes of a header.
 fn header_counts_on(
     alloc: Global,
     bytes: &[u8],
@@ -80,7 +81,7 @@ struct Scene<'a> {
     text: &'a str,
 }
 
-/// The event that a value is.
+/// Reads the event that a JSON value describes. `None` if it describes none.
 fn scene_in<'a>(value: &Value<'a>) -> Option<Scene<'a>>
     ensures { option_map (λ s. (s.time.now, (s.code.now, s.text.now))) result ≡ scene_in_of (value_view value.now) }
 {
@@ -90,7 +91,7 @@ fn scene_in<'a>(value: &Value<'a>) -> Option<Scene<'a>>
     Some(Scene { time, code, text })
 }
 
-/// A clock that isn't past the last moment.
+/// Checks that a clock is not past the last moment.
 fn within(line: usize, clock: u64) -> Result<u64, TimelineFault>
     ensures { result ≡ within_of line clock }
 {
@@ -101,7 +102,7 @@ fn within(line: usize, clock: u64) -> Result<u64, TimelineFault>
     }
 }
 
-/// The clock that is so long after another.
+/// Returns the clock `time` microseconds after `last`. An error if it is past the last moment.
 pub(crate) fn later(line: usize, last: u64, time: u64) -> Result<u64, TimelineFault>
     requires { last ≤ 9000000000000000 }
     ensures { result ≡ within_of line (last + time) }
@@ -113,7 +114,7 @@ pub(crate) fn later(line: usize, last: u64, time: u64) -> Result<u64, TimelineFa
     }
 }
 
-/// The clock of an event behind one at this clock, in microseconds.
+/// Returns the clock of the event that follows one at clock `last`, in microseconds.
 fn clock_after(line: usize, on: bool, last: u64, time: u64) -> Result<u64, TimelineFault>
     requires { last ≤ 9000000000000000 }
     ensures { result ≡ clock_after_of line on last time }
@@ -128,7 +129,7 @@ fn clock_after(line: usize, on: bool, last: u64, time: u64) -> Result<u64, Timel
     }
 }
 
-/// What an event is in a timeline.
+/// Returns the timeline's line for an event.
 fn line_of_scene(
     alloc: Global,
     line: usize,
@@ -153,14 +154,14 @@ fn line_of_scene(
     Ok(Line::Nothing)
 }
 
-/// A timeline, and the clock that it has come to, in microseconds.
+/// A timeline, and its current clock in microseconds.
 #[derive(Drop)]
 struct Reel {
     timeline: Timeline,
     clock: u64,
 }
 
-/// What the event of a line makes of what came before it.
+/// Adds the event of a line.
 fn with_scene(
     alloc: Global,
     line: usize,
@@ -184,7 +185,7 @@ fn with_scene(
     Ok(Reel { timeline, clock })
 }
 
-/// What the bytes of a line make of what came before it.
+/// Adds the event that the bytes of a line describe. An empty line and a comment change nothing.
 fn with_event(
     alloc: Global,
     line: usize,
@@ -209,7 +210,7 @@ fn with_event(
     with_scene(alloc, line, on, reel, scene.time, scene.code, scene.text)
 }
 
-/// The timeline, at the end of which the output ends.
+/// Adds the end of the output and returns the timeline.
 fn close(alloc: Global, reel: Reel) -> Result<Timeline, TimelineFault>
     requires { reel.timeline.moment ≤ 9000000000000000 }
     ensures { Reads result (closed_of reel) }
@@ -223,7 +224,7 @@ fn close(alloc: Global, reel: Reel) -> Result<Timeline, TimelineFault>
     with_line(alloc, 1, timeline, end)
 }
 
-/// The events of the lines behind a header, as a timeline, at the end of which the output ends.
+/// Returns the timeline of the lines after a header, with the end of the output.
 fn with_events(
     alloc: Global,
     on: bool,
@@ -248,10 +249,11 @@ fn with_events(
     close(alloc, reel)
 }
 
-/// The timeline of a cast of asciinema, of version 2 or 3: what it shows is the output of child 1, which ends with it.
+/// Reads the timeline of an asciinema cast, of version 2 or 3. The cast's output is that of child
+/// 1, and ends with the cast.
 ///
-/// An error has the number of the first bad line, counted from 1, or says that the header is none of these versions; or it says that memory
-/// was refused.
+/// An error has the number of the first bad line, counted from 1. It is `Header` if the header is
+/// of neither version. It may also be `Memory`.
 pub(crate) fn read_cast(alloc: Global, text: &[u8]) -> Result<Timeline, TimelineFault>
     ensures reads { Reads result (cast_of text.now) }
     ensures told { IfOk result (λ t. AreTold t.events) }
@@ -264,7 +266,7 @@ pub(crate) fn read_cast(alloc: Global, text: &[u8]) -> Result<Timeline, Timeline
     with_events(alloc, on, events, &mut scratch)
 }
 
-/// Whether a text is a cast: it begins with the brace of its header.
+/// Returns whether a text is a cast: it begins with `{`, as a header does.
 pub(crate) fn is_cast(text: &[u8]) -> bool
     ensures { result ≡ is_cast_of text.now }
 {

@@ -1,4 +1,4 @@
-//! How children are to end.
+//! How children end.
 
 ghost use Rattle.std.specs.Prelude.{◌≡◌, ◌++◌, ◌∷◌, [], OnOk};
 ghost use Rattle.child_timeline.specs.Exits.{exit_told, exit_of as exit_of_child};
@@ -7,7 +7,7 @@ use child_events::Answer;
 use std::alloc::{AllocError, Global};
 use std::marker::Model;
 
-/// What a wait for a child comes to.
+/// The answer to a wait for a child.
 #[derive(Clone, Copy)]
 pub struct Exit {
     /// The child's number, from 1.
@@ -15,7 +15,7 @@ pub struct Exit {
     pub answer: Answer,
 }
 
-/// What waits come to, of each child once at most. A contract sees a list.
+/// The answers to waits, at most one per child. A contract sees a list.
 #[derive(Drop)]
 pub struct Exits {
     list: Vec<Exit>,
@@ -31,7 +31,7 @@ impl Model for Exits {
 }
 
 impl Exits {
-    /// Nothing is said of any child. It allocates nothing.
+    /// Creates an empty list without allocating.
     pub fn new(alloc: Global) -> Exits
         ensures { result ≡ [] }
     {
@@ -40,7 +40,7 @@ impl Exits {
         }
     }
 
-    /// What was said of a child.
+    /// Returns the answer given for a child. `None` if there is none.
     pub fn told(&self, child: u8) -> Option<Answer>
         ensures { result ≡ exit_told child self.now }
     {
@@ -52,7 +52,7 @@ impl Exits {
         None
     }
 
-    /// What a wait for a child comes to: what was said of it, or else the status 0.
+    /// Returns the answer to a wait for a child: the given one, or exit status 0.
     pub fn of(&self, child: u8) -> Answer
         ensures { result ≡ exit_of_child child self.now }
     {
@@ -62,7 +62,7 @@ impl Exits {
         }
     }
 
-    /// Says what a wait comes to.
+    /// Adds the answer to a wait.
     pub fn push(&mut self, exit: Exit) -> Result<(), AllocError>
         ensures { OnOk result (self.new ≡ self.old ++ exit ∷ []) }
     {

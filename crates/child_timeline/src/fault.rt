@@ -1,29 +1,30 @@
-//! Why a text is no timeline.
+//! The errors of a text that is no timeline.
 
 use std::alloc::{AllocError, AllocFailed};
 
-/// The first fault of a text that is no timeline, or no cast, with the number of its line, counted from 1.
+/// The first error of a text that is no timeline, cast or timing, with its line number, counted
+/// from 1.
 #[derive(Clone, Copy, PartialEq, Eq)]
 pub enum TimelineFault {
-    /// What is no line of a timeline: an unknown word, one that is missing, or one too many.
+    /// No line of a timeline: an unknown word, a missing word, or a word too many.
     Shape(usize),
-    /// A moment that is no number, or is past the last one, 9,000,000,000,000,000 milliseconds.
+    /// A moment that is no number, or is later than 9,000,000,000,000,000 milliseconds.
     Moment(usize),
-    /// A moment before that of the line before.
+    /// A moment before that of the previous line.
     Back(usize),
-    /// A child's number outside 1 to 16.
+    /// A child number outside 1 to 16.
     Child(usize),
     /// An unknown cause.
     Cause(usize),
-    /// A text without a quote behind it, with an unknown escape, or with more than blanks behind it.
+    /// A text without a closing quote, with an unknown escape, or followed by more than blanks.
     Text(usize),
-    /// A status that is no number from 0 to 255, and isn't `killed`.
+    /// An exit status that is neither a number from 0 to 255 nor `killed`.
     Status(usize),
-    /// The end of a child of which it was said before.
+    /// A second line on the end of a child.
     Again(usize),
-    /// What is no header of a cast of version 2 or 3.
+    /// No header of a cast of version 2 or 3.
     Header,
-    /// What is no event of a cast.
+    /// No event of a cast, or no entry of a timing.
     Event(usize),
     /// Memory was refused.
     Memory,

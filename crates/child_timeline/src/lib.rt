@@ -1,4 +1,5 @@
-//! What the children of a script are to say, and when: a timeline, and what it is read from.
+//! What the children of a replayed script do, and when: timelines, and the formats they are read
+//! from.
 #![tactic(auto)]
 
 mod cast;

@@ -1,4 +1,4 @@
-//! A line of a timeline.
+//! Reads a line of a timeline.
 
 ghost use Rattle.std.specs.Prelude.{◌≡◌, ◌≤◌};
 ghost use Rattle.child_events.specs.Reading.{cause_of};
@@ -12,15 +12,15 @@ use crate::words::{is, number, skip_blanks, split_word};
 use child_events::{Answer, Cause, What};
 use std::alloc::Global;
 
-/// When a line is, in milliseconds.
+/// The moment of a line, in milliseconds.
 #[derive(Clone, Copy)]
 pub(crate) enum When {
     At(u64),
-    /// So long after the line before.
+    /// The time since the previous line.
     After(u64),
 }
 
-/// What a line says.
+/// The content of a line.
 #[derive(Drop)]
 pub(crate) enum Line {
     Nothing,
@@ -29,7 +29,7 @@ pub(crate) enum Line {
     Exit(Exit),
 }
 
-/// A moment, or the time since the line before.
+/// Reads a moment, or the time since the previous line.
 fn moment_word(word: &[u8]) -> Option<When>
     ensures { result ≡ when_of word.now }
 {
@@ -44,7 +44,7 @@ fn moment_word(word: &[u8]) -> Option<When>
     }
 }
 
-/// The child that the first words name, or child 1.
+/// Returns the child that the first two words name, or child 1.
 fn child(line: usize, words: &[u8]) -> Result<u8, TimelineFault>
     ensures { result ≡ child_in line words.now }
 {
@@ -63,7 +63,7 @@ fn child(line: usize, words: &[u8]) -> Result<u8, TimelineFault>
     }
 }
 
-/// The words behind those that name a child.
+/// Returns the words after those that name a child.
 fn behind_child(words: &[u8]) -> &[u8]
     ensures { result.now ≡ behind_child_of words.now }
 {
@@ -75,7 +75,7 @@ fn behind_child(words: &[u8]) -> &[u8]
     behind
 }
 
-/// The cause that a word names.
+/// Returns the cause that a word names.
 fn cause(word: &[u8]) -> Option<Cause>
     ensures { result ≡ cause_of word.now }
 {
@@ -94,7 +94,7 @@ fn cause(word: &[u8]) -> Option<Cause>
     }
 }
 
-/// How a child ends.
+/// Reads how a child ends: an exit status, or `killed`.
 pub(crate) fn status(line: usize, word: &[u8]) -> Result<Answer, TimelineFault>
     ensures { result ≡ status_of line word.now }
 {
@@ -111,7 +111,7 @@ pub(crate) fn status(line: usize, word: &[u8]) -> Result<Answer, TimelineFault>
     }
 }
 
-/// Nothing stands behind a line's words.
+/// Checks that no words follow.
 fn ended(line: usize, behind: &[u8]) -> Result<(), TimelineFault>
     ensures { result ≡ alone_of line tt behind.now }
 {
@@ -121,7 +121,7 @@ fn ended(line: usize, behind: &[u8]) -> Result<(), TimelineFault>
     }
 }
 
-/// A text behind its quote.
+/// Reads a text after its opening quote.
 fn text(alloc: Global, line: usize, bytes: &[u8]) -> Result<What, TimelineFault>
     ensures { Reads result (text_of line bytes.now) }
 {
@@ -132,7 +132,7 @@ fn text(alloc: Global, line: usize, bytes: &[u8]) -> Result<What, TimelineFault>
     }
 }
 
-/// The end of an output, or its loss.
+/// Reads the end of an output, or a read failure.
 fn ending(line: usize, word: &[u8], behind: &[u8]) -> Result<What, TimelineFault>
     ensures { result ≡ ending_of line word.now behind.now }
 {
@@ -151,7 +151,7 @@ fn ending(line: usize, word: &[u8], behind: &[u8]) -> Result<What, TimelineFault
     Ok(What::ReadFail(cause))
 }
 
-/// What comes from a child.
+/// Reads the content of a child's event.
 fn what(alloc: Global, line: usize, words: &[u8]) -> Result<What, TimelineFault>
     ensures { Reads result (what_of line words.now) }
 {
@@ -167,7 +167,7 @@ fn what(alloc: Global, line: usize, words: &[u8]) -> Result<What, TimelineFault>
     }
 }
 
-/// What comes from a child at a moment.
+/// Reads a line with a child's event at a moment.
 fn child_line(alloc: Global, line: usize, when: When, words: &[u8]) -> Result<Line, TimelineFault>
     ensures { Reads result (child_line_of line when words.now) }
 {
@@ -176,7 +176,7 @@ fn child_line(alloc: Global, line: usize, when: When, words: &[u8]) -> Result<Li
     Ok(Line::Child { when, child, what })
 }
 
-/// What happens at a moment.
+/// Reads the rest of a line that begins with a moment.
 fn event_line(alloc: Global, line: usize, when: When, words: &[u8]) -> Result<Line, TimelineFault>
     ensures { Reads result (event_line_of line when words.now) }
 {
@@ -188,7 +188,7 @@ fn event_line(alloc: Global, line: usize, when: When, words: &[u8]) -> Result<Li
     Ok(Line::Tick(when))
 }
 
-/// A line that begins with a moment.
+/// Reads a line that begins with a moment.
 fn moment_line(alloc: Global, line: usize, words: &[u8]) -> Result<Line, TimelineFault>
     ensures { Reads result (moment_line_of line words.now) }
 {
@@ -199,7 +199,7 @@ fn moment_line(alloc: Global, line: usize, words: &[u8]) -> Result<Line, Timelin
     event_line(alloc, line, when, behind)
 }
 
-/// A line that says how a child ends.
+/// Reads a line that tells how a child ends.
 fn exit_line(line: usize, words: &[u8]) -> Result<Line, TimelineFault>
     ensures { result ≡ exit_line_of line words.now }
 {
@@ -220,7 +220,7 @@ fn is_of_exit(word: &[u8]) -> bool
     is(word, b"child") || is(word, b"exit")
 }
 
-/// Whether words are none, or a comment.
+/// Returns whether the words are empty or a comment.
 pub(crate) fn says_nothing(words: &[u8]) -> bool
     ensures { result ≡ says_nothing_of words.now }
 {
@@ -243,7 +243,7 @@ fn words_line(alloc: Global, line: usize, words: &[u8]) -> Result<Line, Timeline
     moment_line(alloc, line, words)
 }
 
-/// What a line says, which is given without its newline.
+/// Reads a line, which is given without its newline.
 pub(crate) fn read_line(alloc: Global, line: usize, bytes: &[u8]) -> Result<Line, TimelineFault>
     ensures { Reads result (line_of line bytes.now) }
 {

@@ -1,4 +1,4 @@
-//! A text between quotes.
+//! Reads a text between quotes.
 
 ghost use Rattle.std.specs.Prelude.{◌≡◌, ◌<◌, ◌++◌, [], IfOk, IfSome, OnOk, option_map};
 ghost use Rattle.child_timeline.specs.Quoted.{escaped as escaped_of, hex_digit as hex_digit_of, step as step_of, in_front, text_from, at_end, IsPart, IsStep};
@@ -7,22 +7,22 @@ use crate::words::is_blank;
 use std::alloc::{AllocError, Global};
 use tcl_words::Text;
 
-/// Where in a text a byte stands.
+/// The state before a byte of the text.
 #[derive(Clone, Copy)]
 pub(crate) enum Part {
-    /// Where it stands for itself.
+    /// The byte stands for itself, unless it is a quote or a backslash.
     Plain,
-    /// Behind a backslash.
+    /// After a backslash.
     Escape,
-    /// Where the first of two hexadecimal digits is due.
+    /// Before the first of two hexadecimal digits.
     High,
-    /// Where the second is due, behind one that counts so much.
+    /// Before the second digit. The field is the value of the first.
     Low(u8),
-    /// Behind the quote that ends the text.
+    /// After the closing quote.
     Closed,
 }
 
-/// What a byte behind a backslash stands for.
+/// Returns the byte that an escape stands for. `None` if the escape is unknown.
 fn escaped(byte: u8) -> Option<u8>
     ensures { result ≡ escaped_of byte }
 {
@@ -41,7 +41,7 @@ fn escaped(byte: u8) -> Option<u8>
     }
 }
 
-/// How much a hexadecimal digit counts.
+/// Returns the value of a hexadecimal digit.
 fn hex_digit(byte: u8) -> Option<u8>
     ensures value { result ≡ hex_digit_of byte }
     ensures few { IfSome result (λ d. d < 16) }
@@ -57,7 +57,7 @@ fn hex_digit(byte: u8) -> Option<u8>
     }
 }
 
-/// A byte of the text, or none, and the part behind.
+/// The byte that is read, or `None`, and the state after it.
 type Step = (Option<u8>, Part);
 
 fn plain_step(byte: u8) -> Option<Step>
@@ -108,7 +108,7 @@ fn closed_step(byte: u8) -> Option<Step>
     }
 }
 
-/// What a byte does within a part.
+/// Reads one byte in a state. `None` if it is not allowed there.
 fn step(part: Part, byte: u8) -> Option<Step>
     requires { IsPart part }
     ensures next { result ≡ step_of part byte }
@@ -123,7 +123,7 @@ fn step(part: Part, byte: u8) -> Option<Step>
     }
 }
 
-/// Puts a byte behind a text, where there is one.
+/// Appends a byte, if there is one.
 fn push_said(text: &mut Text, said: Option<u8>) -> Result<(), AllocError>
     ensures { OnOk result (text.new ≡ text.old ++ in_front said []) }
 {
@@ -133,7 +133,7 @@ fn push_said(text: &mut Text, said: Option<u8>) -> Result<(), AllocError>
     }
 }
 
-/// The text, where its quote was there.
+/// Returns the text if its closing quote was read.
 fn whole(part: Part, text: Text) -> Option<Text>
     ensures { result ≡ option_map (λ rest. text ++ rest) (at_end part) }
 {
@@ -146,7 +146,7 @@ fn whole(part: Part, text: Text) -> Option<Text>
     }
 }
 
-/// The bytes that a text says, which stands behind a quote and ends with one; None where it is no text.
+/// Reads a text after its opening quote, up to its closing quote. `None` if the text is malformed.
 pub(crate) fn read_quoted(alloc: Global, bytes: &[u8]) -> Result<Option<Text>, AllocError>
     ensures { IfOk result (λ text. text ≡ text_from Part.Plain bytes.now) }
 {

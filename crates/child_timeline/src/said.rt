@@ -1,4 +1,4 @@
-//! What children say, in any of the forms that a text may have.
+//! Reads what children do, in any of the supported formats.
 
 ghost use Rattle.std.specs.Prelude.{◌≡◌, IfOk};
 ghost use Rattle.child_timeline.specs.Told.{AreTold};
@@ -11,10 +11,11 @@ use crate::timeline::{Timeline, read_timeline};
 use crate::typescript::{is_typescript, read_typescript};
 use std::alloc::Global;
 
-/// The timeline of a text: a cast of asciinema, a typescript of script(1), or else lines of a timeline.
+/// Reads the timeline of a text: a cast of asciinema, a typescript of script(1), or else lines of a
+/// timeline.
 ///
-/// An error has the number of the first bad line, counted from 1, or says that a cast's header is of no version that is known; or it says
-/// that memory was refused.
+/// An error has the number of the first bad line, counted from 1. It is `Header` if a cast's header
+/// is of an unknown version. It may also be `Memory`.
 pub fn read_said(alloc: Global, text: &[u8]) -> Result<Timeline, TimelineFault>
     ensures reads { Reads result (said_of text.now) }
     ensures told { IfOk result (λ t. AreTold t.events) }

@@ -1,4 +1,4 @@
-//! Times in seconds.
+//! Reads times in seconds.
 
 ghost use Rattle.std.specs.Prelude.{◌≡◌, ◌+◌, ◌-◌, if◌then◌else◌, IfOk};
 ghost use Rattle.fast_float.specs.Text.{Parts};
@@ -9,13 +9,13 @@ use fast_float::Numeral;
 use std::alloc::{AllocError, Global};
 use tcl_words::Text;
 
-/// How many places the point is moved: a second is so many powers of ten of microseconds.
+/// The decimal places of a microsecond in a second.
 const PLACES: u128 = 6;
 
 /// The most digits of a number.
 const MOST_DIGITS: u128 = 16;
 
-/// The digits in front of a place, with zeros up to it.
+/// Returns the first `place` digits, padded with zeros.
 fn padded(alloc: Global, place: usize, digits: &[u8]) -> Result<Text, AllocError>
     ensures { IfOk result (λ t. t ≡ padded_of place digits.now) }
 {
@@ -29,7 +29,7 @@ fn padded(alloc: Global, place: usize, digits: &[u8]) -> Result<Text, AllocError
     Ok(text)
 }
 
-/// The number that at most sixteen digits write.
+/// Returns the number that at most sixteen digits write.
 fn short_number(digits: &[u8]) -> Option<u64>
     ensures { result ≡ short_number_of digits.now }
 {
@@ -40,7 +40,8 @@ fn short_number(digits: &[u8]) -> Option<u64>
     }
 }
 
-/// The number that the digits in front of a place write, with zeros up to it; of more than sixteen there is none.
+/// Returns the number that the first `place` digits write, padded with zeros. `None` for more than
+/// sixteen digits.
 fn number_at(alloc: Global, place: u128, digits: &[u8]) -> Result<Option<u64>, AllocError>
     ensures { IfOk result (λ n. n ≡ short_number_of (padded_of place digits.now)) }
 {
@@ -51,7 +52,7 @@ fn number_at(alloc: Global, place: u128, digits: &[u8]) -> Result<Option<u64>, A
     Ok(short_number(digits.as_slice()))
 }
 
-/// Where the point of a number stands once it is moved.
+/// Returns the position of the decimal point after the exponent has moved it, plus six places.
 fn place(whole: usize, back: bool, exponent: u64) -> u128
     ensures { result ≡ (if back then whole + 6 - exponent else whole + 6 + exponent) }
 {
@@ -63,7 +64,7 @@ fn place(whole: usize, back: bool, exponent: u64) -> u128
     }
 }
 
-/// The microseconds of a number of seconds that is cut into its parts.
+/// Returns the microseconds of a number of seconds.
 fn micros_in(alloc: Global, number: &Numeral<'_>) -> Result<Option<u64>, AllocError>
     ensures { IfOk result (λ m. m ≡ micros_with number.now (short_number_of number.now.exponent)) }
 {
@@ -77,7 +78,8 @@ fn micros_in(alloc: Global, number: &Numeral<'_>) -> Result<Option<u64>, AllocEr
     number_at(alloc, place, digits.as_slice())
 }
 
-/// The microseconds of a text that is a number of seconds, where there are at most 9,999,999,999,999,999.
+/// Reads a number of seconds and returns it in microseconds. `None` if the text is no number, or
+/// for more than 9,999,999,999,999,999 microseconds.
 pub(crate) fn micros(alloc: Global, text: &[u8]) -> Result<Option<u64>, AllocError>
     ensures { IfOk result (λ m. m ≡ micros_of text.now) }
 {

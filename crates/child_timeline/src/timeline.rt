@@ -1,4 +1,4 @@
-//! What the children of a script say, and when.
+//! What the children of a script do, and when.
 
 ghost use Rattle.std.specs.Prelude.{◌≡◌, ◌++◌, ◌∷◌, [], ◌≤◌, ◌+◌, length, map, take as first, drop, Ok, IfOk, OnOk};
 ghost use Rattle.child_timeline.specs.Told.{AreTold};
@@ -16,21 +16,21 @@ use tcl_words::Text;
 /// The last moment, in milliseconds.
 const MOMENT_LIMIT: u64 = 9_000_000_000_000_000;
 
-/// The longest piece of output that an event brings, in bytes.
+/// The longest piece of output in an event, in bytes.
 const LONGEST_PIECE: usize = 4096;
 
-/// What the children of one script say, in order, and how they end.
+/// What the children of one script do, in order, and how they end.
 #[derive(Drop)]
 pub struct Timeline {
-    /// What comes from the children, and ticks. The script is script 1.
+    /// The events of the children, and ticks. The script has number 1.
     pub events: HallEvents,
-    /// What waits for children come to.
+    /// The answers to waits for children.
     pub exits: Exits,
-    /// The moment of the last line that has one, in milliseconds.
+    /// The moment of the last line with a moment, in milliseconds.
     pub moment: u64,
 }
 
-/// A moment that isn't past the last one.
+/// Checks that a moment is not past the last one.
 fn within(line: usize, moment: u64) -> Result<u64, TimelineFault>
     ensures { result ≡ within_of line moment }
 {
@@ -41,7 +41,7 @@ fn within(line: usize, moment: u64) -> Result<u64, TimelineFault>
     }
 }
 
-/// The moment that comes so long after another.
+/// Returns the moment `time` milliseconds after `last`. An error if it is past the last one.
 fn later(line: usize, last: u64, time: u64) -> Result<u64, TimelineFault>
     requires { last ≤ 9000000000000000 }
     ensures { result ≡ within_of line (last + time) }
@@ -53,7 +53,7 @@ fn later(line: usize, last: u64, time: u64) -> Result<u64, TimelineFault>
     }
 }
 
-/// The moment of a line behind one of this moment.
+/// Returns the moment of a line that follows one of moment `last`.
 fn moment_after(line: usize, last: u64, when: When) -> Result<u64, TimelineFault>
     requires { last ≤ 9000000000000000 }
     ensures { result ≡ moment_after_of line last when }
@@ -71,7 +71,7 @@ fn moment_after(line: usize, last: u64, when: When) -> Result<u64, TimelineFault
     }
 }
 
-/// Puts a piece behind events, which a child writes.
+/// Appends the event that a child wrote this piece.
 fn push_piece(
     alloc: Global,
     events: &mut HallEvents,
@@ -90,7 +90,7 @@ fn push_piece(
     })
 }
 
-/// The first piece of bytes, and what is behind it.
+/// Returns the first 4,096 bytes and the rest.
 fn split_piece(bytes: &[u8]) -> (&[u8], &[u8])
     requires { 4096 ≤ length bytes.now }
     ensures piece { result.0.now ≡ first 4096 bytes.now }
@@ -99,7 +99,7 @@ fn split_piece(bytes: &[u8]) -> (&[u8], &[u8])
     bytes.split_at(LONGEST_PIECE)
 }
 
-/// Puts bytes behind events, in pieces, which a child writes.
+/// Appends the events that a child wrote these bytes, in pieces of 4,096 bytes.
 pub(crate) fn push_pieces(
     alloc: Global,
     events: &mut HallEvents,
@@ -118,7 +118,7 @@ pub(crate) fn push_pieces(
     push_piece(alloc, events, child, moment, rest)
 }
 
-/// Puts what comes from a child behind events.
+/// Appends the events of a child's content.
 fn push_what(
     alloc: Global,
     events: &mut HallEvents,
@@ -147,7 +147,7 @@ fn push_what(
 }
 
 impl Timeline {
-    /// Nothing is said. It allocates nothing.
+    /// Creates an empty timeline without allocating.
     pub fn new(alloc: Global) -> Timeline
         ensures { result ≡ silence }
     {
@@ -159,7 +159,7 @@ impl Timeline {
     }
 }
 
-/// The timeline with a tick more.
+/// Adds a tick.
 fn with_tick(timeline: Timeline, moment: u64) -> Result<Timeline, TimelineFault>
     ensures { Reads result (Ok (with_events_of timeline moment (HallEvent.Tick moment ∷ []))) }
 {
@@ -177,7 +177,7 @@ fn with_tick(timeline: Timeline, moment: u64) -> Result<Timeline, TimelineFault>
     })
 }
 
-/// The timeline with what comes from a child more.
+/// Adds the content of a child's event.
 fn with_what(
     alloc: Global,
     timeline: Timeline,
@@ -201,7 +201,7 @@ fn with_what(
     })
 }
 
-/// The timeline with the end of a child, of which nothing was said before.
+/// Adds the end of a child. An error if it was given before.
 fn with_exit(line: usize, timeline: Timeline, exit: Exit) -> Result<Timeline, TimelineFault>
     ensures { Reads result (with_exit_of line timeline exit) }
 {
@@ -222,7 +222,7 @@ fn with_exit(line: usize, timeline: Timeline, exit: Exit) -> Result<Timeline, Ti
     })
 }
 
-/// The timeline with what a line says.
+/// Adds the content of a line.
 pub(crate) fn with_line(
     alloc: Global,
     line: usize,
@@ -246,7 +246,7 @@ pub(crate) fn with_line(
     }
 }
 
-/// The timeline with what the bytes of a line say.
+/// Adds the content of a line's bytes.
 fn with_bytes(
     alloc: Global,
     line: usize,
@@ -260,10 +260,10 @@ fn with_bytes(
     with_line(alloc, line, timeline, said)
 }
 
-/// The timeline of a text.
+/// Reads the timeline of a text.
 ///
-/// An error has the number of the first bad line, counted from 1, and says which fault is the first in it; or it says that memory was
-/// refused.
+/// An error is the first one in the text, with its line number, counted from 1. It may also be
+/// `Memory`.
 pub fn read_timeline(alloc: Global, text: &[u8]) -> Result<Timeline, TimelineFault>
     ensures reads { Reads result (timeline_of text.now) }
     ensures told { IfOk result (λ t. AreTold t.events) }

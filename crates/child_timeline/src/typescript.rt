@@ -1,4 +1,4 @@
-//! Typescripts of script(1).
+//! Reads typescripts of script(1).
 
 ghost use Rattle.std.specs.Prelude.{◌≡◌, ◌≤◌, length, IfOk};
 ghost use Rattle.child_timeline.specs.Told.{AreTold};
@@ -23,14 +23,14 @@ fn begins_with(words: &[u8], bytes: &[u8]) -> bool
     words.len() <= bytes.len() && &bytes[..words.len()] == words
 }
 
-/// Whether script(1) wrote a text.
+/// Returns whether a text is a typescript of script(1).
 pub(crate) fn is_typescript(text: &[u8]) -> bool
     ensures { result ≡ is_typescript_of text.now }
 {
     begins_with(b"Script started on ", text)
 }
 
-/// What stands behind the first line.
+/// Returns the bytes after the first line.
 fn behind_line(text: &[u8]) -> &[u8]
     ensures { result.now ≡ behind_line_of text.now }
 {
@@ -51,7 +51,7 @@ fn is_empty(bytes: &[u8]) -> bool
     }
 }
 
-/// Whether bytes are the newline behind what was shown and the last line.
+/// Returns whether the bytes are the newline after the output and the last line of a typescript.
 fn is_end(bytes: &[u8]) -> bool
     ensures { result ≡ is_end_of bytes.now }
 {
@@ -61,7 +61,7 @@ fn is_end(bytes: &[u8]) -> bool
     }
 }
 
-/// What stands in front of the last line.
+/// Returns the bytes before the last line.
 fn before_end(bytes: &[u8]) -> &[u8]
     ensures { result.now ≡ before_end_of bytes.now }
 {
@@ -73,14 +73,14 @@ fn before_end(bytes: &[u8]) -> &[u8]
     bytes
 }
 
-/// What was shown.
+/// Returns the output in a typescript.
 fn shown(text: &[u8]) -> &[u8]
     ensures { result.now ≡ shown_of text.now }
 {
     before_end(behind_line(text))
 }
 
-/// Whether a word is the kind of an entry.
+/// Returns whether a word is the kind of an entry.
 fn is_kind(word: &[u8]) -> bool
     ensures { result ≡ is_kind_of word.now }
 {
@@ -90,7 +90,7 @@ fn is_kind(word: &[u8]) -> bool
     }
 }
 
-/// The kind of an entry, and the words behind it.
+/// Returns the kind of an entry and the words after it.
 fn split_kind(words: &[u8]) -> (&[u8], &[u8])
     ensures kind { result.0.now ≡ kind_of words.now }
     ensures behind { result.1.now ≡ behind_kind words.now }
@@ -103,10 +103,10 @@ fn split_kind(words: &[u8]) -> (&[u8], &[u8])
     }
 }
 
-/// What an entry says, and how many bytes are shown then.
+/// The line that an entry stands for, and the number of bytes shown after it.
 type Said = (Line, usize);
 
-/// The output of so many bytes of a text, behind those that are shown.
+/// Returns an entry of output: the next `count` bytes of the text.
 fn output(
     alloc: Global,
     line: usize,
@@ -132,7 +132,7 @@ fn output(
     Ok((said, at + count))
 }
 
-/// What a header's word says: the program's exit, or nothing.
+/// Reads a word of the header: the program's exit status, or another word, which is ignored.
 fn header(line: usize, at: usize, words: &[u8]) -> Result<Said, TimelineFault>
     ensures { result ≡ header_of line at words.now }
 {
@@ -145,7 +145,7 @@ fn header(line: usize, at: usize, words: &[u8]) -> Result<Said, TimelineFault>
     Ok((Line::Nothing, at))
 }
 
-/// What an entry of a kind says, with the words behind its time.
+/// Reads an entry of a kind, given the words after its time.
 fn said_by(
     alloc: Global,
     line: usize,
@@ -171,7 +171,7 @@ fn said_by(
     Ok((Line::Nothing, at))
 }
 
-/// A timeline, the clock that it has come to, in microseconds, and how many bytes are shown.
+/// A timeline, its current clock in microseconds, and the number of bytes shown.
 #[derive(Drop)]
 struct Tape {
     timeline: Timeline,
@@ -179,7 +179,7 @@ struct Tape {
     at: usize,
 }
 
-/// What an entry makes of what came before it.
+/// Adds an entry.
 fn with_entry(
     alloc: Global,
     line: usize,
@@ -212,7 +212,7 @@ fn with_entry(
     })
 }
 
-/// What a line of a timing makes of what came before it.
+/// Adds a line of a timing file.
 fn with_timing(
     alloc: Global,
     line: usize,
@@ -231,7 +231,7 @@ fn with_timing(
     }
 }
 
-/// The timeline with what is shown at its end.
+/// Adds the bytes that no entry covers.
 fn with_rest(alloc: Global, timeline: Timeline, rest: &[u8]) -> Result<Timeline, TimelineFault>
     requires { timeline.moment ≤ 9000000000000000 }
     ensures { Reads result (with_rest_of timeline rest.now) }
@@ -248,7 +248,7 @@ fn with_rest(alloc: Global, timeline: Timeline, rest: &[u8]) -> Result<Timeline,
     with_line(alloc, 1, timeline, last)
 }
 
-/// The timeline with what is shown at its end, where the output ends.
+/// Adds the remaining bytes and the end of the output.
 fn wind_up(alloc: Global, body: &[u8], tape: Tape) -> Result<Timeline, TimelineFault>
     requires early { tape.timeline.moment ≤ 9000000000000000 }
     requires at { tape.at ≤ length body.now }
@@ -268,7 +268,7 @@ fn wind_up(alloc: Global, body: &[u8], tape: Tape) -> Result<Timeline, TimelineF
     with_line(alloc, 1, timeline, end)
 }
 
-/// Where nothing is shown yet.
+/// Returns the tape before the first entry.
 fn unwound(alloc: Global) -> Tape
     ensures { result ≡ unwound_of }
 {
@@ -279,7 +279,8 @@ fn unwound(alloc: Global) -> Tape
     }
 }
 
-/// The timeline of a typescript of script(1) without its timing: what was shown is the output of child 1, all at once.
+/// Reads the timeline of a typescript without its timing file. The output is that of child 1, all
+/// at once.
 pub(crate) fn read_typescript(alloc: Global, text: &[u8]) -> Result<Timeline, TimelineFault>
     ensures reads { Reads result (typescript_of text.now) }
     ensures told { IfOk result (λ t. AreTold t.events) }
@@ -287,7 +288,7 @@ pub(crate) fn read_typescript(alloc: Global, text: &[u8]) -> Result<Timeline, Ti
     wind_up(alloc, shown(text), unwound(alloc))
 }
 
-/// The timeline of what was shown, each part at its time.
+/// Returns the timeline of an output, each part at its time.
 fn timed_by(alloc: Global, body: &[u8], timing: &[u8]) -> Result<Timeline, TimelineFault>
     ensures reads { Reads result (timed_by_of body.now timing.now) }
     ensures told { IfOk result (λ t. AreTold t.events) }
@@ -304,9 +305,11 @@ fn timed_by(alloc: Global, body: &[u8], timing: &[u8]) -> Result<Timeline, Timel
     wind_up(alloc, body, tape)
 }
 
-/// The timeline of a typescript of script(1) with its timing: what was shown is the output of child 1, each part at its time.
+/// Reads the timeline of a typescript with its timing file. The output is that of child 1, each
+/// part at its time.
 ///
-/// An error has the number of the first bad line of the timing, counted from 1; or it says that memory was refused.
+/// An error has the number of the first bad line of the timing file, counted from 1. It may also be
+/// `Memory`.
 pub fn read_timed_typescript(
     alloc: Global,
     text: &[u8],

@@ -1,4 +1,4 @@
-//! Words of a line.
+//! Splits lines into words.
 
 ghost use Rattle.std.specs.Prelude.{◌≡◌, ◌≤◌, length};
 ghost use Rattle.std.specs.Str.{bytes_eq};
@@ -14,7 +14,7 @@ pub(crate) fn is_blank(byte: u8) -> bool
     byte == b' ' || byte == b'\t'
 }
 
-/// What stands behind the blanks in front.
+/// Returns the bytes after the leading blanks.
 pub(crate) fn skip_blanks(bytes: &[u8]) -> &[u8]
     ensures { result.now ≡ after_blanks bytes.now }
 {
@@ -26,7 +26,7 @@ pub(crate) fn skip_blanks(bytes: &[u8]) -> &[u8]
     &[]
 }
 
-/// What stands in front of the first blank, and what from it on.
+/// Returns the bytes before the first blank, and those from it on.
 fn split_at_blank(bytes: &[u8]) -> (&[u8], &[u8])
     ensures word { result.0.now ≡ first_word bytes.now }
     ensures past { result.1.now ≡ past_word_of bytes.now }
@@ -39,7 +39,7 @@ fn split_at_blank(bytes: &[u8]) -> (&[u8], &[u8])
     (bytes, &[])
 }
 
-/// The first word, and the words behind it.
+/// Returns the first word, and the words after it.
 pub(crate) fn split_word(words: &[u8]) -> (&[u8], &[u8])
     ensures word { result.0.now ≡ first_word words.now }
     ensures behind { result.1.now ≡ behind_word words.now }
@@ -48,7 +48,7 @@ pub(crate) fn split_word(words: &[u8]) -> (&[u8], &[u8])
     (word, skip_blanks(past))
 }
 
-/// What stands in front of the first newline, and what stands behind it.
+/// Returns the bytes before and after the first newline. `None` if there is no newline.
 pub(crate) fn split_line(bytes: &[u8]) -> Option<(&[u8], &[u8])>
     ensures { SplitsAt newline bytes.now result }
 {
@@ -64,7 +64,7 @@ pub(crate) fn is(word: &[u8], name: &[u8]) -> bool
     word == name
 }
 
-/// 0 alone, or anything of which the first is not 0.
+/// Returns whether the word is a single byte, or begins with a byte other than `0`.
 fn starts_number(word: &[u8]) -> bool
     ensures { result ≡ starts word.now }
 {
@@ -75,7 +75,7 @@ fn starts_number(word: &[u8]) -> bool
     }
 }
 
-/// The number that digits write.
+/// Returns the number that the decimal digits write. `None` if a byte is no digit.
 #[tactic(auto, using(child_events::proofs::Numbers::number_stops, child_events::proofs::Numbers::number_ends))]
 pub(crate) fn digits_number(word: &[u8]) -> Option<u64>
     requires { length word.now ≤ 16 }
@@ -91,7 +91,8 @@ pub(crate) fn digits_number(word: &[u8]) -> Option<u64>
     Some(n)
 }
 
-/// The number that at most sixteen decimal digits write, without a leading zero.
+/// Returns the number that at most sixteen decimal digits write. `None` on a leading zero or
+/// another byte.
 pub(crate) fn number(word: &[u8]) -> Option<u64>
     ensures { result ≡ number_of word.now }
 {

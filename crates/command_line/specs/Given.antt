@@ -1,4 +1,4 @@
--- What the words of the command line ask for.
+-- The meaning of the words of the command line.
 use Rattle.std.specs.Prelude.{ℕ, List, [], map, Option, Some, None, unwrap_or, option_map, codes, Bool, false, not, ◌&&◌, ◌==◌, if◌then◌else◌}
 use Rattle.std.specs.Str.{bytes_eq}
 use Rattle.std.specs.Borrow.{Bor}
@@ -7,33 +7,33 @@ use Rattle.clap.specs.declared.parser.matches.ArgMatches.{ArgMatches}
 use Rattle.report_texts.specs.declared.form.Format.{Format}
 use Rattle.report_texts.specs.declared.form.Format.TheVariants.{Text, Bare, Escaped, Summary, Json, JsonLines, Tap}
 
--- as many steps as are asked for, or a million
+-- The number of steps given, or a million.
 abbrev pub steps_given : Option ℕ → ℕ
 steps_given asked = unwrap_or asked 1000000
 
--- as many seconds as are asked for, or two, for a program to end after its script
+-- The grace period given, in seconds, or two seconds.
 abbrev pub grace_seconds : Option ℕ → ℕ
 grace_seconds asked = unwrap_or asked 2
 
 abbrev pub names_of : List (Bor (List ℕ)) → List (List ℕ)
 names_of files = map (λ file. file.now) files
 
--- the words of the command line that name the files of sources, in their order
+-- The words of the command line that name the files of sources, in order.
 abbrev pub files_told : ArgMatches → List (List ℕ)
 files_told matches = unwrap_or (option_map raw_values (matched_of (found_of matches) (codes "sources"))) []
 
 abbrev pub format_named : List ℕ → Format
 format_named name = if bytes_eq name (codes "json") then Json else if bytes_eq name (codes "jsonl") then JsonLines else if bytes_eq name (codes "tap") then Tap else Text
 
--- a summary, or what is for terminals, where it is asked for, and else the format of a name, or whole reports
+-- The format: a summary or escaped text if requested, otherwise the named format, or whole reports.
 abbrev pub format_given : Bool → Bool → Option (List ℕ) → Format
 format_given summary escape name = if summary then Summary else if escape then Escaped else unwrap_or (option_map format_named name) Text
 
--- whether the lines of programs on standard error are labelled: only where that word is given
+-- The lines of programs on standard error are labelled. True only for that word.
 abbrev pub labels_given : Option (List ℕ) → Bool
 labels_given word = unwrap_or (option_map (λ w. bytes_eq w (codes "label")) word) false
 
--- the format of whole reports whose transcripts were shown before; others stay
+-- The format of whole reports whose transcripts were already shown. Other formats are unchanged.
 abbrev pub format_behind_shown : Format → Format
 format_behind_shown Text = Bare
 format_behind_shown Bare = Bare
@@ -43,11 +43,12 @@ format_behind_shown Json = Json
 format_behind_shown JsonLines = JsonLines
 format_behind_shown Tap = Tap
 
--- the format of reports where so many scripts may be followed, maybe on the terminal that the reports go to: one script's transcript is shown once, unless a format was asked for by its name
+-- The format of the reports of `count` scripts. If a single script is followed on the terminal of the reports, its
+-- transcript is shown once, unless a format was named.
 abbrev pub format_on_terminal : Bool → Bool → ℕ → Bool → Format → Format
 format_on_terminal one follow count named format = if one && (follow && ((count == 1) && not named)) then format_behind_shown format else format
 
--- the file of which lines are bad: the timing's, where there is one, or else the timeline's
+-- The file whose lines may be bad: the timing file if there is one, otherwise the timeline.
 abbrev pub file_of_lines : Bor (List ℕ) → Option (Bor (List ℕ)) → Bor (List ℕ)
 file_of_lines timeline None = timeline
 file_of_lines timeline (Some timing) = timing

@@ -1,110 +1,114 @@
-//! What help tells behind the list of options.
+//! The texts of `--help` after the list of options, and of `--version`.
 
-/// The version, as `-V` tells it.
+/// The version that `-V` prints.
 pub const VERSION: &str = "1.0";
 
-/// The version, as `--version` tells it.
+/// The version that `--version` prints.
 pub const LONG_VERSION: &str = "\
 1.0
 It reads logs of versions 1 and 2, and writes version 2. The file BUILT beside
-it has its commit and its kit; in the repository ./exprun --version tells them.";
+it names its commit and its kit. In the repository, ./exprun --version does so.";
 
-/// Behind the help of the program.
+/// The help of the program.
 pub const PROGRAM: &str = "\
-A script is a file of commands of Expect (spawn, send, expect, ..) in a subset
-of Tcl. It starts programs, types at them, and waits for what they write.
+A script is a file of Expect commands (spawn, send, expect, ..) in a subset of
+Tcl. It starts programs, sends input to them, and waits for their output.
 
-run starts the programs and talks with them. When all scripts are over it prints
-a report of each: how it ended, and what an operator would have seen. With the
-option --record it also writes a log of what the programs did.
+run starts the programs and runs the scripts with them. Once all scripts have
+finished, it prints one report per script: how it ended, and its transcript,
+which is what an operator would have seen. With --record it also writes a log of
+what the programs did.
 
-replay starts nothing. It reads such a log in place of the programs, and prints
-the reports of the scripts over it: those of the run again, or, where a script
-was changed since, what it makes of the same events.
+replay starts no programs. It reads such a log instead, and prints the reports
+of the scripts. An unchanged script has the same report as in the run. A changed
+script runs with the same events.
 
-show prints such a log to be read, a line for each event.
+show prints a log in readable form, one line per event.
 
-explain prints what scripts did at each event of a log, and what they waited for
-then: why an expect went on waiting.
+explain prints what scripts did at each event of a log, and what they then
+waited for. Use it to see why an expect went on waiting.
 
-plan writes such a log for one script, from a timeline of what its programs say:
-each answer is put in where the script asks for it.
+plan writes a log for one script, from a timeline of its programs' output. It
+inserts each answer when the script requests it.
 
-check runs nothing. It says what is wrong with scripts, a line for each finding.
+check finds errors in scripts without running them. It prints one line per
+finding.
 
-Up to 64 scripts run side by side; none changes another.
+Up to 64 scripts run side by side. No script affects another.
 
-The status is 0 where each script ended with exit:0, or nothing is wrong with
-any, 1 where it isn't so, and 2 at a fault, which is a line on standard error.
-A run that a signal stopped has 128 plus the signal's number. If nobody reads
-standard output any more, nothing is said and the status is 141.
+Exit status: 0 if every script ended with exit:0, or if check found nothing;
+1 otherwise; 2 on an error, which is a line on standard error. A run stopped by
+a signal has 128 plus the signal's number. If the reader of standard output has
+closed it, exprun ends with status 141 and prints no error.
 
-`exprun run --help` says how programs are run, `exprun replay --help` what a log
-and a report are, `exprun show --help` how a log is shown, `exprun explain
---help` what is told of scripts, `exprun plan --help` what a timeline is, and
-`exprun check --help` what is found, each with an example.";
+Each command has its own help, with an example. `exprun run --help` describes
+how programs are run, `exprun replay --help` logs and reports, `exprun show
+--help` how a log is shown, `exprun explain --help` how scripts are explained,
+`exprun plan --help` timelines, and `exprun check --help` findings.";
 
-/// Behind the help of `replay`.
+/// The help of `replay`.
 pub const REPLAY: &str = "\
 LOG comes before FILE. /dev/stdin as LOG is standard input.
 
-A log is what happened to the children of the scripts, a line an event: what it
-was, the script, its child (by spawns, from 1), and the moment in milliseconds.
+A log lists what happened to the children of the scripts, one event per line:
+the event, the script, its child (numbered by spawns, from 1), and the moment in
+milliseconds.
 
-    exprun-log 2         the first line: this is version 2 of the log
-    ok 1 1 5             what script 1 asked of its child 1 is done
-    bad 1 1 5 broken     failed: notfound, denied, broken, memory or other
-    out 1 1 20 68690a    the child wrote these bytes, in hex, - for none
-    end 1 1 30           its output has ended
-    fail 1 1 30 other    its output can't be read any more
-    exit 1 1 31 0        it ended with this status
-    killed 1 1 31        it was ended by a signal
-    tick 10031           it is so late now, for all scripts
-    total 8              the last line: how many events there are
+    exprun-log 2         first line: the version of the log
+    ok 1 1 5             a request of script 1 to its child 1 succeeded
+    bad 1 1 5 broken     it failed: notfound, denied, broken, memory or other
+    out 1 1 20 68690a    the child wrote these bytes, in hexadecimal, - for none
+    end 1 1 30           the child's output has ended
+    fail 1 1 30 other    reading the child's output failed
+    exit 1 1 31 0        the child exited with this status
+    killed 1 1 31        a signal ended the child
+    tick 10031           the time is 10031 ms, for all scripts
+    total 8              last line: the number of events
 
-No comments, no empty lines, one space between fields, none in front or behind.
-Each line ends with LF alone, the last one too: there is no CR. Version 1, which
-has neither the first line nor the last, is read too.
+There are no comments and no empty lines. One space separates two fields, and
+none comes before the first or after the last. Each line ends with LF and no CR,
+the last one too. Version 1, which has neither the first line nor the last, is
+read too.
 
-Where a log has a fault no script runs, the status is 2, and its first bad line
-is told: `exprun: log fault F at line L`, where F is
+If a log has an error, no script runs and the status is 2. The first bad line is
+printed as `exprun: log fault F at line L`, where F is
 
-    1  no such line or cause, a field too many or too few, or no LF
-    2  a number that is none, has a 0 in front, or is too great
-    3  bytes that aren't pairs of hexadecimal digits in lower case
-    4  no such script: they are 1 to 64
-    5  no such child: they are 1 to 16
+    1  an unknown word or cause, a field too many or too few, or no LF
+    2  a number that is none, has a leading 0, or is too great
+    3  bytes that aren't pairs of lower-case hexadecimal digits
+    4  a script outside 1 to 64
+    5  a child outside 1 to 16
     6  more than 8,219 bytes in a line, or 8,192 digits in an out
-    8  a total that is wrong, is missing, or has a line behind it
+    8  a total that is wrong, is missing, or has a line after it
     9  a first line exprun-log that isn't `exprun-log 2`
 
-Fault 8 at the line behind the last one tells of a log that was cut off, as the
-FILE.part of a run that was killed. With --cut such a log is taken up to its
-last whole line, and what was going on then is reported as waiting. 7 isn't
-told: it is want of memory, which is `exprun: out of memory`.
+Fault 8 after the last line means that the log was cut off, as in the FILE.part
+of a run that was killed. --cut reads such a log up to its last complete line.
+Scripts that were running then are reported as waiting. Fault 7 is not printed:
+it is refused memory, which is `exprun: out of memory`.
 
-A report has a line with the script's ending and counts, and then its
+A report is a line with the script's ending and counts, followed by its
 transcript. The endings are exit:N, error (its text follows the transcript),
 steplimit, timelimit, memory, and waiting, for an event that the log doesn't
-have.
+contain.
 
-With --summary a report is its first line alone, with the script's file behind
-it, and the last line has counts: of scripts, of those that ended well, which is
-with exit:0, and of each ending. --format json is for programs: an array with an
-object in a line for each report. --format jsonl has the objects alone, each in
-a line; a run writes each as its script ends. --format tap is for prove(1): a
-test for each script, which is passed where it ended well.
+With --summary a report is only its first line, followed by the script's file.
+The last line has counts: of scripts, of those that ended with exit:0 (well),
+and of each ending. --format json is for programs: an array with one object per
+report, each on its own line. --format jsonl prints only the objects, one per
+line. A run then prints each object when its script ends. --format tap is for
+prove(1): one test per script, which passes if the script ended with exit:0.
 
---escape is for terminals: what a child wrote does nothing there. In transcripts
-and in the texts of errors a control character is written as \\x and two
-hexadecimal digits, a carriage return as \\r, a backslash as two, and a byte that
-isn't UTF-8 as \\x and digits too. A tab stays, and so does the end of a line,
-with its carriage return. The counts are those of the bytes before that.
+--escape escapes characters in program output that affect a terminal. In
+transcripts and error texts a control character is written as \\x and two
+hexadecimal digits, a carriage return as \\r, and a backslash as two. A byte that
+isn't UTF-8 is written as \\x and digits too. Tabs and ends of lines are kept,
+with their carriage returns. Counts are those of the unescaped bytes.
 
---transcripts writes each transcript, as it is, to a file DIR/N-NAME too: N is
-the script's number, NAME the last part of its file's name. DIR is made where it
-isn't there. A file that can't be written is told, and the status is 2, but the
-others and the reports are written all the same.
+--transcripts also writes each transcript, unescaped, to a file DIR/N-NAME. N is
+the script's number, NAME the last part of its file's name. DIR is created if it
+doesn't exist. If a file can't be written, an error is printed and the status is
+2. The other files and the reports are written anyway.
 
 Example: cat.exp is
 
@@ -127,57 +131,57 @@ Then `exprun replay log cat.exp` prints
     hi
     hi
 
-where the terminal showed the first hi when it was sent, and cat wrote the
-second.";
+The terminal showed the first hi when it was sent, and cat wrote the second.";
 
-/// Behind the help of `run`.
+/// The help of `run`.
 pub const RUN: &str = "\
-Each script spawns its own programs, over pipes: a program is looked for in the
-folders of PATH, and is told that it has no terminal. What it writes on standard
-error goes to the standard error of exprun; `spawn sh -c {exec 2>&1; ..}` joins
-it to the dialogue. With --stderr label each program has a standard error of its
-own, and its lines are told on that of exprun, behind its script's number.
+Each script spawns its own programs, over pipes. A program is searched in the
+folders of PATH, and sees pipes instead of a terminal. Its standard error is
+that of exprun; `spawn sh -c {exec 2>&1; ..}` joins it to the dialogue. With
+--stderr label each program has its own standard error. exprun then prints its
+lines on standard error, after its script's number.
 
-The scripts run side by side, and none changes another. With --workers they are
-shared out among threads in turn: of two workers the first has scripts 1, 3, ..
-A script that computes for long delays those of its own worker alone.
+The scripts run side by side, and no script affects another. --workers shares
+them among threads in turn: of two workers, the first runs scripts 1, 3, .. A
+script that computes for a long time delays only the scripts of its own worker.
 
-No program outlives the run. When a script has ended, the input of its programs
-ends, and exprun drops what they still write. A program that goes on is hung up
-after S seconds (--grace S; 2 if you say nothing): it and all that it started
-get SIGHUP, and SIGKILL a second later. A process that left its session, as a
-daemon does, is left alone once its parent has ended. `close` ends a program's
-input; with --hangup the program is also hung up S seconds after it. --guard
-hangs programs up also if exprun itself is killed. Each program has a session of
-its own, so it can't reach your terminal.
+No program outlives the run. When a script ends, the input of its programs ends,
+and exprun drops their further output. A program that goes on is hung up after S
+seconds (--grace S, 2 by default): it and all processes that it started get
+SIGHUP, and SIGKILL a second later. A process that left its session, as a daemon
+does, is left alone once its parent has ended. `close` ends a program's input;
+with --hangup the program is also hung up S seconds after it. With --guard
+programs are hung up even if exprun itself is killed. Each program has a session
+of its own, so it can't reach your terminal.
 
 Ctrl-C, SIGTERM and SIGHUP stop a run that was started with these signals
 blocked, as ./exprun starts it. Scripts that have not ended are reported as
-`waiting`, the record and all other files are written, the programs are hung up
-at once, and the status is 128 plus the signal's number. A script that computes
-and doesn't wait is given three seconds; then the run is killed.
+`waiting`, the record and all other files are written, and the programs are hung
+up at once. The status is 128 plus the signal's number. A script that computes
+without waiting gets three seconds; then the run is killed.
 
-With --record the log is written to FILE.part while the run goes on, at most 0.2
-seconds late, and is sent to the disk about once a second. When it is whole it
-gets the name FILE, in the place of what stood there. `exprun replay --cut
-FILE.part` reads it after a run that was killed. A pipe or a device, as
+--record writes the log to FILE.part during the run, usually at most 0.2 seconds
+late, and sends it to the disk about once a second. Once it is complete, it is
+renamed to FILE, and replaces an existing file. After a run that was killed,
+`exprun replay --cut FILE.part` reads it. A pipe or a device, such as
 /dev/stdout, is written under its own name.
 
-With --follow what the scripts show is also told on standard error, as it comes:
-of one script on a terminal as it is, else so that it does nothing there; of
-several scripts by lines, behind each script's number. The reports stay as they
-are; but if standard output is a terminal too, the report of a single script has
-no transcript, which stands there by then. --format text asks for it.
+--follow also prints on standard error what the scripts show, as it appears. For
+a single script on a terminal it is unchanged, otherwise it is escaped. For
+several scripts it is printed by lines, after each script's number. The reports
+are unchanged, with one exception. If standard output is a terminal too, the
+report of a single script has no transcript, which was printed before. --format
+text prints it anyway.
 
-With --explain, when all are over, FILE gets what each script did at each event
-and what it waited for then: `exprun explain --help` says how it is told. If
-that can't be written it is said, and the status is 2; the reports are printed
-all the same.
+--explain writes to FILE, once all scripts have finished, what each script did
+at each event and what it then waited for: see `exprun explain --help`. If FILE
+can't be written, an error is printed and the status is 2. The reports are
+printed anyway.
 
---summary, --format json, --format tap and --escape print the reports in short,
-for programs, for prove(1), and for terminals, and --transcripts writes files:
-`exprun replay --help` says how. --format jsonl prints each report as its script
-ends, so a run that is killed has told all that had ended.
+--summary, --format and --escape choose the form of the reports, and
+--transcripts writes files: see `exprun replay --help`. --format jsonl prints
+each report when its script ends, so a killed run has printed the reports of all
+scripts that had ended.
 
 Example: cat.exp is
 
@@ -192,35 +196,35 @@ Then `exprun run cat.exp` prints
     hi
     hi
 
-where the terminal showed the first hi when it was sent, and cat wrote the
-second. With `--record log` the run writes what happened, and
-`exprun replay log cat.exp` prints the same report again.";
+The terminal showed the first hi when it was sent, and cat wrote the second.
+With `--record log` the run writes a log, and `exprun replay log cat.exp` prints
+the same report again.";
 
-/// Behind the help of `show`.
+/// The help of `show`.
 pub const SHOW: &str = "\
-/dev/stdin as LOG is standard input. `exprun replay --help` says what a log is.
+/dev/stdin as LOG is standard input. `exprun replay --help` describes logs.
 
-A line has an event: its moment in milliseconds, its script, its child (by
-spawns, from 1), and what happened:
+Each line is an event: its moment in milliseconds, its script, its child
+(numbered by spawns, from 1), and what happened:
 
     wrote \"..\"            the child wrote these bytes
-    output ended          its output has ended
-    output lost: CAUSE    its output can't be read any more
-    request done          what the script asked of it is done
-    request failed: CAUSE failed: notfound, denied, broken, memory or other
-    ended with status N   it ended with this status
-    ended by a signal     it was ended by a signal
+    output ended          the child's output has ended
+    output lost: CAUSE    reading the child's output failed
+    request done          a request of the script to it succeeded
+    request failed: CAUSE it failed: notfound, denied, broken, memory or other
+    ended with status N   the child exited with this status
+    ended by a signal     a signal ended the child
 
-A tick is a moment alone: it is so late now, for all scripts. It has no script,
-and --script N shows it too.
+A tick is only a moment: the time, for all scripts. It has no script, and
+--script N shows it too.
 
-Between the quotes stands UTF-8. There \\\\ is a backslash, \\\" a quote, \\n a
-newline, \\r a carriage return, \\t a tab, and \\x with two hexadecimal digits any
-other byte: of a control character, or of what isn't UTF-8. So a line does
-nothing on a terminal, and the bytes can be read from it.
+The text between quotes is UTF-8. There \\\\ is a backslash, \\\" a quote, \\n a
+newline, \\r a carriage return, and \\t a tab. \\x with two hexadecimal digits is
+any other byte: of a control character, or of what isn't UTF-8. A line therefore
+has no effect on a terminal, and the bytes can be read from it.
 
-Where the log has a fault nothing is shown, the status is 2, and the first bad
-line is told, as by replay.
+If the log has an error, nothing is shown and the status is 2. The first bad
+line is printed, as by replay.
 
 Example: the file log is
 
@@ -238,32 +242,32 @@ Then `exprun show log` prints
           20 ms  script 1  child 1  wrote \"hi\\n\"
        10031 ms  tick";
 
-/// Behind the help of `explain`.
+/// The help of `explain`.
 pub const EXPLAIN: &str = "\
 LOG comes before FILE. /dev/stdin as LOG is standard input. `exprun replay
---help` says what a log is, and `exprun show --help` how its events are shown.
+--help` describes logs, and `exprun show --help` how events are shown.
 
-For each script its events are told in order. `output closed by exprun` stands
-in place of `output lost: CAUSE` where the script had asked to close that child,
-or had ended: a run closes the output itself then. Behind each event stand
+For each script, its events are printed in order. `output closed by exprun`
+replaces `output lost: CAUSE` if the script had asked to close that child, or
+had ended: a run then closes the output itself. These lines may follow an event:
 
-    asks child C: ..      what it asked of a child: spawn, write, end, close, wait
+    asks child C: ..      a request to a child: spawn, write, end, close or wait
     waits for the answer of child C
-                          it goes on once that has come
+                          it continues once the answer has arrived
     waits for output until M ms
-                          an expect waits, to that moment at the latest
+                          an expect waits, until that moment at the latest
     child C has N bytes, the last are ..
                           output of the child that no pattern has taken
-    -ex, -gl, -re ..  no  a pattern of it, which doesn't match there
+    -ex, -gl, -re ..  no  a pattern of the expect, which doesn't match there
     .. was met by child C
-                          what ended a wait, and below it what expect_out has then
+                          what ended a wait; below it, the new expect_out
 
-A pattern is told as it can be written, so that one that was made from variables
-is seen as it came out. Behind a tick nothing is told of a script that it did
-not concern. At the end stands how the script ended, with the text of its error.
+A pattern is printed as it can be written, so a pattern made from variables
+shows their values. No line follows a tick that doesn't concern the script. The
+last lines are the script's ending, with the text of its error.
 
---script N tells the course of script N alone. The status is 0, also where a
-script ended otherwise, and 2 at a fault, which is a line on standard error.
+--script N prints only script N. The status is 0, whatever the endings of the
+scripts are, and 2 on an error, which is a line on standard error.
 
 Example: ask.exp is
 
@@ -293,40 +297,42 @@ Then `exprun explain log ask.exp` prints
                      -ex \"name: \"  no
     script 1 end=waiting steps=2 sent=0 transcript=17";
 
-/// Behind the help of `plan`.
+/// The help of `plan`.
 pub const PLAN: &str = "\
 FILE comes before TIMELINE. The log is written to standard output, for replay as
-script 1. The script is run over the timeline, and whatever it asks of a child
-is answered at once: a start, a write and a close are done, and a wait is told
-how the child ends.
+script 1. plan runs the script over the timeline, and answers each request to a
+child at once. A start, a write and a close succeed, and a wait is answered with
+the end of the child.
 
 A line of a timeline is one of these, with blanks between its words:
 
     MOMENT \"TEXT\"         the child writes this
-    MOMENT end            its output ends
-    MOMENT fail CAUSE     its output is lost: notfound, denied, broken, memory
-                          or other
-    MOMENT tick           the time alone goes on, as for a timeout behind the
-                          last of the other lines
-    exit STATUS           what a wait for the child is told: its status, or
-                          killed; 0 where it isn't said
+    MOMENT end            the child's output ends
+    MOMENT fail CAUSE     reading the child's output fails: notfound, denied,
+                          broken, memory or other
+    MOMENT tick           only the time passes, as for a timeout after the last
+                          of the other lines
+    exit STATUS           the answer to a wait for the child: its status, or
+                          killed; 0 if there is no such line
 
-MOMENT is in milliseconds, and never falls. +N is N behind the line before. Of
-another child than the first say `child N` (by spawns, from 1) behind MOMENT,
-and in front of exit. A line that is empty or begins with # says nothing.
+MOMENT is in milliseconds, and never falls. +N is N milliseconds after the
+previous line. For another child than the first, write `child N` (numbered by
+spawns, from 1) after MOMENT, and before exit. Empty lines and lines that begin
+with # are ignored.
 
 In TEXT \\\\ is a backslash, \\\" a quote, \\n a newline, \\r a carriage return, \\t a
 tab, and \\x with two hexadecimal digits any byte, as show prints them.
 
-A recording of a terminal is taken as it is: a cast of asciinema (version 2 or
-3), or a typescript of script(1), with the times of its TIMING, classic or
-advanced, or else all at once. What it shows is the output of child 1, which
-ends with it. It has the terminal's echo and carriage returns in it: the script
-says `set stty_init {-echo -onlcr}`.
+TIMELINE may also be a recording of a terminal: a cast of asciinema (version 2
+or 3), or a typescript of script(1). --timing gives the times of a typescript,
+classic or advanced. Without it the typescript is shown all at once. What a
+recording shows is the output of child 1, which ends with it. It contains the
+terminal's echo and carriage returns, so the script needs
+`set stty_init {-echo -onlcr}`.
 
-Where a line is bad nothing is written, the status is 2, and the first one is
-told, as `exprun: plan: TIMELINE:3: no moment`. So is a script that asks more
-than 100,000 times while the timeline stands still.
+If a line is bad, nothing is written and the status is 2. The first bad line is
+printed, as in `exprun: plan: TIMELINE:3: no moment`. It is also an error if the
+script makes more than 100,000 requests while the timeline stands still.
 
 Example: cat.exp is
 
@@ -347,27 +353,27 @@ Then `exprun plan cat.exp timeline` prints
     out 1 1 20 68690a
     total 3";
 
-/// Behind the help of `check`.
+/// The help of `check`.
 pub const CHECK: &str = "\
-Each script is read whole, with the scripts in its words, and none is run. What
-is wrong is printed, a line for each finding:
+Each script is read as a whole, with the scripts in its words, and none is run.
+check prints one line per finding:
 
     FILE:LINE: TEXT
 
-LINE, from 1, is the one on which the command begins, and TEXT is the error that
-a run would end with. Found are
+LINE is the line on which the command begins, counted from 1. TEXT is the error
+that a run would end with. check finds
 
-    commands that are malformed
-    words that name no command and no procedure of the file, and what to use in
-        their place, where that is known
-    numbers of arguments that a command doesn't take
-    flags and options that it doesn't have
-    regular patterns and expressions that are none
+    malformed commands
+    words that name neither a command nor a procedure of the file, with advice
+        what to use instead, if there is any
+    wrong numbers of arguments
+    flags and options that a command doesn't have
+    malformed regular patterns and expressions
 
-where the words are written plainly. What a word with $ or [ in it comes to is
-known when the script runs, and so are the words behind {*}.
+as far as the words are literal. The value of a word with $ or [ is known only
+when the script runs, and so are the words after {*}.
 
-The status is 0 where nothing is found, 1 where something is, and 2 at a fault.
+The status is 0 if nothing is found, 1 if something is, and 2 on an error.
 
 Example: bad.exp is
 

@@ -1,4 +1,4 @@
-//! The command line of the program: what it offers, and what its words ask for.
+//! The command line of the program: its commands and options, and how it is read.
 #![tactic(auto)]
 
 mod help;

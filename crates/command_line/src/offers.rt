@@ -1,14 +1,14 @@
-//! What the command line offers: its commands, their options and files, and what help tells of each.
+//! The commands of the command line, with their options, files and help texts.
 
 use crate::help;
 use clap::{Arg, ArgAction, Command, value_parser};
 use session::STEPS_LIMIT;
 use std::alloc::{AllocError, Global};
 
-/// The most seconds of a time limit.
+/// The longest time limit, in seconds.
 const SECONDS_LIMIT: i64 = 9_000_000_000;
 
-/// The most seconds that a program may have to end after its script.
+/// The longest grace period, in seconds.
 const GRACE_LIMIT: i64 = 86_400;
 
 /// The most workers, and the most scripts.
@@ -17,23 +17,23 @@ const MANY: i64 = 64;
 /// The names of formats.
 static FORMATS: [&str; 4] = ["text", "json", "jsonl", "tap"];
 
-/// What becomes of the standard errors of programs.
+/// The ways to treat the standard errors of programs.
 static ERRORS: [&str; 2] = ["share", "label"];
 
-/// What an option or a file takes. Help names the value by the word that stands here.
+/// The value of an option or a file. Help shows it by the word given here.
 #[derive(Clone, Copy)]
 enum Takes {
     /// An option without a value.
     Nothing,
     /// An option with any value.
     Word(&'static str),
-    /// An option with a number, from the least to the most.
+    /// An option with a number between these bounds.
     Number(&'static str, i64, i64),
     /// An option with one of a few words.
     OneOf(&'static str),
     /// A file.
     File(&'static str),
-    /// One file or more.
+    /// One or more files.
     Files(&'static str),
 }
 
@@ -54,7 +54,7 @@ const LIMIT: Offer = Offer {
 const STEPS: Offer = Offer {
     name: "steps",
     takes: Takes::Number("N", 1, STEPS_LIMIT as i64),
-    help: "End a script behind N steps [default: 1000000]",
+    help: "End a script after N steps [default: 1000000]",
 };
 
 const VARS: Offer = Offer {
@@ -66,7 +66,7 @@ const VARS: Offer = Offer {
 const REQUESTS: Offer = Offer {
     name: "requests",
     takes: Takes::Nothing,
-    help: "Show what each script asked of its children, in hex",
+    help: "Show each script's requests to its children, in hex",
 };
 
 const FORMAT: Offer = Offer {
@@ -78,13 +78,13 @@ const FORMAT: Offer = Offer {
 const SUMMARY: Offer = Offer {
     name: "summary",
     takes: Takes::Nothing,
-    help: "Print a line of each report, and one of counts",
+    help: "Print one line per report, and a line of counts",
 };
 
 const ESCAPE: Offer = Offer {
     name: "escape",
     takes: Takes::Nothing,
-    help: "Print reports as text that is safe on a terminal",
+    help: "Escape characters that affect a terminal",
 };
 
 const TRANSCRIPTS: Offer = Offer {
@@ -108,37 +108,37 @@ const LOG: Offer = Offer {
 const CUT: Offer = Offer {
     name: "cut",
     takes: Takes::Nothing,
-    help: "Take a log that was cut off up to its last whole line",
+    help: "Read a log that was cut off up to its last whole line",
 };
 
 const WORKERS: Offer = Offer {
     name: "workers",
     takes: Takes::Number("N", 1, MANY),
-    help: "Share the scripts out among N threads [default: 1]",
+    help: "Share the scripts among N threads [default: 1]",
 };
 
 const RECORD: Offer = Offer {
     name: "record",
     takes: Takes::Word("FILE"),
-    help: "Write a log of what happened, which replay reads",
+    help: "Write a log of the run, which replay reads",
 };
 
 const GRACE: Offer = Offer {
     name: "grace",
     takes: Takes::Number("S", 0, GRACE_LIMIT),
-    help: "Hang up programs that go on S seconds [default: 2]",
+    help: "Hang up programs that go on for S seconds [default: 2]",
 };
 
 const HANGUP: Offer = Offer {
     name: "hangup",
     takes: Takes::Nothing,
-    help: "Count these seconds from a close on, too",
+    help: "Also hang up programs S seconds after a close",
 };
 
 const GUARD: Offer = Offer {
     name: "guard",
     takes: Takes::Nothing,
-    help: "Hang up programs if exprun is killed, too",
+    help: "Also hang up programs if exprun is killed",
 };
 
 const STDERR: Offer = Offer {
@@ -150,31 +150,31 @@ const STDERR: Offer = Offer {
 const FOLLOW: Offer = Offer {
     name: "follow",
     takes: Takes::Nothing,
-    help: "Tell on standard error what scripts show, as it comes",
+    help: "Print on standard error what scripts show, as it appears",
 };
 
 const ACCOUNT: Offer = Offer {
     name: "explain",
     takes: Takes::Word("FILE"),
-    help: "Tell in FILE what scripts did, and what they waited for",
+    help: "Write to FILE what scripts did, and what they waited for",
 };
 
 const SHOWN_SCRIPT: Offer = Offer {
     name: "script",
     takes: Takes::Number("N", 1, MANY),
-    help: "Show the events of script N alone, and the ticks",
+    help: "Show only the events of script N, and the ticks",
 };
 
 const TOLD_SCRIPT: Offer = Offer {
     name: "script",
     takes: Takes::Number("N", 1, MANY),
-    help: "Tell the course of script N alone",
+    help: "Explain only script N",
 };
 
 const TIMING: Offer = Offer {
     name: "timing",
     takes: Takes::Word("TIMING"),
-    help: "The file of a typescript's timing",
+    help: "The timing file of a typescript",
 };
 
 const SOURCE: Offer = Offer {
@@ -186,7 +186,7 @@ const SOURCE: Offer = Offer {
 const TIMELINE: Offer = Offer {
     name: "timeline",
     takes: Takes::File("TIMELINE"),
-    help: "The file of what its children say, or /dev/stdin",
+    help: "The timeline of its children, or /dev/stdin",
 };
 
 static RUN: [Offer; 17] = [
@@ -234,7 +234,7 @@ static CHECK: [Offer; 1] = [SOURCES];
 /// The names of the commands, in the order of the help.
 const COMMANDS: [&str; 6] = ["run", "replay", "show", "explain", "plan", "check"];
 
-/// The words that the option of a name takes.
+/// Returns the words that an option accepts.
 fn words_of(name: &str) -> &'static [&'static str] {
     match name {
         "format" => FORMATS.as_slice(),
@@ -242,7 +242,7 @@ fn words_of(name: &str) -> &'static [&'static str] {
     }
 }
 
-/// The argument of an option or a file.
+/// Returns the argument for an option or a file.
 fn arg_of<'a>(alloc: Global, offer: &Offer) -> Arg<'a> {
     let arg = Arg::new(alloc, offer.name).help(offer.help);
     match offer.takes {
@@ -266,7 +266,7 @@ fn arg_of<'a>(alloc: Global, offer: &Offer) -> Arg<'a> {
     }
 }
 
-/// An argument that doesn't stand beside the other forms of reports.
+/// Makes an argument conflict with the other forms of reports.
 fn alone<'a>(arg: Arg<'a>, name: &str) -> Result<Arg<'a>, AllocError> {
     match name {
         "summary" => arg.conflicts_with("format"),
@@ -275,7 +275,7 @@ fn alone<'a>(arg: Arg<'a>, name: &str) -> Result<Arg<'a>, AllocError> {
     }
 }
 
-/// The arguments of what a command offers.
+/// Returns the arguments of a command.
 fn args_of<'a>(alloc: Global, offers: &[Offer]) -> Result<Vec<Arg<'a>>, AllocError> {
     let mut args = Vec::new(alloc);
     for offer in offers {
@@ -285,7 +285,7 @@ fn args_of<'a>(alloc: Global, offers: &[Offer]) -> Result<Vec<Arg<'a>>, AllocErr
     Ok(args)
 }
 
-/// A command: its name, what it does, what help tells behind its options, and what it offers.
+/// A command: its name, its description, its help after the options, and its options and files.
 #[derive(Clone, Copy)]
 struct Part {
     name: &'static str,
@@ -294,7 +294,7 @@ struct Part {
     offers: &'static [Offer],
 }
 
-/// The command of a name of `COMMANDS`.
+/// Returns the command with a name in `COMMANDS`.
 fn part_named(name: &str) -> Part {
     match name {
         "run" => Part {
@@ -311,32 +311,32 @@ fn part_named(name: &str) -> Part {
         },
         "show" => Part {
             name: "show",
-            about: "Shows a log of a run, a line for each event",
+            about: "Shows a log of a run, one line per event",
             after: help::SHOW,
             offers: SHOW.as_slice(),
         },
         "explain" => Part {
             name: "explain",
-            about: "Tells what scripts did over a log, and what they waited for",
+            about: "Explains what scripts did over a log, and what they waited for",
             after: help::EXPLAIN,
             offers: EXPLAIN.as_slice(),
         },
         "plan" => Part {
             name: "plan",
-            about: "Plans a log for replay, of a script and what its children say",
+            about: "Plans a log for replay, from a script and a timeline",
             after: help::PLAN,
             offers: PLAN.as_slice(),
         },
         _ => Part {
             name: "check",
-            about: "Says what is wrong with scripts, and runs nothing",
+            about: "Finds errors in scripts without running them",
             after: help::CHECK,
             offers: CHECK.as_slice(),
         },
     }
 }
 
-/// A command that offers nothing yet.
+/// Returns a command without arguments.
 fn bare<'a>(alloc: Global, part: Part) -> Command<'a> {
     Command::new(alloc, part.name)
         .about(part.about)
@@ -349,8 +349,8 @@ fn command_named<'a>(alloc: Global, name: &str) -> Result<Command<'a>, AllocErro
     bare(alloc, part).args(args)
 }
 
-/// The program with the commands that its first word may mean: the one that it names, or all of them. So a start doesn't pay for the words of
-/// the others.
+/// Adds the commands that the first word may mean: the one that it names, or all of them. A start
+/// therefore doesn't build the others.
 fn with_commands<'a>(
     alloc: Global,
     program: Command<'a>,
@@ -366,7 +366,7 @@ fn with_commands<'a>(
     Ok(program)
 }
 
-/// The program, whose first word this is.
+/// Returns the command line of the program, given its first word.
 pub(crate) fn command<'a>(alloc: Global, first: &str) -> Result<Command<'a>, AllocError> {
     let program = Command::new(alloc, "exprun")
         .bin_name("exprun")?

@@ -1,4 +1,4 @@
-//! What may be asked for.
+//! The requests of a command line.
 
 ghost use Rattle.std.specs.Prelude.{◌≡◌, length};
 ghost use Rattle.command_line.specs.Given.{file_of_lines, format_behind_shown, format_on_terminal};
@@ -6,7 +6,7 @@ ghost use Rattle.command_line.specs.Given.{file_of_lines, format_behind_shown, f
 use child_pipes::Terms;
 use report_texts::{Form, Format};
 
-/// What is asked for.
+/// A request of a command line.
 #[derive(Drop)]
 pub enum Order<'a> {
     Replay(Replay<'a>),
@@ -17,22 +17,22 @@ pub enum Order<'a> {
     Explain(Explain<'a>),
 }
 
-/// Scripts, and what is the same for each of them.
+/// Scripts, with their common options.
 #[derive(Drop)]
 pub struct Scripts<'a> {
-    /// How many steps each script may begin.
+    /// The most steps of each script.
     pub steps: u64,
-    /// The last moment of each script, in milliseconds.
+    /// The time limit of each script, in milliseconds.
     pub limit_ms: Option<u64>,
-    /// The form that their reports are told in.
+    /// The form of their reports.
     pub form: Form,
-    /// The folder that their transcripts are written to.
+    /// The folder for their transcripts.
     pub transcripts: Option<&'a str>,
     /// The files of their sources.
     pub sources: Vec<&'a str>,
 }
 
-/// A replay that is asked for: of a log's file.
+/// The request for a replay of a log.
 #[derive(Drop)]
 pub struct Replay<'a> {
     pub scripts: Scripts<'a>,
@@ -41,29 +41,30 @@ pub struct Replay<'a> {
     pub cut: bool,
 }
 
-/// A run over real children that is asked for.
+/// The request for a run with real programs.
 #[derive(Drop)]
 pub struct Run<'a> {
     pub scripts: Scripts<'a>,
-    /// How many workers there are.
+    /// The number of workers.
     pub workers: u8,
-    /// The file that the record is written to.
+    /// The file for the record.
     pub record: Option<&'a str>,
-    /// Whether what the scripts show is told as it comes.
+    /// Whether what the scripts show is also printed as it appears.
     pub follow: bool,
-    /// Whether a format was asked for by its name.
+    /// Whether a format was named.
     pub has_format: bool,
     /// When children are ended.
     pub terms: Terms,
-    /// Whether children are ended also if this program is killed.
+    /// Whether children are ended even if this program is killed.
     pub guard: bool,
-    /// Whether the lines that children write on standard error are told behind their scripts' numbers.
+    /// Whether the lines of children on standard error are labelled with their scripts' numbers.
     pub labels: bool,
-    /// The file that what they did is told in.
+    /// The file for the explanation.
     pub explain: Option<&'a str>,
 }
 
-/// The format of reports that were to be whole, where their transcripts were shown before.
+/// Returns the format of whole reports whose transcripts were already shown. Other formats are
+/// unchanged.
 fn behind_shown(format: Format) -> Format
     ensures { result ≡ format_behind_shown format }
 {
@@ -74,7 +75,8 @@ fn behind_shown(format: Format) -> Format
 }
 
 impl Run<'_> {
-    /// The format of the reports, where what scripts show and the reports go to one terminal, or not.
+    /// Returns the format of the reports. `is_one_terminal` tells whether what scripts show and the
+    /// reports go to one terminal.
     fn format_on(&self, is_one_terminal: bool) -> Format
         ensures { result ≡ format_on_terminal is_one_terminal self.now.follow (length self.now.scripts.sources.items) self.now.has_format self.now.scripts.form.format }
     {
@@ -85,8 +87,8 @@ impl Run<'_> {
         self.scripts.form.format
     }
 
-    /// Leaves the transcript out of the report of a single script that is followed on the terminal that the report goes to. If a format was asked
-    /// for by its name, the report stays whole.
+    /// Omits the transcript from the report of a single script that is followed on the terminal of
+    /// the report. If a format was named, the report is unchanged.
     pub fn show_once(&mut self, is_one_terminal: bool)
         ensures format { self.new.scripts.form.format ≡ format_on_terminal is_one_terminal self.old.follow (length self.old.scripts.sources.items) self.old.has_format self.old.scripts.form.format }
         ensures form { (self.new.scripts.form.shown ≡ self.old.scripts.form.shown) × (self.new.scripts.form.files ≡ self.old.scripts.form.files) }
@@ -99,40 +101,41 @@ impl Run<'_> {
     }
 }
 
-/// A log's file that is to be shown.
+/// The request to show a log.
 #[derive(Drop)]
 pub struct Show<'a> {
     pub log: &'a str,
-    /// The script whose events are shown, where not all are.
+    /// The only script whose events are shown, or `None` for all.
     pub script: Option<u8>,
 }
 
-/// Scripts whose courses over a log are to be told.
+/// The request to explain scripts over a log.
 #[derive(Drop)]
 pub struct Explain<'a> {
     pub scripts: Scripts<'a>,
     pub log: &'a str,
-    /// The script whose course is told, where not all are.
+    /// The only script that is explained, or `None` for all.
     pub only: Option<u8>,
 }
 
-/// A log that is to be planned, of a script over a timeline.
+/// The request to plan a log of a script from a timeline.
 #[derive(Drop)]
 pub struct Plan<'a> {
-    /// How many steps the script may begin.
+    /// The most steps of the script.
     pub steps: u64,
-    /// Its last moment, in milliseconds.
+    /// The time limit of the script, in milliseconds.
     pub limit_ms: Option<u64>,
     /// The file of its source.
     pub source: &'a str,
     /// The file of the timeline, or of a recording.
     pub timeline: &'a str,
-    /// The file of a typescript's timing.
+    /// The timing file of a typescript.
     pub timing: Option<&'a str>,
 }
 
 impl<'a> Plan<'a> {
-    /// The file of which lines may be bad.
+    /// Returns the file whose lines may be bad: the timing file if there is one, otherwise the
+    /// timeline.
     pub fn lines(&self) -> &'a str
         ensures { result ≡ file_of_lines self.now.timeline self.now.timing }
     {
@@ -143,7 +146,7 @@ impl<'a> Plan<'a> {
     }
 }
 
-/// Files of scripts that are to be checked.
+/// The request to check scripts.
 #[derive(Drop)]
 pub struct Check<'a> {
     pub sources: Vec<&'a str>,

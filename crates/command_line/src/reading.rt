@@ -1,4 +1,4 @@
-//! What the words of the command line ask for.
+//! Reads the words of the command line.
 
 ghost use Rattle.std.specs.Prelude.{◌≡◌, ◌≤◌, ◌*◌, option_map, IfOk, IfSome, Some, None};
 ghost use Rattle.command_line.specs.Given.{steps_given, grace_seconds, names_of, files_told, format_given, labels_given};
@@ -11,27 +11,27 @@ use report_texts::{Form, Format, Shown};
 use std::alloc::{AllocError, Global};
 use tcl_words::{Text, Texts};
 
-/// How many steps a script has where the command line names none.
+/// The most steps of a script by default.
 const DEFAULT_STEPS: u64 = 1_000_000;
 
-/// How many seconds a program has to end after its script, where the command line says nothing.
+/// The grace period by default, in seconds.
 const DEFAULT_GRACE: u64 = 2;
 
-/// Seconds in milliseconds; of more seconds than a limit may have, at most the greatest number.
+/// Converts seconds to milliseconds. Unspecified above 9,000,000,000 seconds.
 fn milliseconds(seconds: u64) -> u64
     ensures { seconds ≤ 9000000000 → result ≡ 1000 * seconds }
 {
     seconds.saturating_mul(1000)
 }
 
-/// How many steps each script may begin, where so many or none are asked for.
+/// Returns the most steps of each script, given the number on the command line.
 fn steps_of(asked: Option<u64>) -> u64
     ensures { result ≡ steps_given asked }
 {
     asked.unwrap_or(DEFAULT_STEPS)
 }
 
-/// The last moment of each script in milliseconds, where so many seconds or none are asked for.
+/// Returns the time limit of each script in milliseconds, given the seconds on the command line.
 fn limit_of(asked: Option<u64>) -> Option<u64>
     ensures none { asked ≡ None → result ≡ None }
     ensures some { IfSome asked (λ seconds. seconds ≤ 9000000000 → result ≡ Some (1000 * seconds)) }
@@ -42,7 +42,7 @@ fn limit_of(asked: Option<u64>) -> Option<u64>
     }
 }
 
-/// The files of sources, in the order of the command line.
+/// Returns the files of sources, in the order of the command line.
 fn files_of<'a>(alloc: Global, matches: &ArgMatches<'a>) -> Result<Vec<&'a str>, AllocError>
     ensures { IfOk result (λ files. names_of files.items ≡ files_told matches.now) }
 {
@@ -53,7 +53,7 @@ fn files_of<'a>(alloc: Global, matches: &ArgMatches<'a>) -> Result<Vec<&'a str>,
     Ok(files)
 }
 
-/// The names of files.
+/// Returns the names of files as texts.
 fn texts_of(alloc: Global, files: &[&str]) -> Result<Texts, AllocError>
     ensures { IfOk result (λ texts. texts ≡ names_of files.now) }
 {
@@ -64,7 +64,7 @@ fn texts_of(alloc: Global, files: &[&str]) -> Result<Texts, AllocError>
     Ok(texts)
 }
 
-/// The format that is asked for by a name, or a summary, or what is for terminals.
+/// Returns the format for the options given.
 fn format_of(summary: bool, escape: bool, name: Option<&str>) -> Format
     ensures { result ≡ format_given summary escape (option_map (λ n. n.now) name.entry) }
 {
@@ -109,21 +109,21 @@ fn scripts_of<'a>(alloc: Global, matches: &ArgMatches<'a>) -> Result<Scripts<'a>
     })
 }
 
-/// How many milliseconds a program has to end after its script, where so many seconds or none are asked for.
+/// Returns the grace period in milliseconds, given the seconds on the command line.
 fn grace_of(asked: Option<u64>) -> u64
     ensures { grace_seconds asked ≤ 86400 → result ≡ 1000 * grace_seconds asked }
 {
     milliseconds(asked.unwrap_or(DEFAULT_GRACE))
 }
 
-/// A number from 1 to 64 as a byte.
+/// Converts a number from 1 to 64 to a byte.
 fn byte_of(number: u64) -> u8
     ensures { number ≤ 64 → result ≡ number }
 {
     u8::try_from(number).unwrap_or(1)
 }
 
-/// Whether the lines on standard errors are to be labelled, by the word that is given.
+/// Returns whether the lines on standard errors are labelled, given the word of the option.
 fn is_label(word: Option<&str>) -> bool
     ensures { result ≡ labels_given (option_map (λ w. w.now) word.entry) }
 {
@@ -186,8 +186,8 @@ fn check_of<'a>(alloc: Global, matches: &ArgMatches<'a>) -> Result<Order<'a>, Al
     }))
 }
 
-/// What is asked for by the words, the first of which is the program. An error's text is to be shown,
-/// and is a help where that was asked for.
+/// Reads the words of a command line. The first word is the name of the program. The text of an
+/// error must be printed; it is a help if that was requested.
 pub fn read_words<'a>(alloc: Global, words: &'a [String]) -> Result<Order<'a>, Error> {
     let first = words.get(1).map_or("", |word| word.as_str());
     let matches = command(alloc, first)?.try_get_matches_from(words)?;

@@ -1,4 +1,5 @@
--- Whether exprun itself closed a child's output: a run does so where the script closed the child, and where the script is over.
+-- Whether exprun itself closed a child's output. A run does so when the script closes the child, and when the script
+-- has ended.
 use Rattle.std.specs.Prelude.{ℕ, List, Bool, true, false, ◌==◌, ◌&&◌, ◌||◌}
 use Rattle.std.specs.List.{list_any}
 use Rattle.child_events.specs.declared.event.What.{What}
@@ -11,7 +12,7 @@ use Rattle.expect_core.specs.declared.request.Request.{Request}
 use Rattle.tcl_host.specs.declared.ending.Ending.{Ending}
 use Rattle.tcl_host.specs.declared.ending.Ending.TheVariants as ending
 
--- a script that has ended
+-- Whether a script has ended.
 abbrev pub is_over : Ending → Bool
 is_over ending.Waiting = false
 is_over how = true
@@ -20,16 +21,17 @@ abbrev pub is_close : Act → Bool
 is_close act.Close = true
 is_close a = false
 
--- a request that closes a child
+-- Whether a request closes this child.
 abbrev pub closes : ℕ → Request → Bool
 closes c r = (r.child == c) && is_close r.act
 
--- a read failure of a child's output
+-- Whether reading a child's output failed.
 abbrev pub is_loss : What → Bool
 is_loss (what.ReadFail cause) = true
 is_loss w = false
 
--- Reading the output of an event's child failed when its script had ended so, or had asked to close that child.
+-- Whether an event says that reading a child's output failed, after the script had ended or had asked to close that
+-- child.
 abbrev pub is_closed : List Request → Ending → HallEvent → Bool
 is_closed asked how (hall.Child s c m w) = is_loss w && (is_over how || list_any (closes c) asked)
 is_closed asked how (hall.Tick m) = false

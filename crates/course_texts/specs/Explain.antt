@@ -1,4 +1,4 @@
--- The courses of scripts over a log: each event of a script, what it asks for then, and what it waits for.
+-- The explanations of scripts over a log: for each event of a script, what it then asks for, and what it waits for.
 use Rattle.std.specs.Prelude.{◌≡◌, ◌≢◌, ℕ, ◌+◌, ◌-◌, ◌<◌, List, [], ◌∷◌, ◌++◌, length, drop, codes, Bool, true, false, ◌==◌, if◌then◌else◌, Option, Some, None, Result, Ok, Err, IsSomeAnd, IsTrue}
 use Rattle.std.specs.List.{slice_get}
 use Rattle.std.specs.Io.KnownBytes.{Appends}
@@ -30,25 +30,25 @@ use Rattle.course_texts.specs.Waits.{request_lines, wait_lines}
 use Rattle.course_texts.specs.Meetings.{course_text}
 use Rattle.course_texts.specs.declared.meetings.Teller.{Teller}
 
--- all that a teller wrote, and what the session asked for behind that
+-- The text of a teller, and the requests of the session that it has not written yet.
 abbrev pub SaysAll : Teller → Kept → List ℕ → Type 0
 SaysAll t k text = IsTrue k.lives × (t.refused ≡ false) × ((asked : List Request) × HasAsked k asked × (text ≡ t.text ++ request_lines (drop t.told asked)))
 
--- a tick behind which a script has begun no step more
+-- Whether an event is a tick after which the script began no further step.
 abbrev pub is_quiet : HallEvent → Bool → Bool
 is_quiet (hall.Child s c m w) still = false
 is_quiet (hall.Tick m) still = still
 
--- the line of an event, where the script's report so far says what it had asked for, and whether it had ended
+-- The line of an event. The script's report up to then says what the script had asked for, and whether it had ended.
 abbrev pub line_behind : Report → HallEvent → List ℕ
 line_behind so_far e = told_line (is_closed so_far.requests so_far.ending e) e
 
--- What the script asked for and met at an event, behind its first requests, and what it waits for then. A tick that changed nothing is told
--- alone.
+-- The text of an event: its line, the matches, the requests after the first `n`, and what the script waits for then.
+-- The last part is left out for a tick after which the script began no further step.
 abbrev pub step_text : Report → HallEvent → ℕ → List Meeting → List Request → Bool → Kept → List ℕ
 step_text so_far e n met asked still k = line_behind so_far e ++ (course_text n met asked ++ (if is_quiet e still then [] else wait_lines k))
 
--- The text of a script's events, from how it began to where it stands. Events of others are not told.
+-- The text of a script's own events, from its first state to its state now. Events of other scripts add no text.
 pub data Told (n : ℕ) (first : Kept) : List HallEvent → List ℕ → Kept → Type 0 where
   at_first : Told n first [] [] first
   others : (es : List HallEvent) (text : List ℕ) (k : Kept) (e : HallEvent) → own_of n e ≡ None → Told n first es text k → Told n first (es ++ e ∷ []) text k
@@ -57,7 +57,7 @@ pub data Told (n : ℕ) (first : Kept) : List HallEvent → List ℕ → Kept �
       → ((later : List Event) → met_from k (event ∷ later) ≡ met ++ met_from l later)
       → Told n first es text k → Told n first (es ++ e ∷ []) (text ++ step_text (left k []) e (length before) met after (begun == steps) l) l
 
--- what an event of a script's own leaves, and what is told of it
+-- What one of a script's own events changes, and the text that it adds.
 pub record OwnTold (e : HallEvent) (event : Event) (old new : Kept) (text text' : List ℕ) : Type 0 where
   pub before : List Request
   pub after : List Request
@@ -72,7 +72,7 @@ pub record OwnTold (e : HallEvent) (event : Event) (old new : Kept) (text text' 
   pub meets : (later : List Event) → met_from old (event ∷ later) ≡ met ++ met_from new later
   pub told : text' ≡ text ++ step_text (left old []) e (length before) met after (begun == steps) new
 
--- the same of any event
+-- The same for any event. An event of another script changes nothing.
 abbrev pub StepOf : Option Event → HallEvent → Kept → Kept → List ℕ → List ℕ → Type 0
 StepOf None e old new text text' = (new ≡ old) × (text' ≡ text)
 StepOf (Some event) e old new text text' = OwnTold e event old new text text'
@@ -80,18 +80,18 @@ StepOf (Some event) e old new text text' = OwnTold e event old new text text'
 abbrev pub StepTold : ℕ → HallEvent → Kept → Kept → List ℕ → List ℕ → Type 0
 StepTold n e old new text text' = StepOf (own_of n e) e old new text text'
 
--- what is told of a script's events is put behind a text
+-- The text of a script's events is appended to another text.
 abbrev pub TellsBehind : ℕ → Kept → List HallEvent → List ℕ → Kept → List ℕ → Type 0
 TellsBehind n first es before k text = (told : List ℕ) × Told n first es told k × (text ≡ before ++ told)
 
 unfoldable pub heading : ℕ → List ℕ
 heading n = labelled (codes "script ") n ++ codes "\n"
 
--- how a course begins
+-- The beginning of an explanation.
 abbrev pub start_text : ℕ → List Meeting → List Request → Kept → List ℕ
 start_text n met asked k = heading n ++ (course_text 0 met asked ++ wait_lines k)
 
--- the session of the script of a number at its first wait, and its text
+-- The session of script `n` at its first wait, and its text.
 pub record Starts (n : ℕ) (script : Script) (k : Kept) (text : List ℕ) : Type 0 where
   pub asked : List Request
   pub met : List Meeting
@@ -109,7 +109,7 @@ StartsOne n script (Err (SourceTooLong at)) = (at ≡ n) × (1048576 < length sc
 StartsOne n script (Err Write) = ⊥
 StartsOne n script (Err Memory) = Unit {0}
 
--- the text of an error
+-- The line of an error. It is empty for the other endings.
 abbrev pub fault_line : Ending → List ℕ → List ℕ
 fault_line ending.Error fault = codes "error: " ++ quoted fault ++ codes "\n"
 fault_line (ending.Exit n) fault = []
@@ -118,11 +118,11 @@ fault_line ending.TimeLimit fault = []
 fault_line ending.Memory fault = []
 fault_line ending.Waiting fault = []
 
--- how it ends: the first line of its report, its error, and where that came by
+-- The end of an explanation: the first line of the script's report, its error, and where the error occurred.
 unfoldable pub end_text : ℕ → Report → List ℕ
 end_text n r = head_line n r ++ fault_line r.ending r.fault ++ place_lines r.trail
 
--- the course of the script of a number over events
+-- The explanation of script `n` over events.
 pub record Course (n : ℕ) (script : Script) (events : List HallEvent) (text : List ℕ) : Type 0 where
   pub first : Kept
   pub start : List ℕ
@@ -134,29 +134,29 @@ pub record Course (n : ℕ) (script : Script) (events : List HallEvent) (text : 
   pub ends : Reports last report
   pub is : text ≡ start ++ (told ++ end_text n report)
 
--- all scripts are told, or one alone
+-- Whether script `n` is explained: all are, or only one is.
 abbrev pub is_told : Option ℕ → ℕ → Bool
 is_told None n = true
 is_told (Some only) n = n == only
 
--- the courses of scripts, numbered from 1, in order
+-- The explanations of scripts, numbered from 1, in order.
 pub data Explained (only : Option ℕ) (events : List HallEvent) : List Script → List ℕ → Type 0 where
   no_script : Explained only events [] []
   silent : (ss : List Script) (text : List ℕ) (s : Script) → is_told only (length ss + 1) ≡ false → Explained only events ss text → Explained only events (ss ++ s ∷ []) text
   told : (ss : List Script) (text course : List ℕ) (s : Script) → is_told only (length ss + 1) ≡ true → Course (length ss + 1) s events course
       → Explained only events ss text → Explained only events (ss ++ s ∷ []) (text ++ course)
 
--- the script of a number is too long
+-- The source of script `n` is too long.
 abbrev pub IsTooLong : List Script → ℕ → Type 0
 IsTooLong scripts n = IsSomeAnd (slice_get scripts (n - 1)) (λ s. 1048576 < length s.source)
 
--- the bytes are the log text of events over which the scripts have these courses
+-- The bytes are the log of events, and the text explains the scripts over these events.
 pub record Courses (only : Option ℕ) (scripts : List Script) (bytes text : List ℕ) : Type 0 where
   pub events : List HallEvent
   pub log : LogText bytes events
   pub courses : Explained only events scripts text
 
--- what an explanation of the scripts over a log answers, and what it puts behind what was written before
+-- What explaining the scripts over a log returns, and what it appends to the output.
 abbrev pub Explains : Option ℕ → List Script → List ℕ → Option (List ℕ) → Option (List ℕ) → Result (Unit {0}) ExplainFault → Type 0
 Explains only scripts bytes old new (Ok done) = (text : List ℕ) × Courses only scripts bytes text × Appends old new text
 Explains only scripts bytes old new (Err Read) = Unit {0}
@@ -166,7 +166,7 @@ Explains only scripts bytes old new (Err (SourceTooLong n)) = IsTooLong scripts 
 Explains only scripts bytes old new (Err Write) = (text : List ℕ) × Courses only scripts bytes text × WasPut old new text
 Explains only scripts bytes old new (Err Memory) = Unit {0}
 
--- what telling the courses of scripts over events answers
+-- What explaining the scripts over events returns.
 abbrev pub Tells : Option ℕ → List HallEvent → List Script → Result (List ℕ) ExplainFault → Type 0
 Tells only events scripts (Ok text) = Explained only events scripts text
 Tells only events scripts (Err Read) = ⊥
@@ -176,7 +176,7 @@ Tells only events scripts (Err (SourceTooLong n)) = IsTooLong scripts n
 Tells only events scripts (Err Write) = ⊥
 Tells only events scripts (Err Memory) = Unit {0}
 
--- what telling one course answers; a source that is too long has none
+-- What explaining one script returns. A source that is too long has no explanation.
 abbrev pub TellsOne : ℕ → Script → List HallEvent → Result (List ℕ) ExplainFault → Type 0
 TellsOne n script events (Ok text) = Course n script events text
 TellsOne n script events (Err Read) = ⊥
@@ -186,7 +186,7 @@ TellsOne n script events (Err (SourceTooLong at)) = (at ≡ n) × (1048576 < len
 TellsOne n script events (Err Write) = ⊥
 TellsOne n script events (Err Memory) = Unit {0}
 
--- what judging a log answers
+-- What checking a log returns.
 abbrev pub Judged : List ℕ → Result (List HallEvent) ExplainFault → Type 0
 Judged bytes (Ok events) = LogText bytes events
 Judged bytes (Err Read) = ⊥
@@ -196,7 +196,7 @@ Judged bytes (Err (SourceTooLong n)) = ⊥
 Judged bytes (Err Write) = ⊥
 Judged bytes (Err Memory) = Unit {0}
 
--- a fault of the log is no want of memory
+-- An error in the log is never `Memory`.
 abbrev pub IsNoWant : ExplainFault → Type 0
 IsNoWant (Log f) = f ≢ logs.Memory
 IsNoWant Read = Unit {0}

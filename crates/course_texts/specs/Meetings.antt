@@ -1,4 +1,4 @@
--- What a script's expects meet, in lines that are read beside those of its events.
+-- What a script's `expect` commands match, in lines between those of its events.
 use Rattle.std.specs.Prelude.{◌≡◌, ℕ, ◌+◌, nat_le, List, [], ◌∷◌, ◌++◌, length, drop, codes, Bool, false, if◌then◌else◌, Option, Some, None, Result, Ok, Err}
 use Rattle.std.specs.List.{slice_get}
 use Rattle.tcl_subst.specs.Variables.{Variables, value_of}
@@ -15,18 +15,18 @@ use Rattle.report_texts.specs.Escape.{quoted}
 use Rattle.course_texts.specs.Patterns.{want_text}
 use Rattle.course_texts.specs.Waits.{margin, tail_of, request_lines}
 
--- the name of an element of expect_out that tells of a group
+-- The name of an element of `expect_out` for a group.
 unfoldable pub group_name : ℕ → List ℕ → List ℕ
 group_name digit what = codes "expect_out(" ++ digit ∷ codes "," ++ what ++ codes ")"
 
--- the digits of the groups that a match can have
+-- The digits of the groups that a match can have.
 abbrev pub groups_of : Want → List ℕ
 groups_of (want.Exact text nocase) = codes "0"
 groups_of (want.Glob glob nocase) = codes "0"
 groups_of (want.Regular r) = codes "0123456789"
 groups_of (want.Keyword k) = []
 
--- a value: all of it where it is short, else how long it is, and its end
+-- A value. If it has more than 64 bytes, its length and its last 64 bytes.
 unfoldable pub shown_text : List ℕ → List ℕ
 shown_text bytes =
     if nat_le (length bytes) 64 then quoted bytes
@@ -39,11 +39,11 @@ abbrev pub line_of : {F : Type 0} → List ℕ → Result (List ℕ) F → List 
 line_of name (Ok bytes) = stored_line name bytes
 line_of name (Err f) = []
 
--- a variable, where it has a value
+-- The line of a variable, if it has a value.
 abbrev pub stored_part : List ℕ → Variables → List ℕ
 stored_part name vars = line_of name (value_of name vars)
 
--- where a group stands, where that was asked for
+-- The lines of a group's indices, if the entry has `-indices`.
 abbrev pub places_part : Bool → ℕ → Variables → List ℕ
 places_part indices digit vars = if indices then stored_part (group_name digit (codes "start")) vars ++ stored_part (group_name digit (codes "end")) vars else []
 
@@ -54,7 +54,7 @@ abbrev pub group_lines : Bool → Variables → List ℕ → List ℕ
 group_lines indices vars [] = []
 group_lines indices vars (d ∷ ds) = group_part indices vars d ++ group_lines indices vars ds
 
--- whose bytes were met
+-- The child whose output matched, if any.
 unfoldable pub of_child : Option ℕ → List ℕ
 of_child None = []
 of_child (Some n) = labelled (codes " by child ") n
@@ -62,12 +62,12 @@ of_child (Some n) = labelled (codes " by child ") n
 unfoldable pub met_line : Want → Option ℕ → List ℕ
 met_line w child = margin ++ want_text w ++ codes " was met" ++ of_child child ++ codes "\n"
 
--- the bytes that were met, where some were
+-- The line of `expect_out(buffer)`, if a child's output matched.
 abbrev pub buffer_part : Option ℕ → Variables → List ℕ
 buffer_part None vars = []
 buffer_part (Some n) vars = stored_part (codes "expect_out(buffer)") vars
 
--- an entry that was met, and what expect_out has then
+-- The lines of an entry that matched, and of the values in `expect_out`.
 abbrev pub entry_lines : Variables → Option ℕ → Entry → List ℕ
 entry_lines vars child e = met_line e.want child ++ (group_lines e.indices vars (groups_of e.want) ++ buffer_part child vars)
 
@@ -75,7 +75,7 @@ abbrev pub found_lines : Variables → Option ℕ → Option Entry → List ℕ
 found_lines vars child None = []
 found_lines vars child (Some e) = entry_lines vars child e
 
--- the number of the child at a place, from 1
+-- The number of the child at a place, from 1.
 abbrev pub number_of : Option ℕ → Option ℕ
 number_of None = None
 number_of (Some i) = Some (i + 1)
@@ -84,20 +84,20 @@ abbrev pub met_lines : Plan → Variables → Option Met → List ℕ
 met_lines p vars None = []
 met_lines p vars (Some m) = found_lines vars (number_of m.child) (slice_get p.list.entries m.entry)
 
--- what an expect met
+-- The lines of what an `expect` matched.
 abbrev pub plan_lines : Plan → Variables → List ℕ
 plan_lines p vars = met_lines p vars p.met
 
--- what was asked for behind the first requests, and what was met then
+-- The requests after the first `n`, and what was matched then.
 abbrev pub meeting_text : ℕ → Plan → Variables → List Request → List ℕ
 meeting_text n p vars asked = request_lines (drop n asked) ++ plan_lines p vars
 
--- What was met, each behind what was asked for before it, and what was asked for behind that. The first requests were told before.
+-- Each match after the requests before it, and then the remaining requests. The first `n` requests are left out.
 abbrev pub course_text : ℕ → List Meeting → List Request → List ℕ
 course_text n [] asked = request_lines (drop n asked)
 course_text n (m ∷ ms) asked = meeting_text n m.plan m.vars m.asked ++ course_text (length m.asked) ms asked
 
--- one who writes it down, unless memory is refused
+-- A teller that writes this text, unless memory is refused.
 abbrev pub Writes : Teller → Plan → Variables → List Request → Teller → Type 0
 Writes old p vars asked new =
     new.refused ≡ false → (old.refused ≡ false) × (new.text ≡ old.text ++ meeting_text old.told p vars asked) × (new.told ≡ length asked)

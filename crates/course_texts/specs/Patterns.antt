@@ -1,4 +1,4 @@
--- The patterns and keywords of an `expect`, as they are written there.
+-- The patterns and keywords of an `expect`, as they are written in its list.
 use Rattle.std.specs.Prelude.{ℕ, List, [], ◌∷◌, ◌++◌, codes, Bool, ◌||◌, ◌==◌, if◌then◌else◌}
 use Rattle.tcl_words.specs.Bytes as ascii
 use Rattle.exp_glob.specs.declared.element.Element.{Element}
@@ -12,7 +12,7 @@ use Rattle.exp_match.specs.declared.entry.Want.{Want}
 use Rattle.exp_match.specs.declared.entry.Want.TheVariants as want
 use Rattle.report_texts.specs.Escape.{quoted}
 
--- a byte that stands for itself in a glob pattern only behind a backslash
+-- Whether a byte needs a backslash before it in a glob pattern to stand for itself.
 abbrev pub is_mark : ℕ → Bool
 is_mark b = (b == ascii.star) || (b == ascii.question) || (b == ascii.open_bracket) || (b == ascii.backslash) || (b == ascii.caret) || (b == ascii.dollar)
 
@@ -33,7 +33,7 @@ abbrev pub elements_text : List Element → List ℕ
 elements_text [] = []
 elements_text (e ∷ es) = element_text e ++ elements_text es
 
--- a text that writes a glob pattern
+-- A text of a glob pattern.
 abbrev pub glob_text : Glob → List ℕ
 glob_text g = (if g.anchored then codes "^" else []) ++ elements_text g.elements
 
@@ -43,11 +43,11 @@ keyword_text key.Timeout = codes "timeout"
 keyword_text key.Default = codes "default"
 keyword_text key.FullBuffer = codes "full_buffer"
 
--- how a pattern is to be read, and the pattern
+-- A pattern after its flags.
 unfoldable pub flagged : Bool → List ℕ → List ℕ → List ℕ
 flagged nocase flag text = (if nocase then codes "-nocase " else []) ++ flag ++ quoted text
 
--- what is waited for, as it is written in the list
+-- The pattern or keyword of an entry, as it is written in the list.
 abbrev pub want_text : Want → List ℕ
 want_text (want.Exact text nocase) = flagged nocase (codes "-ex ") text
 want_text (want.Glob glob nocase) = flagged nocase (codes "-gl ") (glob_text glob)

@@ -1,4 +1,5 @@
--- Where the error came by that ended a script, a line for each command and procedure that handed it on, the innermost first.
+-- Where the error that ended a script occurred: a line for each command and procedure that passed it on, innermost
+-- first.
 use Rattle.std.specs.Prelude.{ℕ, ◌-◌, nat_lt, not, ◌==◌, List, [], ◌∷◌, ◌++◌, length, drop, take, codes, if◌then◌else◌}
 use Rattle.std.specs.List.{prefix_len}
 use Rattle.tcl_words.specs.Bytes as ascii
@@ -10,24 +11,24 @@ use Rattle.report_texts.specs.Escape.{quoted}
 use Rattle.report_texts.specs.Line.{line_text}
 use Rattle.report_texts.specs.Report.{labelled}
 
--- how many bytes stand before the end of a line
+-- The number of bytes before the end of a line.
 unfoldable pub line_len : List ℕ → ℕ
 line_len text = prefix_len (λ b. not (b == ascii.newline)) text
 
--- the first 150 bytes of a line
+-- The first 150 bytes of a line, with dots after them if the line is longer.
 abbrev pub shortened : List ℕ → List ℕ
 shortened line = if nat_lt 150 (length line) then line_text (take 150 line) ++ codes "..." else line_text line
 
--- a command with what stands behind it, where the script was read from this place on
+-- The rest of a script, from the next command at or after this place on.
 abbrev pub command_from : List ℕ → ℕ → List ℕ
 command_from script at = begin_of (drop at script)
 
--- the line of the script on which a command begins, and its text from there on
+-- The line number at which a command begins, and the text of that line from the command on.
 unfoldable pub command_line : List ℕ → List ℕ → List ℕ
 command_line script text =
     labelled (codes "  line ") (line_of script (length script - length text)) ++ codes ": " ++ shortened (take (line_len text) text) ++ codes "\n"
 
--- closed, so that the text of a line stays in pieces
+-- The words before a procedure's name. They are closed, so that the text of a line stays in pieces.
 unfoldable pub in_procedure : List ℕ
 in_procedure = codes "  in procedure "
 

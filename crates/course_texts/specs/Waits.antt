@@ -1,4 +1,4 @@
--- What a script asks of its children, and what it waits for, in lines that are read beside those of its events.
+-- What a script asks of its children, and what it waits for, in lines between those of its events.
 use Rattle.std.specs.Prelude.{ℕ, ◌+◌, ◌-◌, List, [], ◌∷◌, ◌++◌, length, drop, codes, if◌then◌else◌, Option, Some, None}
 use Rattle.exp_match.specs.Choice.{in_groups}
 use Rattle.exp_match.specs.declared.entry.Entry.{Entry}
@@ -17,11 +17,11 @@ use Rattle.report_texts.specs.Report.{labelled}
 use Rattle.report_texts.specs.Escape.{quoted}
 use Rattle.course_texts.specs.Patterns.{want_text}
 
--- the columns in which an event has its moment; closed, so that the text of a line stays in pieces
+-- The columns of an event's moment, as spaces. They are closed, so that the text of a line stays in pieces.
 unfoldable pub margin : List ℕ
 margin = codes "             "
 
--- the line of a request
+-- The line of a request.
 unfoldable pub request_line : Request → List ℕ
 request_line r = margin ++ labelled (codes "asks child ") r.child ++ codes ": " ++ act_text Quoted r.act ++ codes "\n"
 
@@ -29,12 +29,12 @@ abbrev pub request_lines : List Request → List ℕ
 request_lines [] = []
 request_lines (r ∷ rs) = request_line r ++ request_lines rs
 
--- the line of the answer that is awaited
+-- The line of the answer that the script waits for.
 unfoldable pub answer_line : Option ℕ → List ℕ
 answer_line None = []
 answer_line (Some c) = margin ++ labelled (codes "waits for the answer of child ") c ++ codes "\n"
 
--- a pattern that didn't match, or a keyword for which the time has not come
+-- The verdict for a pattern that did not match, or for a keyword whose event has not happened.
 abbrev pub verdict : Want → List ℕ
 verdict (want.Exact text nocase) = codes "  no\n"
 verdict (want.Glob glob nocase) = codes "  no\n"
@@ -44,7 +44,7 @@ verdict (want.Keyword k) = codes "\n"
 unfoldable pub entry_line : Entry → List ℕ
 entry_line e = margin ++ codes "    " ++ want_text e.want ++ verdict e.want
 
--- a child's own are those of its groups
+-- The line of an entry, if it belongs to one of these groups.
 abbrev pub own_line : List ℕ → Entry → List ℕ
 own_line groups e = if in_groups groups e then entry_line e else []
 
@@ -52,16 +52,16 @@ abbrev pub own_lines : List ℕ → List Entry → List ℕ
 own_lines groups [] = []
 own_lines groups (e ∷ es) = own_line groups e ++ own_lines groups es
 
--- the last bytes of a text, 64 at the most
+-- The last 64 bytes of a text, or all of a shorter one.
 abbrev pub tail_of : List ℕ → List ℕ
 tail_of bytes = drop (length bytes - 64) bytes
 
--- how many bytes of a child no pattern has taken, and the last of them
+-- The number of bytes from a child that no pattern has consumed, and the last of them.
 unfoldable pub buffer_line : ℕ → List ℕ → List ℕ
 buffer_line c bytes =
     margin ++ labelled (codes "  child ") c ++ labelled (codes " has ") (length bytes) ++ codes " bytes, the last are " ++ quoted (tail_of bytes) ++ codes "\n"
 
--- each child with its bytes and its patterns
+-- Each child with its bytes and its patterns.
 abbrev pub side_lines : List Child → List Entry → List (ℕ × List ℕ) → List ℕ
 side_lines children entries [] = []
 side_lines children entries ((i, groups) ∷ sides) =
@@ -73,16 +73,16 @@ deadline_line m = margin ++ labelled (codes "waits for output until ") m ++ code
 unfoldable pub endless_line : List ℕ
 endless_line = margin ++ codes "waits for output\n"
 
--- up to which moment it waits, if there is one
+-- The line of the moment until which an `expect` waits, if there is one.
 abbrev pub until_line : Option ℕ → List ℕ
 until_line None = endless_line
 until_line (Some m) = deadline_line m
 
--- the lines of the expect that waits
+-- The lines of the `expect` that waits.
 abbrev pub expect_lines : List Child → Option Plan → List ℕ
 expect_lines children None = []
 expect_lines children (Some p) = until_line (as_moment p.deadline) ++ side_lines children p.list.entries p.sides
 
--- what a session waits for
+-- The lines of what a session waits for.
 unfoldable pub wait_lines : Kept → List ℕ
 wait_lines k = answer_line (answering k) ++ expect_lines k.dialogue.own.children (expecting k)

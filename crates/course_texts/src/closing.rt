@@ -1,4 +1,4 @@
-//! Whether exprun itself closed a child's output.
+//! Tells whether exprun itself closed a child's output.
 
 ghost use Rattle.std.specs.Prelude.{◌≡◌};
 ghost use Rattle.std.specs.List.{list_any};
@@ -8,7 +8,7 @@ use child_events::{HallEvent, What};
 use expect_core::Act;
 use session::{Ending, Request};
 
-/// Whether a script has ended.
+/// Returns whether a script has ended.
 fn is_over(ending: Ending) -> bool
     ensures { result ≡ is_over_of ending }
 {
@@ -21,28 +21,29 @@ fn is_close(act: &Act) -> bool
     matches!(act, Act::Close)
 }
 
-/// Whether reading a child's output failed.
+/// Returns whether reading a child's output failed.
 fn is_loss(what: &What) -> bool
     ensures { result ≡ is_loss_of what.now }
 {
     matches!(what, What::ReadFail(_))
 }
 
-/// Whether a request closes a child.
+/// Returns whether a request closes this child.
 fn closes(child: u8, request: &Request) -> bool
     ensures { result ≡ closes_of child request.now }
 {
     request.child == child && is_close(&request.act)
 }
 
-/// Whether one of the requests closes a child.
+/// Returns whether one of the requests closes this child.
 fn has_closed(requests: &[Request], child: u8) -> bool
     ensures { result ≡ list_any (closes_of child) requests.now }
 {
     requests.iter().any(|request| closes(child, request))
 }
 
-/// Whether an event tells of an output that exprun itself closed: reading it failed, and the script has ended, or asked to close the child.
+/// Returns whether an event is the end of an output that exprun itself closed. Then reading failed
+/// after the script had ended, or had asked to close the child.
 pub(crate) fn is_closed(requests: &[Request], ending: Ending, event: &HallEvent) -> bool
     ensures { result ≡ is_closed_of requests.now ending event.now }
 {

@@ -1,4 +1,4 @@
-//! The text of events, a line each.
+//! The text of events, one line each.
 
 ghost use Rattle.std.specs.Prelude.{◌≡◌, ◌++◌, drop, codes, IfOk, OnOk};
 ghost use Rattle.course_texts.specs.Show.{moment_text, answer_text, loss_text, what_text, told_line, is_of as is_of_script, shown_event, shown_log};
@@ -11,7 +11,7 @@ use tcl_words::Text;
 /// The columns of a moment.
 const COLUMNS: &[u8] = b"        ";
 
-/// What so many digits leave of the columns.
+/// Returns the spaces before a number of digits in the columns.
 fn spaces(digits: usize) -> &'static [u8]
     ensures { result.now ≡ drop digits (codes "        ") }
 {
@@ -21,7 +21,7 @@ fn spaces(digits: usize) -> &'static [u8]
     &COLUMNS[digits..]
 }
 
-/// Puts a moment behind a text.
+/// Appends a moment.
 fn push_moment(alloc: Global, text: &mut Text, moment: u64) -> Result<(), AllocError>
     ensures { OnOk result (text.new ≡ text.old ++ moment_text moment) }
 {
@@ -31,7 +31,7 @@ fn push_moment(alloc: Global, text: &mut Text, moment: u64) -> Result<(), AllocE
     text.extend(b" ms")
 }
 
-/// Puts a label and a word behind a text.
+/// Appends a label and a word.
 fn push_word(text: &mut Text, label: &[u8], word: &[u8]) -> Result<(), AllocError>
     ensures { OnOk result (text.new ≡ text.old ++ (label.now ++ word.now)) }
 {
@@ -39,7 +39,7 @@ fn push_word(text: &mut Text, label: &[u8], word: &[u8]) -> Result<(), AllocErro
     text.extend(word)
 }
 
-/// Puts what a request came to behind a text.
+/// Appends the answer to a request.
 fn push_answer(alloc: Global, text: &mut Text, answer: Answer) -> Result<(), AllocError>
     ensures { OnOk result (text.new ≡ text.old ++ answer_text answer) }
 {
@@ -53,7 +53,7 @@ fn push_answer(alloc: Global, text: &mut Text, answer: Answer) -> Result<(), All
     }
 }
 
-/// Puts why a child can't be read any more behind a text.
+/// Appends why a child's output can't be read any longer.
 fn push_loss(text: &mut Text, closed: bool, cause: Cause) -> Result<(), AllocError>
     ensures { OnOk result (text.new ≡ text.old ++ loss_text closed cause) }
 {
@@ -63,7 +63,7 @@ fn push_loss(text: &mut Text, closed: bool, cause: Cause) -> Result<(), AllocErr
     push_word(text, b"output lost: ", cause_name(cause))
 }
 
-/// Puts what happened to a child behind a text; exprun had closed its output itself, or not.
+/// Appends what happened to a child. `closed` says whether exprun had closed its output itself.
 fn push_what(alloc: Global, text: &mut Text, closed: bool, what: &What) -> Result<(), AllocError>
     ensures { OnOk result (text.new ≡ text.old ++ what_text closed what.now) }
 {
@@ -78,7 +78,7 @@ fn push_what(alloc: Global, text: &mut Text, closed: bool, what: &What) -> Resul
     }
 }
 
-/// Puts the line of an event behind a text; exprun had closed the output of its child itself, or not.
+/// Appends the line of an event. `closed` says whether exprun had closed the child's output itself.
 #[tactic(auto, unfolding(crate::specs::Show::told_line))]
 pub(crate) fn push_line(
     alloc: Global,
@@ -110,7 +110,8 @@ pub(crate) fn push_line(
     }
 }
 
-/// Whether an event is of a script; each is where none is named, and a tick is of all.
+/// Returns whether an event belongs to a script. Every event does if no script is named, and a tick
+/// belongs to every script.
 fn is_of(script: Option<u8>, event: &HallEvent) -> bool
     ensures { result ≡ is_of_script script event.now }
 {
@@ -123,7 +124,7 @@ fn is_of(script: Option<u8>, event: &HallEvent) -> bool
     }
 }
 
-/// Puts the line of an event behind a text, where it is of a script.
+/// Appends the line of an event, if it belongs to a script.
 fn push_event(
     alloc: Global,
     text: &mut Text,
@@ -138,7 +139,7 @@ fn push_event(
     push_line(alloc, text, false, event)
 }
 
-/// The lines of those events that are of a script, or of all where none is named.
+/// Returns the lines of the events that belong to a script, or of all events if no script is named.
 pub fn events_text(
     alloc: Global,
     script: Option<u8>,

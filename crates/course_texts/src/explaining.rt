@@ -1,4 +1,4 @@
-//! The courses of scripts over a log, told event by event, from any reader to any writer.
+//! Explains scripts over a log, event by event, from any reader to any writer.
 
 ghost use Rattle.std.specs.Prelude.{ℕ, List, ◌≡◌, ◌≢◌, ◌≤◌, ◌++◌, [], ◌==◌, length, vec_len, false, if◌then◌else◌, IfOk, IfErr, IfSome, IsTrue, OnOk, OnErr, Some, Err};
 ghost use Rattle.child_events.specs.Log.{LogText};
@@ -21,18 +21,18 @@ use std::io::{Read, Write};
 use std::mem;
 use tcl_words::Text;
 
-/// Why not all courses were told.
+/// Why an explanation failed.
 #[derive(Clone, Copy, PartialEq, Eq)]
 pub enum ExplainFault {
-    /// A read of the log failed, or the most reads that are made met no end.
+    /// A read of the log failed, or the log had no end after the greatest number of reads.
     Read,
     /// The log has a bad line. This is never `LogFault::Memory`.
     Log(LogFault),
-    /// There are more scripts than may run.
+    /// There are more than 64 scripts.
     TooManyScripts,
-    /// The script of this number, from 1, has more bytes than a script may have.
+    /// The script with this number, from 1, is longer than 1048576 bytes.
     SourceTooLong(usize),
-    /// A write failed, or the most writes that are made were not enough.
+    /// A write failed, or the greatest number of writes was not enough.
     Write,
     /// Memory was refused.
     Memory,
@@ -49,7 +49,7 @@ impl From<AllocError> for ExplainFault {
     }
 }
 
-/// Whether it is a tick behind which a script has begun no step more.
+/// Returns whether an event is a tick after which the script began no further step.
 fn is_quiet(event: &HallEvent, still: bool) -> bool
     ensures { result ≡ is_quiet_of event.now still }
 {
@@ -59,14 +59,14 @@ fn is_quiet(event: &HallEvent, still: bool) -> bool
     }
 }
 
-/// Whether memory was refused to a session.
+/// Returns whether a session may have been refused memory.
 fn is_spent(session: &Session) -> bool
     ensures { result ≡ false → IsTrue session.now.lives }
 {
     matches!(session.ending(), Ending::Memory)
 }
 
-/// What a teller wrote of a session, and what the session asked for behind that.
+/// Returns the text of a teller, and the session's requests that it has not written yet.
 fn told(alloc: Global, teller: Teller, session: &Session) -> Result<Text, AllocError>
     ensures { IfOk result (λ t. SaysAll teller session.now t) }
 {
@@ -79,7 +79,7 @@ fn told(alloc: Global, teller: Teller, session: &Session) -> Result<Text, AllocE
     Ok(text)
 }
 
-/// Puts what a session waits for behind a text, unless that is `quiet`.
+/// Appends what a session waits for, unless `quiet`.
 fn push_unless(
     alloc: Global,
     text: &mut Text,
@@ -94,7 +94,8 @@ fn push_unless(
     push_waits(alloc, text, session)
 }
 
-/// The session of script `number` goes on with an event, if that is its own, and what came of it is put behind a text.
+/// Passes an event to the session of script `number`, if it belongs to that script, and appends the
+/// text of the event.
 fn step(
     alloc: Global,
     text: &mut Text,
@@ -119,7 +120,7 @@ fn step(
     push_unless(alloc, text, quiet, session)
 }
 
-/// Puts the course of a session over events behind a text.
+/// Appends the text of events for a session.
 fn push_course(
     alloc: Global,
     text: &mut Text,
@@ -135,7 +136,7 @@ fn push_course(
     Ok(())
 }
 
-/// The heading of the course of script `number`.
+/// Returns the heading of script `number`'s explanation.
 #[tactic(auto, unfolding(crate::specs::Explain::heading))]
 fn heading(alloc: Global, number: u8) -> Result<Text, AllocError>
     ensures { IfOk result (λ t. t ≡ heading_of number) }
@@ -146,7 +147,7 @@ fn heading(alloc: Global, number: u8) -> Result<Text, AllocError>
     Ok(text)
 }
 
-/// What a teller kept up to a session's first wait, and what the session waits for there.
+/// Returns the text of a teller at a session's first wait, and what the session waits for.
 fn first_told(alloc: Global, teller: Teller, session: &Session) -> Result<Text, AllocError>
     ensures { IfOk result (λ t. (told : List ℕ) × SaysAll teller session.now told × (t ≡ told ++ wait_lines session.now)) }
 {
@@ -155,7 +156,7 @@ fn first_told(alloc: Global, teller: Teller, session: &Session) -> Result<Text, 
     Ok(text)
 }
 
-/// The session of script `number` at its first wait, and how its course begins.
+/// Returns the session of script `number` at its first wait, and the beginning of its explanation.
 fn begun(alloc: Global, number: u8, script: Script) -> Result<(Session, Text), ExplainFault>
     ensures { StartsOne number script result }
 {
@@ -199,7 +200,7 @@ fn push_fault(
     }
 }
 
-/// Puts how the course of script `number` ends behind a text.
+/// Appends the end of script `number`'s explanation.
 #[tactic(auto, unfolding(crate::specs::Explain::end_text))]
 fn push_end(alloc: Global, text: &mut Text, number: u8, report: &Report) -> Result<(), AllocError>
     ensures { OnOk result (text.new ≡ text.old ++ end_text number report.now) }
@@ -210,7 +211,7 @@ fn push_end(alloc: Global, text: &mut Text, number: u8, report: &Report) -> Resu
     push_places(alloc, text, report.trail.as_slice())
 }
 
-/// The course of script `number` over events.
+/// Returns the explanation of script `number` over events.
 fn course(
     alloc: Global,
     number: u8,
@@ -229,7 +230,7 @@ fn course(
     Ok(text)
 }
 
-/// Whether the course of script `number` is told.
+/// Returns whether script `number` is explained.
 fn is_told(only: Option<u8>, number: u8) -> bool
     ensures { result ≡ is_told_of only number }
 {
@@ -239,7 +240,7 @@ fn is_told(only: Option<u8>, number: u8) -> bool
     }
 }
 
-/// The courses of scripts over events, or that of one alone.
+/// Returns the explanations of scripts over events, or of only one script.
 fn courses(
     alloc: Global,
     only: Option<u8>,
@@ -263,7 +264,7 @@ fn courses(
     Ok(text)
 }
 
-/// A log of these bytes, judged, with all its events.
+/// Checks a log, and returns all its events.
 fn judged(alloc: Global, bytes: &[u8]) -> Result<HallEvents, ExplainFault>
     ensures { Judged bytes.now result }
 {
@@ -276,12 +277,13 @@ fn judged(alloc: Global, bytes: &[u8]) -> Result<HallEvents, ExplainFault>
     Ok(log.take(alloc, count)?)
 }
 
-/// Reads a log, and writes the courses of scripts over its events, or of the script that is named alone: behind each of its events what the
-/// script asked for, and what it waits for then, with the bytes on which its patterns were tried. Events of scripts that aren't there are
-/// passed over.
+/// Reads a log and writes the explanations of its scripts, or of only one. After each event of a
+/// script, an explanation shows the script's requests, its matches, and what it then waits for.
+/// Events of scripts that don't exist are ignored.
 ///
-/// Faults come in the order of `ExplainFault`'s variants, but for want of memory, which may come in place of any of them before the first
-/// byte is written. After `Write` a front of the text was written, after any other fault nothing. An interrupted read or write is tried
+/// Errors are returned in the order of `ExplainFault`'s variants, except `Memory`. `Memory` may
+/// replace any of them before the first byte is written. After `Write`, a front of the text was
+/// written. After any other error, nothing was written. An interrupted read or write is tried
 /// again.
 pub fn explain<R: Read, W: Write>(
     alloc: Global,

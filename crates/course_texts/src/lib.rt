@@ -1,7 +1,8 @@
-//! What `show` and `explain` tell of a log.
+//! The texts that `show` and `explain` write about a log.
 //!
-//! [`show_log`] writes a line for each event, and [`explain`] the courses of scripts over the events: what each asked for and waited for
-//! behind each of its own. What these texts say is defined in `specs/Show` and `specs/Explain`.
+//! [`show_log`] writes a line for each event. [`explain`] writes the explanations of scripts over
+//! the events: the requests and waits of each script after each of its events. `specs/Show` and
+//! `specs/Explain` define these texts.
 #![tactic(auto)]
 
 mod closing;

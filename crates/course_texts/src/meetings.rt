@@ -1,4 +1,4 @@
-//! The text of what a script's expects meet.
+//! The text of what a script's `expect` commands match.
 
 ghost use Rattle.std.specs.Prelude.{◌≡◌, ◌++◌, drop, length, IfOk, OnOk, false};
 ghost use Rattle.course_texts.specs.Meetings.{group_name as group_name_of, groups_of, shown_text, stored_line, stored_part, places_part, group_part, group_lines, of_child, met_line, buffer_part, entry_lines, number_of, plan_lines, meeting_text};
@@ -13,7 +13,7 @@ use std::alloc::{AllocError, Global};
 use tcl_subst::Vars;
 use tcl_words::Text;
 
-/// The requests from a place on.
+/// Returns the requests from a place on.
 pub(crate) fn rest_of(requests: &[Request], from: usize) -> &[Request]
     ensures { result.now ≡ drop from requests.now }
 {
@@ -23,7 +23,7 @@ pub(crate) fn rest_of(requests: &[Request], from: usize) -> &[Request]
     &requests[from..]
 }
 
-/// The name of an element of `expect_out` that tells of a group.
+/// Returns the name of an element of `expect_out` for a group.
 #[tactic(auto, unfolding(crate::specs::Meetings::group_name))]
 fn group_name(alloc: Global, digit: u8, what: &[u8]) -> Result<Text, AllocError>
     ensures { IfOk result (λ t. t ≡ group_name_of digit what.now) }
@@ -37,7 +37,7 @@ fn group_name(alloc: Global, digit: u8, what: &[u8]) -> Result<Text, AllocError>
     Ok(name)
 }
 
-/// The digits of the groups that a match can have.
+/// Returns the digits of the groups that a match can have.
 fn groups(want: &Want) -> &'static [u8]
     ensures { result.now ≡ groups_of want.now }
 {
@@ -49,7 +49,8 @@ fn groups(want: &Want) -> &'static [u8]
     }
 }
 
-/// Puts a value behind a text: all of it between quotes where it is short, else how long it is, and its end.
+/// Appends a value in quotes. If it has more than `SHOWN` bytes, appends its length and its last
+/// bytes.
 #[tactic(auto, unfolding(crate::specs::Meetings::shown_text))]
 fn push_shown(alloc: Global, text: &mut Text, bytes: &[u8]) -> Result<(), AllocError>
     ensures { OnOk result (text.new ≡ text.old ++ shown_text bytes.now) }
@@ -62,7 +63,7 @@ fn push_shown(alloc: Global, text: &mut Text, bytes: &[u8]) -> Result<(), AllocE
     push_quoted(alloc, text, tail(bytes))
 }
 
-/// Puts the line of a variable behind a text.
+/// Appends the line of a variable.
 #[tactic(auto, unfolding(crate::specs::Meetings::stored_line))]
 fn push_stored(alloc: Global, text: &mut Text, name: &[u8], bytes: &[u8]) -> Result<(), AllocError>
     ensures { OnOk result (text.new ≡ text.old ++ stored_line name.now bytes.now) }
@@ -75,7 +76,7 @@ fn push_stored(alloc: Global, text: &mut Text, name: &[u8], bytes: &[u8]) -> Res
     text.extend(b"\n")
 }
 
-/// Puts the line of a variable behind a text, where it has a value.
+/// Appends the line of a variable, if it has a value.
 fn push_value(alloc: Global, text: &mut Text, vars: &Vars, name: &[u8]) -> Result<(), AllocError>
     ensures { OnOk result (text.new ≡ text.old ++ stored_part name.now vars.now) }
 {
@@ -85,7 +86,7 @@ fn push_value(alloc: Global, text: &mut Text, vars: &Vars, name: &[u8]) -> Resul
     }
 }
 
-/// Puts where a group stands behind a text, where that was asked for.
+/// Appends the lines of a group's indices, if `indices`.
 fn push_places(
     alloc: Global,
     text: &mut Text,
@@ -104,7 +105,7 @@ fn push_places(
     push_value(alloc, text, vars, end.as_slice())
 }
 
-/// Puts what is stored of a group behind a text.
+/// Appends the lines of a group.
 fn push_group(
     alloc: Global,
     text: &mut Text,
@@ -134,7 +135,7 @@ fn push_groups(
     Ok(())
 }
 
-/// Puts whose bytes were met behind a text.
+/// Appends the child whose output matched, if any.
 #[tactic(auto, unfolding(crate::specs::Meetings::of_child))]
 fn push_of_child(alloc: Global, text: &mut Text, child: Option<u8>) -> Result<(), AllocError>
     ensures { OnOk result (text.new ≡ text.old ++ of_child child) }
@@ -145,7 +146,7 @@ fn push_of_child(alloc: Global, text: &mut Text, child: Option<u8>) -> Result<()
     }
 }
 
-/// Puts the line of what was met behind a text.
+/// Appends the line of what matched.
 #[tactic(auto, unfolding(crate::specs::Meetings::met_line))]
 fn push_met(
     alloc: Global,
@@ -162,7 +163,7 @@ fn push_met(
     text.extend(b"\n")
 }
 
-/// Puts the bytes that were met behind a text, where some were.
+/// Appends the line of `expect_out(buffer)`, if a child's output matched.
 fn push_buffer(
     alloc: Global,
     text: &mut Text,
@@ -177,7 +178,7 @@ fn push_buffer(
     }
 }
 
-/// Puts an entry that was met behind a text, with what was stored.
+/// Appends the lines of an entry that matched, and of the values in `expect_out`.
 fn push_entry(
     alloc: Global,
     text: &mut Text,
@@ -192,7 +193,7 @@ fn push_entry(
     push_buffer(alloc, text, vars, child)
 }
 
-/// The number of the child at a place, from 1.
+/// Returns the number of the child at a place, from 1.
 fn number(place: Option<Place>) -> Option<u8>
     ensures { result ≡ number_of place }
 {
@@ -202,7 +203,7 @@ fn number(place: Option<Place>) -> Option<u8>
     }
 }
 
-/// Puts what an expect met behind a text.
+/// Appends the lines of what an `expect` matched.
 fn push_plan(alloc: Global, text: &mut Text, plan: &Plan, vars: &Vars) -> Result<(), AllocError>
     ensures { OnOk result (text.new ≡ text.old ++ plan_lines plan.now vars.now) }
 {
@@ -215,20 +216,20 @@ fn push_plan(alloc: Global, text: &mut Text, plan: &Plan, vars: &Vars) -> Result
     }
 }
 
-/// Who writes down what is met, behind what was asked for before.
+/// Writes down each match, after the requests before it.
 #[derive(Drop)]
 pub(crate) struct Teller {
     alloc: Global,
-    /// What is written so far.
+    /// The text written so far.
     text: Text,
-    /// How many requests are written.
+    /// The number of requests written.
     told: usize,
-    /// Whether memory for it was refused: then nothing is said of it any more.
+    /// Whether memory was refused. From then on, nothing is written.
     refused: bool,
 }
 
 impl Teller {
-    /// One who goes on behind a text, and for whom the first requests are written.
+    /// Creates a teller that appends to a text. It counts the first `told` requests as written.
     pub(crate) fn new(alloc: Global, text: Text, told: usize) -> Teller
         ensures { (result.text ≡ text) × (result.told ≡ told) × (result.refused ≡ false) }
     {
@@ -246,7 +247,7 @@ impl Teller {
         self.refused
     }
 
-    /// How many requests are written.
+    /// Returns the number of requests written.
     pub(crate) fn told(&self) -> usize
         ensures { result ≡ self.now.told }
     {

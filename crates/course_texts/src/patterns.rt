@@ -9,7 +9,7 @@ use report_texts::push_quoted;
 use std::alloc::{AllocError, Global};
 use tcl_words::Text;
 
-/// Whether a byte stands for itself in a glob pattern only behind a backslash.
+/// Returns whether a byte needs a backslash before it in a glob pattern to stand for itself.
 fn is_mark(byte: u8) -> bool
     ensures { result ≡ is_mark_of byte }
 {
@@ -58,7 +58,7 @@ fn push_elements(text: &mut Text, elements: &[Element]) -> Result<(), AllocError
     Ok(())
 }
 
-/// A text that writes a glob pattern.
+/// Returns a text of a glob pattern.
 fn glob_text(alloc: Global, glob: &Glob) -> Result<Text, AllocError>
     ensures { IfOk result (λ t. t ≡ glob_text_of glob.now) }
 {
@@ -81,7 +81,7 @@ fn keyword_text(keyword: Keyword) -> &'static [u8]
     }
 }
 
-/// Puts how a pattern is to be read and its text behind a text.
+/// Appends a pattern after its flags.
 #[tactic(auto, unfolding(crate::specs::Patterns::flagged))]
 fn push_flagged(
     alloc: Global,
@@ -99,7 +99,7 @@ fn push_flagged(
     push_quoted(alloc, text, pattern)
 }
 
-/// Puts what an entry waits for behind a text, as it is written in the list.
+/// Appends the pattern or keyword of an entry, as it is written in the list.
 pub fn push_want(alloc: Global, text: &mut Text, want: &Want) -> Result<(), AllocError>
     ensures { OnOk result (text.new ≡ text.old ++ want_text want.now) }
 {

@@ -1,4 +1,4 @@
-//! A log as a text to be read, from any reader to any writer.
+//! Shows a log as readable text, from any reader to any writer.
 
 ghost use Rattle.std.specs.Prelude.{◌≡◌, ◌≢◌, ◌≤◌, take as first, drop, IfOk, IfErr, IfSome, OnOk, OnErr, Err};
 ghost use Rattle.report_texts.specs.Devices.{GaveUp};
@@ -11,17 +11,17 @@ use std::alloc::{AllocError, Global};
 use std::io::{Read, Write};
 use tcl_words::Text;
 
-/// How many events of a log are held at once.
+/// The number of events held at once.
 const PART: usize = 256;
 
-/// Why not all of a log was shown.
+/// Why showing a log failed.
 #[derive(Clone, Copy, PartialEq, Eq)]
 pub enum ShowFault {
-    /// A read of the log failed, or the most reads that are made met no end.
+    /// A read of the log failed, or the log had no end after the greatest number of reads.
     Read,
     /// The log has a bad line. This is never `LogFault::Memory`.
     Log(LogFault),
-    /// A write failed, or the most writes that are made were not enough.
+    /// A write failed, or the greatest number of writes was not enough.
     Write,
     /// Memory was refused.
     Memory,
@@ -38,7 +38,7 @@ impl From<AllocError> for ShowFault {
     }
 }
 
-/// A log of these bytes, judged.
+/// Checks a log.
 fn judged(bytes: &[u8]) -> Result<LogReader, ShowFault>
     ensures { Judged bytes.now result }
 {
@@ -49,7 +49,7 @@ fn judged(bytes: &[u8]) -> Result<LogReader, ShowFault>
     }
 }
 
-/// The text of the first `PART` events that are left of a log; the others are left then.
+/// Returns the text of the next `PART` events of a log, and takes them from the log.
 fn part_text(alloc: Global, script: Option<u8>, log: &mut LogReader) -> Result<Text, AllocError>
     ensures text { IfOk result (λ t. t ≡ shown_log script (first 256 log.old)) }
     ensures left { OnOk result (log.new ≡ drop 256 log.old) }
@@ -58,7 +58,7 @@ fn part_text(alloc: Global, script: Option<u8>, log: &mut LogReader) -> Result<T
     events_text(alloc, script, events.as_slice())
 }
 
-/// Writes the text of the events that are left of a log.
+/// Writes the text of a log's remaining events.
 fn write_events<W: Write>(
     alloc: Global,
     script: Option<u8>,
@@ -80,11 +80,13 @@ fn write_events<W: Write>(
     Ok(())
 }
 
-/// Reads a log, and writes a line for each of its events that is of a script, or for each where none is named.
+/// Reads a log, and writes a line for each event that belongs to a script, or for every event if no
+/// script is named.
 ///
-/// Faults come in the order of `ShowFault`'s variants, but for want of memory, which may come in place of any of them, and between the
-/// writes. After `Write` and after `Memory` a front of the text was written, after any other fault nothing. An interrupted read or write is
-/// tried again.
+/// Errors are returned in the order of `ShowFault`'s variants, except `Memory`. `Memory` may
+/// replace any of them, and may also occur between writes. After `Write` and after `Memory`, a
+/// front of the text was written. After any other error, nothing was written. An interrupted read
+/// or write is tried again.
 pub fn show_log<R: Read, W: Write>(
     alloc: Global,
     script: Option<u8>,

@@ -1,4 +1,4 @@
-//! The text of where an error came by.
+//! The text of where an error occurred.
 
 ghost use Rattle.std.specs.Prelude.{◌≡◌, ◌++◌, ◌≤◌, drop, take, length, OnOk};
 ghost use Rattle.course_texts.specs.Trail.{line_len, shortened, command_line, in_procedure, procedure_line, place_line, place_lines};
@@ -9,10 +9,10 @@ use session::Place;
 use std::alloc::{AllocError, Global};
 use tcl_words::Text;
 
-/// How many bytes of a command's line are shown.
+/// The number of bytes shown of a command's line.
 const SHOWN: usize = 150;
 
-/// How many bytes stand before the end of a line.
+/// Returns the number of bytes before the end of a line.
 #[tactic(auto, unfolding(crate::specs::Trail::line_len))]
 fn line_len(text: &[u8]) -> usize
     ensures value { result ≡ line_len text.now }
@@ -21,14 +21,14 @@ fn line_len(text: &[u8]) -> usize
     text.iter().take_while(|b| **b != b'\n').count()
 }
 
-/// The first line of a text.
+/// Returns the first line of a text.
 fn first_line(text: &[u8]) -> &[u8]
     ensures { result.now ≡ take (line_len text.now) text.now }
 {
     text.split_at(line_len(text)).0
 }
 
-/// What is left of a script from a place on.
+/// Returns the rest of a script from a place on.
 fn rest_of(script: &[u8], at: usize) -> &[u8]
     ensures { result.now ≡ drop at script.now }
 {
@@ -38,7 +38,7 @@ fn rest_of(script: &[u8], at: usize) -> &[u8]
     script.split_at(at).1
 }
 
-/// Puts the first bytes of a line behind a text.
+/// Appends the first bytes of a line, with dots after them if the line is longer.
 fn push_shortened(alloc: Global, text: &mut Text, line: &[u8]) -> Result<(), AllocError>
     ensures { OnOk result (text.new ≡ text.old ++ shortened line.now) }
 {
@@ -50,7 +50,7 @@ fn push_shortened(alloc: Global, text: &mut Text, line: &[u8]) -> Result<(), All
     }
 }
 
-/// Puts the line of a command behind a text, which begins what is left of its script.
+/// Appends the line of a command, which begins the rest of its script.
 #[tactic(auto, unfolding(crate::specs::Trail::command_line))]
 fn push_command(
     alloc: Global,
@@ -67,7 +67,7 @@ fn push_command(
     text.extend(b"\n")
 }
 
-/// Puts what stands before the name of a procedure behind a text.
+/// Appends the words before a procedure's name.
 #[tactic(auto, unfolding(crate::specs::Trail::in_procedure))]
 fn push_in_procedure(text: &mut Text) -> Result<(), AllocError>
     ensures { OnOk result (text.new ≡ text.old ++ in_procedure) }
@@ -75,7 +75,7 @@ fn push_in_procedure(text: &mut Text) -> Result<(), AllocError>
     text.extend(b"  in procedure ")
 }
 
-/// Puts the line of a procedure behind a text.
+/// Appends the line of a procedure.
 fn push_procedure(alloc: Global, text: &mut Text, name: &[u8]) -> Result<(), AllocError>
     ensures { OnOk result (text.new ≡ text.old ++ procedure_line name.now) }
 {
@@ -96,7 +96,7 @@ fn push_place(alloc: Global, text: &mut Text, place: &Place) -> Result<(), Alloc
     }
 }
 
-/// Puts the lines of where an error came by behind a text.
+/// Appends the lines of the places where an error occurred.
 pub fn push_places(alloc: Global, text: &mut Text, places: &[Place]) -> Result<(), AllocError>
     ensures { OnOk result (text.new ≡ text.old ++ place_lines places.now) }
 {

@@ -1,4 +1,4 @@
-//! The text of what a script asks and waits for.
+//! The text of what a script asks for and waits for.
 
 ghost use Rattle.std.specs.Prelude.{◌≡◌, ◌++◌, IfOk, OnOk, Some, None, MatchOption};
 ghost use Rattle.exp_match.specs.Choice.{in_groups};
@@ -13,10 +13,10 @@ use session::{Request, Session};
 use std::alloc::{AllocError, Global};
 use tcl_words::Text;
 
-/// How many of the last bytes of a child are shown.
+/// The greatest number of a child's last bytes shown.
 pub(crate) const SHOWN: usize = 64;
 
-/// Puts the columns in which an event has its moment behind a text.
+/// Appends the columns of an event's moment, as spaces.
 #[tactic(auto, unfolding(crate::specs::Waits::margin))]
 pub(crate) fn push_margin(text: &mut Text) -> Result<(), AllocError>
     ensures { OnOk result (text.new ≡ text.old ++ margin) }
@@ -24,7 +24,7 @@ pub(crate) fn push_margin(text: &mut Text) -> Result<(), AllocError>
     text.extend(b"             ")
 }
 
-/// Puts the line of a request behind a text.
+/// Appends the line of a request.
 #[tactic(auto, unfolding(crate::specs::Waits::request_line))]
 fn push_request(alloc: Global, text: &mut Text, request: &Request) -> Result<(), AllocError>
     ensures { OnOk result (text.new ≡ text.old ++ request_line request.now) }
@@ -36,7 +36,7 @@ fn push_request(alloc: Global, text: &mut Text, request: &Request) -> Result<(),
     text.extend(b"\n")
 }
 
-/// Puts the lines of requests behind a text.
+/// Appends the lines of requests.
 pub fn push_requests(alloc: Global, text: &mut Text, requests: &[Request]) -> Result<(), AllocError>
     ensures { OnOk result (text.new ≡ text.old ++ request_lines requests.now) }
 {
@@ -46,7 +46,7 @@ pub fn push_requests(alloc: Global, text: &mut Text, requests: &[Request]) -> Re
     Ok(())
 }
 
-/// Puts the line of the answer that is awaited of a child behind a text, where one is.
+/// Appends the line of the child whose answer the script waits for, if there is one.
 #[tactic(auto, unfolding(crate::specs::Waits::answer_line))]
 fn push_answer(alloc: Global, text: &mut Text, child: Option<u8>) -> Result<(), AllocError>
     ensures { OnOk result (text.new ≡ text.old ++ answer_line child) }
@@ -64,7 +64,7 @@ fn push_answer(alloc: Global, text: &mut Text, child: Option<u8>) -> Result<(), 
     text.extend(b"\n")
 }
 
-/// What is said behind a pattern: it didn't match.
+/// Returns the verdict for an entry that did not match.
 fn verdict(want: &Want) -> &'static [u8]
     ensures { result.now ≡ verdict_of want.now }
 {
@@ -86,7 +86,7 @@ fn push_entry(alloc: Global, text: &mut Text, entry: &Entry) -> Result<(), Alloc
     text.extend(verdict(&entry.want))
 }
 
-/// Whether an entry belongs to one of the groups.
+/// Returns whether an entry belongs to one of the groups.
 fn is_own(groups: &[usize], entry: &Entry) -> bool
     ensures { result ≡ in_groups groups.now entry.now }
 {
@@ -94,7 +94,7 @@ fn is_own(groups: &[usize], entry: &Entry) -> bool
     groups.iter().any(|g| *g == group)
 }
 
-/// Puts an entry's line behind a text, where its group is one of these.
+/// Appends an entry's line, if it belongs to one of these groups.
 fn push_own(
     alloc: Global,
     text: &mut Text,
@@ -123,14 +123,14 @@ fn push_entries(
     Ok(())
 }
 
-/// The last bytes of a text, `SHOWN` at the most.
+/// Returns the last bytes of a text, at most `SHOWN`.
 pub(crate) fn tail(bytes: &[u8]) -> &[u8]
     ensures { result.now ≡ tail_of bytes.now }
 {
     &bytes[bytes.len().saturating_sub(SHOWN)..]
 }
 
-/// Puts how many bytes a child has that no pattern has taken, and the last of them, behind a text.
+/// Appends the number of bytes from a child that no pattern has consumed, and the last of them.
 #[tactic(auto, unfolding(crate::specs::Waits::buffer_line))]
 fn push_buffer(alloc: Global, text: &mut Text, child: u8, bytes: &[u8]) -> Result<(), AllocError>
     ensures { OnOk result (text.new ≡ text.old ++ buffer_line child bytes.now) }
@@ -143,7 +143,7 @@ fn push_buffer(alloc: Global, text: &mut Text, child: u8, bytes: &[u8]) -> Resul
     text.extend(b"\n")
 }
 
-/// Puts each child's bytes and patterns behind a text.
+/// Appends each child's bytes and patterns.
 fn push_sides(
     alloc: Global,
     text: &mut Text,
@@ -162,7 +162,7 @@ fn push_sides(
     Ok(())
 }
 
-/// Puts the line of an expect that waits up to a moment behind a text.
+/// Appends the line of an `expect` that waits until a moment.
 #[tactic(auto, unfolding(crate::specs::Waits::deadline_line))]
 fn push_deadline(alloc: Global, text: &mut Text, last: u128) -> Result<(), AllocError>
     ensures { OnOk result (text.new ≡ text.old ++ deadline_line last) }
@@ -172,7 +172,7 @@ fn push_deadline(alloc: Global, text: &mut Text, last: u128) -> Result<(), Alloc
     text.extend(b" ms\n")
 }
 
-/// Puts the line of an expect that waits for ever behind a text.
+/// Appends the line of an `expect` that waits without a time limit.
 #[tactic(auto, unfolding(crate::specs::Waits::endless_line))]
 fn push_endless(text: &mut Text) -> Result<(), AllocError>
     ensures { OnOk result (text.new ≡ text.old ++ endless_line) }
@@ -181,7 +181,7 @@ fn push_endless(text: &mut Text) -> Result<(), AllocError>
     text.extend(b"waits for output\n")
 }
 
-/// Puts the line of the moment up to which an expect waits behind a text.
+/// Appends the line of the moment until which an `expect` waits, if there is one.
 fn push_until(alloc: Global, text: &mut Text, last: Option<u64>) -> Result<(), AllocError>
     ensures { OnOk result (text.new ≡ text.old ++ until_line last) }
 {
@@ -191,7 +191,7 @@ fn push_until(alloc: Global, text: &mut Text, last: Option<u64>) -> Result<(), A
     }
 }
 
-/// Puts the lines of an expect that waits behind a text.
+/// Appends the lines of an `expect` that waits.
 fn push_expect(
     alloc: Global,
     text: &mut Text,
@@ -210,7 +210,7 @@ fn push_expect(
     )
 }
 
-/// Puts what a session waits for behind a text.
+/// Appends the lines of what a session waits for.
 #[tactic(auto, unfolding(crate::specs::Waits::wait_lines))]
 pub fn push_waits(alloc: Global, text: &mut Text, session: &Session) -> Result<(), AllocError>
     ensures { OnOk result (text.new ≡ text.old ++ wait_lines session.now) }

@@ -1,4 +1,4 @@
-//! The log of a run that was cut off, made whole.
+//! Repairs the log of a run that was cut off.
 #![tactic(auto)]
 
 mod mending;

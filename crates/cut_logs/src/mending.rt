@@ -1,4 +1,4 @@
-//! A log that was cut off at any byte, made a log again.
+//! Makes a log of one that was cut off at any byte.
 
 ghost use Rattle.std.specs.Prelude.{◌≡◌, ◌++◌, ◌-◌, ◌<◌, ◌≤◌, ◌^◌, ℕ, List, length, take as first, OnOk, OnErr};
 ghost use Rattle.child_events.specs.Log.{heading, total_line, LogText, LogText2};
@@ -9,7 +9,7 @@ use child_events::{LogReader, push_total};
 use std::alloc::{AllocError, Global};
 use tcl_words::Text;
 
-/// How many bytes there are up to the last newline, and with it.
+/// Returns the number of bytes up to and including the last newline.
 fn whole_len(bytes: &[u8]) -> usize
     ensures { first result bytes.now ≡ whole bytes.now }
 {
@@ -19,7 +19,7 @@ fn whole_len(bytes: &[u8]) -> usize
     }
 }
 
-/// Drops what stands behind the last newline.
+/// Drops the bytes after the last newline.
 fn drop_rest(text: &mut Text)
     ensures { text.new ≡ whole text.old }
 {
@@ -27,14 +27,14 @@ fn drop_rest(text: &mut Text)
     text.bytes.truncate(kept);
 }
 
-/// How many newlines there are.
+/// Returns the number of newlines.
 fn count_lines(bytes: &[u8]) -> usize
     ensures { result ≡ lines bytes.now }
 {
     bytes.iter().filter(|b| **b == b'\n').count()
 }
 
-/// Whether bytes are a log. No memory is taken for it.
+/// Returns whether the bytes are a log. It does not allocate.
 fn is_log(bytes: &[u8]) -> bool
     ensures { result ≡ is_log_of bytes.now }
 {
@@ -44,7 +44,7 @@ fn is_log(bytes: &[u8]) -> bool
     }
 }
 
-/// Puts the line of a total behind the text. A refused one leaves the text as it was.
+/// Appends the line of the total. On `AllocError` the text is unchanged.
 fn close(alloc: Global, text: &mut Text, count: u64) -> Result<(), AllocError>
     ensures closed { OnOk result (text.new ≡ text.old ++ total_line count) }
     ensures kept { OnErr result (text.new ≡ text.old) }
@@ -54,9 +54,10 @@ fn close(alloc: Global, text: &mut Text, count: u64) -> Result<(), AllocError>
     text.extend(line.as_slice())
 }
 
-/// Makes a whole log of one that was cut off: drops what stands behind the last newline, and puts the line of the
-/// total behind, unless it is a log without it. Where memory is refused, what stands behind the last newline is
-/// dropped, and nothing more.
+/// Completes a log that was cut off. Drops the bytes after the last newline, and appends the total
+/// if the rest is no log without it.
+///
+/// On `AllocError` only the bytes after the last newline are dropped.
 pub fn mend(alloc: Global, text: &mut Text) -> Result<(), AllocError>
     ensures mended { OnOk result (text.new ≡ mended text.old) }
     ensures kept { OnErr result (text.new ≡ whole text.old) }
@@ -69,8 +70,9 @@ pub fn mend(alloc: Global, text: &mut Text) -> Result<(), AllocError>
     close(alloc, text, count.saturating_sub(1) as u64)
 }
 
-/// Holds of every text and every list of events. Of a front of a log in version 2 that has the whole heading, the log
-/// of the events whose lines are whole is made; a log stays as it is. It does nothing when it runs.
+/// States laws of every text and every list of events. Take a front of a log in version 2, with at
+/// least its heading. `mend` makes of it the log of the events whose lines are complete. A log is
+/// unchanged. It does nothing at run time.
 pub fn mending_law()
     ensures front { (front rest : List ℕ) (es : List HallEvent) → LogText2 (front ++ rest) es → length es < 10 ^ 16 → length heading ≤ length front → LogText2 (mended front) (first (lines front - 1) es) }
     ensures whole { (bytes : List ℕ) (es : List HallEvent) → LogText bytes es → mended bytes ≡ bytes }

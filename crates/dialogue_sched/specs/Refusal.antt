@@ -1,4 +1,4 @@
--- Which events a hall refuses.
+-- The events that a hall refuses.
 use Rattle.std.specs.Prelude.{ℕ, nat_lt, nat_le, List, [], ◌∷◌, ◌≡◌, length, Bool, ◌&&◌, if◌then◌else◌, Option, Some, None, Result, ◌+◌}
 use Rattle.child_events.specs.declared.event.What.{What}
 use Rattle.child_events.specs.declared.event.What.TheVariants as what
@@ -9,18 +9,18 @@ use Rattle.child_events.specs.Judging.{front_of}
 use Rattle.dialogue_sched.specs.declared.refusal.HallRefusal.{HallRefusal}
 use Rattle.dialogue_sched.specs.declared.refusal.HallRefusal.TheVariants.{NoSuchScript, NoSuchChild, MomentTooLarge, PieceTooLong}
 
--- how long the piece of an output is
+-- The length of a piece of output, or 0.
 abbrev pub piece_len : What → ℕ
 piece_len (what.Out piece) = length piece
 piece_len what.Eof = 0
 piece_len (what.ReadFail c) = 0
 piece_len (what.Answer a) = 0
 
--- from 1 to the last
+-- A number from 1 to `last`.
 abbrev pub is_number : ℕ → ℕ → Bool
 is_number n last = nat_lt 0 n && nat_le n last
 
--- why an event is refused by so many scripts: the first reason
+-- The first reason why a hall with this number of scripts refuses an event.
 abbrev pub refusal_of : ℕ → HallEvent → Option HallRefusal
 refusal_of scripts (hall.Child s c m w) =
     if is_number s scripts
@@ -36,12 +36,12 @@ abbrev pub refused_or : ℕ → Option HallRefusal → Option (ℕ × HallRefusa
 refused_or at None others = others
 refused_or at (Some r) others = Some (at, r)
 
--- the first refused event, counted from at
+-- The first refused event. `at` is the index of the first event.
 abbrev pub first_refusal : ℕ → ℕ → List HallEvent → Option (ℕ × HallRefusal)
 first_refusal scripts at [] = None
 first_refusal scripts at (e ∷ es) = refused_or at (refusal_of scripts e) (first_refusal scripts (at + 1) es)
 
--- of what a log says, none of the events before those that are left was to be refused by so many scripts
+-- A hall with this number of scripts refuses none of the events of a log before those that are left.
 pub record IsAcceptedTo (scripts : ℕ) (all left : Result (List HallEvent) LogFault) : Type 0 where
   pub front : List HallEvent
   pub same : all ≡ front_of front left

@@ -1,16 +1,16 @@
--- Sessions over the events that concern them.
+-- Sessions and the events that concern them.
 use Rattle.std.specs.Prelude.{◌≡◌, ℕ, ◌+◌, List, [], ◌∷◌}
 use Rattle.child_events.specs.declared.event.Event.{Event}
 use Rattle.child_events.specs.declared.event.HallEvent.{HallEvent}
 use Rattle.child_events.specs.World.{own}
 use Rattle.session.specs.Left.{Kept, Fed}
 
--- from old to new these events came, and nothing else; where none came, nothing changed
+-- From `old` to `new`, exactly these events arrived. Without events, nothing changed.
 abbrev pub Took : Kept → List Event → Kept → Type 0
 Took old [] new = new ≡ old
 Took old (e ∷ es) new = Fed old (e ∷ es) new
 
--- each script took its own events, where the first has this number
+-- Each script took its own events. n is the number of the first script.
 abbrev pub AllTook : ℕ → List HallEvent → List Kept → List Kept → Type 0
 AllTook n es [] [] = Unit {0}
 AllTook n es [] (new ∷ news) = ⊥

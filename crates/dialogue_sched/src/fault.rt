@@ -7,10 +7,10 @@ use crate::hall::HallFault;
 use crate::script::Script;
 use session::SOURCE_LIMIT;
 
-/// How many scripts a hall may have.
+/// The most scripts in a hall.
 pub const MOST_SCRIPTS: usize = 64;
 
-/// The first script, counted from 1, whose source is too long.
+/// Returns the number of the first script, counted from 1, whose source is too long.
 fn first_too_long(scripts: &[Script]) -> Option<HallFault>
     ensures { result ≡ too_long 1 scripts.now }
 {
@@ -22,8 +22,11 @@ fn first_too_long(scripts: &[Script]) -> Option<HallFault>
     None
 }
 
-/// Why there can be no hall of these scripts, for another reason than memory: too many of them, else the first one whose source is too long.
-/// So where scripts are run in several halls, the fault of all of them can be told first. It looks at the sources' lengths alone.
+/// Returns why there can be no hall of these scripts, except for memory. There are too many
+/// scripts, or the source of one is too long; the first one counts.
+///
+/// If scripts run in several halls, call it first with all of them. It reads only the lengths of
+/// the sources.
 pub fn opening_fault(scripts: &[Script]) -> Option<HallFault>
     ensures { result ≡ fault_of scripts.now }
 {

@@ -1,4 +1,4 @@
-//! A hall of sessions, each of which sees its own events alone.
+//! A hall of sessions. Each session sees only its own events.
 
 ghost use Rattle.std.specs.Prelude.{◌≡◌, ◌<◌, ◌≤◌, [], length, replicate, vec_len};
 ghost use Rattle.child_events.specs.declared.event.Event.TheVariants as events;
@@ -18,11 +18,11 @@ use std::marker::Model;
 /// Why there is no hall.
 #[derive(Clone, Copy, Debug, PartialEq, Eq)]
 pub enum HallFault {
-    /// There are more than 64.
+    /// There are more than 64 scripts.
     TooManyScripts,
-    /// The first script, counted from 1, whose source is too long.
+    /// The source of a script is too long. The number is that of the first one, counted from 1.
     SourceTooLong(usize),
-    /// Memory was refused. Nothing else is wrong with the scripts.
+    /// Memory was refused. The scripts are otherwise correct.
     Memory,
 }
 
@@ -37,11 +37,11 @@ impl<T: Drop> From<AllocFailed<T>> for HallFault {
     }
 }
 
-/// Sessions, numbered from 1, seen as a list.
+/// Sessions, numbered from 1. A contract sees a list.
 #[derive(Drop)]
 pub struct Hall {
     sessions: Vec<Session>,
-    /// Room for a report of each of them.
+    /// Room for a report of each session.
     room: Vec<Report>,
 }
 
@@ -60,7 +60,7 @@ impl Model for Hall {
     ghost invariant = { λ h. (length h.sessions.items ≤ 64) × (h.room.items ≡ []) × (length h.sessions.items ≤ vec_capacity h.room) };
 }
 
-/// The session at a place goes on with an event.
+/// Passes an event to the session at index i.
 fn feed_at(sessions: &mut Vec<Session>, i: usize, event: Event)
     requires { i < vec_len sessions.old }
     ensures fed { FedAt i event sessions.old.items sessions.new.items }
@@ -70,7 +70,7 @@ fn feed_at(sessions: &mut Vec<Session>, i: usize, event: Event)
     session.feed(event);
 }
 
-/// Each session goes on with a tick.
+/// Passes a tick to each session.
 fn tick_all(sessions: &mut Vec<Session>, moment: u64)
     ensures fed { AllFed (events.Tick moment) sessions.old.items sessions.new.items }
     ensures same { vec_len sessions.new ≡ vec_len sessions.old }
@@ -80,7 +80,7 @@ fn tick_all(sessions: &mut Vec<Session>, moment: u64)
     }
 }
 
-/// The session at a place goes on with some events, of which there is one at least.
+/// Passes events to the session at index i. Requires at least one.
 fn feed_all_at(sessions: &mut Vec<Session>, i: usize, events: Vec<Event>)
     requires { i < vec_len sessions.old }
     ensures fed { FedAllAt i events.items sessions.old.items sessions.new.items }
@@ -90,7 +90,7 @@ fn feed_all_at(sessions: &mut Vec<Session>, i: usize, events: Vec<Event>)
     session.feed_all(events);
 }
 
-/// The session at a place goes on with its share; where that is empty, nothing changes.
+/// Passes a share of events to the session at index i. An empty share changes nothing.
 fn feed_share(sessions: &mut Vec<Session>, i: usize, events: Vec<Event>)
     requires { i < vec_len sessions.old }
     ensures took { TookAt i events.items sessions.old.items sessions.new.items }
@@ -102,7 +102,7 @@ fn feed_share(sessions: &mut Vec<Session>, i: usize, events: Vec<Event>)
     feed_all_at(sessions, i, events);
 }
 
-/// Each session goes on with the share at its place.
+/// Passes to each session the share at its index.
 fn feed_shares(sessions: &mut Vec<Session>, shares: Vec<Share>)
     requires { vec_len shares ≡ vec_len sessions.old }
     ensures took { AllTookShare shares.items sessions.old.items sessions.new.items }
@@ -116,7 +116,7 @@ fn feed_shares(sessions: &mut Vec<Session>, shares: Vec<Share>)
     }
 }
 
-/// Events, dealt to so many scripts.
+/// Distributes events to this number of scripts.
 fn dealt(alloc: Global, scripts: usize, events: Vec<HallEvent>) -> Result<Shares, AllocError>
     ensures { IfOk result (λ shares. shares ≡ dealt_all 1 events.items (replicate scripts [])) }
 {
@@ -127,7 +127,7 @@ fn dealt(alloc: Global, scripts: usize, events: Vec<HallEvent>) -> Result<Shares
     Ok(shares)
 }
 
-/// The reports of sessions, for which there is room. Each session goes with its report.
+/// Returns the reports of sessions, in the reserved room. Each session is dropped after its report.
 fn reports_in(room: Vec<Report>, sessions: Vec<Session>) -> Reports
     requires none { room.items ≡ [] }
     requires room { vec_len sessions ≤ vec_capacity room }
@@ -151,7 +151,7 @@ impl Hall {
     ghost use Rattle.dialogue_sched.specs.Deadlines.{soonest, AllQuietUntil};
     ghost use Rattle.std.specs.Prelude.{MatchOption, Some, None};
 
-    /// A hall of these scripts, to which nothing has happened.
+    /// Creates a hall of these scripts. No event has reached it.
     pub fn new(alloc: Global, scripts: Vec<Script>) -> Result<Hall, HallFault>
         ensures { Opens scripts.items result }
     {
@@ -174,7 +174,7 @@ impl Hall {
         Ok(Hall { sessions, room })
     }
 
-    /// How many scripts there are.
+    /// Returns the number of scripts.
     pub fn len(&self) -> usize
         ensures value { result ≡ length self.now }
         ensures few { result ≤ 64 }
@@ -182,7 +182,7 @@ impl Hall {
         self.sessions.len()
     }
 
-    /// Each script that the event concerns takes it, and no other is touched. A refused event changes nothing.
+    /// Passes an event to each script that it concerns. A refused event changes nothing.
     pub fn step(&mut self, event: HallEvent) -> Result<(), HallRefusal>
         ensures { Stepped event self.old self.new result }
     {
@@ -215,8 +215,8 @@ impl Hall {
         }
     }
 
-    /// Takes a list of events that no script refuses: each script takes its own, in order. Where memory for them
-    /// is refused, nothing was taken.
+    /// Passes events to the scripts that they concern, in order. Requires events that no script
+    /// refuses. On `AllocError` nothing changes.
     pub(crate) fn take_all(&mut self, alloc: Global, events: HallEvents) -> Result<(), AllocError>
         ensures took { OnOk result (AllTook 1 events self.old self.new) }
         ensures kept { OnErr result (self.new ≡ self.old) }
@@ -228,7 +228,7 @@ impl Hall {
         Ok(())
     }
 
-    /// The next request of a script, once.
+    /// Takes the next request of a script. Each request is returned once.
     pub fn request(&mut self, script: usize) -> Option<Request>
         ensures { Requested script self.old result self.new }
     {
@@ -239,7 +239,7 @@ impl Hall {
         session.next_request()
     }
 
-    /// The session of a script, where there is such a script.
+    /// Returns the session of a script. `None` if there is no such script.
     fn session(&self, script: usize) -> Option<&Session>
         ensures { MatchOption result (session_at script self.now ≡ None) (λ s. session_at script self.now ≡ Some s.now) }
     {
@@ -249,9 +249,11 @@ impl Hall {
         Some(&self.sessions[script - 1])
     }
 
-    /// What came of a script so far; None where there is no such script. Where memory for that is refused, it is the report of a script
-    /// that was refused memory. The hall stays as it is: where the script's `ending` isn't `Memory`, memory was refused for this report
-    /// alone, and it can be asked for again.
+    /// Returns the report of a script so far. `None` if there is no such script.
+    ///
+    /// If the report is refused memory, it is the report of a script that was refused memory. The
+    /// hall is unchanged. If the script's `ending` isn't `Memory`, only the report was refused
+    /// memory, and it can be requested again.
     pub fn report(&self, script: usize) -> Option<Report>
         ensures { Reported script self.now result }
     {
@@ -261,7 +263,8 @@ impl Hall {
         }
     }
 
-    /// What came of each script, in order, as `report` says it. Each session goes with its report, and only a report can be refused memory.
+    /// Returns the report of each script, in order, as `report` does. Each session is dropped after
+    /// its report. Only a single report can be refused memory.
     pub fn into_reports(self) -> Reports
         ensures { AllReport self result }
     {
@@ -269,7 +272,8 @@ impl Hall {
         reports_in(room, sessions)
     }
 
-    /// How a script ended; `Waiting` where it goes on, None where there is no such script. It costs the same whatever the script did.
+    /// Returns the ending of a script: `Waiting` if it continues. `None` if there is no such
+    /// script. Constant time.
     pub fn ending(&self, script: usize) -> Option<Ending>
         ensures { EndsAt script self.now result }
     {
@@ -277,7 +281,8 @@ impl Hall {
         Some(session.ending())
     }
 
-    /// What a script's operator has seen so far, the bytes of its transcript; nothing where there is no such script. It copies nothing.
+    /// Returns the transcript of a script so far. Empty if there is no such script. It copies
+    /// nothing.
     pub fn transcript(&self, script: usize) -> &[u8]
         ensures { HasShownAt script self.now result.now }
     {
@@ -287,8 +292,9 @@ impl Hall {
         }
     }
 
-    /// How many items that came from a script's child no command has taken yet: pieces of its output, its end, a failure to read it. The
-    /// echo of what was sent to it is none of them. A child or a script that isn't there has none. It costs the same however many there are.
+    /// Returns the number of a child's items that no command has taken: pieces of output, the end
+    /// of output, or a read failure. Echoes of sent input are not counted. 0 if there is no such
+    /// script or child. Constant time.
     pub fn untaken(&self, script: usize, child: u8) -> usize
         ensures { result ≡ untaken_by (session_at script self.now) child }
     {
@@ -298,8 +304,8 @@ impl Hall {
         }
     }
 
-    /// The last moment in milliseconds to which all scripts go on waiting where only time passes; None where no script waits for the time.
-    /// A tick no later than that changes nothing in what any of them says.
+    /// Returns the last moment, in milliseconds, up to which all scripts keep waiting if only time
+    /// passes. A tick no later than that changes no script. `None` if no script waits for the time.
     pub fn deadline(&self) -> Option<u64>
         ensures value { result ≡ soonest self.now }
         ensures quiet { AllQuietUntil self.now result }

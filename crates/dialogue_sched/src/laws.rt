@@ -1,29 +1,32 @@
-//! What ticks can change, what moments can, and what the order of a hall's calls can.
+//! Laws of ticks, of moments, and of the order of a hall's calls.
 
 ghost use Rattle.dialogue_sched.specs.Limits.{RunsEnd, SessionsEnd, TicksPass};
 ghost use Rattle.dialogue_sched.specs.Ticks.{TicksAreOne, TicksChangeNothing, TicksOnlyAdd};
 ghost use Rattle.dialogue_sched.specs.Raised.{MeansRaised};
 ghost use Rattle.dialogue_sched.specs.Reached.{FromStart, StepsOn, HandsOn, Tells};
 
-/// In a list of events whose moments don't go back, ticks put in where they still don't go back mean what one tick behind all means, at
-/// the greatest moment. So they change nothing in what a script means once it has an ending; until then what it asked and told stays, and
-/// more may follow. It does nothing when it runs.
+/// States laws of ticks, in events whose moments don't decrease. Inserted ticks mean the same as
+/// one tick at the end, at the greatest moment. They therefore change nothing once a script has an
+/// ending. Until then its requests and its output remain, and more may follow. It does nothing at
+/// run time.
 pub fn ticks()
     ensures one { TicksAreOne }
     ensures ended { TicksChangeNothing }
     ensures waiting { TicksOnlyAdd }
 {}
 
-/// A script means the same over events of which each moment is raised to the greatest one before it: what a moment below an earlier one
-/// is, no script can tell. It does nothing when it runs.
+/// States that a script means the same if each moment is raised to the greatest one before it. No
+/// script can tell by how much a moment was below an earlier one. It does nothing at run time.
 pub fn raised_moments()
     ensures { MeansRaised }
 {}
 
-/// Whatever the order of its calls, a hall means what came to it: the sessions of a hall that was opened are reached by no events, and
-/// from there each call that takes events, one or many, reaches what came before with these behind, and each request that is handed out
-/// leaves what was reached. A report is then the meaning of its script's source, settings and own events among those that reached the
-/// hall, and of nothing else, or it says that this script was refused memory. It does nothing when it runs.
+/// States that a hall means the events that reached it, whatever the order of its calls. No event
+/// has reached a new hall. Each call that takes events adds them at the end. Handing out a request
+/// adds none.
+///
+/// A report is the meaning of its script's source, settings and own events among those, and of
+/// nothing else. Or it says that this script was refused memory. It does nothing at run time.
 pub fn hall_law()
     ensures from_start { FromStart }
     ensures steps_on { StepsOn }
@@ -31,8 +34,9 @@ pub fn hall_law()
     ensures tells { Tells }
 {}
 
-/// A limit ends scripts: where the greatest moment of a script's own events is past its limit, neither a report of a run nor one of a hall
-/// says that it waits. A tick past the limit is enough, whatever else came. It does nothing when it runs.
+/// States that a time limit ends scripts. If the greatest moment of a script's own events is past
+/// its limit, no report of a run or a hall says that it waits. A tick past the limit is enough,
+/// whatever else happened. It does nothing at run time.
 pub fn limits()
     ensures runs { RunsEnd }
     ensures sessions { SessionsEnd }

@@ -1,4 +1,4 @@
-//! Many scripts over one list of events: each sees its own events and the ticks, and nothing else.
+//! Many scripts over one list of events. Each script sees only its own events and the ticks.
 #![tactic(auto)]
 
 mod fault;

@@ -1,20 +1,20 @@
-//! Which events a hall refuses.
+//! The events that a hall refuses.
 
 ghost use Rattle.std.specs.Prelude.{◌≡◌};
 ghost use Rattle.dialogue_sched.specs.Refusal.{refusal_of, piece_len as piece_len_of, is_number as is_number_of};
 
 use child_events::{HallEvent, What};
 
-/// Why a hall passes an event over. Of several reasons the first one counts.
+/// Why a hall refuses an event. If there are several reasons, the first one counts.
 #[derive(Clone, Copy, Debug, PartialEq, Eq)]
 pub enum HallRefusal {
-    /// The hall has no script of this number.
+    /// The hall has no script with this number.
     NoSuchScript,
-    /// Children are numbered from 1 to 16.
+    /// The child number is outside 1 to 16.
     NoSuchChild,
-    /// A moment is at most 9,000,000,000,000,000 milliseconds.
+    /// The moment is greater than 9,000,000,000,000,000 milliseconds.
     MomentTooLarge,
-    /// A piece of output has at most 4,096 bytes.
+    /// The piece of output has more than 4,096 bytes.
     PieceTooLong,
 }
 
@@ -33,7 +33,8 @@ fn is_number(n: usize, last: usize) -> bool
     0 < n && n <= last
 }
 
-/// Why an event is refused by so many scripts: the first reason.
+/// Returns the first reason why a hall with this number of scripts refuses an event. `None` if it
+/// accepts it.
 pub fn refusal(scripts: usize, event: &HallEvent) -> Option<HallRefusal>
     ensures { result ≡ refusal_of scripts event.now }
 {

@@ -1,11 +1,11 @@
-//! What came of several scripts.
+//! The reports of several scripts.
 
 ghost use Rattle.std.specs.Prelude.{◌≡◌};
 
 use session::Report;
 use std::marker::Model;
 
-/// Reports in order of their scripts, seen as a list.
+/// Reports, in the order of their scripts. A contract sees a list.
 #[derive(Drop)]
 pub struct Reports {
     pub list: Vec<Report>,

@@ -1,4 +1,4 @@
-//! A whole run.
+//! Whole runs.
 
 ghost use Rattle.std.specs.Prelude.{◌≡◌, ◌+◌, ◌<◌, ◌^◌, [], length, None, Ok, Err, IfOk, IfErr};
 ghost use Rattle.child_events.specs.Judging.{GivesPart};
@@ -13,17 +13,18 @@ use crate::script::Script;
 use child_events::{HallEvent, HallEvents, LogFault, LogLines};
 use std::alloc::{AllocError, AllocFailed, Global};
 
-/// How many events of a log are held at once.
+/// The most events of a log in memory at once.
 const PART: usize = 512;
 
-/// Why there are no reports of any script.
+/// Why a run has no reports.
 #[derive(Clone, Copy, Debug, PartialEq, Eq)]
 pub enum RunFault {
-    /// The first event, counted from 0, that the hall refuses, and why.
+    /// The hall refuses an event. `at` is the index of the first refused one, counted from 0.
     Refused { at: usize, refusal: HallRefusal },
-    /// There is no hall, for another reason than memory.
+    /// There is no hall, for a reason other than memory.
     New(HallFault),
-    /// Memory was refused for what all scripts share: the hall or its parts, the events. Nothing else is wrong with the scripts.
+    /// Memory was refused for what all scripts share: the hall or its parts, or the events. The
+    /// scripts are otherwise correct.
     Memory,
 }
 
@@ -49,12 +50,12 @@ impl<T: Drop> From<AllocFailed<T>> for RunFault {
     }
 }
 
-/// Why there are no reports of scripts over a log.
+/// Why a run over a log has no reports.
 #[derive(Clone, Copy, PartialEq, Eq)]
 pub enum LogRunFault {
-    /// The first fault of the log.
+    /// The first error of the log.
     Log(LogFault),
-    /// There are none for another reason.
+    /// The error of the run.
     Run(RunFault),
 }
 
@@ -69,7 +70,8 @@ fn open(alloc: Global, scripts: Vec<Script>) -> Result<Hall, RunFault>
     }
 }
 
-/// The first event that a hall of so many scripts refuses, counted from `from`.
+/// Returns the first event that a hall with this number of scripts refuses. `from` is the index of
+/// the first event.
 fn first_refused(scripts: usize, from: usize, events: &[HallEvent]) -> Option<(usize, HallRefusal)>
     requires { from + length events.now < 2 ^ 64 }
     ensures { result ≡ first_refusal scripts from events.now }
@@ -84,7 +86,7 @@ fn first_refused(scripts: usize, from: usize, events: &[HallEvent]) -> Option<(u
     None
 }
 
-/// Equal events.
+/// Returns a copy of events.
 fn copies(alloc: Global, events: &[HallEvent]) -> Result<HallEvents, AllocError>
     ensures { IfOk result (λ es. es ≡ events.now) }
 {
@@ -95,11 +97,12 @@ fn copies(alloc: Global, events: &[HallEvent]) -> Result<HallEvents, AllocError>
     Ok(list)
 }
 
-/// Runs scripts over a list of events. Each report is the meaning of its script's source, settings and own events, and of nothing else, or
-/// it says that this script was refused memory.
+/// Runs scripts over a list of events. Each report is the meaning of its script's source, settings
+/// and own events, and of nothing else. Or it says that this script was refused memory.
 ///
-/// `Memory` is what was refused for the hall or the events' copies, and comes only where nothing else is wrong. Room for the list of reports
-/// is a part of the hall, so one script's report that is refused memory is that script's alone.
+/// `Memory` means that the hall or the copies of events were refused memory, and that there is no
+/// other error. Room for the reports is part of the hall. A report that is refused memory therefore
+/// affects only its own script.
 pub fn run_all(
     alloc: Global,
     scripts: Vec<Script>,
@@ -121,7 +124,7 @@ pub fn run_all(
     Ok(hall.into_reports())
 }
 
-/// Why there are no reports, where a run has this fault: a fault of the log comes first.
+/// Returns the error of a run over a log. An error of the log comes first.
 fn log_first(log: &LogLines, fault: RunFault) -> LogRunFault
     ensures { result ≡ log_first_of log.now.said fault }
 {
@@ -131,7 +134,7 @@ fn log_first(log: &LogLines, fault: RunFault) -> LogRunFault
     }
 }
 
-/// The next part of a log.
+/// Takes the next part of a log.
 fn next_part(alloc: Global, log: &mut LogLines) -> Result<HallEvents, LogRunFault>
     ensures given { IfOk result (λ es. GivesPart log.old es log.new) }
     ensures whole { IfOk result (λ es. length es < 512 → log.new.said ≡ Ok []) }
@@ -144,7 +147,8 @@ fn next_part(alloc: Global, log: &mut LogLines) -> Result<HallEvents, LogRunFaul
     }
 }
 
-/// The hall takes what is left of a log, part by part, up to the first part that has a refused event or a fault.
+/// Passes the rest of a log to a hall, part by part, up to the first part with a refused event or
+/// an error.
 fn take_log(alloc: Global, hall: &mut Hall, log: &mut LogLines) -> Result<(), LogRunFault>
     ensures takes { TakesLog log.old.said hall.old hall.new result }
     ensures memory { result ≡ Err (LogRunFault.Run RunFault.Memory) → IsAcceptedTo (length hall.old) log.old.said log.new.said }
@@ -167,9 +171,12 @@ fn take_log(alloc: Global, hall: &mut Hall, log: &mut LogLines) -> Result<(), Lo
     }
 }
 
-/// Runs scripts over the events that are left of a log, as `run_all` does over a list, and holds no more than `PART` of them at once. The log is
-/// judged as it is read, and its first fault, wherever it stands, comes before one of the run, but for want of memory. Where memory is refused,
-/// none of the events before those that are still left was to be refused.
+/// Runs scripts over the rest of a log, as `run_all` does over a list. At most 512 events are in
+/// memory at once.
+///
+/// The log is checked while it is read. Its first error, wherever it is, comes before an error of
+/// the run, except for refused memory. If memory is refused, the hall refused none of the events
+/// before those that are left.
 pub fn run_log(
     alloc: Global,
     scripts: Vec<Script>,
@@ -186,8 +193,10 @@ pub fn run_log(
     Ok(hall.into_reports())
 }
 
-/// No script changes another: over two lists of events in which a script's own events and the ticks are the same once their moments are
-/// raised, beside any other scripts and events, and whatever its number in each, its reports are the same.
+/// States that no script changes another one. Take two lists of events with the same own events of
+/// a script, after their moments are raised. The script's reports are the same, whatever the other
+/// scripts and events are, and whatever its numbers are. Scripts that were refused memory are
+/// excepted. It does nothing at run time.
 pub fn isolation()
     ensures { Isolated }
 {}

@@ -1,9 +1,9 @@
-//! What a hall is opened with.
+//! The scripts of a hall.
 
 use session::Settings;
 use tcl_words::Text;
 
-/// A script that is to be run.
+/// A script to be run.
 #[derive(Drop)]
 pub struct Script {
     pub source: Text,

@@ -1,4 +1,4 @@
-//! Events, dealt to the scripts that see them.
+//! Distributes events to the scripts that see them.
 
 ghost use Rattle.std.specs.Prelude.{◌≡◌, ◌<◌, ◌++◌, ◌∷◌, [], length, replicate, vec_len, IfOk, OnOk};
 ghost use Rattle.dialogue_sched.specs.Shares.{dealt, PutAt};
@@ -7,7 +7,7 @@ use child_events::{Event, HallEvent};
 use std::alloc::{AllocError, Global};
 use std::marker::Model;
 
-/// What one script sees, seen as a list.
+/// The events that one script sees. A contract sees a list.
 #[derive(Drop)]
 pub struct Share {
     pub events: Vec<Event>,
@@ -23,7 +23,7 @@ impl Model for Share {
 }
 
 impl Share {
-    /// Puts an event behind the others.
+    /// Appends an event.
     fn put(&mut self, event: Event) -> Result<(), AllocError>
         ensures { OnOk result (self.new ≡ self.old ++ event ∷ []) }
     {
@@ -32,7 +32,7 @@ impl Share {
     }
 }
 
-/// What each script sees, in order of the scripts, seen as a list of lists.
+/// The events that each script sees, in the order of the scripts. A contract sees a list of lists.
 #[derive(Drop)]
 pub struct Shares {
     pub list: Vec<Share>,
@@ -47,7 +47,7 @@ impl Model for Shares {
     ghost view = { λ t. t.list.items };
 }
 
-/// An event comes behind the share at a place.
+/// Appends an event to the share at index i.
 fn put_at(shares: &mut Vec<Share>, i: usize, event: Event) -> Result<(), AllocError>
     requires { i < vec_len shares.old }
     ensures put { OnOk result (PutAt i event shares.old.items shares.new.items) }
@@ -58,7 +58,7 @@ fn put_at(shares: &mut Vec<Share>, i: usize, event: Event) -> Result<(), AllocEr
     Ok(())
 }
 
-/// A tick comes behind each share.
+/// Appends a tick to each share.
 fn put_tick(shares: &mut Vec<Share>, moment: u64) -> Result<(), AllocError>
     ensures { OnOk result (Paired (λ old new. new ≡ old ++ events.Tick moment ∷ []) shares.old.items shares.new.items) }
 {
@@ -72,7 +72,7 @@ ghost use Rattle.child_events.specs.declared.event.Event.TheVariants as events;
 ghost use Rattle.dialogue_sched.specs.Pairs.{Paired};
 
 impl Shares {
-    /// Nothing, for so many scripts.
+    /// Creates empty shares for this number of scripts.
     pub fn new(alloc: Global, scripts: usize) -> Result<Shares, AllocError>
         ensures { IfOk result (λ shares. shares ≡ replicate scripts []) }
     {
@@ -85,7 +85,7 @@ impl Shares {
         Ok(Shares { list })
     }
 
-    /// Each script that sees the event has it behind what it saw.
+    /// Appends an event to the share of each script that sees it.
     pub fn deal(&mut self, event: HallEvent) -> Result<(), AllocError>
         ensures { OnOk result (self.new ≡ dealt 1 event self.old) }
     {

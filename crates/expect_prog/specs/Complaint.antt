@@ -1,4 +1,4 @@
--- Which line a fault gives.
+-- The error line for each error.
 use Rattle.std.specs.Prelude.{◌≡◌, ℕ, ◌+◌, ◌-◌, List, slice_get, IfSome, Option, Some, None}
 use Rattle.std.specs.Borrow.{Bor}
 use Rattle.child_events.specs.declared.faults.LogFault.{LogFault}
@@ -46,12 +46,12 @@ LogLine (logs.Total n) c = c ≡ line.Log 8 n
 LogLine (logs.Version n) c = c ≡ line.Log 9 n
 LogLine logs.Memory c = c ≡ line.Memory
 
--- a line that names the file of the script of a number; the first file is that of script 1
+-- A line that names the file of script `n`. The first file is that of script 1.
 abbrev pub IsTooLong : List (Bor (List ℕ)) → ℕ → Complaint → Type 0
 IsTooLong files n (line.SourceTooLong path) = IfSome (slice_get files (n - 1)) (λ file. path ≡ file)
 IsTooLong files n c = ⊥
 
--- a log that can't be read is named by its own file
+-- A log that can't be read is named by its file.
 abbrev pub IsUnreadable : Bor (List ℕ) → Complaint → Type 0
 IsUnreadable file (line.Unreadable path) = path ≡ file
 IsUnreadable file c = ⊥
@@ -61,13 +61,13 @@ OpeningLine files halls.TooManyScripts c = c ≡ line.TooManyScripts
 OpeningLine files (halls.SourceTooLong n) c = IsTooLong files n c
 OpeningLine files halls.Memory c = c ≡ line.Memory
 
--- events count from 1 here
+-- Events are counted from 1 here.
 abbrev pub RunLine : List (Bor (List ℕ)) → RunFault → Complaint → Type 0
 RunLine files (run.Refused at r) c = c ≡ line.Event (at + 1) (refusal_number r)
 RunLine files (run.New f) c = OpeningLine files f c
 RunLine files run.Memory c = c ≡ line.Memory
 
--- the line of a replay of a log's file with the files of scripts
+-- The line for an error of `replay`, with this log file and these script files.
 abbrev pub FaultLine : Bor (List ℕ) → List (Bor (List ℕ)) → ReplayFault → Complaint → Type 0
 FaultLine log files replay.Read c = IsUnreadable log c
 FaultLine log files (replay.Log f) c = LogLine f c
@@ -75,14 +75,14 @@ FaultLine log files (replay.Run f) c = RunLine files f c
 FaultLine log files replay.Write c = c ≡ line.Unwritten
 FaultLine log files replay.Memory c = c ≡ line.Memory
 
--- the line where a log's file is shown
+-- The line for an error of `show`, with this log file.
 abbrev pub ShowLine : Bor (List ℕ) → ShowFault → Complaint → Type 0
 ShowLine log show.Read c = IsUnreadable log c
 ShowLine log (show.Log f) c = LogLine f c
 ShowLine log show.Write c = c ≡ line.Unwritten
 ShowLine log show.Memory c = c ≡ line.Memory
 
--- the line where the courses of the files of scripts over a log's file are told
+-- The line for an error of `explain`, with this log file and these script files.
 abbrev pub ExplainLine : Bor (List ℕ) → List (Bor (List ℕ)) → ExplainFault → Complaint → Type 0
 ExplainLine log files explain.Read c = IsUnreadable log c
 ExplainLine log files (explain.Log f) c = LogLine f c
@@ -91,12 +91,12 @@ ExplainLine log files (explain.SourceTooLong n) c = IsTooLong files n c
 ExplainLine log files explain.Write c = c ≡ line.Unwritten
 ExplainLine log files explain.Memory c = c ≡ line.Memory
 
--- what can't be written is named by its file
+-- A file that can't be written is named by its path.
 abbrev pub IsNotWritten : Bor (List ℕ) → Complaint → Type 0
 IsNotWritten file (line.NotWritten path reason) = path ≡ file
 IsNotWritten file c = ⊥
 
--- the line where an account of a run can't be told in a file
+-- The line for an error in writing the explanation of a run to this file.
 abbrev pub AccountLine : Bor (List ℕ) → ExplainFault → Complaint → Type 0
 AccountLine file explain.Memory c = c ≡ line.Memory
 AccountLine file explain.Read c = IsNotWritten file c
@@ -105,7 +105,7 @@ AccountLine file explain.TooManyScripts c = IsNotWritten file c
 AccountLine file (explain.SourceTooLong n) c = IsNotWritten file c
 AccountLine file explain.Write c = IsNotWritten file c
 
--- a line that names a line of a file, and what is wrong there
+-- A line that names a line of a file, and what is wrong there.
 abbrev pub BadLine : Bor (List ℕ) → ℕ → Wrong → Complaint → Type 0
 BadLine file n what (line.Timeline path number told) = (path ≡ file) × (number ≡ n) × (told ≡ what)
 BadLine file n what c = ⊥
@@ -123,7 +123,7 @@ TimelineLine file lines.Header c = BadLine file 1 wrong.Header c
 TimelineLine file (lines.Event n) c = BadLine file n wrong.Event c
 TimelineLine file lines.Memory c = c ≡ line.Memory
 
--- a script that asks on and on is named by its file, with the moment
+-- A script with too many requests at one moment is named by its file, with the moment.
 abbrev pub IsUnending : Bor (List ℕ) → ℕ → Complaint → Type 0
 IsUnending file m (line.Unending path moment) = (path ≡ file) × (moment ≡ m)
 IsUnending file m c = ⊥
@@ -132,7 +132,7 @@ abbrev pub IsLongSource : Bor (List ℕ) → Complaint → Type 0
 IsLongSource file (line.SourceTooLong path) = path ≡ file
 IsLongSource file c = ⊥
 
--- the line where a log is planned, of a script's file over a timeline's, with a timing's
+-- The line for an error of `plan`, with these files of a script, a timeline and its timing.
 abbrev pub PlanLine : Bor (List ℕ) → Bor (List ℕ) → Option (Bor (List ℕ)) → PlanLogFault → Complaint → Type 0
 PlanLine script timeline timing plan.Read c = IsUnreadable timeline c
 PlanLine script timeline timing (plan.Timeline f) c = TimelineLine (file_of_lines timeline timing) f c
@@ -142,7 +142,7 @@ PlanLine script timeline timing (plan.Plan plans.Memory) c = c ≡ line.Memory
 PlanLine script timeline timing plan.Write c = c ≡ line.Unwritten
 PlanLine script timeline timing plan.Memory c = c ≡ line.Memory
 
--- the line of a run of the files of scripts
+-- The line for an error of `run`, with these script files.
 abbrev pub DriveLine : List (Bor (List ℕ)) → DriveFault → Complaint → Type 0
 DriveLine files (drive.Serve (serve.New f)) c = OpeningLine files f c
 DriveLine files (drive.Serve serve.NoThread) c = c ≡ line.NoThread

@@ -4,10 +4,10 @@ use Rattle.std.specs.Fmt.{decimal}
 use Rattle.std.specs.Path.{path_file_name}
 use Rattle.tcl_words.specs.Bytes as ascii
 
--- the number of one of so many scripts, of which there are fewer than a hundred: with as many digits as the last one's
+-- The number of one of `count` scripts, if there are fewer than a hundred. It has as many digits as the last number.
 abbrev pub number_text : ℕ → ℕ → List ℕ
 number_text count n = if nat_lt 9 count && nat_lt n 10 then ascii.digit_0 ∷ decimal n else decimal n
 
--- the path of the transcript of one of so many scripts, whose file this is, in a folder
+-- The path in a folder for the transcript of script `n`, which has this file, among `count` scripts.
 unfoldable pub transcript_path : List ℕ → ℕ → ℕ → List ℕ → List ℕ
 transcript_path folder count n file = folder ++ ascii.slash ∷ [] ++ number_text count n ++ ascii.minus ∷ [] ++ unwrap_or (path_file_name file) []

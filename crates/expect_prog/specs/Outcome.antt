@@ -3,20 +3,20 @@ use Rattle.std.specs.Prelude.{ℕ, ◌+◌, Bool, if◌then◌else◌, Option, S
 use Rattle.expect_prog.specs.declared.outcome.Outcome.{Outcome}
 use Rattle.expect_prog.specs.declared.outcome.Outcome.TheVariants.{Well, Otherwise, Lost, Stopped}
 
--- a transcript that wasn't written is told before all else
+-- The outcome of scripts and transcripts. A transcript that was not written counts more than how the scripts ended.
 abbrev pub outcome_of : Bool → Bool → Outcome
 outcome_of well whole = if whole then (if well then Well else Otherwise) else Lost
 
--- and so is anything else that wasn't
+-- The outcome with another file. A file that was not written counts more than all else.
 abbrev pub outcome_and : Outcome → Bool → Outcome
 outcome_and outcome whole = if whole then outcome else Lost
 
--- a signal that stopped the run comes before that
+-- The outcome with a signal that may have stopped the run. The signal counts more than all else.
 abbrev pub outcome_unless_stopped : Outcome → Option ℕ → Outcome
 outcome_unless_stopped outcome (Some number) = Stopped number
 outcome_unless_stopped outcome None = outcome
 
--- the exit status, which for a signal is that of a shell whose command it ended (POSIX XCU 2.8.2)
+-- The exit status. For a signal, it is the status that a shell gives a command that the signal ended (POSIX XCU 2.8.2).
 abbrev pub status_of : Outcome → ℕ
 status_of Well = 0
 status_of Otherwise = 1

@@ -1,4 +1,4 @@
-//! What scripts did in a run, told in a file when they are over.
+//! Writes the explanation of a run to a file, once its scripts have ended.
 
 ghost use Rattle.std.specs.Prelude.{◌≡◌, IfOk};
 
@@ -11,7 +11,7 @@ use std::alloc::{AllocError, Global};
 use std::io::Write;
 use std::rt::Files;
 
-/// A file that the courses of scripts are to be told in.
+/// A file for the explanation of scripts.
 #[derive(Drop)]
 pub struct Account<'a, F: Drop> {
     target: Target<'a>,
@@ -19,7 +19,7 @@ pub struct Account<'a, F: Drop> {
     scripts: Vec<Script>,
 }
 
-/// The same script once more.
+/// Returns a copy of a script.
 fn copied(alloc: Global, script: &Script) -> Result<Script, AllocError>
     ensures { IfOk result (λ s. s ≡ script.now) }
 {
@@ -29,7 +29,7 @@ fn copied(alloc: Global, script: &Script) -> Result<Script, AllocError>
     })
 }
 
-/// The same scripts once more.
+/// Returns copies of scripts.
 fn all_copied(alloc: Global, scripts: &[Script]) -> Result<Vec<Script>, AllocError>
     ensures { IfOk result (λ ss. ss.items ≡ scripts.now) }
 {
@@ -42,7 +42,7 @@ fn all_copied(alloc: Global, scripts: &[Script]) -> Result<Vec<Script>, AllocErr
     Ok(made)
 }
 
-/// Makes the file of an account of scripts that are to be run.
+/// Creates the file for the explanation of scripts that are about to run.
 pub fn opened_account<'a, R: Files>(
     rt: &R,
     alloc: Global,
@@ -61,14 +61,15 @@ pub fn opened_account<'a, R: Files>(
     }
 }
 
-/// Removes the file of an account that isn't told.
+/// Removes the file of an explanation that is not written.
 pub fn remove_account<R: Files>(rt: &R, account: Option<Account<'_, R::File>>) {
     if let Some(account) = account {
         account.target.remove(rt);
     }
 }
 
-/// Tells the courses of scripts over the record of their run. The file gets its name if it is whole, and else is removed.
+/// Writes the explanation of scripts over the record of their run. If the file is complete, it gets
+/// its name. Otherwise it is removed.
 pub fn tell_account<'a, R: Files>(
     rt: &R,
     alloc: Global,

@@ -1,4 +1,4 @@
-//! Faults as lines on standard error.
+//! Errors as lines on standard error.
 
 ghost use Rattle.std.specs.Prelude.{◌≡◌};
 ghost use Rattle.expect_prog.specs.Complaint.{LogLine, OpeningLine, RunLine, FaultLine, DriveLine, ShowLine, ExplainLine, AccountLine, PlanLine, TimelineLine, BadLine, refusal_number as number_of};
@@ -17,7 +17,7 @@ use std::io;
 use tcl_words::Text;
 use thiserror::Error;
 
-/// What is wrong with a line of a timeline, or of a recording.
+/// What is wrong in a line of a timeline or a recording.
 #[derive(Clone, Copy, Debug, Error)]
 pub enum Wrong {
     #[error("no line of a timeline")]
@@ -42,7 +42,7 @@ pub enum Wrong {
     Event,
 }
 
-/// Why the reports of an order are not all printed.
+/// Why an order failed.
 #[derive(Debug, Drop, Error)]
 pub enum Complaint<'a> {
     #[error("cannot read the command line")]
@@ -142,7 +142,7 @@ impl<T: Drop> From<AllocFailed<T>> for Complaint<'_> {
     }
 }
 
-/// A complaint's line, with what a terminal would not show as itself escaped.
+/// Returns the line of a complaint, with control characters escaped.
 fn line(alloc: Global, complaint: &Complaint<'_>) -> Result<Text, AllocError> {
     let raw = complaint.to_string(alloc)?;
     let mut line = Text::new(alloc);
@@ -150,7 +150,8 @@ fn line(alloc: Global, complaint: &Complaint<'_>) -> Result<Text, AllocError> {
     Ok(line)
 }
 
-/// Writes a complaint's line on standard error. If memory for it is refused, that is said in its place.
+/// Writes the line of a complaint on standard error. If memory for it is refused, writes that
+/// instead.
 pub fn tell(rt: &impl Eprint, alloc: Global, complaint: &Complaint<'_>) {
     match line(alloc, complaint) {
         Ok(line) => {
@@ -163,7 +164,7 @@ pub fn tell(rt: &impl Eprint, alloc: Global, complaint: &Complaint<'_>) {
     }
 }
 
-/// The number of a refusal.
+/// Returns the number of a refusal.
 fn refusal_number(refusal: HallRefusal) -> u8
     ensures { result ≡ number_of refusal }
 {
@@ -220,7 +221,7 @@ impl<'a> Complaint<'a> {
         }
     }
 
-    /// The complaint of a fault in an order's replay.
+    /// Returns the complaint for an error of a replay.
     pub fn of(fault: ReplayFault, order: &Replay<'a>) -> Complaint<'a>
         ensures { FaultLine order.now.log order.now.scripts.sources.items fault result }
     {
@@ -233,7 +234,7 @@ impl<'a> Complaint<'a> {
         }
     }
 
-    /// The complaint of a fault where a log is shown.
+    /// Returns the complaint for an error in showing a log.
     pub fn of_show(fault: ShowFault, order: &Show<'a>) -> Complaint<'a>
         ensures { ShowLine order.now.log fault result }
     {
@@ -245,7 +246,7 @@ impl<'a> Complaint<'a> {
         }
     }
 
-    /// The complaint of a fault where courses over a log are told.
+    /// Returns the complaint for an error in explaining scripts over a log.
     pub fn of_explain(fault: ExplainFault, order: &Explain<'a>) -> Complaint<'a>
         ensures { ExplainLine order.now.log order.now.scripts.sources.items fault result }
     {
@@ -262,7 +263,8 @@ impl<'a> Complaint<'a> {
         }
     }
 
-    /// The complaint of a fault where an account of a run is told in a file. Its log is the run's own record.
+    /// Returns the complaint for an error in writing the explanation of a run. Its log is the run's
+    /// own record.
     pub fn of_account(fault: ExplainFault, path: &'a str) -> Complaint<'a>
         ensures { AccountLine path.entry fault result }
     {
@@ -277,7 +279,7 @@ impl<'a> Complaint<'a> {
         }
     }
 
-    /// A bad line of a timeline's file.
+    /// Returns the complaint for a bad line in a timeline's file.
     fn bad(path: &'a str, line: usize, what: Wrong) -> Complaint<'a>
         ensures { BadLine path.entry line what result }
     {
@@ -302,7 +304,7 @@ impl<'a> Complaint<'a> {
         }
     }
 
-    /// The complaint of a fault where a log is planned.
+    /// Returns the complaint for an error in planning a log.
     pub fn of_plan(fault: PlanLogFault, order: &Plan<'a>) -> Complaint<'a>
         ensures { PlanLine order.now.source order.now.timeline order.now.timing fault result }
     {
@@ -320,7 +322,7 @@ impl<'a> Complaint<'a> {
         }
     }
 
-    /// The complaint of a fault in an order's run.
+    /// Returns the complaint for an error of a run.
     pub fn of_drive(fault: DriveFault, order: &Run<'a>) -> Complaint<'a>
         ensures { DriveLine order.now.scripts.sources.items fault result }
     {

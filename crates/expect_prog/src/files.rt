@@ -1,4 +1,4 @@
-//! The files of an order.
+//! Reads and runs the files of an order.
 
 ghost use Rattle.std.specs.Prelude.{◌≡◌, ◌≤◌, ℕ, List, IfOk, OnOk};
 ghost use Rattle.expect_prog.specs.Given.{script_given, scripts_given, vars_told, AreHeld, AreOfFiles};
@@ -22,7 +22,7 @@ use std::io::{self, ErrorKind, Read, Write};
 use std::rt::Files;
 use tcl_words::{Text, Texts};
 
-/// A file that is opened to be read.
+/// Opens a file for reading.
 pub fn opened<'a, R: Files>(rt: &R, path: &'a str) -> Result<R::File, Complaint<'a>> {
     match fs::open(rt, path) {
         Ok(file) => Ok(file),
@@ -35,7 +35,8 @@ pub fn opened<'a, R: Files>(rt: &R, path: &'a str) -> Result<R::File, Complaint<
     }
 }
 
-/// A log's file that is opened to be read. One that is empty, or too long, is complained of. The last line of one that was cut off has no bound.
+/// Opens a log's file for reading. Fails if it is empty or too long. `cut` says that the log may be
+/// cut off: then its lines have no greatest length.
 fn opened_log<'a, R: Files>(
     rt: &R,
     path: &'a str,
@@ -49,7 +50,8 @@ fn opened_log<'a, R: Files>(
     }
 }
 
-/// The complaint of a fault in reading a log, unless the log is too long.
+/// Returns the complaint for an error in reading a log: that the log is too long, if it is,
+/// otherwise this complaint.
 fn unless_long<'a, D: Drop>(
     log: &Bounded<D>,
     path: &'a str,
@@ -61,7 +63,7 @@ fn unless_long<'a, D: Drop>(
     complaint
 }
 
-/// The bytes that are read of the file of a path.
+/// Reads all bytes of a file. Its path names it in a complaint.
 fn read_whole<'a, D: Read + Drop>(
     alloc: Global,
     device: D,
@@ -75,7 +77,7 @@ fn read_whole<'a, D: Read + Drop>(
     }
 }
 
-/// The bytes of a source; of a longer one than is allowed, a byte more than that.
+/// Reads a source. Of a source that is too long, reads one byte more than is allowed.
 fn source<'a, R: Files>(rt: &R, alloc: Global, path: &'a str) -> Result<Text, Complaint<'a>> {
     let file = opened(rt, path)?;
     read_whole(alloc, file.take(SOURCE_LIMIT as u64 + 1), path)
@@ -83,17 +85,18 @@ fn source<'a, R: Files>(rt: &R, alloc: Global, path: &'a str) -> Result<Text, Co
 
 /// Where sources are read from.
 ///
-/// What `holds` means is its own. Code that is generic over it knows it from a call alone, so the source of a path is one that was read at this path.
+/// Each implementation gives `holds` its own meaning. Generic code can learn that it holds only
+/// from a call of `source`. A source for a path was therefore read at this path.
 pub trait Sources {
     /// These bytes were read at a path.
     ghost holds: { List ℕ → List ℕ → Type 0 };
 
-    /// The bytes of the source at a path; of a longer one than is allowed, a byte more than that.
+    /// Reads the source at a path. Of a source that is too long, one byte more than is allowed.
     fn source<'a>(&self, alloc: Global, path: &'a str) -> Result<Text, Complaint<'a>>
         ensures { IfOk result (λ text. holds path.now text) };
 }
 
-/// The sources that are files of the system.
+/// The sources in the files of the system.
 #[derive(Drop)]
 pub struct Disk<'r, R> {
     pub rt: &'r R,
@@ -107,7 +110,8 @@ impl<'r, R: Files> Sources for Disk<'r, R> {
     }
 }
 
-/// The sources at paths, read in order; the first that can't be read is complained of.
+/// Reads the sources at paths, in order. Returns the complaint for the first one that can't be
+/// read.
 fn read_sources<'a, S: Sources>(
     from: &S,
     alloc: Global,
@@ -122,7 +126,7 @@ fn read_sources<'a, S: Sources>(
     Ok(texts)
 }
 
-/// The script of a source, which is given an empty environment.
+/// Returns the script of a source, with an empty environment.
 fn script_of(
     alloc: Global,
     steps: u64,
@@ -143,7 +147,7 @@ fn script_of(
     }
 }
 
-/// The scripts of sources, in their order.
+/// Returns the scripts of sources, in their order.
 fn scripts_of(
     alloc: Global,
     steps: u64,
@@ -162,7 +166,7 @@ fn scripts_of(
     Ok(scripts)
 }
 
-/// Whether reports in a form have the variables in them.
+/// Returns whether reports in a form contain the variables.
 fn tells_vars(form: &Form) -> bool
     ensures { result ≡ vars_told form.now.format form.now.shown.vars }
 {
@@ -177,7 +181,8 @@ fn tells_vars(form: &Form) -> bool
     }
 }
 
-/// The scripts of an order: their sources are read in order, and the first that can't be read is complained of.
+/// Reads the sources of an order, in order, and returns their scripts. Returns the complaint for
+/// the first source that can't be read.
 pub fn scripts<'a, S: Sources>(
     from: &S,
     alloc: Global,
@@ -196,8 +201,8 @@ pub fn scripts<'a, S: Sources>(
     Ok(scripts)
 }
 
-/// Replays an order's scripts over its log, hands their transcripts to a shelf, and prints the reports. The answer says whether each script
-/// ended with status 0.
+/// Replays an order's scripts over its log, passes their transcripts to a shelf, and prints the
+/// reports. Returns whether each script ended with status 0.
 fn replay_order<'a, R: Files + Print, L: Read + Drop, S: Shelf>(
     rt: &R,
     alloc: Global,
@@ -225,7 +230,8 @@ fn replay_order<'a, R: Files + Print, L: Read + Drop, S: Shelf>(
     }
 }
 
-/// Complains of the first transcript of a replay that is one of its sources, or its log.
+/// Returns the complaint for the first transcript of a replay that is also one of its sources or
+/// its log.
 fn judge_replay<'a, R: Files>(
     rt: &R,
     alloc: Global,
@@ -242,9 +248,10 @@ fn judge_replay<'a, R: Files>(
     names.judged(alloc)
 }
 
-/// Replays the files of an order, keeps their transcripts where that is asked for, and prints the reports.
+/// Replays the files of an order, keeps their transcripts if requested, and prints the reports.
 ///
-/// The sources are read in order, and then the log; the first that can't be read is complained of.
+/// Reads the sources in order, and then the log. Returns the complaint for the first one that can't
+/// be read.
 pub fn replay_files<'a, R: Files + Print + Eprint + Pages + Copy + Drop>(
     rt: &R,
     alloc: Global,
@@ -280,9 +287,10 @@ pub fn show_file<'a, R: Files + Print>(
     }
 }
 
-/// Tells the courses of an order's scripts over its log.
+/// Explains an order's scripts over its log.
 ///
-/// The sources are read in order, and then the log; the first that can't be read is complained of.
+/// Reads the sources in order, and then the log. Returns the complaint for the first one that can't
+/// be read.
 pub fn explain_files<'a, R: Files + Print>(
     rt: &R,
     alloc: Global,
@@ -300,7 +308,7 @@ pub fn explain_files<'a, R: Files + Print>(
     }
 }
 
-/// The bytes of the file of a timing, if there is one.
+/// Reads the timing file, if there is one.
 fn timing<'a, R: Files>(
     rt: &R,
     alloc: Global,
@@ -313,7 +321,7 @@ fn timing<'a, R: Files>(
     Ok(Some(text))
 }
 
-/// Plans the log of an order: its script is read first, then its timing, and then the timeline.
+/// Plans the log of an order. Reads its script first, then its timing file, and then the timeline.
 pub fn plan_file<'a, R: Files + Print>(
     rt: &R,
     alloc: Global,
@@ -333,7 +341,7 @@ pub fn plan_file<'a, R: Files + Print>(
     }
 }
 
-/// Writes what is wrong with the source of a file. The answer says whether there is nothing.
+/// Writes what is wrong in the source of a file. Returns whether nothing is wrong.
 fn check_file<'a, R: Files, W: Write>(
     rt: &R,
     alloc: Global,
@@ -355,9 +363,11 @@ fn check_file<'a, R: Files, W: Write>(
     }
 }
 
-/// Checks the files of an order, one after another. It ends well where nothing is wrong with any of them.
+/// Checks the files of an order, one after another. The outcome is `Well` if nothing is wrong in
+/// any of them.
 ///
-/// The first that can't be read is complained of; what was found in those before it is written.
+/// Returns the complaint for the first file that can't be read. The findings in earlier files are
+/// written before.
 pub fn check_files<'a, R: Files + Print>(
     rt: &R,
     alloc: Global,

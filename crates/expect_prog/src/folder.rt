@@ -18,8 +18,8 @@ use tcl_words::{Text, Texts};
 
 /// Writes transcripts, from any thread.
 pub trait Pages {
-    /// Writes a transcript to the file at a path, in the place of what was there. If that can't be done, it is told on standard error, and false
-    /// is returned.
+    /// Writes a transcript to the file at a path, and replaces an earlier file. If that fails,
+    /// prints the error on standard error and returns `false`.
     fn write_page(&self, path: &[u8], transcript: &[u8]) -> bool;
 }
 
@@ -36,17 +36,17 @@ impl Pages for HostRuntime {
     }
 }
 
-/// A folder that has a file for each transcript. One that can't be written is told on standard error.
+/// A folder with a file for each transcript. An error in writing one is printed on standard error.
 #[derive(Drop)]
 pub struct Folder<R: Drop> {
     rt: R,
     /// The path of each file.
     paths: Texts,
-    /// Whether all transcripts that were handed to it were written.
+    /// Whether all transcripts that were passed to it were written.
     is_whole: bool,
 }
 
-/// Puts the number of one of so many scripts behind a text.
+/// Appends the number of one of `count` scripts.
 fn push_number(
     alloc: Global,
     text: &mut Text,
@@ -62,7 +62,8 @@ fn push_number(
     text.extend(digits.as_bytes())
 }
 
-/// The path of the transcript of one of so many scripts, whose file this is, in a folder.
+/// Returns the path in a folder for the transcript of script `number`, which has this file, among
+/// `count` scripts.
 #[tactic(auto, unfolding(crate::specs::Folder::transcript_path))]
 fn path_of(
     alloc: Global,
@@ -82,7 +83,8 @@ fn path_of(
     Ok(path)
 }
 
-/// Writes a transcript to a file, which gets its name if it is whole, and else is removed.
+/// Writes a transcript to a file. If the file is complete, it gets its name. Otherwise it is
+/// removed.
 fn write_file<R: Files>(rt: &R, alloc: Global, path: &str, transcript: &[u8]) -> io::Result<()> {
     let target = Target::page(rt, alloc, path)?;
     let mut out = Counted::new(Careful::new(target.create(rt)?));
@@ -96,7 +98,7 @@ fn write_file<R: Files>(rt: &R, alloc: Global, path: &str, transcript: &[u8]) ->
     written
 }
 
-/// Makes a folder, which its owner alone may use, unless there is one.
+/// Creates a folder that only its owner may use, unless it exists.
 fn make_folder<R: Files>(rt: &R, path: &str) -> io::Result<()> {
     let Err(e) = DirBuilder::new().mode(0o700).create(rt, path) else {
         return Ok(());
@@ -107,7 +109,8 @@ fn make_folder<R: Files>(rt: &R, path: &str) -> io::Result<()> {
     }
 }
 
-/// Whether files can be made in the folder of a file, by making the file's part and removing it again.
+/// Checks that a file can be created in the folder of `path`: creates the file's part and removes
+/// it.
 fn try_folder<R: Files>(rt: &R, alloc: Global, path: &str) -> io::Result<()> {
     let target = Target::page(rt, alloc, path)?;
     drop(target.create(rt)?);
@@ -115,7 +118,7 @@ fn try_folder<R: Files>(rt: &R, alloc: Global, path: &str) -> io::Result<()> {
     Ok(())
 }
 
-/// The paths of the transcripts of scripts of these files, in a folder.
+/// Returns the paths in a folder for the transcripts of these files' scripts.
 pub fn paths_of(alloc: Global, folder: &str, files: &[&str]) -> Result<Texts, AllocError> {
     let mut paths = Texts::new(alloc);
     for at in 0..files.len() {
@@ -125,7 +128,8 @@ pub fn paths_of(alloc: Global, folder: &str, files: &[&str]) -> Result<Texts, Al
 }
 
 impl<R: Pages + Drop> Folder<R> {
-    /// A folder at a path, for the transcripts of these paths. Where it isn't there, it is made.
+    /// Opens the folder at a path for transcripts with these paths, and creates it if it doesn't
+    /// exist.
     pub fn new<'a>(
         rt: R,
         alloc: Global,
@@ -152,7 +156,7 @@ impl<R: Pages + Drop> Folder<R> {
         })
     }
 
-    /// Writes the transcript of the script of a number.
+    /// Writes the transcript of script `number`. Returns whether it was written.
     fn write(&self, number: usize, transcript: &[u8]) -> bool {
         match self.paths.as_slice().get(number.saturating_sub(1)) {
             Some(path) => self.rt.write_page(path.as_slice(), transcript),
@@ -160,7 +164,7 @@ impl<R: Pages + Drop> Folder<R> {
         }
     }
 
-    /// Whether all transcripts were written.
+    /// Returns whether all transcripts were written.
     pub fn is_whole(&self) -> bool {
         self.is_whole
     }

@@ -1,4 +1,5 @@
-//! Runs scripts, or replays them over a log of events, and prints their reports; or shows a log, explains one, plans one, or checks scripts.
+//! Runs scripts, or replays them over a log, and prints their reports. Also shows, explains and
+//! plans logs, and checks scripts.
 #![tactic(auto)]
 
 mod account;
@@ -25,10 +26,10 @@ use std::io::{ErrorKind, IsTerminal};
 use std::process::ExitCode;
 use tcl_words::Text;
 
-/// The status of a fault.
+/// The exit status after an error.
 const FAULT: u8 = 2;
 
-/// The status where nobody reads standard output: that of a program that SIGPIPE ended.
+/// The exit status if standard output has no reader: that of a program that SIGPIPE ended.
 const UNREAD: u8 = 141;
 
 fn complain(rt: &impl Eprint, alloc: Global, complaint: &Complaint<'_>) -> ExitCode {
@@ -48,7 +49,7 @@ fn words(rt: &(impl Env + AllocGlobal), alloc: Global) -> Result<Vec<String>, Co
     }
 }
 
-/// Tells a usage fault, with what a terminal would not show as itself escaped.
+/// Prints a usage error, with control characters escaped.
 fn told_usage(rt: &impl Eprint, alloc: Global, error: &clap::Error) -> Result<(), AllocError> {
     let raw = error.to_string(alloc)?;
     let mut text = Text::new(alloc);
@@ -57,7 +58,7 @@ fn told_usage(rt: &impl Eprint, alloc: Global, error: &clap::Error) -> Result<()
     Ok(())
 }
 
-/// Shows the help that was asked for, or a usage fault.
+/// Prints the requested help, or a usage error.
 fn show(rt: &(impl Print + Eprint), alloc: Global, error: &clap::Error) -> ExitCode {
     if error.kind() == clap::error::ErrorKind::OutOfMemory {
         return complain(rt, alloc, &Complaint::Memory);

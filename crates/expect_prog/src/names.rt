@@ -1,4 +1,4 @@
-//! The names of the files of an order, and the errors that they are.
+//! The names of the files of an order, and the errors in them.
 
 use crate::complaint::Complaint;
 use crate::files::opened;
@@ -13,7 +13,7 @@ use std::os::unix::fs::{FileTypeExt, MetadataExt};
 use std::rt::Files;
 use tcl_words::Text;
 
-/// What a file is of an order.
+/// The use of a file in an order.
 #[derive(Clone, Copy)]
 pub enum Role {
     Script,
@@ -26,7 +26,7 @@ pub enum Role {
 }
 
 impl Role {
-    /// The option that asks for the file.
+    /// Returns the option that names the file.
     fn option(self) -> &'static str {
         match self {
             Role::Script => "a script",
@@ -39,7 +39,7 @@ impl Role {
     }
 }
 
-/// A name, as it is told.
+/// A name, as it is printed.
 #[derive(Drop)]
 struct Name {
     role: Role,
@@ -53,7 +53,7 @@ pub struct Names {
     entries: Vec<Entry>,
 }
 
-/// The folder of a path, and the name in it.
+/// Splits a path into its folder and its name.
 fn folder_and_name(path: &str) -> (&str, &str) {
     let bytes = path.as_bytes();
     let mut at = 0;
@@ -76,7 +76,8 @@ fn node_of(found: &Metadata) -> Node {
     }
 }
 
-/// The file to which a name leads, unless it is a device, which keeps no bytes.
+/// Returns the file that a name leads to. `None` if there is none, or for a character device, which
+/// keeps no bytes.
 fn file_behind<R: Files>(rt: &R, path: &str) -> Option<Node> {
     match fs::metadata(rt, path) {
         Ok(it) if !it.file_type().is_char_device() => Some(node_of(&it)),
@@ -84,7 +85,7 @@ fn file_behind<R: Files>(rt: &R, path: &str) -> Option<Node> {
     }
 }
 
-/// What stands under a name itself.
+/// Returns the file or link that has this name itself.
 fn file_itself<R: Files>(rt: &R, path: &str) -> Option<Node> {
     match fs::symlink_metadata(rt, path) {
         Ok(it) => Some(node_of(&it)),
@@ -93,7 +94,7 @@ fn file_itself<R: Files>(rt: &R, path: &str) -> Option<Node> {
 }
 
 impl Names {
-    /// No names.
+    /// Creates an empty list of names.
     pub fn new(alloc: Global) -> Names {
         Names {
             names: Vec::new(alloc),
@@ -101,7 +102,7 @@ impl Names {
         }
     }
 
-    /// Adds a name of an owner, which leads to a file.
+    /// Adds a name that belongs to an owner and leads to a file.
     fn push<R: Files>(
         &mut self,
         rt: &R,
@@ -139,7 +140,7 @@ impl Names {
         self.push(rt, alloc, owner, role, path, false, file_behind(rt, path))
     }
 
-    /// Adds the names of a file that is replaced: its own, and the one that it has until it is whole.
+    /// Adds the names of a file that is replaced: its own name, and its name until it is complete.
     fn push_replaced<R: Files>(
         &mut self,
         rt: &R,
@@ -154,7 +155,8 @@ impl Names {
         self.push(rt, alloc, owner, role, part, true, file_itself(rt, part))
     }
 
-    /// Adds the names of a product whose name was asked for. A character device can be written by several.
+    /// Adds the names of a product that was requested by name. Several products may share a
+    /// character device.
     pub fn push_product<R: Files>(
         &mut self,
         rt: &R,
@@ -176,7 +178,8 @@ impl Names {
         self.push(rt, alloc, owner, role, path, true, Some(file))
     }
 
-    /// Adds the names of transcripts, and of their folder where it isn't there.
+    /// Adds the names of transcripts, and the name of their folder. The folder counts as replaced
+    /// if it doesn't exist yet.
     pub fn push_transcripts<R: Files>(
         &mut self,
         rt: &R,
@@ -195,7 +198,7 @@ impl Names {
         Ok(())
     }
 
-    /// The complaint of the first two names that clash, if any do.
+    /// Returns the complaint for the first two names that clash, if any do.
     pub fn judged<'a>(&self, alloc: Global) -> Result<(), Complaint<'a>> {
         let Some((a, b)) = clash(self.entries.as_slice()) else {
             return Ok(());
@@ -207,7 +210,7 @@ impl Names {
     }
 }
 
-/// The line of two names that clash.
+/// Returns the line for two names that clash.
 fn clash_text(alloc: Global, a: &Name, b: &Name) -> Result<String, AllocError> {
     let mut text = a.path.as_str().to_string(alloc)?;
     if a.path.as_str() != b.path.as_str() {
@@ -229,7 +232,7 @@ fn clash_text(alloc: Global, a: &Name, b: &Name) -> Result<String, AllocError> {
     Ok(text)
 }
 
-/// Whether a file begins with a text, or is empty.
+/// Returns whether a file is empty or begins with a text.
 fn begins<'a, R: Files>(
     rt: &R,
     alloc: Global,
@@ -243,8 +246,8 @@ fn begins<'a, R: Files>(
     }
 }
 
-/// Complains of a file that stands under the name of a product and is none, so that it isn't replaced. A link is replaced, unless it has the name
-/// of a script.
+/// Returns a complaint if the file with a product's name is not an earlier product, so that it
+/// isn't replaced. A link may be replaced, unless it has the name of a script.
 pub fn judge_old<'a, R: Files>(
     rt: &R,
     alloc: Global,

@@ -3,21 +3,22 @@
 ghost use Rattle.std.specs.Prelude.{◌≡◌, ◌≤◌};
 ghost use Rattle.expect_prog.specs.Outcome.{outcome_of, outcome_and, outcome_unless_stopped, status_of};
 
-/// How an order ended of which the reports, a log, or findings are printed.
+/// How an order ended that printed reports, a log or findings.
 #[derive(Clone, Copy)]
 pub enum Outcome {
     /// Each script ended with status 0, or nothing was found wrong.
     Well,
-    /// A script ended otherwise, or something was found.
+    /// A script ended otherwise, or something was found wrong.
     Otherwise,
-    /// A transcript or an account wasn't written, which is told.
+    /// A transcript, a record or an explanation was not written. The reason was printed.
     Lost,
-    /// A signal of this number stopped the run.
+    /// A signal with this number stopped the run.
     Stopped(u8),
 }
 
 impl Outcome {
-    /// Where each script ended with status 0 or one didn't, and each transcript was written or one wasn't.
+    /// Returns the outcome. `well` says whether each script ended with status 0, and `whole`
+    /// whether each transcript was written.
     pub fn of(well: bool, whole: bool) -> Outcome
         ensures { result ≡ outcome_of well whole }
     {
@@ -30,7 +31,7 @@ impl Outcome {
         Outcome::Otherwise
     }
 
-    /// The same where something more was written, or wasn't.
+    /// Returns the outcome with another file. `whole` says whether it was written.
     pub fn and(self, whole: bool) -> Outcome
         ensures { result ≡ outcome_and self whole }
     {
@@ -40,7 +41,7 @@ impl Outcome {
         Outcome::Lost
     }
 
-    /// The same, unless a signal of this number stopped the run.
+    /// Returns the outcome with a signal, if one stopped the run.
     pub fn unless_stopped(self, signal: Option<u8>) -> Outcome
         ensures { result ≡ outcome_unless_stopped self signal }
     {
@@ -50,7 +51,8 @@ impl Outcome {
         }
     }
 
-    /// The exit status: 0 if all is well, 1 if not, 2 if something was lost, and 128 plus the signal if one stopped the run.
+    /// Returns the exit status: 0 if all is well, 1 if not, and 2 if something was not written. If
+    /// a signal stopped the run, 128 plus its number.
     pub fn status(self) -> u8
         ensures { status_of self ≤ 255 → result ≡ status_of self }
     {

@@ -1,4 +1,4 @@
-//! Files that have their names once they are whole.
+//! Files that get their names once they are complete.
 
 ghost use Rattle.std.specs.Prelude.{◌≡◌, length, Ok};
 
@@ -13,13 +13,13 @@ use std::os::unix::fs::{FileTypeExt, OpenOptionsExt, PermissionsExt};
 use std::rt::Files;
 use std::{fs, time};
 
-/// How many milliseconds pass at least between two times that a file's bytes are sent to the disk.
+/// The least time between two writes of a file's bytes to the disk, in milliseconds.
 const SYNC: u64 = 1_000;
 
-/// Who may read and write a file that is made: its owner.
+/// The mode of a file that is created: its owner may read and write it.
 const MODE: u32 = 0o600;
 
-/// The kind of a file.
+/// Returns the kind of a file.
 fn kind_of(kind: FileType) -> Found {
     if kind.is_symlink() {
         return Found::Link;
@@ -42,7 +42,7 @@ fn kind_of(kind: FileType) -> Found {
     Found::File
 }
 
-/// What stands under a name.
+/// Returns what has this name.
 pub fn found<R: Files>(rt: &R, path: &str) -> io::Result<Found> {
     match fs::symlink_metadata(rt, path) {
         Ok(it) => Ok(kind_of(it.file_type())),
@@ -56,7 +56,7 @@ fn opened_directly<R: Files>(rt: &R, path: &str) -> io::Result<R::File> {
     OpenOptions::new().append(true).open(rt, path)
 }
 
-/// Makes a file that wasn't there. What stood under the name is removed first, and never opened.
+/// Creates a new file. A file that has the name is removed first, and never opened.
 fn made_anew<R: Files>(rt: &R, path: &str) -> io::Result<R::File> {
     if let Err(e) = fs::remove_file(rt, path) {
         if e.kind() != ErrorKind::NotFound {
@@ -68,19 +68,20 @@ fn made_anew<R: Files>(rt: &R, path: &str) -> io::Result<R::File> {
         .create_new(true)
         .mode(MODE)
         .open(rt, path)?;
-    // where it fails, the umask has taken more from the mode, which harms nobody
+    // If it fails, the umask took more from the mode, which does no harm.
     let _ = file.set_permissions(Permissions::from_mode(MODE));
     Ok(file)
 }
 
-/// The name of a file that is to be written, and the one that it has until it is whole. Without the latter it is written under its own name.
+/// The name of a file to be written, and its name until it is complete. Without the latter, the
+/// file is written under its own name.
 #[derive(Drop)]
 pub struct Target<'a> {
     path: &'a str,
     part: Option<String>,
 }
 
-/// The target of a name of which it is decided how it is written.
+/// Returns the target for a name that is written in this way.
 fn target_of(alloc: Global, path: &str, way: Way) -> io::Result<Target<'_>> {
     match way {
         Way::Beside => Ok(Target {
@@ -93,7 +94,8 @@ fn target_of(alloc: Global, path: &str, way: Way) -> io::Result<Target<'_>> {
 }
 
 impl<'a> Target<'a> {
-    /// A file whose name was asked for. A folder, a socket or a block device is refused.
+    /// Returns the target for a file that was requested by name. Refuses folders, sockets and block
+    /// devices.
     pub fn asked<R: Files>(
         rt: &R,
         alloc: Global,
@@ -118,7 +120,7 @@ impl<'a> Target<'a> {
         }
     }
 
-    /// A file in a folder that was asked for.
+    /// Returns the target for a file in a folder that was requested.
     pub fn page<R: Files>(rt: &R, alloc: Global, path: &'a str) -> io::Result<Target<'a>> {
         match page_way(found(rt, path)?) {
             Way::Refused => Err(io::Error::from(ErrorKind::IsADirectory)),
@@ -126,12 +128,12 @@ impl<'a> Target<'a> {
         }
     }
 
-    /// Its own name.
+    /// Returns its own name.
     pub fn path(&self) -> &'a str {
         self.path
     }
 
-    /// Whether it has another name until it is whole.
+    /// Returns whether it has another name until it is complete.
     pub fn has_part(&self) -> bool {
         self.part.is_some()
     }
@@ -144,7 +146,8 @@ impl<'a> Target<'a> {
         }
     }
 
-    /// Gives a file that is whole its name, in the place of what stood under it, once its bytes are on the disk.
+    /// Gives a complete file its name, once its bytes are on the disk. Replaces an earlier file
+    /// with that name.
     pub fn give<R: Files>(&self, rt: &R, file: &R::File) -> io::Result<()> {
         match &self.part {
             Some(part) => {
@@ -163,7 +166,8 @@ impl<'a> Target<'a> {
     }
 }
 
-/// A file whose first write that fails is remembered. From then on bytes are passed over, so that the one who writes goes on.
+/// A file that stores the error of its first failed write. From then on it discards bytes, so that
+/// its writer can continue.
 #[derive(Drop)]
 pub struct Careful<F: Drop> {
     file: F,
@@ -171,12 +175,12 @@ pub struct Careful<F: Drop> {
 }
 
 impl<F: Drop> Careful<F> {
-    /// A file to which nothing was written.
+    /// Creates the state of a file to which nothing was written.
     pub fn new(file: F) -> Careful<F> {
         Careful { file, failed: None }
     }
 
-    /// The file, or why not all that was written is in it.
+    /// Returns the file, or the error of its first failed write.
     pub fn whole(&self) -> io::Result<&F> {
         match self.failed {
             Some(e) => Err(e),
@@ -184,7 +188,7 @@ impl<F: Drop> Careful<F> {
         }
     }
 
-    /// Remembers why bytes aren't in the file.
+    /// Stores why bytes are not in the file, and returns their count as written.
     fn fail(&mut self, e: io::Error, bytes: &[u8]) -> io::Result<usize>
         ensures { result ≡ Ok (length bytes.now) }
     {
@@ -211,17 +215,17 @@ impl<F: Write + Drop> Write for Careful<F> {
     }
 }
 
-/// A file whose bytes are sent to the disk about once a second, while they come.
+/// A file whose bytes are written to the disk about once a second while they arrive.
 #[derive(Drop)]
 pub struct SyncedFile<R: time::Clock + Drop, F: Drop> {
     file: Careful<F>,
     wall: Wall<R>,
-    /// When its bytes were sent to the disk last.
+    /// The moment at which its bytes were last written to the disk.
     synced: u64,
 }
 
 impl<R: time::Clock + Drop, F: Drop> SyncedFile<R, F> {
-    /// A file to which nothing was written.
+    /// Creates the state of a file to which nothing was written.
     pub fn new(rt: R, file: F) -> SyncedFile<R, F> {
         SyncedFile {
             file: Careful::new(file),
@@ -230,7 +234,7 @@ impl<R: time::Clock + Drop, F: Drop> SyncedFile<R, F> {
         }
     }
 
-    /// The file, or why not all that was written is in it.
+    /// Returns the file, or the error of its first failed write.
     pub fn whole(&self) -> io::Result<&F> {
         self.file.whole()
     }
@@ -242,7 +246,7 @@ impl<R: time::Clock + Drop, F: Write + OpenFile + Drop> Write for SyncedFile<R, 
         let now = self.wall.now();
         if now >= self.synced.saturating_add(SYNC) {
             self.synced = now;
-            // what the disk refuses now is told when the file is whole
+            // If the disk refuses it now, the error is reported once the file is complete.
             let _ = self.file.file.sync_data();
         }
         Ok(count)
@@ -253,7 +257,8 @@ impl<R: time::Clock + Drop, F: Write + OpenFile + Drop> Write for SyncedFile<R, 
     }
 }
 
-/// Gives a file its name if it is whole. If it isn't, or can't be given the name, says why.
+/// Gives a file its name if it is complete. Returns an error if it is not, or if it can't be
+/// renamed.
 pub fn given<R: Files>(rt: &R, target: &Target<'_>, whole: io::Result<&R::File>) -> io::Result<()> {
     target.give(rt, whole?)
 }

@@ -1,4 +1,4 @@
-//! The files of a run, and its children.
+//! Runs scripts over processes, and writes the files of a run.
 
 ghost use Rattle.std.specs.Prelude.{◌≡◌, ◌≤◌, length, vec_len, IfOk};
 
@@ -26,7 +26,7 @@ use std::thread::Threads;
 use std::time::Clock;
 use tcl_words::Text;
 
-/// A cancellation for each of so many scripts.
+/// Returns a cancellation for each of `count` scripts.
 fn cancellations<R: Files>(
     rt: &R,
     alloc: Global,
@@ -43,7 +43,7 @@ fn cancellations<R: Files>(
     Ok(cancellations)
 }
 
-/// A keeper of processes for the script of each cancellation.
+/// Returns a keeper of processes for the script of each cancellation.
 fn keepers<R: Programs + Wait + Clock + Copy + Drop>(
     rt: R,
     alloc: Global,
@@ -68,7 +68,7 @@ fn keepers<R: Programs + Wait + Clock + Copy + Drop>(
     Ok(keepers)
 }
 
-/// How many workers there are: as many as are asked for, from 1 to 64.
+/// Returns the number of workers: the requested number, limited to 1 to 64.
 fn workers(asked: u8) -> u8
     ensures some { 1 ≤ result }
     ensures most { result ≤ 64 }
@@ -83,7 +83,8 @@ fn workers(asked: u8) -> u8
     asked
 }
 
-/// How a run ended whose reports were written, by what was told as its scripts ended.
+/// Returns the outcome of a run whose reports were written, given what was written as its scripts
+/// ended.
 fn outcome_of<R: Pages + Drop>(
     reports: Result<bool, Unwritten>,
     told: Told<Folder<R>>,
@@ -96,18 +97,19 @@ fn outcome_of<R: Pages + Drop>(
     Ok(Outcome::of(reports? && outcome?, is_whole))
 }
 
-/// What came of scripts that were served.
+/// The results of scripts that were served.
 #[derive(Drop)]
 struct Driven<L: Drop> {
-    /// How the run ended, unless a write of the reports failed.
+    /// The outcome of the run, or that a write of the reports failed.
     outcome: Result<Outcome, Unwritten>,
-    /// Why not all of the record was written, if it wasn't.
+    /// Why not all of the record was written, or `None`.
     log: Option<LogWriteFault>,
     record: L,
 }
 
-/// Runs scripts over processes. Transcripts go to `folder` as scripts end, the record goes to `record` as it comes, and the reports go to `out`; what
-/// is to be told of them while they run is told on `errors`. If the scripts can't be served, a fault says why.
+/// Runs scripts over processes. Transcripts go to `folder` as scripts end, the record goes to
+/// `record` as it arises, and the reports go to `out`. Output and progress of running scripts go to
+/// `errors`, if requested. Returns an error if the scripts can't be served.
 fn run_scripts<
     R: Files + Eprint + Pages + Threads + Wait + Clock + Programs + Copy + Send + Drop + 'static,
     E: Write + IsTerminal + Copy + Send + Drop + 'static,
@@ -195,12 +197,12 @@ fn run_scripts<
     })
 }
 
-/// What came of a run.
+/// The results of a run.
 #[derive(Drop)]
 struct Ran {
-    /// How it ended, unless a write of the reports failed.
+    /// The outcome, or that a write of the reports failed.
     outcome: Result<Outcome, Unwritten>,
-    /// Whether the file of its record, if there is one, has its name.
+    /// Whether the file of its record has its name. `true` if there is no file.
     is_recorded: bool,
     /// Its record, if it was to be kept and memory for it was not refused.
     kept: Option<Text>,
@@ -213,7 +215,7 @@ struct RecordFile<'a, F: Drop> {
     file: F,
 }
 
-/// Opens the file of a record, where one is asked for.
+/// Opens the file of the record, if requested.
 fn opened_record<'a, R: Files>(
     rt: &R,
     alloc: Global,
@@ -229,7 +231,7 @@ fn opened_record<'a, R: Files>(
     }
 }
 
-/// Makes the folder of transcripts, where one is asked for.
+/// Creates the folder of transcripts, if requested.
 fn opened_folder<'a, R: Files + Pages + Drop>(
     rt: R,
     alloc: Global,
@@ -242,7 +244,8 @@ fn opened_folder<'a, R: Files + Pages + Drop>(
     Ok(Some(Folder::new(rt, alloc, path, paths)?))
 }
 
-/// Complains of the first two names of a run's files that clash, and of what stands under the name of a product and is none.
+/// Returns the complaint for the first two names of a run's files that clash. Otherwise, for a file
+/// with a product's name that is not an earlier product.
 fn judge_run<'a, R: Files>(rt: &R, alloc: Global, order: &Run<'a>) -> Result<(), Complaint<'a>> {
     let mut names = Names::new(alloc);
     for path in &order.scripts.sources {
@@ -268,7 +271,8 @@ fn judge_run<'a, R: Files>(rt: &R, alloc: Global, order: &Run<'a>) -> Result<(),
     Ok(())
 }
 
-/// Gives the file of a record its name, if all of the record is in it. The answer says whether it has the name; why not, is told.
+/// Gives the file of a record its name, if all of the record is in it. Returns whether it has the
+/// name. If not, prints why.
 fn give_record<R: Files + Eprint>(
     rt: &R,
     alloc: Global,
@@ -287,7 +291,7 @@ fn give_record<R: Files + Eprint>(
     false
 }
 
-/// The file of a record, if all of the record is in it, or why not.
+/// Returns the file of a record, if all of the record is in it, or why not.
 fn whole<R: Clock + Drop, F: Drop>(
     file: &SyncedFile<R, F>,
     log: Option<LogWriteFault>,
@@ -298,8 +302,9 @@ fn whole<R: Clock + Drop, F: Drop>(
     }
 }
 
-/// Runs an order's scripts, and writes their record where it has a file. Gives what came of the run, and what was kept of the record behind `kept`.
-/// If the scripts weren't served, a complaint says why; unless it is for want of memory, the file is removed.
+/// Runs an order's scripts, and writes their record to its file, if there is one. Returns the
+/// results of the run, and the record appended to `kept`. If the scripts were not served, returns a
+/// complaint, and removes the file unless memory was refused.
 fn run_recorded<
     'a,
     R: Files + Eprint + Pages + Threads + Wait + Clock + Programs + Copy + Send + Drop + 'static,
@@ -348,7 +353,8 @@ fn run_recorded<
     })
 }
 
-/// Tells an account over a record, of which memory for keeping it may have been refused. The answer says whether it is told.
+/// Writes an explanation over a record. The record is `None` if memory for keeping it was refused.
+/// Returns whether the explanation was written.
 fn tell_kept<R: Files + Eprint>(
     rt: &R,
     alloc: Global,
@@ -369,7 +375,8 @@ fn tell_kept<R: Files + Eprint>(
     }
 }
 
-/// Runs scripts whose record's and account's files are open, prints the reports, and tells the account. The answer is what came of all.
+/// Runs scripts with open files for the record and the explanation, prints the reports, and writes
+/// the explanation. Returns the outcome of all.
 fn run_open<
     'a,
     R: Files + Eprint + Pages + Threads + Wait + Clock + Programs + Copy + Send + Drop + 'static,
@@ -415,9 +422,9 @@ fn run_open<
     }
 }
 
-/// Runs the files of an order over real children, keeps their transcripts where that is asked for, prints the reports, and then tells what
-/// the scripts did, where that is asked for. What they show is told on `errors`, where that is asked for. A signal that this process has blocked
-/// stops the run.
+/// Runs the files of an order over real children and prints the reports. Keeps transcripts and
+/// writes the record and the explanation, if requested. What running scripts show is printed on
+/// `errors`, if requested. A signal that this process has blocked stops the run.
 pub fn run_files<
     'a,
     R: Files + Eprint + Pages + Threads + Wait + Clock + Programs + Copy + Send + Drop + 'static,

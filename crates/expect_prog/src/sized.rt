@@ -2,26 +2,27 @@
 
 use std::io::{self, ErrorKind, Read};
 
-/// The most bytes that are read of a log, 4 GiB: what some 2 GB of output make.
+/// The greatest size of a log that is read, 4 GiB. About 2 GB of output make a log of this size.
 pub const LONGEST_LOG: u64 = 4_294_967_296;
 
-/// The most bytes of a log's line.
+/// The greatest length of a log's line, in bytes.
 const LONGEST_LINE: u64 = 8_219;
 
-/// Reads a device up to `LONGEST_LOG` bytes. A read that goes beyond fails.
+/// Reads a device up to `LONGEST_LOG` bytes. A read past that fails.
 ///
-/// Where lines are bounded too, a text ends in the first line that is longer than any of a log: nothing that stands behind changes its fault.
+/// If lines are bounded too, reading ends in the first line that is too long for a log. The text
+/// after that line doesn't change the log's error.
 #[derive(Drop)]
 pub struct Bounded<D: Drop> {
     device: D,
-    /// How many bytes may still be read.
+    /// The number of bytes that may still be read.
     left: u64,
     is_over: bool,
-    /// How many bytes were read of the last line, where lines are bounded.
+    /// The number of bytes read of the last line, if lines are bounded.
     line: Option<u64>,
 }
 
-/// How many bytes a line has behind so many that were read before.
+/// Returns the length of the last line after `line` of its bytes and then `bytes`.
 fn line_behind(line: u64, bytes: &[u8]) -> u64 {
     let mut line = line;
     for byte in bytes {
@@ -44,7 +45,7 @@ impl<D: Drop> Bounded<D> {
         }
     }
 
-    /// Whether a read went beyond the bound.
+    /// Returns whether a read went past the bound.
     pub fn is_over(&self) -> bool {
         self.is_over
     }

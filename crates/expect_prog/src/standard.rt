@@ -1,4 +1,4 @@
-//! The standard descriptors: 0, 1 and 2.
+//! The standard descriptors 0, 1 and 2.
 
 use libc::net::{POLLERR, POLLOUT, poll};
 use libc::types::pollfd;
@@ -9,7 +9,8 @@ use std::os::fd::{AsRawFd, IntoRawFd};
 /// The last of them.
 const LAST: i32 = 2;
 
-/// Opens /dev/null for each of them that is closed, so that no file that is opened later gets its number.
+/// Opens /dev/null for each standard descriptor that is closed, so that no file opened later gets
+/// its number.
 pub fn open_closed(rt: &HostRuntime) {
     for _ in 0..=LAST {
         let Ok(file) = OpenOptions::new()
@@ -26,7 +27,8 @@ pub fn open_closed(rt: &HostRuntime) {
     }
 }
 
-/// What poll(2) tells of standard output, once it tells something or so many milliseconds are over. Below 0 they are without end.
+/// Returns the events of standard output from poll(2), after up to `wait` milliseconds. Waits
+/// without a limit if `wait` is negative.
 fn polled(events: i16, wait: i32) -> i16 {
     let mut asked = [pollfd {
         fd: 1,
@@ -40,13 +42,13 @@ fn polled(events: i16, wait: i32) -> i16 {
     }
 }
 
-/// Whether standard output is a pipe or a terminal that nobody reads any more (poll(2), POLLERR).
+/// Returns whether standard output is a pipe or terminal without a reader (poll(2), POLLERR).
 pub fn is_unread() -> bool {
     polled(0, 0) & POLLERR != 0
 }
 
-/// Writes to standard output, which another program that has it too may have set not to block (open(2), O_NONBLOCK). A write that would have to wait
-/// waits until it needn't, and is told as interrupted.
+/// Writes to standard output, which another program may have set to nonblocking (open(2),
+/// O_NONBLOCK). A write that would block waits until it would not, and then returns `Interrupted`.
 #[derive(Clone, Copy, Drop)]
 pub struct Patient<O>(pub O);
 

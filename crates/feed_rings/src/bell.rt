@@ -1,45 +1,46 @@
-//! Where a thread rests until another one rings.
+//! Lets a thread rest until another thread rings its bell.
 //!
-//! A ring that finds nobody at rest is kept, once, and ends the next rest at its start. So a thread that looks for work before
-//! each rest misses none, however the ring and its look fall.
+//! If no thread is resting, one ring is kept and ends the next rest at its start. A thread that
+//! looks for work before each rest therefore misses no ring.
 
 use crossbeam_utils::sync::{Parker, Unparker};
 use std::alloc::{AllocError, Global};
 use std::sync::Wait;
 use std::time::{Clock, Duration};
 
-/// A thread's own bell, on which it rests.
+/// The bell of one thread, which rests on it.
 #[derive(Drop)]
 pub struct Bell {
     parker: Parker,
 }
 
-/// What another thread rings a bell by. Dropping it rings, too.
+/// A handle with which another thread rings a bell. Dropping it rings too.
 pub struct Ringer {
     unparker: Unparker,
 }
 
 impl Bell {
-    /// A bell that nobody has rung yet.
+    /// Creates a bell that has not been rung.
     pub fn new(alloc: Global) -> Result<Bell, AllocError> {
         Ok(Bell {
             parker: Parker::new(alloc)?,
         })
     }
 
-    /// One more ringer of this bell.
+    /// Returns another ringer of this bell.
     pub fn ringer(&self) -> Result<Ringer, AllocError> {
         Ok(Ringer {
             unparker: self.parker.unparker().clone()?,
         })
     }
 
-    /// Rests until the bell rings. A rest may end unrung, so what it was for is looked at again.
+    /// Rests until the bell rings. A rest may also end without a ring, so the caller must check its
+    /// condition again.
     pub fn rest<R: Wait>(&self, rt: &R) {
         self.parker.park(rt);
     }
 
-    /// As `rest`, for so many milliseconds at most. A clock that can't be read ends it at once.
+    /// Like `rest`, for at most `milliseconds`. If the clock can't be read, the rest ends at once.
     pub fn rest_at_most<R: Wait + Clock>(&self, rt: &R, milliseconds: u64) {
         self.parker
             .park_timeout(rt, Duration::from_millis(milliseconds));
@@ -47,7 +48,7 @@ impl Bell {
 }
 
 impl Ringer {
-    /// Ends the rest of the bell's thread, or its next one.
+    /// Ends the current or the next rest of the bell's thread.
     pub fn ring(&self) {
         self.unparker.unpark();
     }

@@ -1,4 +1,4 @@
-//! The two ends of a ring between two threads. No call here waits.
+//! The two ends of a ring between two threads. No call in this module waits.
 
 ghost use Rattle.std.specs.Prelude.{◌≡◌, ◌+◌, ◌<◌, ◌≤◌, ◌↔◌, [], ◌∷◌, ◌++◌, length, IsOk, IsSome, IsTrue, OnOk, IfOk, IfErr, IfSome, IfNone, false};
 ghost use mathlib.Core.List.{IsPrefix};
@@ -10,7 +10,7 @@ use std::alloc::{AllocError, Global};
 
 /// The end of a ring into which one thread puts items.
 ///
-/// The thread that takes is rung at each put, and when this end finishes or is dropped.
+/// It rings the taking thread at each put, and when it finishes or is dropped.
 #[derive(Drop)]
 pub struct FeedIn<T: Drop> {
     producer: Producer<T>,
@@ -19,20 +19,21 @@ pub struct FeedIn<T: Drop> {
 
 /// The end of a ring from which one thread takes items.
 ///
-/// The thread that puts is rung where an item leaves a full ring, and when this end is dropped.
+/// It rings the putting thread when an item leaves a full ring, and when it is dropped.
 #[derive(Drop)]
 pub struct FeedOut<T: Drop> {
     consumer: Consumer<T>,
     putter: Ringer,
 }
 
-/// All that was ever put into a ring whose putting end has finished.
+/// All items that were ever put into a ring whose putting end has finished.
 #[derive(Drop)]
 pub struct Finished<T: Drop> {
     ring: rtrb::Finished<T>,
 }
 
-/// The two ends of a new ring with room for n items, from the thread of one bell to that of another.
+/// Creates a ring with room for n items. Its two ends connect the thread of one bell to that of the
+/// other.
 pub fn feed_pair<T: Drop>(
     alloc: Global,
     n: usize,
@@ -49,7 +50,7 @@ pub fn feed_pair<T: Drop>(
 }
 
 impl<T: Drop> FeedIn<T> {
-    /// Puts an item, or gives it back where the ring looks full.
+    /// Puts an item. Returns the item as an error if the ring looks full.
     pub fn put(&mut self, item: T) -> Result<(), T>
         ensures ring { SameIn self.old self.new }
         ensures ok { OnOk result ((put_items self.new ≡ put_items self.old ++ item ∷ []) × (room self.old ≤ room self.new + 1)) }
@@ -64,7 +65,7 @@ impl<T: Drop> FeedIn<T> {
         outcome
     }
 
-    /// Whether there is room for an item. Nobody else can use it up.
+    /// Returns whether there is room for an item. No other thread can use up this room.
     pub fn has_room(&mut self) -> bool
         ensures looks { LooksOn self.old self.new }
         ensures room { IsTrue result ↔ (0 < room self.new) }
@@ -72,14 +73,16 @@ impl<T: Drop> FeedIn<T> {
         self.producer.slots() > 0
     }
 
-    /// Whether the taking end is gone: then nobody takes what is put from here on. No contract speaks of the answer.
+    /// Returns whether the taking end is gone, so that no thread takes later items. The contract
+    /// says nothing about the result.
     pub fn is_left(&mut self) -> bool
         ensures { LooksOn self.old self.new }
     {
         self.producer.is_abandoned()
     }
 
-    /// Ends this end of the ring, and hands on the list of what was put. None where the taking end is gone.
+    /// Ends this end of the ring and returns the list of all items put. `None` if the taking end is
+    /// gone.
     pub fn finish(self) -> Option<Finished<T>>
         ensures ring { IfSome result (λ f. EndsRingOf self f) }
         ensures items { IfSome result (λ f. all_put f ≡ put_items self) }
@@ -94,7 +97,7 @@ impl<T: Drop> FeedIn<T> {
 }
 
 impl<T: Drop> FeedOut<T> {
-    /// Takes the oldest item, where the ring doesn't look empty.
+    /// Takes the oldest item. `None` if the ring looks empty.
     pub fn take(&mut self) -> Option<T>
         ensures ring { SameOut self.old self.new }
         ensures some { IfSome result (λ x. (taken_items self.new ≡ taken_items self.old ++ x ∷ []) × IsPrefix (seen_items self.old) (x ∷ seen_items self.new)) }
@@ -108,7 +111,7 @@ impl<T: Drop> FeedOut<T> {
         Some(item)
     }
 
-    /// Whether no item is seen in the ring. One that is seen stays until it is taken.
+    /// Returns whether the ring looks empty. An item that was seen stays until it is taken.
     pub fn is_empty(&mut self) -> bool
         ensures ring { SameOut self.old self.new }
         ensures taken { taken_items self.new ≡ taken_items self.old }
@@ -118,9 +121,10 @@ impl<T: Drop> FeedOut<T> {
         self.consumer.slots() == 0
     }
 
-    /// Rings the thread that puts, where the ring was full until an item was taken.
+    /// Rings the putting thread if the ring was full until an item was taken.
     ///
-    /// The look comes behind the take: a thread that found the ring full has put all that this look can miss.
+    /// The check must follow the take. A thread that found the ring full has then put every item
+    /// that this check can miss.
     fn ring_if_full(&mut self)
         ensures ring { SameOut self.old self.new }
         ensures taken { taken_items self.new ≡ taken_items self.old }
@@ -131,7 +135,8 @@ impl<T: Drop> FeedOut<T> {
         }
     }
 
-    /// How many items are left, once nobody can put any more: what was taken and these are all that was put.
+    /// Returns the number of items left after the putting end has finished. The items taken and
+    /// these are all items put.
     pub fn left(&mut self, finished: &mut Finished<T>) -> usize
         requires { IsFinishedOf finished.old self.old }
         ensures ring { SameOut self.old self.new }
@@ -143,7 +148,8 @@ impl<T: Drop> FeedOut<T> {
         self.consumer.slots_after(&mut finished.ring)
     }
 
-    /// How many items are left, where both ends are at hand: what was taken and these are all that was put.
+    /// Returns the number of items left, given both ends. The items taken and these are all items
+    /// put.
     pub fn left_beside(&mut self, feed: &mut FeedIn<T>) -> usize
         requires { IsPair feed.old self.old }
         ensures ring { SameOut self.old self.new }
@@ -155,7 +161,8 @@ impl<T: Drop> FeedOut<T> {
         self.consumer.slots_beside(&mut feed.producer)
     }
 
-    /// Takes an item that is sure to be there, of a ring into which nobody puts any more: nobody is rung.
+    /// Takes an item that is sure to be there. It rings no thread, so use it only on a ring without
+    /// further puts.
     pub fn take_seen(&mut self) -> T
         requires { 0 < length (seen_items self.old) }
         ensures ring { SameOut self.old self.new }

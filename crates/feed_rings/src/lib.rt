@@ -1,7 +1,7 @@
-//! Rings between two threads: the end into which one puts, the end from which the other takes, and the bell on which each rests.
+//! Rings between two threads: the putting end, the taking end, and a bell for each thread.
 //!
-//! A thread has one bell and rests on it whatever it waits for; whoever changes what it waits for rings.
-//! No call on an end of a ring waits: only those of `waiting` do, and a rest.
+//! A thread has one bell and rests on it for whatever it waits for. A thread that changes what
+//! another one waits for rings its bell. Only the calls in `waiting` and rests wait.
 #![tactic(auto)]
 
 pub mod bell;

@@ -1,6 +1,6 @@
-//! Waiting for room in a ring, and for an item.
+//! Waits for room in a ring, or for an item.
 //!
-//! A thread spins once, looks again, and then rests on its bell until the other thread rings.
+//! A thread spins once, checks again, and then rests on its bell until the other thread rings.
 
 ghost use Rattle.std.specs.Prelude.{◌≡◌, [], ◌∷◌, ◌++◌, ◌<◌, IsTrue, MatchBool};
 ghost use Rattle.feed_rings.specs.Ends.{put_items, room, taken_items, SameIn, SameOut, LooksOn};
@@ -10,9 +10,10 @@ use crate::feed::{FeedIn, FeedOut};
 use crossbeam_utils::Backoff;
 use std::sync::Wait;
 
-/// Waits until there is room in the ring, or its taking end is gone, which false tells: then it is full and stays so.
+/// Waits until the ring has room. Returns false if the taking end is gone and the ring is full,
+/// which then stays so.
 ///
-/// The bell is the one from which the ring was made to put.
+/// `bell` must be the bell that the ring was made to put from.
 pub fn await_room<T: Drop, R: Wait>(rt: &R, bell: &Bell, feed: &mut FeedIn<T>) -> bool
     ensures looks { LooksOn feed.old feed.new }
     ensures room { MatchBool result (0 < room feed.new) (room feed.new ≡ 0) }
@@ -34,7 +35,8 @@ pub fn await_room<T: Drop, R: Wait>(rt: &R, bell: &Bell, feed: &mut FeedIn<T>) -
     unreachable!()
 }
 
-/// Puts an item as soon as there is room. False where the taking end is gone and the ring is full: then nothing was put.
+/// Puts an item as soon as the ring has room. Returns false, without putting it, if the taking end
+/// is gone and the ring is full.
 pub fn put_waiting<T: Drop, R: Wait>(rt: &R, bell: &Bell, feed: &mut FeedIn<T>, item: T) -> bool
     ensures ring { SameIn feed.old feed.new }
     ensures put { MatchBool result (put_items feed.new ≡ put_items feed.old ++ item ∷ []) ((put_items feed.new ≡ put_items feed.old) × (room feed.new ≡ 0)) }
@@ -43,7 +45,8 @@ pub fn put_waiting<T: Drop, R: Wait>(rt: &R, bell: &Bell, feed: &mut FeedIn<T>, 
     await_room(rt, bell, feed) && feed.put(item).is_ok()
 }
 
-/// Takes the oldest item as soon as there is one. The bell is the one to which the ring was made.
+/// Takes the oldest item, waiting until there is one. `bell` must be the bell that the ring was
+/// made to take to.
 pub fn take_waiting<T: Drop, R: Wait>(rt: &R, bell: &Bell, out: &mut FeedOut<T>) -> T
     ensures ring { SameOut out.old out.new }
     ensures taken { taken_items out.new ≡ taken_items out.old ++ result ∷ [] }

@@ -4,7 +4,7 @@ use Rattle.hex.specs.Hex.{encode_lower}
 use Rattle.tcl_words.specs.Bytes as ascii
 use Rattle.tcl_words.specs.Lists.{written}
 
--- bytes in lower-case hexadecimal, or a dash for none
+-- Bytes in lower-case hexadecimal, or a dash for none.
 abbrev pub hex_text : List ℕ → List ℕ
 hex_text [] = codes "-"
 hex_text (b ∷ bs) = encode_lower (b ∷ bs)
@@ -16,7 +16,7 @@ abbrev pub hex_lines : List (List ℕ) → List ℕ
 hex_lines [] = []
 hex_lines (e ∷ es) = hex_line e ++ hex_lines es
 
--- a line for each element, and one for the list written again
+-- A line for each element, and one for the list written again.
 abbrev pub list_shown : List (List ℕ) → List ℕ
 list_shown l = hex_lines l ++ hex_line (written l)
 

@@ -1,4 +1,4 @@
--- What a word is filled to where each script in it comes to its own text.
+-- The value of a word if each script in it returns its own text.
 use Rattle.std.specs.Prelude.{◌≡◌, ◌≢◌, ℕ, List, Result, Ok, Err}
 use Rattle.tcl_subst.specs.declared.faults.SubstFault.{SubstFault}
 use Rattle.tcl_subst.specs.declared.faults.SubstFault.TheVariants.{Memory}
@@ -7,13 +7,13 @@ use Rattle.tcl_subst.specs.Variables.{Variables}
 use Rattle.layer_show.specs.declared.fills.Filling.{Filling}
 use Rattle.layer_show.specs.declared.fills.Filling.TheVariants.{Value, Malformed, Refused}
 
--- the value, or the fault and the variable that has it
+-- The value, or the error and the variable that it concerns.
 abbrev pub spoken : Fill → Variables → Result (List ℕ) (SubstFault × List ℕ)
 spoken (Full value) vars = Ok value
 spoken (Asks text next) vars = spoken (next text vars) vars
 spoken (Failed fault name) vars = Err (fault, name)
 
--- What was filled is what is meant. Want of memory says nothing.
+-- The filling is what is meant. `Memory` says nothing.
 abbrev pub Fills : Filling → Result (List ℕ) (SubstFault × List ℕ) → Type 0
 Fills (Value value) meant = meant ≡ Ok value
 Fills (Malformed fault) meant = ⊥

@@ -1,4 +1,4 @@
-//! What a match buffer holds.
+//! Shows the contents of a match buffer.
 
 use crate::calls::{name_in, number};
 use crate::complaint::Complaint;
@@ -33,7 +33,8 @@ fn change(buffer: &mut Buffer, name: &str, word: &Text) -> Result<(), Complaint>
     Ok(())
 }
 
-/// The first call has the buffer's size. For each other one, appends a line of what the buffer holds after it.
+/// Shows a buffer. The first call contains the buffer's size. For each other call, appends a line
+/// of the buffer's contents after it.
 pub fn push_buffer(text: &mut Text, calls: &[Vec<Text>]) -> Result<(), Complaint> {
     let alloc = alloc_of(text);
     let [first, rest @ ..] = calls else {

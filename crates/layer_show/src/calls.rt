@@ -1,11 +1,11 @@
-//! Calls of a layer, as standard input has them.
+//! Reads the calls of a layer from standard input.
 
 use crate::complaint::Complaint;
 use std::alloc::{AllocError, Global};
 use std::str::{self, FromStr};
 use tcl_words::{Text, Texts, read_list};
 
-/// Appends a call. A line without words is no call.
+/// Appends a call. A line without words is not a call.
 fn put(calls: &mut Vec<Vec<Text>>, words: Vec<Text>) -> Result<(), AllocError> {
     if words.len() > 0 {
         calls.push(words)?;
@@ -28,7 +28,7 @@ pub fn calls(alloc: Global, src: &[u8]) -> Result<Vec<Vec<Text>>, Complaint> {
     Ok(calls)
 }
 
-/// Returns a word as the name of a call; one that isn't UTF-8 is none, as the empty one is.
+/// Returns a word as the name of a call. Returns the empty name if the word isn't UTF-8.
 pub fn name_in(word: &[u8]) -> &str {
     match str::from_utf8(word) {
         Ok(name) => name,

@@ -1,4 +1,4 @@
-//! Why nothing is shown.
+//! The errors of the program.
 
 use std::alloc::AllocError;
 use std::io::{self, ErrorKind};
@@ -7,11 +7,11 @@ use tcl_words::ListFault;
 /// Why nothing is shown.
 #[derive(Clone, Copy)]
 pub enum Complaint {
-    /// The words of the command line are not the name of a layer alone.
+    /// The command line is not the name of one layer.
     Usage,
-    /// Standard input can't be read, or standard output not written.
+    /// Standard input can't be read, or standard output can't be written.
     Device,
-    /// A line of standard input is no call of the layer.
+    /// A line of standard input is not a call of the layer.
     Call,
     /// Memory was refused.
     Memory,

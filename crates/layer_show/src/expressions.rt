@@ -1,4 +1,4 @@
-//! What expressions come to.
+//! Shows the values of expressions.
 
 ghost use Rattle.tcl_expr.specs.Run.{Serves};
 
@@ -20,7 +20,7 @@ fn push_fault(text: &mut Text, fault: &ExprFault) -> Result<(), AllocError> {
     }
 }
 
-/// Appends what an expression came to, or which operand it asks for.
+/// Appends the value of an expression, its error, or the kind of operand that it asks for.
 fn push_step(text: &mut Text, step: &Step) -> Result<(), AllocError> {
     match step {
         Step::NeedVar(_) => text.extend(b"variable"),
@@ -30,13 +30,13 @@ fn push_step(text: &mut Text, step: &Step) -> Result<(), AllocError> {
     }
 }
 
-/// Appends a step, and says whether it asks for an operand.
+/// Appends a step. Returns whether it asks for an operand.
 fn push_asked(text: &mut Text, step: &Step) -> Result<bool, AllocError> {
     push_step(text, step)?;
     Ok(matches!(step, Step::NeedVar(_) | Step::NeedScript(_)))
 }
 
-/// Goes on until an operand is asked for, or to the end.
+/// Advances until an operand is requested, or to the end. Returns whether an operand is requested.
 fn push_next(text: &mut Text, expr: &Expr, log: &mut Operands) -> Result<bool, AllocError>
     requires { Serves expr.now log.old }
     ensures { Serves expr.now log.new }
@@ -45,7 +45,8 @@ fn push_next(text: &mut Text, expr: &Expr, log: &mut Operands) -> Result<bool, A
     push_asked(text, &step)
 }
 
-/// Goes on with the values of operands, in the order in which they are asked for, until no more are there.
+/// Continues with the values of operands, in the order in which they are requested, until no more
+/// values are left.
 fn push_value(
     text: &mut Text,
     expr: &Expr,
@@ -65,7 +66,7 @@ fn push_value(
     Ok(())
 }
 
-/// Works an expression out.
+/// Evaluates an expression with these values of operands.
 fn push_worked_out(text: &mut Text, expr: &Expr, values: &[Text]) -> Result<(), AllocError> {
     let mut log = Operands::new(alloc_of(text));
     push_value(text, expr, &mut log, values)
@@ -78,7 +79,8 @@ fn push_expression(text: &mut Text, source: &[u8], values: &[Text]) -> Result<()
     }
 }
 
-/// Each call has an expression, and the values of operands. Appends a line for each: what was asked for and what it came to.
+/// Shows expressions. Each call contains an expression, and the values of its operands. Appends a
+/// line for each: the requested operands and the result.
 pub fn push_expressions(text: &mut Text, calls: &[Vec<Text>]) -> Result<(), Complaint> {
     'calls: for call in calls {
         let [source, values @ ..] = call.as_slice() else {

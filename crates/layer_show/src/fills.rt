@@ -1,4 +1,4 @@
-//! What a word is filled to.
+//! Shows the values of words.
 
 ghost use Rattle.std.specs.Prelude.{◌≡◌, ◌↔◌, [], None, Err, unwrap_or, IfOk, OnOk};
 ghost use Rattle.tcl_words.specs.Pieces.{word_view};
@@ -15,18 +15,18 @@ use tcl_subst::{FillStep, Filler, Recipe, SubstFault, Vars, filling_is_fill};
 use tcl_values::Value;
 use tcl_words::{Command, Text, Word, WordFault, next_command};
 
-/// What a text is filled to, as the only word of a command.
+/// The result of a text as the only word of a command.
 #[derive(Drop)]
 pub enum Filling {
     /// The value of the word.
     Value(Value),
-    /// Why the text is no command.
+    /// Why the text is not a command.
     Malformed(WordFault),
-    /// Why the word could not be filled, and the variable that has the fault.
+    /// Why the word has no value, and the variable that the error concerns.
     Refused(SubstFault, Text),
 }
 
-/// A fault's name; `None` for want of memory, which is none of the variables'.
+/// Returns the name of an error. `None` for `Memory`, which is not an error of a variable.
 pub fn refusal_name(fault: SubstFault) -> Option<&'static [u8]>
     ensures { result ≡ None ↔ (fault ≡ SubstFault.Memory) }
 {
@@ -52,7 +52,7 @@ fn give_text(alloc: Global, filler: &mut Filler, number: usize) -> Result<(), Al
     filler.give(alloc, value)
 }
 
-/// Goes on with the scripts' texts. A script is a step, and is asked for once.
+/// Continues with the scripts' own texts. Each script is a step, and is requested once.
 fn filled_by(alloc: Global, filler: &mut Filler, vars: &mut Vars) -> Result<Filling, Complaint>
     ensures { IfOk result (λ f. Fills f (spoken (rest filler.old vars.old) vars.old)) }
 {
@@ -77,7 +77,7 @@ fn filler_of(alloc: Global, word: &Word) -> Result<Filler, AllocError>
     Ok(Filler::new(alloc, recipe))
 }
 
-/// Fills a word; each script in it comes to its own text.
+/// Returns the value of a word, given that each script in it returns its own text.
 fn filled_word(alloc: Global, vars: &mut Vars, word: &Word) -> Result<Filling, Complaint>
     ensures { IfOk result (λ f. Fills f (spoken (fill (word_view word.now).pieces vars.old) vars.old)) }
 {
@@ -85,7 +85,7 @@ fn filled_word(alloc: Global, vars: &mut Vars, word: &Word) -> Result<Filling, C
     filled_by(alloc, &mut filler_of(alloc, word)?, vars)
 }
 
-/// Fills the only word of a command.
+/// Returns the value of the only word of a command.
 fn filled_command(alloc: Global, vars: &mut Vars, command: &Command) -> Result<Filling, Complaint> {
     match command.words.as_slice() {
         [word] => filled_word(alloc, vars, word),
@@ -93,7 +93,7 @@ fn filled_command(alloc: Global, vars: &mut Vars, command: &Command) -> Result<F
     }
 }
 
-/// Fills a text that is a command of one word.
+/// Returns the value of a text that is a command of one word.
 pub fn filled(alloc: Global, vars: &mut Vars, src: &[u8]) -> Result<Filling, Complaint> {
     match next_command(alloc, src, 0) {
         Ok(Some((command, _))) => filled_command(alloc, vars, &command),
@@ -102,7 +102,7 @@ pub fn filled(alloc: Global, vars: &mut Vars, src: &[u8]) -> Result<Filling, Com
     }
 }
 
-/// Puts a fault behind a text, where it isn't want of memory.
+/// Appends an error, unless it is `Memory`.
 pub fn push_refusal(text: &mut Text, fault: SubstFault) -> Result<(), Complaint>
     ensures { fault ≡ SubstFault.Memory → result ≡ Err Complaint.Memory }
 {
@@ -112,7 +112,7 @@ pub fn push_refusal(text: &mut Text, fault: SubstFault) -> Result<(), Complaint>
     }
 }
 
-/// Appends what a word was filled to: the value, or the fault, and the variable that has it.
+/// Appends a word's value, or the error and the variable that it concerns.
 pub fn push_filled(text: &mut Text, filled: &Filling) -> Result<(), Complaint> {
     match filled {
         Filling::Value(value) => push_labelled(text, b"value ", value.as_slice())?,

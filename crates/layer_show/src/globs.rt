@@ -1,4 +1,4 @@
-//! Where globs match.
+//! Shows where globs match.
 
 use crate::complaint::Complaint;
 use crate::spell::{alloc_of, push_string};
@@ -6,7 +6,7 @@ use exp_glob::Glob;
 use std::alloc::AllocError;
 use tcl_words::Text;
 
-/// Appends a line for a pattern in a text: the start and the end of what matches, or `none`.
+/// Appends a line for a pattern in a text: the start and the end of the match, or `none`.
 fn push_span(text: &mut Text, pattern: &Text, data: &Text, nocase: bool) -> Result<(), AllocError> {
     let alloc = alloc_of(text);
     let glob = Glob::new(alloc, pattern.as_slice())?;
@@ -18,7 +18,8 @@ fn push_span(text: &mut Text, pattern: &Text, data: &Text, nocase: bool) -> Resu
     }
 }
 
-/// Each call has a pattern and a text, with `-nocase` before them if case is ignored. Appends a line for each.
+/// Shows matches of globs. Each call contains a pattern and a text, after `-nocase` if case is
+/// ignored. Appends a line for each.
 pub fn push_globs(text: &mut Text, calls: &[Vec<Text>]) -> Result<(), Complaint> {
     'calls: for call in calls {
         match call.as_slice() {

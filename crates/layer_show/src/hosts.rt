@@ -1,14 +1,14 @@
-//! A host of a few commands, which can put each of its calls off.
+//! A host with a few commands, which can put each of its calls off.
 //!
-//! - `puts TEXT` shows a text.
+//! - `puts TEXT` outputs a text.
 //! - `keep NAME VALUE` sets a variable.
-//! - `again ?VALUE?` and `later ?VALUE?` have a code of a host's loops.
-//! - `run SCRIPT` has the code and the value of a script as a list.
+//! - `again ?VALUE?` and `later ?VALUE?` return a code of a host's loops.
+//! - `run SCRIPT` returns the code and the value of a script as a list.
 //! - `looping SCRIPT` evaluates a script again at those codes, at most three times.
 //! - `insist SCRIPT` asks for a script once more at any code.
-//! - `ask TEXT` has the words of a text as a list. Where the first is `run`, the second is evaluated; where it is `ask`, further words are
-//!   asked for; where it is `none`, the host has no answer.
-//! - `halt` ends the script, and `spend` ends it for want of memory.
+//! - `ask TEXT` returns the words of a text as a list. If the first word is `run`, the second is
+//!   evaluated. If it is `ask`, further words are requested. If it is `none`, the host has no answer.
+//! - `halt` ends the script, and `spend` ends it with `Memory`.
 
 ghost use Rattle.std.specs.Prelude.{◌≡◌, false, IfOk, OnOk, OnErr};
 
@@ -21,21 +21,21 @@ use tcl_subst::{SubstFault, Vars};
 use tcl_values::Value;
 use tcl_words::{Packed, Text, write_list};
 
-/// What comes of a call, but for want of memory.
+/// The result of a call, unless memory is refused.
 type Step = Result<HostStep, AllocError>;
 
-/// What a script was asked for.
+/// Why the host asked for a script.
 #[derive(Clone, Copy)]
 pub enum Purpose {
     /// For its code and value.
     Run,
-    /// For a loop, with so many turns left.
+    /// For a loop, with this number of turns left.
     Loop(u8),
-    /// To be asked for once more.
+    /// To ask for it once more.
     Insist,
 }
 
-/// A command, as it stands at the head of this page.
+/// A command of the host. The comment at the top of this file lists them.
 #[derive(Clone, Copy)]
 enum Act {
     Puts,
@@ -47,7 +47,7 @@ enum Act {
     Spend,
 }
 
-/// A script that was asked for.
+/// A script that the host asked for.
 #[derive(Drop)]
 pub struct Wanted {
     pub purpose: Purpose,
@@ -59,37 +59,37 @@ pub struct Wanted {
 pub enum Held {
     /// None was.
     Nothing,
-    /// The begin of a command.
+    /// The start of a command.
     Begin,
-    /// What follows the words that were asked for.
+    /// The continuation after the requested words.
     Words,
-    /// What follows the script that was asked for, with its code.
+    /// The continuation after the requested script, with its code.
     Body(Code),
 }
 
-/// A host of a few commands, which puts each call off so many times.
+/// A host with a few commands, which puts each call off `waits` times.
 #[derive(Drop)]
 pub struct SmallHost {
     pub alloc: Global,
-    /// So often is each call put off.
+    /// The number of times that each call is put off.
     pub waits: u8,
-    /// So often is the call at hand still put off.
+    /// The number of times that the current call is still put off.
     pub left: u8,
-    /// The call at hand, if it was put off.
+    /// The current call, if it was put off.
     pub held: Held,
     /// The words of that call, or the value of its script.
     pub words: Values,
-    /// The scripts that were asked for and aren't over, the innermost last.
+    /// The scripts that were requested and have not ended, innermost last.
     pub wanted: Vec<Wanted>,
-    /// What was put.
+    /// The output of `puts`.
     pub output: Text,
-    /// How many calls were answered with something else than `Wait`.
+    /// The number of calls that were answered with something other than `Wait`.
     pub calls: u64,
-    /// Whether a script asked for want of memory.
+    /// Whether a script asked for an end by `Memory`.
     pub is_spent: bool,
 }
 
-/// The digit of a code.
+/// Returns the digit of a code.
 pub fn digit(code: Code) -> u8 {
     match code {
         Code::Ok => b'0',
@@ -106,7 +106,7 @@ fn is_again(code: Code) -> bool {
     matches!(code, Code::Again | Code::AgainLater)
 }
 
-/// The step, or want of memory.
+/// Returns the step, or `Memory` if memory was refused.
 fn or_memory(step: Step) -> HostStep
     ensures ok { IfOk step (λ s. result ≡ s) }
     ensures err { OnErr step (result ≡ HostStep.Memory) }
@@ -117,19 +117,19 @@ fn or_memory(step: Step) -> HostStep
     }
 }
 
-/// An error of this text.
+/// Returns an error with this text.
 fn failed(alloc: Global, text: &[u8]) -> Step
     ensures { IfOk result (λ s. s ≡ HostStep.Fail text.now) }
 {
     Ok(HostStep::Fail(Value::from_slice(alloc, text)?))
 }
 
-/// No value at a code.
+/// Returns a code without a value.
 fn done(alloc: Global, code: Code) -> HostStep {
     HostStep::Done(code, Value::new(alloc))
 }
 
-/// A value at a code.
+/// Returns a code with a value.
 fn done_with(alloc: Global, code: Code, value: &Value) -> Step {
     Ok(HostStep::Done(code, value.shared(alloc)?))
 }
@@ -153,13 +153,13 @@ fn alone_copied(alloc: Global, value: &Value) -> Result<Values, AllocError> {
     Ok(copy)
 }
 
-/// A list of these elements.
+/// Returns a list of these elements.
 fn done_list(alloc: Global, elements: &Packed) -> Step {
     let text = write_list(alloc, elements)?;
     Ok(HostStep::Done(Code::Ok, Value::from_text(alloc, text)?))
 }
 
-/// Values as a list.
+/// Returns a list of these values.
 fn listed(alloc: Global, words: &[Value]) -> Step {
     let mut packed = Packed::new(alloc);
     'words: for word in words {
@@ -168,7 +168,7 @@ fn listed(alloc: Global, words: &[Value]) -> Step {
     done_list(alloc, &packed)
 }
 
-/// A code and a value as a list.
+/// Returns a code and a value as a list.
 fn told(alloc: Global, code: Code, value: &Value) -> Step {
     let mut packed = Packed::new(alloc);
     packed.push(&[digit(code)])?;
@@ -176,7 +176,7 @@ fn told(alloc: Global, code: Code, value: &Value) -> Step {
     done_list(alloc, &packed)
 }
 
-/// What a name says, if it is a command of the host.
+/// Returns the act of a name, if it is a command of the host.
 fn act_of(name: &[u8]) -> Option<Act> {
     match name_in(name) {
         "puts" => Some(Act::Puts),
@@ -193,7 +193,7 @@ fn act_of(name: &[u8]) -> Option<Act> {
     }
 }
 
-/// `keep NAME TEXT`.
+/// Carries out `keep NAME TEXT`.
 fn keep(alloc: Global, vars: &mut Vars, name: &[u8], text: &Value) -> Step {
     let value = text.shared(alloc)?;
     match vars.set(name, value) {
@@ -204,7 +204,7 @@ fn keep(alloc: Global, vars: &mut Vars, name: &[u8], text: &Value) -> Step {
 }
 
 impl SmallHost {
-    /// A host that puts off each call so many times.
+    /// Creates a host that puts each call off `waits` times.
     pub fn new(alloc: Global, waits: u8) -> SmallHost
         ensures { result.is_spent ≡ false }
     {
@@ -221,7 +221,7 @@ impl SmallHost {
         }
     }
 
-    /// Puts a text and a newline.
+    /// Outputs a text and a newline.
     fn put(&mut self, text: &Value) -> Step {
         self.output.extend(text.as_slice())?;
         self.output.push(b'\n')?;
@@ -296,7 +296,7 @@ impl SmallHost {
         }
     }
 
-    /// Goes on after a script that was asked for.
+    /// Continues after a script that was requested.
     fn after(&mut self, wanted: &Wanted, code: Code, value: &Value) -> Step {
         match wanted.purpose {
             Purpose::Run => told(self.alloc, code, value),
@@ -308,7 +308,7 @@ impl SmallHost {
         }
     }
 
-    /// Goes on after a script.
+    /// Continues after the innermost requested script.
     fn on_body(&mut self, code: Code, value: &Value) -> Step {
         self.calls = self.calls.saturating_add(1);
         let Some(wanted) = self.wanted.pop() else {

@@ -1,4 +1,4 @@
-//! Shows what a layer of exprun makes of standard input.
+//! Shows what a layer of exprun returns for standard input.
 #![tactic(auto)]
 
 mod buffers;
@@ -37,17 +37,17 @@ use std::io::{self, Read, Write};
 use std::process::ExitCode;
 use tcl_words::Text;
 
-/// The status of a fault.
+/// The exit status after an error.
 const FAULT: u8 = 2;
 
 /// What standard input is read as.
 #[derive(Clone, Copy)]
 enum Layer {
-    /// A script, as its commands.
+    /// A script, shown as its commands.
     Commands,
     /// A list.
     List,
-    /// An expression's text, by the operand at its front.
+    /// The text of an expression, shown as the operand at its front.
     Operand,
     /// Expressions, each with values of operands.
     Expression,
@@ -61,11 +61,11 @@ enum Layer {
     Buffer,
     /// Calls of a child's queue.
     Queue,
-    /// The arguments of an `expect`, and data that its patterns are sought in.
+    /// The arguments of an `expect`, and data that is searched for its patterns.
     Scan,
-    /// Calls on variables, and words that are filled.
+    /// Calls on variables, and words whose values are shown.
     Variables,
-    /// Scripts, each with a bound on its steps, and over a host that waits.
+    /// Scripts, each with a step limit, over a host that can wait.
     Scripts,
 }
 
@@ -95,7 +95,7 @@ fn asked(rt: &(impl Env + AllocGlobal), alloc: Global) -> Result<Layer, Complain
     }
 }
 
-/// Appends what a layer makes of calls.
+/// Appends what a layer returns for calls.
 fn push_calls(text: &mut Text, layer: Layer, calls: &[Vec<Text>]) -> Result<(), Complaint> {
     match layer {
         Layer::Expression => push_expressions(text, calls),
@@ -110,7 +110,7 @@ fn push_calls(text: &mut Text, layer: Layer, calls: &[Vec<Text>]) -> Result<(), 
     }
 }
 
-/// Appends what a layer makes of standard input.
+/// Appends what a layer returns for standard input.
 fn push_shown(text: &mut Text, layer: Layer, src: &[u8]) -> Result<(), Complaint> {
     let alloc = alloc_of(text);
     match layer {

@@ -1,4 +1,4 @@
-//! Which of listed patterns is chosen.
+//! Shows which pattern of a list is chosen.
 
 use crate::calls::number;
 use crate::complaint::Complaint;
@@ -51,7 +51,8 @@ pub fn all_groups(alloc: Global, list: &PatternList) -> Result<Vec<usize>, Alloc
     Ok(groups)
 }
 
-/// Appends a line for the pattern of a list that is chosen in bytes. A test has the most bytes that are kept, and the bytes.
+/// Appends a line for the pattern of a list that is chosen in bytes. A test contains the greatest
+/// number of bytes that are kept, and the bytes.
 fn push_test(
     text: &mut Text,
     list: &PatternList,
@@ -74,7 +75,7 @@ fn push_tests(text: &mut Text, list: &PatternList, tests: &[Vec<Text>]) -> Resul
     Ok(())
 }
 
-/// Returns texts as the values that the arguments of a command are.
+/// Returns texts as the values of a command's arguments.
 fn values_of(alloc: Global, texts: &[Text]) -> Result<Vec<Value>, AllocError> {
     let mut values = Vec::new(alloc);
     'texts: for text in texts {
@@ -89,8 +90,9 @@ pub fn list_of(alloc: Global, arguments: &[Text]) -> Result<PatternList, Pattern
     PatternList::build(alloc, arguments.as_slice())
 }
 
-/// The first call has the arguments of `expect`; each other one the most bytes that are kept, and bytes. Appends a line
-/// for each: the pattern that is chosen, with its spans.
+/// Shows chosen patterns. The first call contains the arguments of `expect`. Each other call
+/// contains the greatest number of bytes that are kept, and bytes. Appends a line for each: the
+/// chosen pattern and its spans.
 pub fn push_patterns(text: &mut Text, calls: &[Vec<Text>]) -> Result<(), Complaint> {
     let [arguments, tests @ ..] = calls else {
         return Ok(());

@@ -1,4 +1,4 @@
-//! In which order a child's items and the echo of what is sent to it are taken.
+//! Shows the order in which a child's items and the echo of sent bytes are taken.
 
 use crate::calls::{name_in, number};
 use crate::complaint::Complaint;
@@ -70,8 +70,9 @@ fn on_calls(text: &mut Text, queue: &mut Queue, calls: &[Vec<Text>]) -> Result<(
     Ok(())
 }
 
-/// Carries out `out`, a moment and bytes that came from the child, `echo`, a moment and bytes that were sent to it,
-/// `end` and a moment, and `next`, for which it appends a line of what is taken.
+/// Carries out calls of a queue. `out`, a moment and bytes: output of the child. `echo`, a moment
+/// and bytes: bytes sent to it. `end` and a moment: the end of its output. `next`: takes an item,
+/// and appends its line.
 pub fn push_queue(text: &mut Text, calls: &[Vec<Text>]) -> Result<(), Complaint> {
     let mut queue = Queue::new(alloc_of(text));
     on_calls(text, &mut queue, calls)

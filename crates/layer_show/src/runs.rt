@@ -1,4 +1,4 @@
-//! What scripts come to.
+//! Shows the results of scripts.
 
 ghost use Rattle.std.specs.Prelude.{◌≡◌, ◌≢◌, false, Err, IfOk};
 
@@ -38,7 +38,8 @@ fn pause_text(alloc: Global, pause: &Pause) -> Result<Text, AllocError> {
     }
 }
 
-/// How a run ended. Want of memory is an end only where the script asked for it.
+/// Returns how a run ended. `Memory` is an end only if the script asked for it. Otherwise it is an
+/// error.
 fn shown_pause(alloc: Global, pause: &Pause, is_spent: bool) -> Result<Text, Complaint>
     ensures { pause.now ≡ Pause.Memory → is_spent ≡ false → result ≡ Err Complaint.Memory }
 {
@@ -48,7 +49,7 @@ fn shown_pause(alloc: Global, pause: &Pause, is_spent: bool) -> Result<Text, Com
     }
 }
 
-/// Runs until it is over, and says how often it paused before.
+/// Runs until the end. Returns the end, and the number of pauses before it.
 fn run_on(
     machine: &mut Machine,
     host: &mut SmallHost,
@@ -65,12 +66,13 @@ fn run_on(
     Err(Complaint::Call)
 }
 
-/// Shows how a run ended, and drops it.
+/// Returns how a run ended, and drops its pause.
 fn shown_end(alloc: Global, pause: Pause, host: &SmallHost) -> Result<Text, Complaint> {
     shown_pause(alloc, &pause, host.is_spent)
 }
 
-/// Runs a machine that is over once more, and says whether nothing but the same end came of it.
+/// Runs a machine that has ended once more. Returns whether the end is the same, and nothing else
+/// changed.
 fn stays(
     alloc: Global,
     machine: &mut Machine,
@@ -86,7 +88,7 @@ fn stays(
     Ok(meter.count() == steps && host.calls == calls && host.output.len() == put)
 }
 
-/// What was put, and the counts.
+/// Appends the output and the counts.
 fn push_counts(
     text: &mut Text,
     host: &SmallHost,
@@ -102,7 +104,7 @@ fn push_counts(
     )
 }
 
-/// Appends a line of what a machine comes to.
+/// Appends a line with the result of a machine.
 fn push_run(
     text: &mut Text,
     machine: &mut Machine,
@@ -126,9 +128,10 @@ fn push_script(text: &mut Text, bound: u64, waits: u8, source: &[u8]) -> Result<
     push_run(text, &mut machine, &mut host, &mut Meter::new(bound))
 }
 
-/// Each call has a bound on steps, how often the host puts each of its calls off, and a script. Appends a line for each: how the run
-/// ended, what was put, how many steps were begun, how often it paused, how many calls the host carried out, and whether it stays so
-/// when it is run again.
+/// Runs scripts. Each call contains a step limit, how often the host puts each of its calls off,
+/// and a script. Appends a line for each: how the run ended, its output, the number of steps begun,
+/// the number of pauses, and the number of calls that the host carried out. The line also says
+/// whether another run changes nothing.
 pub fn push_runs(text: &mut Text, calls: &[Vec<Text>]) -> Result<(), Complaint> {
     'calls: for call in calls {
         let [bound, waits, source] = call.as_slice() else {

@@ -1,4 +1,4 @@
-//! Data gone over by patterns, as a dialogue does it.
+//! Searches data for patterns, as a dialogue does.
 
 ghost use Rattle.std.specs.Prelude.{◌≡◌, ◌<◌, take, IfOk, IsTrue};
 ghost use Rattle.exp_match.specs.Choice.{HasNone, LeavesNone, with_spans};
@@ -12,10 +12,10 @@ use match_buffer::Buffer;
 use std::alloc::{AllocError, Global};
 use tcl_words::Text;
 
-/// How many bytes come at once.
+/// The number of bytes that are added at once.
 const PIECE: usize = 4096;
 
-/// The end of the match that was picked, where one was.
+/// Returns the end of the match that was picked. `None` if no pattern was picked.
 fn end_of(picked: Picked, spans: &Spans) -> Option<usize> {
     match picked {
         Picked::Pattern(_) => spans[0].map(|span| span.1),
@@ -24,7 +24,8 @@ fn end_of(picked: Picked, spans: &Spans) -> Option<usize> {
     }
 }
 
-/// Tests the bytes of a buffer, of which so many of the first ones were tested in vain.
+/// Tests the bytes of a buffer, given that the first `sought` bytes contain no match. Pass 0 if
+/// unknown.
 fn test<'l>(
     alloc: Global,
     list: &'l PatternList,
@@ -42,8 +43,8 @@ fn test<'l>(
     list.choose_with(alloc, matchers, groups, buffer.bytes(), sought, most, spans)
 }
 
-/// Takes what matches off the buffer, of whose bytes so many of the first ones were tested in vain. It says how often something did, and whether all bytes
-/// that are left were tested in vain.
+/// Takes matches from the buffer, given that its first `sought` bytes contain no match. Returns the
+/// number of matches, and whether the remaining bytes contain none.
 fn matches<'l>(
     alloc: Global,
     list: &'l PatternList,
@@ -73,7 +74,7 @@ fn matches<'l>(
     Ok((found, false))
 }
 
-/// Returns how often something matched in data that came to the buffer piece by piece.
+/// Returns the number of matches in data that is added to the buffer piece by piece.
 fn scanned<'l>(
     alloc: Global,
     list: &'l PatternList,
@@ -94,7 +95,7 @@ fn scanned<'l>(
     Ok(found)
 }
 
-/// Returns how often patterns match in data that came to a buffer of this size.
+/// Returns the number of matches in data that is added to a buffer of this size.
 fn count_in(alloc: Global, list: &PatternList, size: &Text, data: &[u8]) -> Result<u64, Complaint> {
     let mut buffer = Buffer::new(alloc, number(size)?)?;
     let groups = all_groups(alloc, list)?;
@@ -109,7 +110,7 @@ fn count_in(alloc: Global, list: &PatternList, size: &Text, data: &[u8]) -> Resu
     )
 }
 
-/// Returns how often the patterns of the first line match in data.
+/// Returns the number of matches in data for the patterns of the first line.
 fn count_of(alloc: Global, words: &[Text], data: &[u8]) -> Result<u64, Complaint> {
     let [size, arguments @ ..] = words else {
         return Err(Complaint::Call);
@@ -121,8 +122,9 @@ fn count_of(alloc: Global, words: &[Text], data: &[u8]) -> Result<u64, Complaint
     }
 }
 
-/// The first line has a buffer's size and the arguments of `expect`. What follows comes to the buffer in
-/// pieces of 4,096 bytes; what a pattern matches is taken off. Appends a line: how often one matched.
+/// Counts matches. The first line contains a buffer's size and the arguments of `expect`. The rest
+/// is added to the buffer in pieces of 4,096 bytes, and each match is taken from it. Appends a line
+/// with the number of matches.
 pub fn push_scan(text: &mut Text, src: &[u8]) -> Result<(), Complaint> {
     let alloc = alloc_of(text);
     let Some(newline) = src.iter().position(|b| *b == b'\n') else {

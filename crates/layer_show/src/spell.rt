@@ -6,12 +6,12 @@ ghost use Rattle.layer_show.specs.Shown.{hex_text, hex_line};
 use std::alloc::{AllocError, Global};
 use tcl_words::{Command, Part, Text, WordFault};
 
-/// Returns the allocator that a text holds.
+/// Returns the allocator of a text.
 pub fn alloc_of(text: &Text) -> Global {
     *text.bytes.allocator()
 }
 
-/// Puts bytes in hexadecimal behind a text, or a dash for none.
+/// Appends bytes in hexadecimal, or a dash for none.
 pub fn push_hex(text: &mut Text, bytes: &[u8]) -> Result<(), AllocError>
     ensures { OnOk result (text.new ≡ text.old ++ hex_text bytes.now) }
 {
@@ -22,7 +22,7 @@ pub fn push_hex(text: &mut Text, bytes: &[u8]) -> Result<(), AllocError>
     text.extend(digits.as_bytes())
 }
 
-/// Puts a line of bytes in hexadecimal behind a text.
+/// Appends a line of bytes in hexadecimal.
 pub fn push_hex_line(text: &mut Text, bytes: &[u8]) -> Result<(), AllocError>
     ensures { OnOk result (text.new ≡ text.old ++ hex_line bytes.now) }
 {
@@ -30,7 +30,7 @@ pub fn push_hex_line(text: &mut Text, bytes: &[u8]) -> Result<(), AllocError>
     text.push(b'\n')
 }
 
-/// Puts a label and bytes in hexadecimal behind a text.
+/// Appends a label and bytes in hexadecimal.
 pub fn push_labelled(text: &mut Text, label: &[u8], bytes: &[u8]) -> Result<(), AllocError>
     ensures { OnOk result (text.new ≡ text.old ++ label.now ++ hex_text bytes.now) }
 {
@@ -38,12 +38,12 @@ pub fn push_labelled(text: &mut Text, label: &[u8], bytes: &[u8]) -> Result<(), 
     push_hex(text, bytes)
 }
 
-/// Appends what was formatted.
+/// Appends a formatted string.
 pub fn push_string(text: &mut Text, string: Result<String, AllocError>) -> Result<(), AllocError> {
     text.extend(string?.as_bytes())
 }
 
-/// Puts parts behind a text, each behind a space. An array's element has its index in parentheses behind it.
+/// Appends parts, each after a space. The index of an array's element follows in parentheses.
 pub fn push_parts(text: &mut Text, parts: &Vec<Part>) -> Result<(), AllocError> {
     'parts: for part in parts {
         match part {
@@ -61,7 +61,7 @@ pub fn push_parts(text: &mut Text, parts: &Vec<Part>) -> Result<(), AllocError> 
     Ok(())
 }
 
-/// Puts a command's line behind a text: `word` or `expand` before the parts of each word.
+/// Appends a command's line: `word` or `expand` before the parts of each word.
 pub fn push_command(text: &mut Text, command: &Command) -> Result<(), AllocError> {
     text.extend(b"command")?;
     'words: for word in &command.words {
@@ -71,7 +71,7 @@ pub fn push_command(text: &mut Text, command: &Command) -> Result<(), AllocError
     text.push(b'\n')
 }
 
-/// A fault's name; `None` for want of memory, which is none of the text's.
+/// Returns the name of an error. `None` for `Memory`, which is not an error of the text.
 pub fn fault_name(fault: WordFault) -> Option<&'static [u8]>
     ensures { result ≡ None ↔ (fault ≡ WordFault.Memory) }
 {

@@ -1,4 +1,4 @@
-//! What a terminal echoes and hands over.
+//! Shows what a terminal echoes and passes on.
 
 use crate::calls::name_in;
 use crate::complaint::Complaint;
@@ -17,13 +17,14 @@ fn push_actions(text: &mut Text, actions: &Actions) -> Result<(), AllocError> {
     Ok(())
 }
 
-/// Appends what the terminal shows of bytes that are written to it, NUL bytes too.
+/// Appends what the terminal shows for bytes that are written to it, including NUL bytes.
 fn push_mapped(text: &mut Text, modes: Modes, bytes: &[u8]) -> Result<(), AllocError> {
     let shown = convert(alloc_of(text), false, modes, bytes)?;
     push_hex(text, shown.as_slice())
 }
 
-/// Appends a line for a text that is sent: its echo as the terminal shows it, and what is handed over.
+/// Appends a line for a text that is sent: its echo as the terminal shows it, and what is passed
+/// on.
 fn push_sent(
     text: &mut Text,
     line: &mut Line,
@@ -64,8 +65,9 @@ fn push_calls(
     Ok(())
 }
 
-/// The first call has the words of the modes. Each other one is `send` and a text that is typed, or `print` and a text that a program
-/// writes. Appends a line for each: the echo and what is handed over, or what the terminal shows.
+/// Shows a terminal. The first call contains the words of its modes. Each other call is `send` and
+/// a text that is typed, or `print` and a text that a program writes. Appends a line for each: the
+/// echo and what is passed on, or what the terminal shows.
 pub fn push_terminal(text: &mut Text, calls: &[Vec<Text>]) -> Result<(), Complaint> {
     let alloc = alloc_of(text);
     let [words, rest @ ..] = calls else {

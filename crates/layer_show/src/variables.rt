@@ -1,4 +1,4 @@
-//! What variables hold.
+//! Shows the values of variables.
 
 ghost use Rattle.std.specs.Prelude.{◌≡◌, Err};
 
@@ -11,7 +11,7 @@ use tcl_subst::{SubstFault, Vars};
 use tcl_values::Value;
 use tcl_words::{Packed, Text};
 
-/// `ok`, or the fault.
+/// Appends `ok`, or the error.
 fn push_done(text: &mut Text, done: Result<(), SubstFault>) -> Result<(), Complaint>
     ensures { done ≡ Err SubstFault.Memory → result ≡ Err Complaint.Memory }
 {
@@ -33,7 +33,7 @@ fn push_yes(text: &mut Text, is_so: bool) -> Result<(), Complaint> {
     Ok(text.extend(if is_so { b"yes" } else { b"no" })?)
 }
 
-/// Appends the value, or the fault.
+/// Appends the value, or the error.
 fn push_value(text: &mut Text, read: Result<Value, SubstFault>) -> Result<(), Complaint> {
     match read {
         Ok(value) => push_found(text, Some(value.as_slice())),
@@ -41,7 +41,8 @@ fn push_value(text: &mut Text, read: Result<Value, SubstFault>) -> Result<(), Co
     }
 }
 
-/// Appends `yes` if the value's bytes were read as a list that it doesn't have at hand, else `no`; or the fault.
+/// Appends `yes` if the value's bytes were read as a list that is not stored with the value,
+/// otherwise `no`. Appends the error if there is one.
 fn push_read(text: &mut Text, read: Result<Value, SubstFault>) -> Result<(), Complaint> {
     match read {
         Ok(value) => push_yes(text, value.was_read()),
@@ -49,7 +50,7 @@ fn push_read(text: &mut Text, read: Result<Value, SubstFault>) -> Result<(), Com
     }
 }
 
-/// Appends the element of a list at a place, `none` if there is none, or the fault.
+/// Appends the element of a list at a place, `none` if there is none, or the error.
 fn push_element(text: &mut Text, value: &Value, place: &Text) -> Result<(), Complaint> {
     let index = number(place)?;
     match value.elements(alloc_of(text)) {
@@ -58,13 +59,13 @@ fn push_element(text: &mut Text, value: &Value, place: &Text) -> Result<(), Comp
     }
 }
 
-/// Appends what a word is filled to.
+/// Appends the value of a word.
 fn fill(text: &mut Text, vars: &mut Vars, word: &[u8]) -> Result<(), Complaint> {
     let filled = filled(alloc_of(text), vars, word)?;
     push_filled(text, &filled)
 }
 
-/// Each variable of the outermost scope that has a value, with it.
+/// Appends each variable of the outermost scope that has a value, with its value.
 fn push_globals(text: &mut Text, vars: &Vars) -> Result<(), Complaint> {
     text.extend(b"globals")?;
     let values = vars.globals()?;
@@ -75,7 +76,7 @@ fn push_globals(text: &mut Text, vars: &Vars) -> Result<(), Complaint> {
     Ok(())
 }
 
-/// Ends the current scope, where it isn't the outermost one.
+/// Ends the current scope, unless it is the outermost one.
 fn pop(text: &mut Text, vars: &mut Vars) -> Result<(), Complaint> {
     if vars.is_outermost() {
         text.extend(b"outermost")?;
@@ -108,7 +109,7 @@ fn on_name(text: &mut Text, vars: &mut Vars, act: &str, name: &[u8]) -> Result<(
     }
 }
 
-/// Gives a variable what a word is filled to.
+/// Sets a variable to the value of a word.
 fn assign(text: &mut Text, vars: &mut Vars, name: &[u8], word: &[u8]) -> Result<(), Complaint> {
     match filled(alloc_of(text), vars, word)? {
         Filling::Value(value) => push_done(text, vars.set(name, value)),
@@ -122,7 +123,7 @@ fn set(text: &mut Text, vars: &mut Vars, name: &[u8], bytes: &[u8]) -> Result<()
     push_done(text, vars.set(name, value))
 }
 
-/// Puts words behind the elements of a variable.
+/// Appends words to the elements of a variable.
 fn append_elements(
     text: &mut Text,
     vars: &mut Vars,
@@ -136,7 +137,7 @@ fn append_elements(
     push_done(text, vars.append_elements(name, &more))
 }
 
-/// The element at a place of a variable.
+/// Appends the element at a place of a variable.
 fn push_element_of(
     text: &mut Text,
     vars: &Vars,
@@ -179,7 +180,7 @@ fn perform(text: &mut Text, vars: &mut Vars, act: &str, words: &[Text]) -> Resul
     }
 }
 
-/// A line of what a call gives.
+/// Appends a line with the result of a call.
 fn push_answer(text: &mut Text, vars: &mut Vars, call: &Vec<Text>) -> Result<(), Complaint> {
     let [act, words @ ..] = call.as_slice() else {
         return Err(Complaint::Call);
@@ -188,7 +189,7 @@ fn push_answer(text: &mut Text, vars: &mut Vars, call: &Vec<Text>) -> Result<(),
     Ok(text.push(b'\n')?)
 }
 
-/// Performs all calls so many times, and shows none.
+/// Carries out all calls `count` times, without showing them.
 fn rounds(
     alloc: Global,
     vars: &mut Vars,
@@ -204,7 +205,7 @@ fn rounds(
     Ok(())
 }
 
-/// How often what follows is to be performed, where a call says it.
+/// Returns how often the following calls are carried out, if this call says so.
 fn times(call: &Vec<Text>) -> Result<Option<u64>, Complaint> {
     match call.as_slice() {
         [act, count] if act.as_slice() == b"times".as_slice() => Ok(Some(number(count)?)),
@@ -212,7 +213,8 @@ fn times(call: &Vec<Text>) -> Result<Option<u64>, Complaint> {
     }
 }
 
-/// Appends a line for each call. With `times` and a number all calls that follow are first performed so often without a line.
+/// Appends a line for each call. `times` and a number carries out all following calls that many
+/// times before, without a line.
 fn push_answers(text: &mut Text, vars: &mut Vars, calls: &[Vec<Text>]) -> Result<(), Complaint> {
     'calls: for index in 0..calls.len() {
         let call = &calls[index];
@@ -224,9 +226,12 @@ fn push_answers(text: &mut Text, vars: &mut Vars, calls: &[Vec<Text>]) -> Result
     Ok(())
 }
 
-/// `push`, `pop` or `globals`; `get`, `global`, `exists`, `unset`, `link`, `list` or `read` and a name; `fill` and a text; `set` or
-/// `append`, a name and bytes; `assign`, a name and a text; `member`, an array and an index; `element`, a name and a place;
-/// `lappend`, a name and elements. Appends a line for each call: what it gave.
+/// Carries out calls on variables, and appends a line with the result of each.
+///
+/// The calls are: `push`, `pop` or `globals`. `get`, `global`, `exists`, `unset`, `link`, `list` or
+/// `read` and a name. `fill` and a text. `set` or `append`, a name and bytes. `assign`, a name and
+/// a text. `member`, an array and an index. `element`, a name and a place. `lappend`, a name and
+/// elements.
 pub fn push_variables(text: &mut Text, calls: &[Vec<Text>]) -> Result<(), Complaint> {
     let mut vars = Vars::new(alloc_of(text));
     push_answers(text, &mut vars, calls)

@@ -1,4 +1,4 @@
-//! What is read of a text, as text.
+//! Shows texts that were read.
 
 ghost use Rattle.std.specs.Prelude.{◌≡◌, ◌++◌, ℕ, List, OnOk};
 ghost use Rattle.tcl_words.specs.Lists.{ReadsAs};
@@ -11,7 +11,7 @@ use tcl_words::{
     write_list,
 };
 
-/// Puts a fault's line behind a text, where it isn't want of memory.
+/// Appends the line of an error, unless it is `Memory`.
 fn push_fault(text: &mut Text, fault: WordFault) -> Result<(), AllocError> {
     let Some(name) = fault_name(fault) else {
         return Err(AllocError);
@@ -21,7 +21,7 @@ fn push_fault(text: &mut Text, fault: WordFault) -> Result<(), AllocError> {
     text.push(b'\n')
 }
 
-/// Appends an operand and what is left after it.
+/// Appends an operand and the text after it.
 fn push_found(text: &mut Text, word: &Word, left: &[u8]) -> Result<(), AllocError> {
     text.extend(b"operand")?;
     push_parts(text, &word.parts)?;
@@ -29,7 +29,8 @@ fn push_found(text: &mut Text, word: &Word, left: &[u8]) -> Result<(), AllocErro
     text.push(b'\n')
 }
 
-/// Appends the operand at the front of an expression's text and what is left after it, `none` if there is no such operand, or the fault.
+/// Appends the operand at the front of an expression's text and the text after it. Appends `none`
+/// if there is no such operand, or the error.
 pub fn push_operand(text: &mut Text, src: &[u8]) -> Result<(), AllocError> {
     match operand(alloc_of(text), src) {
         Ok(Some((word, len))) => push_found(text, &word, src.split_at(len).1),
@@ -38,7 +39,7 @@ pub fn push_operand(text: &mut Text, src: &[u8]) -> Result<(), AllocError> {
     }
 }
 
-/// Appends a line for each command of a text, and then the fault, if there is one.
+/// Appends a line for each command of a text, and then the error, if there is one.
 pub fn push_commands(text: &mut Text, src: &[u8]) -> Result<(), AllocError> {
     let mut at = 0;
     'commands: for _ in 0..=src.len() {
@@ -63,7 +64,7 @@ fn push_elements(text: &mut Text, list: &[Text]) -> Result<(), AllocError>
     Ok(())
 }
 
-/// Appends the elements of a list, a line for each, and a line of the list written again.
+/// Appends a line for each element of a list, and a line for the list written again.
 fn push_written(text: &mut Text, list: &Packed) -> Result<(), AllocError>
     ensures { OnOk result (text.new ≡ text.old ++ list_shown list.now) }
 {
@@ -72,7 +73,8 @@ fn push_written(text: &mut Text, list: &Packed) -> Result<(), AllocError>
     push_hex_line(text, write_list(alloc, list)?.as_slice())
 }
 
-/// Appends the elements of a text and the list written again, or `bad list` if the text is no list.
+/// Appends the elements of a text and the list written again, or `bad list` if the text is not a
+/// list.
 pub fn push_list(text: &mut Text, src: &[u8]) -> Result<(), AllocError>
     ensures list { (l : List (List ℕ)) → ReadsAs src.now l → OnOk result (text.new ≡ text.old ++ list_shown l) }
     ensures bad { ((l : List (List ℕ)) → ¬ ReadsAs src.now l) → OnOk result (text.new ≡ text.old ++ bad_list) }

@@ -1,4 +1,4 @@
--- What the plan answers to a request.
+-- The answers of a plan to requests.
 use Rattle.std.specs.Prelude.{ℕ, List}
 use Rattle.child_events.specs.declared.event.Answer.{Answer}
 use Rattle.child_events.specs.declared.event.Answer.TheVariants as answer
@@ -7,7 +7,7 @@ use Rattle.expect_core.specs.declared.request.Act.TheVariants as act
 use Rattle.child_timeline.specs.declared.exits.Exit.{Exit}
 use Rattle.child_timeline.specs.Exits.{exit_of}
 
--- what a request to a child comes to: `ok`, and a wait to the child's end
+-- The answer to a request: `ok`, or for a wait the end of the child.
 abbrev pub given : List Exit → ℕ → Act → Answer
 given exits c (act.Spawn words) = answer.Ok
 given exits c (act.Write bytes) = answer.Ok

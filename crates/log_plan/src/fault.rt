@@ -5,9 +5,10 @@ use std::alloc::{AllocError, AllocFailed};
 /// Why there is no plan.
 #[derive(Clone, Copy, PartialEq, Eq)]
 pub enum PlanFault {
-    /// The script's source is longer than a session takes.
+    /// The source of the script is longer than a session accepts.
     SourceTooLong,
-    /// The script was given `MOST_ANSWERS` answers at one place of the timeline, at this moment in milliseconds, and asks for more.
+    /// The script got `MOST_ANSWERS` answers at one place of the timeline, at this moment in
+    /// milliseconds, and has another open request.
     Unending(u64),
     /// Memory was refused.
     Memory,

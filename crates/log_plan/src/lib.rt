@@ -1,4 +1,5 @@
-//! A log of one script, planned from what its children are to say: each answer is put in where the script asks for it.
+//! Plans the log of one script from a timeline of its children: it inserts each answer when the
+//! script requests it.
 #![tactic(auto)]
 
 mod fault;

@@ -1,4 +1,4 @@
-//! A script that is run over what its children say, and is answered at once.
+//! Runs a script over a timeline and answers each request at once.
 
 ghost use Rattle.std.specs.Prelude.{◌≡◌, ◌++◌, ◌∷◌, [], length, max, false, IfOk, IfErr, OnOk, None};
 ghost use Rattle.dialogue_sched.specs.declared.script.Script.{Script};
@@ -17,13 +17,13 @@ use dialogue_sched::{Hall, HallFault, Script};
 use session::{Act, Ending, Request, SOURCE_LIMIT};
 use std::alloc::{AllocError, Global};
 
-/// The most answers that a script is given at one place of a timeline.
+/// The most answers at one place of a timeline.
 pub const MOST_ANSWERS: usize = 100_000;
 
 /// A script, and the events that it has taken.
 #[derive(Drop)]
 pub struct Planner {
-    /// The script alone.
+    /// A hall with only this script.
     pub hall: Hall,
     /// All events so far.
     pub events: HallEvents,
@@ -31,7 +31,7 @@ pub struct Planner {
     pub moment: u64,
 }
 
-/// A hall of one script, whose source isn't too long.
+/// Creates a hall with one script. Requires a source that isn't too long.
 fn hall_of(alloc: Global, script: Script) -> Result<Hall, AllocError>
     requires { is_too_long script ≡ false }
     ensures { IfOk result (λ ks. AllBegin (script ∷ []) ks) }
@@ -46,7 +46,7 @@ fn hall_of(alloc: Global, script: Script) -> Result<Hall, AllocError>
     }
 }
 
-/// What a request comes to: `ok`, and a wait to the end of the child.
+/// Returns the answer to a request: `ok`, or for a wait the end of the child.
 fn answer_to(exits: &Exits, request: &Request) -> Answer
     ensures { result ≡ given exits.now request.now.child request.now.act }
 {
@@ -59,7 +59,7 @@ fn answer_to(exits: &Exits, request: &Request) -> Answer
     }
 }
 
-/// The moment of an event, in milliseconds.
+/// Returns the moment of an event, in milliseconds.
 fn moment_of(event: &HallEvent) -> u64
     ensures { result ≡ moment_in event.now }
 {
@@ -70,7 +70,7 @@ fn moment_of(event: &HallEvent) -> u64
 }
 
 impl Planner {
-    /// A script to which nothing has happened.
+    /// Creates a planner. No event has reached its script.
     pub fn new(alloc: Global, script: Script) -> Result<Planner, PlanFault>
         ensures { Begins script result }
     {
@@ -85,7 +85,8 @@ impl Planner {
         })
     }
 
-    /// The script takes an event that it doesn't refuse, which comes behind the others.
+    /// Passes an event to the script and appends it to the events. Requires an event that the
+    /// script doesn't refuse.
     fn take(&mut self, alloc: Global, event: HallEvent) -> Result<(), AllocError>
         requires { refusal_of (length self.old.hall) event ≡ None }
         ensures took { OnOk result (AllTook 1 (event ∷ []) self.old.hall self.new.hall) }
@@ -102,7 +103,7 @@ impl Planner {
         Ok(())
     }
 
-    /// The event that answers a request now.
+    /// Returns the event that answers a request now.
     fn answer(&self, exits: &Exits, request: &Request) -> HallEvent
         ensures { result ≡ answer_at exits.now self.now.moment request.now }
     {
@@ -114,7 +115,7 @@ impl Planner {
         }
     }
 
-    /// Answers the request that is open, if there is one.
+    /// Answers the open request. Returns whether there was one.
     fn answer_next(&mut self, alloc: Global, exits: &Exits) -> Result<bool, AllocError>
         requires { (s : Script) × Stands s exits.now self.old }
         ensures { (s : Script) → Stands s exits.now self.old → IfOk result (λ more. AnswersNext s exits.now more self.old self.new) }
@@ -127,7 +128,7 @@ impl Planner {
         Ok(true)
     }
 
-    /// Answers each request until none is open, or too many were answered.
+    /// Answers requests until none is open, or until `MOST_ANSWERS` were answered.
     pub fn answer_all(&mut self, alloc: Global, exits: &Exits) -> Result<(), PlanFault>
         requires { (s : Script) × Stands s exits.now self.old }
         ensures { (s : Script) → Stands s exits.now self.old → AnswersFrom s exits.now self.old.events self.new result }
@@ -143,7 +144,7 @@ impl Planner {
         Err(PlanFault::Unending(self.moment))
     }
 
-    /// The script takes an event of a timeline, and is answered.
+    /// Passes an event of a timeline to the script, and answers its requests.
     fn tell(&mut self, alloc: Global, exits: &Exits, event: HallEvent) -> Result<(), PlanFault>
         requires stands { (s : Script) × Stands s exits.now self.old × IsAnswered s self.old }
         requires told { IsTold event }
@@ -153,7 +154,7 @@ impl Planner {
         self.answer_all(alloc, exits)
     }
 
-    /// The script takes the events of a timeline, and is answered.
+    /// Passes the events of a timeline to the script, and answers its requests.
     pub fn tell_all(
         &mut self,
         alloc: Global,
@@ -170,7 +171,7 @@ impl Planner {
         Ok(())
     }
 
-    /// All events, where the script wasn't refused memory.
+    /// Returns all events. `Memory` if the script was refused memory.
     pub fn into_events(self) -> Result<HallEvents, PlanFault>
         ensures events { IfOk result (λ es. es ≡ self.events) }
         ensures whole { OnOk result (IsWhole self) }

@@ -1,4 +1,4 @@
-//! The plan of a script.
+//! Plans the log of a script.
 
 ghost use Rattle.std.specs.Prelude.{◌≡◌, IfOk};
 ghost use Rattle.child_events.specs.Log.{AllFit};
@@ -12,12 +12,14 @@ use child_timeline::Timeline;
 use dialogue_sched::Script;
 use std::alloc::Global;
 
-/// The events of a timeline, with an answer wherever the script asks for one: the script takes the timeline's events in order, and behind
-/// each of them, and before the first, whatever it asks for is answered at once, at the moment that the timeline has come to. A start, a
-/// write and a close are done, and a wait comes to what the timeline says of the child. So the script means over these events what it
-/// means to its operator, and never waits for an answer.
+/// Returns the events of a timeline with an answer inserted for each request of the script.
 ///
-/// `Memory` is what was refused for the script, its hall or the events.
+/// The script takes the events of the timeline in order. Before the first event and after each one,
+/// its open requests are answered at once, at the current moment of the timeline. A start, a write
+/// and a close succeed. A wait is answered with the end that the timeline gives for the child. The
+/// script therefore never waits for an answer.
+///
+/// `Memory` means that the script, its hall or the events were refused memory.
 pub fn plan(alloc: Global, script: Script, timeline: Timeline) -> Result<HallEvents, PlanFault>
     requires told { AreTold timeline.events }
     ensures plans { Plans script timeline result }

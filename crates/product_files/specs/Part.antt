@@ -1,4 +1,4 @@
--- The name of a file that isn't whole yet.
+-- The name of a file that isn't complete yet.
 use Rattle.std.specs.Prelude.{ℕ, List, ◌++◌, codes}
 
 abbrev pub part_of : List ℕ → List ℕ

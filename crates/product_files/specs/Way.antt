@@ -1,4 +1,4 @@
--- How a file is written, by what stands under its name.
+-- How a file is written, by the kind of file that has its name now.
 use Rattle.std.specs.Prelude.{ℕ, List, [], ◌∷◌, length, take, drop, codes, Bool, true, false, ◌&&◌, ◌||◌, not, if◌then◌else◌}
 use Rattle.std.specs.Str.{bytes_eq, all_ascii_digits}
 use Rattle.product_files.specs.declared.way.Found.{Found}
@@ -6,16 +6,16 @@ use Rattle.product_files.specs.declared.way.Found.TheVariants.{Nothing, File, Li
 use Rattle.product_files.specs.declared.way.Way.{Way}
 use Rattle.product_files.specs.declared.way.Way.TheVariants.{Beside, Directly, Refused}
 
--- a decimal number: one digit or more
+-- A decimal number of one or more digits.
 abbrev pub is_number : List ℕ → Bool
 is_number [] = false
 is_number (d ∷ ds) = all_ascii_digits (d ∷ ds)
 
--- a front and a number behind it
+-- A prefix followed by a number.
 abbrev pub is_numbered : List ℕ → List ℕ → Bool
 is_numbered front name = bytes_eq (take (length front) name) front && is_number (drop (length front) name)
 
--- the names that the system has for the descriptors of the process that asks
+-- The names of the system for the descriptors of the calling process.
 abbrev pub is_descriptor : List ℕ → Bool
 is_descriptor name =
     bytes_eq name (codes "/dev/stdin")
@@ -24,7 +24,8 @@ is_descriptor name =
     || is_numbered (codes "/dev/fd/") name
     || is_numbered (codes "/proc/self/fd/") name
 
--- a file or a link is replaced by a new file; a pipe or a character device keeps no bytes, so there is nothing to replace
+-- A file or a link is replaced by a new file. A pipe or a character device is written directly, because it keeps no
+-- bytes.
 abbrev pub way_of_found : Found → Way
 way_of_found Nothing = Beside
 way_of_found File = Beside
@@ -35,11 +36,11 @@ way_of_found BlockDevice = Refused
 way_of_found Socket = Refused
 way_of_found Folder = Refused
 
--- how a file is written whose name was asked for
+-- How a file with a name given by the user is written.
 abbrev pub way_of : List ℕ → Found → Way
 way_of name found = if is_descriptor name then Directly else way_of_found found
 
--- how a file is written in a folder that was asked for: nobody named a pipe or a device there
+-- How a file in a folder given by the user is written. The user named no pipe or device there.
 abbrev pub page_way_of : Found → Way
 page_way_of Nothing = Beside
 page_way_of File = Beside

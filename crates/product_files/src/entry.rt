@@ -1,11 +1,11 @@
-//! The names of the files of a run, and which of them clash.
+//! The names of a run's files, and which of them clash.
 
 ghost use Rattle.std.specs.Prelude.{◌↔◌, ◌<◌, IsTrue, MatchOption, length};
 ghost use Rattle.product_files.specs.Entry.{SameFile, Clash, ClashAt, NoneBefore, NoneBelow, IsFirstClash};
 
 use tcl_words::Text;
 
-/// A file of the system, whichever names it has.
+/// The identity of a file, whatever its names are.
 #[derive(Clone, Copy)]
 pub struct Node {
     pub device: u64,
@@ -15,19 +15,20 @@ pub struct Node {
 /// A name of a file that a run reads or replaces.
 #[derive(Drop)]
 pub struct Entry {
-    /// The number of what has the name. The name of a product and that of its part have the same number, and never clash.
+    /// The number of the owner. A product's name and its `.part` name have the same number, and
+    /// never clash.
     pub owner: usize,
-    /// Whether the run replaces what stands under the name.
+    /// Whether the run replaces the file with this name.
     pub is_replaced: bool,
-    /// The file under the name, if there is one.
+    /// The file with this name, if there is one.
     pub file: Option<Node>,
-    /// The folder that holds the name, if it is there.
+    /// The folder that contains the name, if it exists.
     pub folder: Option<Node>,
     /// The name in its folder.
     pub name: Text,
 }
 
-/// Whether two are there and are one file.
+/// Returns whether both files exist and are the same file.
 fn is_same_file(a: Option<Node>, b: Option<Node>) -> bool
     ensures { IsTrue result ↔ SameFile a b }
 {
@@ -37,7 +38,7 @@ fn is_same_file(a: Option<Node>, b: Option<Node>) -> bool
     }
 }
 
-/// Whether two names can't both be used.
+/// Returns whether two names can't both be used.
 fn clashes(a: &Entry, b: &Entry) -> bool
     ensures { IsTrue result ↔ Clash a.now b.now }
 {
@@ -47,7 +48,7 @@ fn clashes(a: &Entry, b: &Entry) -> bool
     is_same_file(a.file, b.file) || (is_same_file(a.folder, b.folder) && a.name.is_same(&b.name))
 }
 
-/// Whether the names at two places clash.
+/// Returns whether the names at two indices clash.
 fn clashes_at(entries: &[Entry], i: usize, j: usize) -> bool
     ensures { IsTrue result ↔ ClashAt entries.now i j }
 {
@@ -57,7 +58,7 @@ fn clashes_at(entries: &[Entry], i: usize, j: usize) -> bool
     }
 }
 
-/// The first name that clashes with the one at a place behind it.
+/// Returns the index of the first name before `at` that clashes with the one at `at`.
 fn earlier(entries: &[Entry], at: usize) -> Option<usize>
     ensures { MatchOption result (NoneBelow entries.now at at) (λ i. (i < at) × (NoneBelow entries.now at i) × ClashAt entries.now i at) }
 {
@@ -69,7 +70,8 @@ fn earlier(entries: &[Entry], at: usize) -> Option<usize>
     None
 }
 
-/// The places of the first two names that clash: of the least place whose name clashes with an earlier one, the first of these.
+/// Returns the indices of the first two names that clash: the least index whose name clashes with
+/// an earlier one, preceded by the first such earlier one. `None` if no names clash.
 pub fn clash(entries: &[Entry]) -> Option<(usize, usize)>
     ensures { MatchOption result (NoneBefore entries.now (length entries.now)) (λ p. IsFirstClash entries.now p.0 p.1) }
 {

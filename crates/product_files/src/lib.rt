@@ -1,7 +1,8 @@
-//! Names of the files that a run writes: which of them clash, and how each file is made.
+//! The names of the files that a run writes: which of them clash, and how each file is written.
 //!
-//! Nothing here touches the system. [`clash`] finds two names that can't be used in one run, [`way_to`] and [`page_way`] say how a file is written
-//! by what stands under its name, and [`part_name`] is the name that it has until it is whole.
+//! Nothing here accesses the file system. [`clash`] finds two names that can't be used in one run.
+//! [`way_to`] and [`page_way`] decide how a file is written, by the kind of file that has its name
+//! now. [`part_name`] is the name of a file until it is complete.
 #![tactic(auto)]
 
 mod entry;

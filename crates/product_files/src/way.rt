@@ -1,10 +1,10 @@
-//! How a file is written, by what stands under its name.
+//! Decides how a file is written, by the kind of file that has its name now.
 
 ghost use Rattle.std.specs.Prelude.{◌≡◌};
 ghost use Rattle.product_files.specs.Way.{is_number as is_number_of, is_numbered as is_numbered_of, is_descriptor as is_descriptor_of, way_of_found as way_of_found_of, way_of, page_way_of};
 ghost use Rattle.std.specs.Str.{bytes_eq};
 
-/// What stands under a name. A link is not followed.
+/// The kind of file with a name. A link is not followed.
 #[derive(Clone, Copy)]
 pub enum Found {
     Nothing,
@@ -21,7 +21,7 @@ pub enum Found {
 /// How a file is written.
 #[derive(Clone, Copy)]
 pub enum Way {
-    /// As a new file beside its name, which gets the name once it is whole.
+    /// As a new file with a temporary name, which is renamed once it is complete.
     Beside,
     /// Under its own name.
     Directly,
@@ -35,7 +35,7 @@ fn is(word: &[u8], other: &[u8]) -> bool
     word == other
 }
 
-/// Whether bytes are a decimal number.
+/// Returns whether the bytes are a decimal number.
 fn is_number(bytes: &[u8]) -> bool
     ensures { result ≡ is_number_of bytes.now }
 {
@@ -50,7 +50,7 @@ fn is_number(bytes: &[u8]) -> bool
     true
 }
 
-/// Whether a name is a front and a number.
+/// Returns whether a name is a prefix followed by a number.
 fn is_numbered(front: &[u8], name: &[u8]) -> bool
     ensures { result ≡ is_numbered_of front.now name.now }
 {
@@ -60,7 +60,7 @@ fn is_numbered(front: &[u8], name: &[u8]) -> bool
     is(&name[..front.len()], front) && is_number(&name[front.len()..])
 }
 
-/// Whether the system has this name for a descriptor of the process that asks.
+/// Returns whether a name is one of the system's names for a descriptor of the calling process.
 fn is_descriptor(name: &[u8]) -> bool
     ensures { result ≡ is_descriptor_of name.now }
 {
@@ -86,7 +86,7 @@ fn way_of_found(found: Found) -> Way
     }
 }
 
-/// How a file is written whose name was asked for.
+/// Returns how a file with a name given by the user is written.
 pub fn way_to(name: &[u8], found: Found) -> Way
     ensures { result ≡ way_of name.now found }
 {
@@ -96,7 +96,8 @@ pub fn way_to(name: &[u8], found: Found) -> Way
     way_of_found(found)
 }
 
-/// How a file is written in a folder that was asked for. Whatever isn't a folder is replaced.
+/// Returns how a file in a folder given by the user is written. Everything except a folder is
+/// replaced.
 pub fn page_way(found: Found) -> Way
     ensures { result ≡ page_way_of found }
 {

@@ -1,4 +1,4 @@
--- What is asked of a child, in words.
+-- Requests to a child, in words.
 use Rattle.std.specs.Prelude.{List, [], ◌∷◌, ◌++◌, ℕ, codes}
 use Rattle.tcl_words.specs.Bytes as ascii
 use Rattle.child_events.specs.Log.{hex_text}
@@ -8,17 +8,17 @@ use Rattle.report_texts.specs.declared.acts.Spelling.{Spelling}
 use Rattle.report_texts.specs.declared.acts.Spelling.TheVariants.{Hex, Quoted}
 use Rattle.report_texts.specs.Escape.{quoted}
 
--- in lower-case hexadecimal, or a dash where there is none, or between quotes
+-- Bytes in lower-case hexadecimal or `-` if empty, or between quotes.
 abbrev pub spelled : Spelling → List ℕ → List ℕ
 spelled Hex bytes = hex_text bytes
 spelled Quoted bytes = quoted bytes
 
--- each word of a program behind a space
+-- The words of a program, each after a space.
 abbrev pub words_part : Spelling → List (List ℕ) → List ℕ
 words_part how [] = []
 words_part how (w ∷ ws) = (ascii.space ∷ [] ++ spelled how w) ++ words_part how ws
 
--- the program and its arguments, or the bytes
+-- The program and its arguments, or the bytes.
 abbrev pub act_text : Spelling → Act → List ℕ
 act_text how (act.Spawn words) = codes "spawn" ++ words_part how words
 act_text how (act.Write bytes) = codes "write " ++ spelled how bytes

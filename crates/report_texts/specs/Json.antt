@@ -1,4 +1,4 @@
--- Reports as objects of JSON (RFC 8259).
+-- Reports as JSON objects (RFC 8259).
 use Rattle.std.specs.Prelude.{ℕ, List, [], ◌∷◌, ◌++◌, sum, codes, Bool, nat_lt, ◌==◌, if◌then◌else◌}
 use Rattle.std.specs.Str.{is_utf8}
 use Rattle.tcl_words.specs.Bytes as ascii
@@ -9,7 +9,7 @@ use Rattle.expect_core.specs.declared.request.Request.{Request}
 use Rattle.report_texts.specs.declared.texts.Shown.{Shown}
 use Rattle.report_texts.specs.Report.{labelled, ending_text, ask_words}
 
--- A byte of a string: a quote, a backslash and what is below a space are escaped, and no other.
+-- A byte of a string. A quote, a backslash and bytes below a space are escaped, no others.
 abbrev pub string_byte : ℕ → List ℕ
 string_byte b =
     if b == ascii.quote then ascii.backslash ∷ ascii.quote ∷ []
@@ -26,16 +26,16 @@ string_bytes (b ∷ bs) = string_byte b ++ string_bytes bs
 abbrev pub string_text : List ℕ → List ℕ
 string_text text = ascii.quote ∷ string_bytes text ++ ascii.quote ∷ []
 
--- bytes as a string, where they are UTF-8
+-- Bytes as a string if they are UTF-8, otherwise `null`.
 abbrev pub text_or_null : List ℕ → List ℕ
 text_or_null bytes = if is_utf8 bytes then string_text bytes else codes "null"
 
--- two members: bytes as a text, and in lower-case hexadecimal
+-- Two members: bytes as a string, and in lower-case hexadecimal.
 unfoldable pub member_both : List ℕ → List ℕ → List ℕ
 member_both name bytes =
     ascii.quote ∷ name ++ codes "\":" ++ text_or_null bytes ++ codes ",\"" ++ name ++ codes "_hex\":\"" ++ encode_lower bytes ++ ascii.quote ∷ []
 
--- the first members of script n's object
+-- The first members of script n's object.
 unfoldable pub object_head : List ℕ → ℕ → Ending → List ℕ
 object_head file n e =
     labelled (codes "{\"script\":") n ++ codes ",\"file\":" ++ text_or_null file ++ codes ",\"ending\":\"" ++ ending_text e ++ codes "\","
@@ -43,12 +43,12 @@ object_head file n e =
 unfoldable pub object_counts : Report → List ℕ
 object_counts r = labelled (codes ",\"steps\":") r.steps ++ labelled (codes ",\"sent\":") (sum r.sent) ++ ascii.comma ∷ []
 
--- each with a comma in front
+-- The requests, each with a comma before it.
 abbrev pub later_asks : List Request → List ℕ
 later_asks [] = []
 later_asks (r ∷ rs) = (ascii.comma ∷ string_text (ask_words r)) ++ later_asks rs
 
--- with commas between them
+-- The requests, separated by commas.
 abbrev pub asks_items : List Request → List ℕ
 asks_items [] = []
 asks_items (r ∷ rs) = string_text (ask_words r) ++ later_asks rs
@@ -56,7 +56,7 @@ asks_items (r ∷ rs) = string_text (ask_words r) ++ later_asks rs
 abbrev pub asks_member : Bool → List Request → List ℕ
 asks_member shown requests = if shown then codes ",\"requests\":[" ++ asks_items requests ++ ascii.close_bracket ∷ [] else []
 
--- a variable's object
+-- The object of a variable.
 unfoldable pub var_object : List ℕ × List ℕ → List ℕ
 var_object (name, value) = ascii.open_brace ∷ member_both (codes "name") name ++ ascii.comma ∷ member_both (codes "value") value ++ ascii.close_brace ∷ []
 
@@ -77,17 +77,17 @@ object_texts r = member_both (codes "fault") r.fault ++ object_counts r ++ membe
 unfoldable pub object_shown : Shown → Report → List ℕ
 object_shown shown r = asks_member shown.requests r.requests ++ vars_member shown.vars r.vars
 
--- the object of script n's report, with what is shown of it
+-- The object of script n's report.
 unfoldable pub report_object : Shown → List ℕ → ℕ → Report → List ℕ
 report_object shown file n r = object_head file n r.ending ++ object_texts r ++ object_shown shown r ++ ascii.close_brace ∷ []
 
--- each object stands in a line of its own, with a comma behind the one before
+-- An item of an array: each object is on its own line, with a comma at the end of the line before.
 abbrev pub item_front : ℕ → List ℕ
 item_front n = if n == 1 then ascii.newline ∷ [] else ascii.comma ∷ ascii.newline ∷ []
 
 abbrev pub array_item : Shown → List ℕ → ℕ → Report → List ℕ
 array_item shown file n r = item_front n ++ report_object shown file n r
 
--- or the line ends behind it (JSON Lines)
+-- A line of its own (JSON Lines).
 abbrev pub object_line : Shown → List ℕ → ℕ → Report → List ℕ
 object_line shown file n r = report_object shown file n r ++ ascii.newline ∷ []

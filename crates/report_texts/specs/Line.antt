@@ -1,4 +1,4 @@
--- Names and faults as part of a line, and the lines that tell of a report in short.
+-- Names and errors in a line, and the lines of a summary.
 use Rattle.std.specs.Prelude.{ℕ, ◌+◌, List, [], ◌∷◌, ◌++◌, length, codes, Bool, true, false, ◌||◌, ◌==◌, nat_lt, if◌then◌else◌}
 use Rattle.tcl_words.specs.Bytes as ascii
 use Rattle.hex.specs.Hex.{encode_lower}
@@ -9,11 +9,11 @@ use Rattle.report_texts.specs.declared.tally.Kind.{Kind}
 use Rattle.report_texts.specs.declared.tally.Kind.TheVariants as kind
 use Rattle.report_texts.specs.Report.{labelled, head_words, is_done}
 
--- a byte that would end a line or be no text: a control character of ASCII
+-- A byte that would end a line or is no text: an ASCII control character.
 abbrev pub is_control : ℕ → Bool
 is_control b = nat_lt b ascii.space || (b == ascii.delete)
 
--- a byte within a line: a backslash is doubled, and a control character is written as two hexadecimal digits
+-- A byte in a line. A backslash is doubled, and a control character is written as two hexadecimal digits.
 abbrev pub line_byte : ℕ → List ℕ
 line_byte b =
     if b == ascii.backslash then ascii.backslash ∷ ascii.backslash ∷ []
@@ -24,11 +24,11 @@ abbrev pub line_text : List ℕ → List ℕ
 line_text [] = []
 line_text (b ∷ bs) = line_byte b ++ line_text bs
 
--- the line of the report of script n in a summary: the first one of its report, and its file
+-- The line of script n in a summary: the first line of its report, and its file.
 unfoldable pub summary_line : List ℕ → ℕ → Report → List ℕ
 summary_line file n r = head_words n r ++ codes " file=" ++ line_text file ++ ascii.newline ∷ []
 
--- the endings that a kind counts
+-- The kind counts this ending.
 abbrev pub is_of : Kind → Ending → Bool
 is_of kind.Well e = is_done e
 is_of kind.Exit (Exit n) = true
@@ -61,10 +61,10 @@ abbrev pub kinds_text : List Kind → List Ending → List ℕ
 kinds_text [] es = []
 kinds_text (k ∷ ks) es = labelled (kind_label k) (how_many k es) ++ kinds_text ks es
 
--- in the order of a summary
+-- The kinds in the order of a summary.
 abbrev pub all_kinds : List Kind
 all_kinds = kind.Well ∷ kind.Exit ∷ kind.Error ∷ kind.StepLimit ∷ kind.TimeLimit ∷ kind.Memory ∷ kind.Waiting ∷ []
 
--- the last line of a summary: how many scripts there are, how many of them ended with status 0, and how many by each ending
+-- The last line of a summary: the number of scripts, of those that ended with status 0, and of those with each ending.
 abbrev pub counts_line : List Ending → List ℕ
 counts_line es = labelled (codes "scripts=") (length es) ++ (kinds_text all_kinds es ++ ascii.newline ∷ [])

@@ -13,7 +13,7 @@ use Rattle.report_texts.specs.declared.escape.Place.TheVariants.{Lines}
 use Rattle.report_texts.specs.Acts.{act_text}
 use Rattle.report_texts.specs.Escape.{escaped}
 
--- a label and a number behind it; closed, so that the text of a line stays in pieces
+-- A label followed by a number. It is closed, so that the text of a line stays in pieces.
 unfoldable pub labelled : List ℕ → ℕ → List ℕ
 labelled label n = label ++ decimal n
 
@@ -28,7 +28,7 @@ ending_text Waiting = codes "waiting"
 unfoldable pub ended_text : Ending → List ℕ
 ended_text e = codes " end=" ++ ending_text e
 
--- what the first line of the report of script n says
+-- The words of the first line of script n's report.
 unfoldable pub head_words : ℕ → Report → List ℕ
 head_words n r =
     labelled (codes "script ") n ++ ended_text r.ending ++ labelled (codes " steps=") r.steps
@@ -37,7 +37,7 @@ head_words n r =
 abbrev pub head_line : ℕ → Report → List ℕ
 head_line n r = head_words n r ++ ascii.newline ∷ []
 
--- for an error alone, how many bytes its text has, and the text, told so
+-- Only for an error: the length of its text in bytes, and the text as it is written.
 abbrev pub fault_part : Ending → ℕ → List ℕ → List ℕ
 fault_part Error size told = labelled (codes "error ") size ++ ascii.newline ∷ [] ++ told ++ ascii.newline ∷ []
 fault_part (Exit n) size told = []
@@ -46,7 +46,7 @@ fault_part TimeLimit size told = []
 fault_part Memory size told = []
 fault_part Waiting size told = []
 
--- a name and its value, each in lower-case hexadecimal, or a dash where it is empty
+-- A name and its value, each in lower-case hexadecimal, or `-` if empty.
 unfoldable pub var_line : List ℕ × List ℕ → List ℕ
 var_line (name, value) = codes "var " ++ hex_text name ++ ascii.space ∷ [] ++ hex_text value ++ ascii.newline ∷ []
 
@@ -57,7 +57,7 @@ vars_lines (v ∷ vs) = var_line v ++ vars_lines vs
 abbrev pub vars_part : Bool → List (List ℕ × List ℕ) → List ℕ
 vars_part shown vars = if shown then vars_lines vars else []
 
--- what is asked of which child
+-- A request, with the number of its child.
 unfoldable pub ask_words : Request → List ℕ
 ask_words r = labelled (codes "ask ") r.child ++ ascii.space ∷ [] ++ act_text Hex r.act
 
@@ -71,18 +71,18 @@ ask_lines (r ∷ rs) = ask_line r ++ ask_lines rs
 abbrev pub asks_part : Bool → List Request → List ℕ
 asks_part shown requests = if shown then ask_lines requests else []
 
--- what stands behind the transcript, where the text of an error is told so
+-- The text after the transcript, with the text of an error as it is written.
 abbrev pub tail_part : Shown → List ℕ → Report → List ℕ
 tail_part shown told r = ascii.newline ∷ [] ++ fault_part r.ending (length r.fault) told ++ vars_part shown.vars r.vars ++ asks_part shown.requests r.requests
 
 abbrev pub report_bytes : Shown → ℕ → Report → List ℕ
 report_bytes shown n r = head_line n r ++ r.transcript ++ tail_part shown r.fault r
 
--- the same without the transcript
+-- A report without the transcript.
 abbrev pub bare_report : Shown → ℕ → Report → List ℕ
 bare_report shown n r = head_line n r ++ tail_part shown r.fault r
 
--- the same for a terminal
+-- A report for a terminal.
 abbrev pub escaped_report : Shown → ℕ → Report → List ℕ
 escaped_report shown n r = head_line n r ++ escaped Lines r.transcript ++ tail_part shown (escaped Lines r.fault) r
 
@@ -94,7 +94,7 @@ is_done TimeLimit = false
 is_done Memory = false
 is_done Waiting = false
 
--- each script ended with status 0
+-- Each script ended with status 0.
 abbrev pub all_done : List Report → Bool
 all_done [] = true
 all_done (r ∷ rs) = is_done r.ending && all_done rs

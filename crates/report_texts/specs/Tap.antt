@@ -7,7 +7,7 @@ use Rattle.session.specs.declared.report.Report.{Report}
 use Rattle.report_texts.specs.Report.{labelled, ending_text, is_done}
 use Rattle.report_texts.specs.Line.{line_byte, line_text}
 
--- a byte of a test's name, where a number sign would begin a directive
+-- A byte of a test's name. A number sign, which would begin a directive, is escaped.
 abbrev pub name_byte : ℕ → List ℕ
 name_byte b = if b == ascii.hash then ascii.backslash ∷ ascii.hash ∷ [] else line_byte b
 
@@ -15,19 +15,19 @@ abbrev pub name_text : List ℕ → List ℕ
 name_text [] = []
 name_text (b ∷ bs) = name_byte b ++ name_text bs
 
--- the version, and the plan of so many tests
+-- The version, and the plan for this number of tests.
 unfoldable pub plan : ℕ → List ℕ
 plan count = codes "TAP version 13\n" ++ labelled (codes "1..") count ++ ascii.newline ∷ []
 
--- a test that is passed
+-- A test that passed.
 unfoldable pub passed : List ℕ → ℕ → List ℕ
 passed file n = labelled (codes "ok ") n ++ codes " - " ++ name_text file ++ ascii.newline ∷ []
 
--- one that isn't, with the ending of its script
+-- A test that failed, with the ending of its script.
 unfoldable pub not_passed : List ℕ → ℕ → Ending → List ℕ
 not_passed file n e = labelled (codes "not ok ") n ++ codes " - " ++ name_text file ++ codes ": " ++ ending_text e ++ ascii.newline ∷ []
 
--- the text of an error, as a diagnostic in one line
+-- The text of an error, as a diagnostic in one line.
 abbrev pub diagnostic : Ending → List ℕ → List ℕ
 diagnostic Error fault = codes "# " ++ line_text fault ++ ascii.newline ∷ []
 diagnostic (Exit n) fault = []
@@ -36,6 +36,6 @@ diagnostic TimeLimit fault = []
 diagnostic Memory fault = []
 diagnostic Waiting fault = []
 
--- the test of script n: whether it ended with status 0
+-- The test of script n. It passes if the script ended with status 0.
 abbrev pub tap_test : List ℕ → ℕ → Report → List ℕ
 tap_test file n r = if is_done r.ending then passed file n else not_passed file n r.ending ++ diagnostic r.ending r.fault

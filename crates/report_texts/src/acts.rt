@@ -1,4 +1,4 @@
-//! The text of what is asked of a child.
+//! The text of requests to a child.
 
 ghost use Rattle.std.specs.Prelude.{◌≡◌, ◌++◌, OnOk};
 ghost use Rattle.report_texts.specs.Acts.{spelled, words_part, act_text};
@@ -12,7 +12,7 @@ use tcl_words::Text;
 /// How bytes are written.
 #[derive(Clone, Copy)]
 pub enum Spelling {
-    /// In hexadecimal, and none as a dash.
+    /// In hexadecimal, or `-` if empty.
     Hex,
     /// Between quotes.
     Quoted,
@@ -32,7 +32,7 @@ fn push_spelled(
     }
 }
 
-/// Puts the words of a program behind a text, each behind a space.
+/// Appends the words of a program, each after a space.
 fn push_words(
     alloc: Global,
     text: &mut Text,
@@ -48,7 +48,7 @@ fn push_words(
     Ok(())
 }
 
-/// Puts what is asked of a child behind a text.
+/// Appends a request to a child.
 pub fn push_act(
     alloc: Global,
     text: &mut Text,

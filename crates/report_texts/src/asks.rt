@@ -1,4 +1,4 @@
-//! The text of what a script asked of its children.
+//! The text of a script's requests.
 
 ghost use Rattle.std.specs.Prelude.{◌≡◌, ◌++◌, OnOk};
 ghost use Rattle.report_texts.specs.Report.{labelled, ask_words, ask_line, ask_lines, asks_part};
@@ -9,7 +9,7 @@ use session::Request;
 use std::alloc::{AllocError, Global};
 use tcl_words::Text;
 
-/// Puts what a request asks of which child behind a text.
+/// Appends a request, with the number of its child.
 #[tactic(auto, unfolding(crate::specs::Report::ask_words))]
 pub(crate) fn push_ask_words(
     alloc: Global,
@@ -23,7 +23,7 @@ pub(crate) fn push_ask_words(
     push_act(alloc, text, Spelling::Hex, &request.act)
 }
 
-/// Puts the line of a request behind a text.
+/// Appends the line of a request.
 fn push_ask(alloc: Global, text: &mut Text, request: &Request) -> Result<(), AllocError>
     ensures { OnOk result (text.new ≡ text.old ++ ask_line request.now) }
 {
@@ -40,7 +40,7 @@ fn push_asks(alloc: Global, text: &mut Text, requests: &[Request]) -> Result<(),
     Ok(())
 }
 
-/// Puts the lines of requests in order behind a text, where they are shown.
+/// Appends the lines of requests, in order, if they are shown.
 pub fn push_shown_asks(
     alloc: Global,
     text: &mut Text,

@@ -1,4 +1,4 @@
-//! Whole readers and writers.
+//! Reads and writes whole texts.
 
 ghost use Rattle.std.specs.Prelude.{◌≡◌, ◌≢◌, ◌<◌, ◌≤◌, IfOk, IfSome, Err, vec_len};
 ghost use Rattle.report_texts.specs.Devices.{Writes, GaveUp};
@@ -8,16 +8,16 @@ use std::alloc::{AllocError, Global};
 use std::io::{Read, Write};
 use tcl_words::Text;
 
-/// How often a device is read, or written, before it is given up.
+/// The most reads or writes of a device before it is given up.
 pub const MOST_CALLS: u64 = 1_099_511_627_776;
 
-/// How many bytes are asked for in one read.
+/// The most bytes in one read.
 const PIECE: usize = 16_384;
 
-/// Why a reader's bytes are not there.
+/// Why a device can't be read.
 #[derive(Clone, Copy, PartialEq, Eq)]
 pub enum ReadFault {
-    /// A read failed, or `MOST_CALLS` of them met no end.
+    /// A read failed, or `MOST_CALLS` reads didn't reach the end.
     Failed,
     /// Memory was refused.
     Memory,
@@ -34,18 +34,18 @@ impl From<AllocError> for ReadFault {
     }
 }
 
-/// A writer that did not take a whole text: a write failed, or `MOST_CALLS` of them were not enough.
+/// A device that didn't take a whole text. A write failed, or `MOST_CALLS` writes were not enough.
 #[derive(Clone, Copy, PartialEq, Eq)]
 pub struct Unwritten;
 
-/// A place for the bytes of one read.
+/// Creates a buffer for one read.
 fn buffer(alloc: Global) -> Result<Vec<u8>, AllocError>
     ensures { IfOk result (λ bytes. 0 < vec_len bytes) }
 {
     vec![in alloc; 0; PIECE]
 }
 
-/// All bytes that a reader has left. An interrupted read is tried again.
+/// Reads all remaining bytes of a device. An interrupted read is tried again.
 pub fn read_all<R: Read>(alloc: Global, reader: &mut Counted<R>) -> Result<Text, ReadFault>
     requires failures { reader.old.failures ≡ 0 }
     requires calls { reader.old.calls ≡ 0 }
@@ -70,7 +70,7 @@ pub fn read_all<R: Read>(alloc: Global, reader: &mut Counted<R>) -> Result<Text,
     Err(ReadFault::Failed)
 }
 
-/// Writes a whole text. An interrupted write is tried again. What was written before counts among the most calls.
+/// Writes a whole text. An interrupted write is tried again. Earlier calls count towards the limit.
 pub fn write_all<W: Write>(writer: &mut Counted<W>, text: &[u8]) -> Result<(), Unwritten>
     requires failures { writer.old.failures ≡ 0 }
     requires calls { writer.old.calls ≤ MOST_CALLS }

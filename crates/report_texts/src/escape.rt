@@ -1,4 +1,4 @@
-//! Bytes of any kind as text that does nothing on a terminal.
+//! Any bytes as text that has no effect on a terminal.
 
 ghost use Rattle.std.specs.Prelude.{◌≡◌, ◌++◌, OnOk};
 ghost use Rattle.report_texts.specs.Escape.{is_within as is_within_of, turns as turns_of, is_seen as is_seen_of, seen_len as seen_len_of, begins_line as begins_line_of, stays as stays_of, is_mark as is_mark_of, kept_len as kept_len_of, still_kept as still_kept_of, escape, byte_text, escaped, quoted};
@@ -8,10 +8,10 @@ use bstr::decode_utf8;
 use std::alloc::{AllocError, Global};
 use tcl_words::Text;
 
-/// Where bytes are told as text.
+/// Where the text is written.
 #[derive(Clone, Copy)]
 pub enum Place {
-    /// In lines of their own.
+    /// Outside quotes, on lines of its own.
     Lines,
     /// Between quotes.
     Quotes,
@@ -23,7 +23,8 @@ fn is_within(low: u32, high: u32, code: u32) -> bool
     low <= code && code <= high
 }
 
-/// Whether a character ends a line or a paragraph, or turns the direction of what stands behind it.
+/// Returns whether a character ends a line or a paragraph, or changes the direction of the text
+/// after it.
 fn turns(c: char) -> bool
     ensures { result ≡ turns_of c }
 {
@@ -34,7 +35,7 @@ fn turns(c: char) -> bool
         || is_within(0x2066, 0x2069, code)
 }
 
-/// Whether there is a character that is seen as itself.
+/// Returns whether there is a character, and it is shown as itself.
 fn is_seen(c: Option<char>) -> bool
     ensures { result ≡ is_seen_of c }
 {
@@ -44,7 +45,7 @@ fn is_seen(c: Option<char>) -> bool
     }
 }
 
-/// How many of the first bytes are a character that is seen as itself.
+/// Returns the number of first bytes that form a character that is shown as itself.
 #[tactic(auto, unfolding(crate::specs::Escape::seen_len))]
 fn seen_len(bytes: &[u8]) -> usize
     ensures { result ≡ seen_len_of bytes.now }
@@ -65,7 +66,7 @@ fn begins_line(bytes: &[u8]) -> bool
     }
 }
 
-/// Whether a control character stays before these bytes: a tab, and the end of a line.
+/// Returns whether a control character is kept before these bytes: a tab, or the end of a line.
 fn stays(place: Place, byte: u8, next: &[u8]) -> bool
     ensures { result ≡ stays_of place byte next.now }
 {
@@ -75,7 +76,7 @@ fn stays(place: Place, byte: u8, next: &[u8]) -> bool
     }
 }
 
-/// Whether a byte would be read as something else than itself.
+/// Returns whether a byte would be read as something else.
 fn is_mark(place: Place, byte: u8) -> bool
     ensures { result ≡ is_mark_of place byte }
 {
@@ -85,7 +86,7 @@ fn is_mark(place: Place, byte: u8) -> bool
     }
 }
 
-/// How many of the first bytes are written as they are; where it is none, the first is escaped.
+/// Returns the number of first bytes that are kept. If it is 0, the first byte is escaped.
 #[tactic(auto, unfolding(crate::specs::Escape::kept_len))]
 fn kept_len(place: Place, bytes: &[u8]) -> usize
     ensures { result ≡ kept_len_of place bytes.now }
@@ -104,7 +105,7 @@ fn kept_len(place: Place, bytes: &[u8]) -> usize
     }
 }
 
-/// Puts a byte that is escaped behind a text.
+/// Appends an escaped byte.
 #[tactic(auto, unfolding(crate::specs::Escape::escape))]
 fn push_escape(alloc: Global, text: &mut Text, byte: u8) -> Result<(), AllocError>
     ensures { OnOk result (text.new ≡ text.old ++ escape byte) }
@@ -127,7 +128,7 @@ fn push_escape(alloc: Global, text: &mut Text, byte: u8) -> Result<(), AllocErro
     push_escaped(alloc, text, b"\\x", byte)
 }
 
-/// How many of the first bytes are written as they are, where so many still are.
+/// Returns the number of first bytes that are kept, if `kept` bytes are still to be kept.
 fn still_kept(place: Place, kept: usize, bytes: &[u8]) -> usize
     ensures { result ≡ still_kept_of place kept bytes.now }
 {
@@ -137,7 +138,7 @@ fn still_kept(place: Place, kept: usize, bytes: &[u8]) -> usize
     kept
 }
 
-/// Puts a byte behind a text, as it is where any are kept.
+/// Appends a byte. It is escaped if `kept` is 0.
 fn push_byte(alloc: Global, text: &mut Text, kept: usize, byte: u8) -> Result<(), AllocError>
     ensures { OnOk result (text.new ≡ text.old ++ byte_text kept byte) }
 {
@@ -147,7 +148,7 @@ fn push_byte(alloc: Global, text: &mut Text, kept: usize, byte: u8) -> Result<()
     text.push(byte)
 }
 
-/// Puts bytes as text behind a text.
+/// Appends bytes as text.
 pub fn push_text(
     alloc: Global,
     text: &mut Text,
@@ -165,7 +166,7 @@ pub fn push_text(
     Ok(())
 }
 
-/// Puts bytes between quotes behind a text.
+/// Appends bytes between quotes.
 #[tactic(auto, unfolding(crate::specs::Escape::quoted))]
 pub fn push_quoted(alloc: Global, text: &mut Text, bytes: &[u8]) -> Result<(), AllocError>
     ensures { OnOk result (text.new ≡ text.old ++ quoted bytes.now) }

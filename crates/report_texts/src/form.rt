@@ -1,4 +1,4 @@
-//! The forms that reports are told in.
+//! The forms of reports.
 
 ghost use Rattle.std.specs.Prelude.{◌≡◌, ◌≤◌, [], vec_capacity, length, IfOk};
 ghost use Rattle.session.specs.Spent.{memory_report};
@@ -13,32 +13,32 @@ use session::{Ending, Report};
 use std::alloc::{AllocError, Global};
 use tcl_words::{Text, Texts};
 
-/// How reports are told.
+/// The form of reports.
 #[derive(Clone, Copy)]
 pub enum Format {
     /// Whole reports.
     Text,
-    /// The same without the transcripts, which were shown before.
+    /// Reports without the transcripts, which were shown before.
     Bare,
-    /// The same for terminals: what would do something there, or isn't seen, is escaped.
+    /// Reports for terminals: characters that have an effect there, or aren't visible, are escaped.
     Escaped,
     /// The first line of each report, with its script's file, and a last line of counts.
     Summary,
-    /// An array of JSON, with an object in a line for each script.
+    /// A JSON array, with one object per script, each on its own line.
     Json,
-    /// A line for each script, which is an object of JSON.
+    /// JSON Lines: one object per script and line.
     JsonLines,
-    /// A test of the Test Anything Protocol for each script.
+    /// One test of the Test Anything Protocol per script.
     Tap,
 }
 
-/// The form that reports are told in.
+/// The form of reports, with its options.
 #[derive(Drop)]
 pub struct Form {
     pub format: Format,
-    /// What whole reports have beside their transcripts, and objects beside theirs.
+    /// The optional parts of whole reports and of objects.
     pub shown: Shown,
-    /// The names of the scripts' files; the first is that of script 1.
+    /// The names of the scripts' files, beginning with that of script 1.
     pub files: Texts,
 }
 
@@ -53,7 +53,7 @@ impl Form {
         })
     }
 
-    /// The file of a script, by its number from 1; where it is told none, no name.
+    /// Returns the file of a script, by its number from 1. Empty if there is none.
     fn file(&self, number: usize) -> &[u8]
         ensures { result.now ≡ file_of self.now.files number }
     {
@@ -63,7 +63,7 @@ impl Form {
         }
     }
 
-    /// The part of script `number`'s report.
+    /// Returns the part of script `number`'s report.
     pub fn part(&self, alloc: Global, number: usize, report: &Report) -> Result<Text, AllocError>
         ensures { IfOk result (λ t. t ≡ part_bytes self.now number report.now) }
     {
@@ -79,18 +79,18 @@ impl Form {
     }
 }
 
-/// What is made before the first byte of reports is written.
+/// Texts prepared before the first byte of reports is written.
 #[derive(Drop)]
 pub struct Spares {
-    /// What stands before the parts of the reports.
+    /// The text before the parts of the reports.
     pub opening: Text,
-    /// For each script the part of its report, if it were refused memory.
+    /// For each script, the part of its report if the script were refused memory.
     pub parts: Vec<Text>,
     /// Room for the endings of the scripts.
     pub endings: Vec<Ending>,
 }
 
-/// What stands before the parts of so many reports.
+/// Returns the text before the parts of this number of reports.
 fn opening_text(alloc: Global, format: Format, count: usize) -> Result<Text, AllocError>
     ensures { IfOk result (λ t. t ≡ opening format count) }
 {
@@ -105,7 +105,7 @@ fn opening_text(alloc: Global, format: Format, count: usize) -> Result<Text, All
     }
 }
 
-/// The part of the report of script `number`, if it were refused memory.
+/// Returns the part of script `number`'s report if the script were refused memory.
 fn memory_part(alloc: Global, form: &Form, number: usize) -> Result<Text, AllocError>
     ensures { IfOk result (λ t. t ≡ part_bytes form.now number memory_report) }
 {
@@ -113,7 +113,7 @@ fn memory_part(alloc: Global, form: &Form, number: usize) -> Result<Text, AllocE
     form.part(alloc, number, &report)
 }
 
-/// For so many scripts the parts of their reports, if each were refused memory.
+/// Returns the parts of this number of scripts if each were refused memory.
 fn spare_parts(alloc: Global, form: &Form, count: usize) -> Result<Vec<Text>, AllocError>
     ensures { IfOk result (λ ts. AreParts form.now count ts.items) }
 {
@@ -124,7 +124,7 @@ fn spare_parts(alloc: Global, form: &Form, count: usize) -> Result<Vec<Text>, Al
     Ok(parts)
 }
 
-/// What is made before the first byte of the reports of so many scripts is written.
+/// Prepares the texts for the reports of this number of scripts.
 pub fn made_spares(alloc: Global, form: &Form, count: usize) -> Result<Spares, AllocError>
     ensures { IfOk result (λ s. AreSpares form.now count s) }
 {

@@ -1,4 +1,4 @@
-//! Reports as objects of JSON.
+//! Reports as JSON objects.
 
 ghost use Rattle.std.specs.Prelude.{◌≡◌, ◌++◌, IfOk, OnOk};
 ghost use Rattle.std.specs.Str.{is_utf8};
@@ -13,7 +13,7 @@ use session::{Ending, Report, Request};
 use std::alloc::{AllocError, Global};
 use tcl_words::Text;
 
-/// Puts a byte of a string behind a text.
+/// Appends a byte of a string.
 fn push_string_byte(alloc: Global, text: &mut Text, byte: u8) -> Result<(), AllocError>
     ensures { OnOk result (text.new ≡ text.old ++ string_byte byte) }
 {
@@ -44,7 +44,7 @@ fn push_string_bytes(alloc: Global, text: &mut Text, bytes: &[u8]) -> Result<(),
     Ok(())
 }
 
-/// Puts a string behind a text.
+/// Appends a string.
 fn push_string(alloc: Global, text: &mut Text, bytes: &[u8]) -> Result<(), AllocError>
     ensures { OnOk result (text.new ≡ text.old ++ string_text bytes.now) }
 {
@@ -53,7 +53,7 @@ fn push_string(alloc: Global, text: &mut Text, bytes: &[u8]) -> Result<(), Alloc
     text.push(b'"')
 }
 
-/// Whether bytes are UTF-8.
+/// Returns whether the bytes are UTF-8.
 fn is_text(bytes: &[u8]) -> bool
     ensures { result ≡ is_utf8 bytes.now }
 {
@@ -63,7 +63,7 @@ fn is_text(bytes: &[u8]) -> bool
     }
 }
 
-/// Puts bytes as a string behind a text, or `null` where they aren't UTF-8.
+/// Appends bytes as a string, or `null` if they aren't UTF-8.
 fn push_text_or_null(alloc: Global, text: &mut Text, bytes: &[u8]) -> Result<(), AllocError>
     ensures { OnOk result (text.new ≡ text.old ++ text_or_null bytes.now) }
 {
@@ -73,7 +73,7 @@ fn push_text_or_null(alloc: Global, text: &mut Text, bytes: &[u8]) -> Result<(),
     push_string(alloc, text, bytes)
 }
 
-/// Puts bytes in hexadecimal behind a text.
+/// Appends bytes in hexadecimal.
 fn push_digits(alloc: Global, text: &mut Text, bytes: &[u8]) -> Result<(), AllocError>
     ensures { OnOk result (text.new ≡ text.old ++ encode_lower bytes.now) }
 {
@@ -81,7 +81,7 @@ fn push_digits(alloc: Global, text: &mut Text, bytes: &[u8]) -> Result<(), Alloc
     text.extend(digits.as_bytes())
 }
 
-/// Puts two members behind a text: bytes as a string, and in hexadecimal.
+/// Appends two members: bytes as a string, and in hexadecimal.
 #[tactic(auto, unfolding(crate::specs::Json::member_both))]
 fn push_both(alloc: Global, text: &mut Text, name: &[u8], bytes: &[u8]) -> Result<(), AllocError>
     ensures { OnOk result (text.new ≡ text.old ++ member_both name.now bytes.now) }
@@ -97,7 +97,7 @@ fn push_both(alloc: Global, text: &mut Text, name: &[u8], bytes: &[u8]) -> Resul
     text.push(b'"')
 }
 
-/// Puts the first members of script `number`'s object behind a text.
+/// Appends the first members of script `number`'s object.
 #[tactic(auto, unfolding(crate::specs::Json::object_head))]
 fn push_object_head(
     alloc: Global,
@@ -125,7 +125,7 @@ fn push_counts(alloc: Global, text: &mut Text, report: &Report) -> Result<(), Al
     text.push(b',')
 }
 
-/// Puts what a request asks behind a text, as a string.
+/// Appends a request, as a string.
 fn push_ask(alloc: Global, text: &mut Text, request: &Request) -> Result<(), AllocError>
     ensures { OnOk result (text.new ≡ text.old ++ string_text (ask_words request.now)) }
 {
@@ -156,7 +156,7 @@ fn push_asks(alloc: Global, text: &mut Text, requests: &[Request]) -> Result<(),
     }
 }
 
-/// Puts the member of requests behind a text, where they are shown.
+/// Appends the member of requests, if they are shown.
 fn push_asks_member(
     alloc: Global,
     text: &mut Text,
@@ -173,7 +173,7 @@ fn push_asks_member(
     text.push(b']')
 }
 
-/// Puts the object of a variable behind a text.
+/// Appends the object of a variable.
 #[tactic(auto, unfolding(crate::specs::Json::var_object))]
 fn push_var(alloc: Global, text: &mut Text, name: &[u8], value: &[u8]) -> Result<(), AllocError>
     ensures { OnOk result (text.new ≡ text.old ++ var_object (name.now, value.now)) }
@@ -207,7 +207,7 @@ fn push_vars(alloc: Global, text: &mut Text, vars: &[(Text, Text)]) -> Result<()
     }
 }
 
-/// Puts the member of variables behind a text, where they are shown.
+/// Appends the member of variables, if they are shown.
 fn push_vars_member(
     alloc: Global,
     text: &mut Text,
@@ -246,7 +246,7 @@ fn push_shown(
     push_vars_member(alloc, text, shown.vars, report.vars.as_slice())
 }
 
-/// Puts the object of script `number`'s report behind a text, with what is shown of it.
+/// Appends the object of script `number`'s report.
 #[tactic(auto, unfolding(crate::specs::Json::report_object))]
 fn push_object(
     alloc: Global,
@@ -264,7 +264,7 @@ fn push_object(
     text.push(b'}')
 }
 
-/// Puts what stands before the object of script `number` behind a text.
+/// Appends the text before the object of script `number`.
 fn push_before(text: &mut Text, number: usize) -> Result<(), AllocError>
     ensures { OnOk result (text.new ≡ text.old ++ item_front number) }
 {
@@ -274,7 +274,7 @@ fn push_before(text: &mut Text, number: usize) -> Result<(), AllocError>
     text.extend(b",\n")
 }
 
-/// The object of script `number`'s report, with its file and what is shown of it, behind those before.
+/// Returns the object of script `number`'s report, as an item of an array.
 pub fn item_text(
     alloc: Global,
     shown: Shown,
@@ -290,7 +290,7 @@ pub fn item_text(
     Ok(text)
 }
 
-/// The object of script `number`'s report, with its file and what is shown of it, as a line.
+/// Returns the object of script `number`'s report, as a line.
 pub fn line_text(
     alloc: Global,
     shown: Shown,

@@ -1,7 +1,8 @@
 //! The texts of reports, and how they are written.
 //!
-//! A report is told in one of the forms of [`Format`], and reports are written one by one, so that memory that is refused to one costs no
-//! other its own. What a text says is defined in `specs/Form`, and what is written of it in `specs/Written`.
+//! A report has one of the forms in [`Format`]. Reports are written one by one, so that memory
+//! refused to one report doesn't affect others. `specs/Form` defines the text of reports, and
+//! `specs/Written` what is written of it.
 #![tactic(auto)]
 
 mod acts;

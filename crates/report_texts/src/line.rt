@@ -1,4 +1,4 @@
-//! Reports in a line each.
+//! Reports on one line each.
 
 ghost use Rattle.std.specs.Prelude.{◌≡◌, ◌++◌, ◌∷◌, [], IfOk, OnOk};
 ghost use Rattle.hex.specs.Hex.{encode_lower};
@@ -9,14 +9,14 @@ use session::Report;
 use std::alloc::{AllocError, Global};
 use tcl_words::Text;
 
-/// Whether a byte is a control character of ASCII.
+/// Returns whether a byte is an ASCII control character.
 fn is_control(byte: u8) -> bool
     ensures { result ≡ is_control_of byte }
 {
     byte < 32 || byte == 127
 }
 
-/// Puts a label and two hexadecimal digits behind a text.
+/// Appends a label and a byte as two hexadecimal digits.
 pub fn push_escaped(
     alloc: Global,
     text: &mut Text,
@@ -30,7 +30,7 @@ pub fn push_escaped(
     text.extend(digits.as_bytes())
 }
 
-/// Puts a byte behind a text, so that it stays in its line.
+/// Appends a byte, escaped if it would end the line.
 pub fn push_line_byte(alloc: Global, text: &mut Text, byte: u8) -> Result<(), AllocError>
     ensures { OnOk result (text.new ≡ text.old ++ line_byte byte) }
 {
@@ -43,7 +43,7 @@ pub fn push_line_byte(alloc: Global, text: &mut Text, byte: u8) -> Result<(), Al
     text.push(byte)
 }
 
-/// Puts bytes behind a text, so that they stay in its line.
+/// Appends bytes, escaped if they would end the line.
 pub fn push_line(alloc: Global, text: &mut Text, bytes: &[u8]) -> Result<(), AllocError>
     ensures { OnOk result (text.new ≡ text.old ++ line_text bytes.now) }
 {
@@ -53,7 +53,7 @@ pub fn push_line(alloc: Global, text: &mut Text, bytes: &[u8]) -> Result<(), All
     Ok(())
 }
 
-/// The line of the report of script `number` in a summary, with its file.
+/// Returns the line of script `number` in a summary, with its file.
 #[tactic(auto, unfolding(crate::specs::Line::summary_line))]
 pub fn summary_text(
     alloc: Global,

@@ -1,4 +1,4 @@
-//! Reports that are written one by one, so that memory that is refused to one costs no other its own.
+//! Writes reports one by one, so that memory refused to one report doesn't affect others.
 
 ghost use Rattle.std.specs.Prelude.{◌≡◌, ◌≤◌, ◌++◌, ◌&&◌, [], length, vec_capacity, IfOk};
 ghost use Rattle.session.specs.Spent.{memory_report};
@@ -16,14 +16,16 @@ use std::alloc::{AllocError, Global};
 use std::io::Write;
 use tcl_words::Text;
 
-/// What stands around the transcript in a report's part. A transcript that is told as it is is written from where it is.
+/// The texts before and after the transcript in a report's part. An unchanged transcript is written
+/// without copying it.
 #[derive(Drop)]
 struct Around {
     head: Text,
     tail: Text,
 }
 
-/// The part of a transcript that is written from where it is: in whole reports that aren't for terminals all of it, else nothing.
+/// Returns the bytes of a transcript that are written without copying it: all of it in whole
+/// reports that aren't for terminals, otherwise none.
 fn middle(format: Format, transcript: &[u8]) -> &[u8]
     ensures { result.now ≡ middle_of format transcript.now }
 {
@@ -39,7 +41,7 @@ fn middle(format: Format, transcript: &[u8]) -> &[u8]
 }
 
 impl Around {
-    /// Of the report of script `number`.
+    /// Returns the texts for the report of script `number`.
     fn of(alloc: Global, form: &Form, number: usize, report: &Report) -> Result<Around, AllocError>
         ensures { IfOk result (λ a. a.head ++ middle_of form.now.format report.now.transcript ++ a.tail ≡ part_bytes form.now number report.now) }
     {
@@ -60,7 +62,7 @@ impl Around {
         }
     }
 
-    /// Writes it with what is between.
+    /// Writes both texts, with `middle` between them.
     fn write<W: Write>(&self, middle: &[u8], out: &mut Counted<W>) -> Result<(), Unwritten>
         requires failures { out.old.failures ≡ 0 }
         requires calls { out.old.calls ≤ 1099511627776 }
@@ -76,8 +78,8 @@ impl Around {
     }
 }
 
-/// Writes the part of script `number`'s report; where memory for its text is refused, the spare one, which is that of a script that was
-/// refused memory. The answer is the ending that was told.
+/// Writes the part of script `number`'s report, and returns the ending that was written. If the
+/// part is refused memory, writes the spare part: that of a script that was refused memory.
 fn write_report<W: Write>(
     alloc: Global,
     form: &Form,
@@ -109,8 +111,8 @@ fn both(first: bool, second: bool) -> bool
     first && second
 }
 
-/// Writes the parts of reports in order, the first of which is of script 1. Where memory for the text of one is refused, the spare one of its
-/// script is written in its place, and nothing else changes. The answer says whether all that was written ends with status 0.
+/// Writes the parts of reports in order, beginning with script 1. If a part is refused memory,
+/// writes the spare part of its script instead. Returns whether all written endings are status 0.
 fn write_parts<W: Write>(
     alloc: Global,
     form: &Form,
@@ -138,7 +140,7 @@ fn write_parts<W: Write>(
     Ok(well)
 }
 
-/// Writes what stands behind the parts of reports with these endings. It allocates nothing.
+/// Writes the text after the parts of reports with these endings. It does not allocate.
 fn write_closing<W: Write>(
     format: Format,
     endings: &[Ending],
@@ -159,8 +161,8 @@ fn write_closing<W: Write>(
     }
 }
 
-/// Writes reports in order, the first of which is of script 1, in a form. Where memory for the text of one is refused, the spare one of its
-/// script is written in its place, and nothing else changes. The answer says whether all that was written ends with status 0.
+/// Writes reports in a form, in order, beginning with script 1. If a part is refused memory, writes
+/// the spare part of its script instead. Returns whether all written endings are status 0.
 pub fn write_reports<W: Write>(
     alloc: Global,
     form: &Form,

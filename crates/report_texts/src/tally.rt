@@ -1,4 +1,4 @@
-//! How many scripts ended in which way.
+//! Counts scripts by their endings.
 
 ghost use Rattle.std.specs.Prelude.{◌≡◌, ◌≤◌, ◌++◌, ◌∷◌, [], length};
 ghost use Rattle.std.specs.Fmt.{decimal};
@@ -13,7 +13,7 @@ use itoa::Buffer;
 use session::Ending;
 use std::io::Write;
 
-/// The ways to end that a summary counts.
+/// The kinds of endings that a summary counts.
 #[derive(Clone, Copy)]
 pub enum Kind {
     /// With status 0.
@@ -27,7 +27,7 @@ pub enum Kind {
     Waiting,
 }
 
-/// Whether an ending is of a kind.
+/// Returns whether an ending is of a kind.
 fn is_of(kind: Kind, ending: Ending) -> bool
     ensures { result ≡ is_of_kind kind ending }
 {
@@ -42,7 +42,7 @@ fn is_of(kind: Kind, ending: Ending) -> bool
     }
 }
 
-/// How many endings are of a kind.
+/// Returns the number of endings of a kind.
 fn how_many(kind: Kind, endings: &[Ending]) -> usize
     ensures { result ≡ how_many_are kind endings.now }
 {
@@ -55,7 +55,7 @@ fn how_many(kind: Kind, endings: &[Ending]) -> usize
     count
 }
 
-/// What stands before the count of a kind.
+/// Returns the label before the count of a kind.
 fn label(kind: Kind) -> &'static [u8]
     ensures { result.now ≡ kind_label kind }
 {
@@ -70,7 +70,7 @@ fn label(kind: Kind) -> &'static [u8]
     }
 }
 
-/// Writes a label and a number. It allocates nothing.
+/// Writes a label and a number. It does not allocate.
 #[tactic(auto, unfolding(crate::specs::Report::labelled))]
 fn write_labelled<W: Write>(
     label: &[u8],
@@ -88,7 +88,7 @@ fn write_labelled<W: Write>(
     write_all(out, digits.format(number).as_bytes())
 }
 
-/// Writes how many endings are of a kind.
+/// Writes the number of endings of a kind.
 fn write_kind<W: Write>(
     kind: Kind,
     endings: &[Ending],
@@ -101,7 +101,7 @@ fn write_kind<W: Write>(
     write_labelled(label(kind), how_many(kind, endings), out)
 }
 
-/// Writes for each of these kinds how many endings are of it.
+/// Writes the number of endings for each of these kinds.
 fn write_kinds<W: Write>(
     kinds: &[Kind],
     endings: &[Ending],
@@ -119,7 +119,7 @@ fn write_kinds<W: Write>(
     Ok(())
 }
 
-/// Writes the line of counts of scripts with these endings. It allocates nothing.
+/// Writes the line of counts of scripts with these endings. It does not allocate.
 pub fn write_counts<W: Write>(endings: &[Ending], out: &mut Counted<W>) -> Result<(), Unwritten>
     requires failures { out.old.failures ≡ 0 }
     requires calls { out.old.calls ≤ 1099511627776 }

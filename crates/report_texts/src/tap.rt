@@ -9,7 +9,7 @@ use session::{Ending, Report};
 use std::alloc::{AllocError, Global};
 use tcl_words::Text;
 
-/// Puts a byte of a test's name behind a text.
+/// Appends a byte of a test's name.
 fn push_name_byte(alloc: Global, text: &mut Text, byte: u8) -> Result<(), AllocError>
     ensures { OnOk result (text.new ≡ text.old ++ name_byte byte) }
 {
@@ -19,7 +19,7 @@ fn push_name_byte(alloc: Global, text: &mut Text, byte: u8) -> Result<(), AllocE
     push_line_byte(alloc, text, byte)
 }
 
-/// Puts a test's name behind a text.
+/// Appends the name of a test.
 fn push_name(alloc: Global, text: &mut Text, name: &[u8]) -> Result<(), AllocError>
     ensures { OnOk result (text.new ≡ text.old ++ name_text name.now) }
 {
@@ -29,7 +29,7 @@ fn push_name(alloc: Global, text: &mut Text, name: &[u8]) -> Result<(), AllocErr
     Ok(())
 }
 
-/// The version, and the plan of so many tests.
+/// Returns the version, and the plan for this number of tests.
 #[tactic(auto, unfolding(crate::specs::Tap::plan))]
 pub fn plan_text(alloc: Global, count: usize) -> Result<Text, AllocError>
     ensures { IfOk result (λ t. t ≡ plan count) }
@@ -41,7 +41,7 @@ pub fn plan_text(alloc: Global, count: usize) -> Result<Text, AllocError>
     Ok(text)
 }
 
-/// Puts a test that is passed behind a text.
+/// Appends a test that passed.
 #[tactic(auto, unfolding(crate::specs::Tap::passed))]
 fn push_passed(alloc: Global, text: &mut Text, file: &[u8], number: usize) -> Result<(), AllocError>
     ensures { OnOk result (text.new ≡ text.old ++ passed file.now number) }
@@ -52,7 +52,7 @@ fn push_passed(alloc: Global, text: &mut Text, file: &[u8], number: usize) -> Re
     text.push(b'\n')
 }
 
-/// Puts a test that isn't passed behind a text, with the ending of its script.
+/// Appends a test that failed, with the ending of its script.
 #[tactic(auto, unfolding(crate::specs::Tap::not_passed))]
 fn push_not_passed(
     alloc: Global,
@@ -71,7 +71,7 @@ fn push_not_passed(
     text.push(b'\n')
 }
 
-/// Puts the text of an error behind a text, as a diagnostic.
+/// Appends the text of an error, as a diagnostic.
 fn push_diagnostic(
     alloc: Global,
     text: &mut Text,
@@ -94,7 +94,7 @@ fn push_diagnostic(
     }
 }
 
-/// The test of script `number`, with its file: whether it ended with status 0.
+/// Returns the test of script `number`, with its file. It passes if the script ended with status 0.
 pub fn test_text(
     alloc: Global,
     file: &[u8],

@@ -11,16 +11,16 @@ use session::{Ending, Report};
 use std::alloc::{AllocError, Global};
 use tcl_words::Text;
 
-/// What a report's text has behind its transcript and its fault.
+/// The optional parts of a report, which follow its transcript and its error.
 #[derive(Clone, Copy)]
 pub struct Shown {
-    /// The global variables, where the script's settings have them told.
+    /// The global variables, if the script's settings include them.
     pub vars: bool,
-    /// What was asked of the children.
+    /// The requests to the children.
     pub requests: bool,
 }
 
-/// Puts a label and a number behind a text.
+/// Appends a label and a number.
 #[tactic(auto, unfolding(crate::specs::Report::labelled))]
 pub fn push_labelled(
     alloc: Global,
@@ -56,7 +56,7 @@ fn push_ended(alloc: Global, text: &mut Text, ending: Ending) -> Result<(), Allo
     push_ending(alloc, text, ending)
 }
 
-/// The sum of counts. Even of the longest slice it is below the greatest `u128`.
+/// Returns the sum of counts. It can't overflow.
 pub fn total(counts: &[u64]) -> u128
     ensures { result ≡ sum counts.now }
 {
@@ -67,7 +67,7 @@ pub fn total(counts: &[u64]) -> u128
     total
 }
 
-/// Puts what the first line of the report of script `number` says behind a text.
+/// Appends the words of the first line of script `number`'s report.
 #[tactic(auto, unfolding(crate::specs::Report::head_words))]
 pub fn push_head(
     alloc: Global,
@@ -89,7 +89,7 @@ pub fn push_head(
     )
 }
 
-/// Puts the text of an error, which has so many bytes and is told so, behind a text.
+/// Appends the error of a report: the length of its text in bytes, and the text as it is written.
 fn push_fault(
     alloc: Global,
     text: &mut Text,
@@ -114,7 +114,7 @@ fn push_fault(
     }
 }
 
-/// Puts bytes in hexadecimal behind a text, or a dash for none.
+/// Appends bytes in hexadecimal, or `-` if there are none.
 pub(crate) fn push_hex(alloc: Global, text: &mut Text, bytes: &[u8]) -> Result<(), AllocError>
     ensures { OnOk result (text.new ≡ text.old ++ hex_text bytes.now) }
 {
@@ -159,7 +159,7 @@ fn push_shown_vars(
     push_vars(alloc, text, vars)
 }
 
-/// The text of the report of script `number` up to its transcript.
+/// Returns the text of script `number`'s report up to its transcript.
 pub fn head_text(alloc: Global, number: usize, report: &Report) -> Result<Text, AllocError>
     ensures { IfOk result (λ t. t ≡ head_line number report.now) }
 {
@@ -169,7 +169,7 @@ pub fn head_text(alloc: Global, number: usize, report: &Report) -> Result<Text, 
     Ok(text)
 }
 
-/// The text of a report behind its transcript, where the text of an error is told so, with what is shown of it.
+/// Returns the text of a report after its transcript, with the text of an error as it is written.
 pub fn tail_text(
     alloc: Global,
     shown: Shown,
@@ -186,7 +186,7 @@ pub fn tail_text(
     Ok(text)
 }
 
-/// The text of the report of script `number`, with what is shown of it.
+/// Returns the text of script `number`'s report.
 pub fn report_text(
     alloc: Global,
     shown: Shown,
@@ -202,7 +202,7 @@ pub fn report_text(
     Ok(text)
 }
 
-/// The text of the report of script `number` without its transcript, with what is shown of it.
+/// Returns the text of script `number`'s report without its transcript.
 pub fn bare_text(
     alloc: Global,
     shown: Shown,
@@ -217,7 +217,7 @@ pub fn bare_text(
     Ok(text)
 }
 
-/// The text of the report of script `number` for a terminal, with what is shown of it.
+/// Returns the text of script `number`'s report for a terminal.
 pub fn escaped_text(
     alloc: Global,
     shown: Shown,
@@ -235,7 +235,7 @@ pub fn escaped_text(
     Ok(text)
 }
 
-/// Whether it is an end with status 0.
+/// Returns whether it is an exit with status 0.
 pub fn is_done(ending: Ending) -> bool
     ensures { result ≡ is_done_of ending }
 {

@@ -1,4 +1,5 @@
--- The scripts in brackets of a text, and of the operands of an expression's text, which end at a place of the source.
+-- The scripts in brackets of a text, and in the operands of an expression. The text ends at a given position of the
+-- source.
 use Rattle.std.specs.Prelude.{ℕ, ◌-◌, ◌==◌, ◌&&◌, ◌||◌, if◌then◌else◌, List, [], ◌∷◌, ◌++◌, drop, take}
 use Rattle.tcl_words.specs.Bytes as ascii
 use Rattle.tcl_words.specs.Course.{reading}
@@ -7,11 +8,11 @@ use Rattle.script_check.specs.declared.span.Span.{Span}
 use Rattle.script_check.specs.Stretches.{place, begins_with, from_to}
 use Rattle.script_check.specs.Placed.{taken}
 
--- what was found at a place, and what is found behind it and the bytes that belong to it
+-- The scripts found at a position, followed by those after it and its bytes.
 abbrev pub and_behind : (ℕ → List Span) → List Span × ℕ → List Span
 and_behind on found = found.0 ++ on found.1
 
--- the script of a bracket at the front of a text, and how many bytes behind the first one belong to what stands there
+-- The script of a bracket at the front of a text, and the number of bytes after the first one that belong to the token.
 abbrev pub bracket_at : ℕ → ℕ → List ℕ → List Span × ℕ
 bracket_at end b text =
     if b == ascii.open_bracket then (from_to end (drop 1 text) (drop (taken (operand text) - 2) (drop 1 text)) ∷ [], taken (operand text) - 1)
@@ -25,7 +26,7 @@ bracket_step end on b bytes = and_behind on (bracket_at end b (b ∷ bytes))
 unfoldable pub brackets : ℕ → List ℕ → List Span
 brackets end = reading [] (bracket_step end)
 
--- the scripts in an operand, but for one in braces, and how many bytes behind the first one belong to what stands there
+-- The scripts in an operand, except in braces, and the number of bytes after the first one that belong to the operand.
 abbrev pub operand_at : ℕ → ℕ → List ℕ → List Span × ℕ
 operand_at end b text =
     if b == ascii.open_brace then ([], taken (operand text) - 1)

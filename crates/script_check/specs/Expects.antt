@@ -17,7 +17,7 @@ use Rattle.script_check.specs.Stretches.{part, inside, begins_with}
 use Rattle.script_check.specs.Placed.{is_plainly}
 use Rattle.script_check.specs.Readings.{readings_in}
 
--- the words, where all are written plainly
+-- The words, if all are literal.
 abbrev pub plain_texts : List Placed → Option (List (List ℕ))
 plain_texts [] = Some []
 plain_texts (w ∷ ws) = option_and_then (λ text. option_map (λ texts. text ∷ texts) (plain_texts ws)) w.value
@@ -29,11 +29,12 @@ by_patterns texts (Err (fault.BadRegex at)) = Some (BadRegular (slice_index_or t
 by_patterns texts (Err fault.Refused) = None
 by_patterns texts (Err fault.Memory) = None
 
--- the first argument that exp_match reads as no flag, pattern or keyword, where all are written plainly
+-- The first argument that exp_match accepts neither as a flag nor as a pattern or keyword, if all are literal.
 abbrev pub expect_fault : List Placed → Option Problem
 expect_fault args = option_and_then (λ texts. by_patterns texts (patterns_of texts)) (plain_texts args)
 
--- An argument that is the list of all others, with the stretch of the words in it. Only one in braces stands in the source as it is.
+-- A single argument that is the list of all arguments, given as the range of its words. Only an argument in braces
+-- stands in the source as it is.
 
 abbrev pub is_braced : List ℕ → Placed → Bool
 is_braced source w = not w.expand && begins_with ascii.open_brace (part source w.span)
@@ -41,7 +42,7 @@ is_braced source w = not w.expand && begins_with ascii.open_brace (part source w
 abbrev pub list_span : List ℕ → Placed → Span
 list_span source w = if is_braced source w then inside w.span else record { from = 0; to = 0 }
 
--- an argument with a newline before the first byte that is no white space
+-- The argument has a newline before its first byte that isn't white space.
 abbrev pub is_list : List ℕ → Bool
 is_list [] = false
 is_list (b ∷ bs) = if b == ascii.newline then true else if is_white b then is_list bs else false
@@ -55,13 +56,13 @@ list_of source (name ∷ []) = None
 list_of source (name ∷ w ∷ []) = if is_plainly (codes "expect") name.value && is_listing w.value then Some (list_span source w) else None
 list_of source (name ∷ w ∷ other ∷ more) = None
 
--- the words of all commands, up to a malformed one, which is found
+-- The words of all commands, up to a malformed one, which becomes a finding.
 abbrev pub gathered : List Reading → List Placed × Option Finding
 gathered [] = ([], None)
 gathered (Malformed at f ∷ rs) = ([], Some (record { at = at; what = Broken f }))
 gathered (Command at words ∷ rs) = (words ++ (gathered rs).0, (gathered rs).1)
 
--- a command's words, with those of such a list in its place
+-- The words of a command. Such a list is replaced by its words.
 abbrev pub spread_by : List ℕ → List Placed → Option Span → List Placed × Option Finding
 spread_by source words None = (words, None)
 spread_by source words (Some s) = (take 1 words ++ (gathered (readings_in source s)).0, (gathered (readings_in source s)).1)

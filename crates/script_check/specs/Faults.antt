@@ -1,4 +1,5 @@
--- What is wrong with the arguments of a command by its row, where they are written plainly. A word that isn't, `None`, may be any word.
+-- The error in the arguments of a command, by the command's row, as far as they are literal. `None` stands for a word
+-- that isn't literal and may be any word.
 use Rattle.std.specs.Prelude.{ℕ, suc, Bool, true, false, List, [], ◌∷◌, length, codes, Option, Some, None, is_some, option_and_then, bytes_eq, if◌then◌else◌}
 use Rattle.tcl_words.specs.Bytes as ascii
 use Rattle.command_table.specs.declared.commands.Command.{Command}
@@ -27,7 +28,7 @@ wrong name = Some (WrongArgs name)
 abbrev pub counted : List ℕ → Count → ℕ → Option Problem
 counted name c n = if fits c n then None else wrong name
 
--- an option, and how many words stand behind it
+-- An option, and the number of words after it.
 abbrev pub if_counted : List ℕ → ℕ → List ℕ → Option Count → Option Problem
 if_counted name left option None = Some (BadOption option)
 if_counted name left option (Some c) = counted name c left
@@ -39,7 +40,7 @@ abbrev pub choice_fault : Command → List ℕ → List Placed → Option Proble
 choice_fault command name [] = wrong name
 choice_fault command name (option ∷ args) = if fits (row_of command).count (suc (length args)) then chosen command name (length args) option.value else wrong name
 
--- `on` is what is wrong behind this flag, where the id of an `-i` is due or not
+-- `on` gives the error after this flag; its argument tells whether the spawn id of an `-i` must follow.
 abbrev pub by_role : List ℕ → Count → ℕ → (Bool → Option Problem) → List ℕ → Role → Option Problem
 by_role name c left on w role.Word = counted name c (suc left)
 by_role name c left on w role.End = counted name c left
@@ -47,7 +48,7 @@ by_role name c left on w role.Alone = on false
 by_role name c left on w role.Id = on true
 by_role name c left on w role.Bad = Some (BadFlag w)
 
--- flags, and words behind them; `due`: the id of an `-i` is next
+-- Flags, followed by other words. `due` is true if the spawn id of an `-i` must follow.
 abbrev pub flagged : List ℕ → Flags → Count → Bool → List Placed → Option Problem
 flagged name f c true [] = wrong name
 flagged name f c true (w ∷ ws) = flagged name f c false ws
@@ -58,7 +59,7 @@ abbrev pub by_flags : List ℕ → Count → List Placed → Option Flags → Op
 by_flags name c args None = counted name c (length args)
 by_flags name c args (Some f) = flagged name f c false args
 
--- the stage behind words
+-- The stage after the words.
 abbrev pub last_stage : Stage → List Placed → Stage
 last_stage s [] = s
 last_stage s (w ∷ ws) = last_stage (step s w.value).1 ws
@@ -66,7 +67,7 @@ last_stage s (w ∷ ws) = last_stage (step s w.value).1 ws
 abbrev pub if_fault : List ℕ → List Placed → Option Problem
 if_fault name args = if is_short (last_stage Test args) then wrong name else None
 
--- a word where `stdout` may stand
+-- A word in the place of `stdout`.
 abbrev pub channel : Option (List ℕ) → Option Problem
 channel None = None
 channel (Some w) =
@@ -74,7 +75,7 @@ channel (Some w) =
     else if begins_with ascii.minus w then Some (BadFlag w)
     else Some (BadOption w)
 
--- puts ?-nonewline? ?stdout? text
+-- `puts ?-nonewline? ?stdout? text`.
 abbrev pub output_fault : List ℕ → List Placed → Option Problem
 output_fault name [] = wrong name
 output_fault name (text ∷ []) = None

@@ -1,4 +1,4 @@
--- The findings of a source: what is wrong with its commands and with those of the scripts in their words.
+-- The findings of a source: errors in its commands and in those of the scripts in their words.
 use Rattle.std.specs.Prelude.{ℕ, Bool, true, false, List, [], ◌∷◌, length, is_some, if◌then◌else◌}
 use Rattle.tcl_subst.specs.Entries.{Entries, find, with_entry}
 use Rattle.script_check.specs.declared.problem.Finding.{Finding}
@@ -8,18 +8,18 @@ use Rattle.script_check.specs.declared.sights.Sight.{Sight}
 use Rattle.script_check.specs.declared.sights.Sight.TheVariants.{Defines, Finds}
 use Rattle.script_check.specs.Sights.{sights}
 
--- the names of the procedures that are defined anywhere, in byte order
+-- The names of all procedures defined anywhere, in byte order.
 abbrev pub names_of : Entries Bool → List Sight → Entries Bool
 names_of names [] = names
 names_of names (Defines name ∷ ss) = names_of (with_entry name true names) ss
 names_of names (Finds f ∷ ss) = names_of names ss
 
--- a word that names no command may name a procedure
+-- A word that names no command may name a procedure.
 abbrev pub is_defined : Entries Bool → Problem → Bool
 is_defined names (NoCommand name) = is_some (find name names)
 is_defined names other = false
 
--- what is wrong of what is seen
+-- The errors in a list of errors and procedure definitions.
 abbrev pub reported : Entries Bool → List Sight → List Finding
 reported names [] = []
 reported names (Defines name ∷ ss) = reported names ss
@@ -28,6 +28,6 @@ reported names (Finds f ∷ ss) = if is_defined names f.what then reported names
 abbrev pub all_of : List Sight → List Finding
 all_of ss = reported (names_of [] ss) ss
 
--- at most 200 scripts stand in one another, as in a run
+-- At most 200 scripts nest, as in a run.
 unfoldable pub findings : List ℕ → List Finding
 findings source = all_of (sights 200 source (record { from = 0; to = length source }))

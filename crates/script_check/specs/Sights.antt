@@ -1,4 +1,4 @@
--- What is seen of a script and of those that stand in it: what is wrong, and which procedures are defined.
+-- What is in a script and in the scripts nested in it: errors and procedure definitions.
 use Rattle.std.specs.Prelude.{ℕ, zero, suc, List, [], ◌∷◌, ◌++◌, length, Option, Some, None, option_map, option_to_list, Result, Ok, Err, if◌then◌else◌}
 use Rattle.std.specs.List.{flat_map}
 use Rattle.tcl_expr.specs.declared.faults.ExprFault.{ExprFault}
@@ -28,11 +28,11 @@ use Rattle.script_check.specs.Faults.{fault_of}
 use Rattle.script_check.specs.Nested.{any_expanded, scripts_of}
 use Rattle.script_check.specs.Readings.{readings_in}
 
--- the command that begins at this place has a problem
+-- The command at this position has a problem.
 abbrev pub found : ℕ → Problem → List Sight
 found at p = Finds (record { at = at; what = p }) ∷ []
 
--- a text that is read as an expression
+-- A text that is read as an expression.
 abbrev pub by_parse : ℕ → List ℕ → Result Tree ExprFault → List Sight
 by_parse at text (Ok tree) = []
 by_parse at text (Err expr.TooDeep) = found at DeepExpression
@@ -46,12 +46,12 @@ abbrev pub formula_sight : ℕ → Option (List ℕ) → Kind → List Sight
 formula_sight at value Expression = parse_sight at value
 formula_sight at value other = []
 
--- the expressions among arguments
+-- The expressions among arguments.
 abbrev pub formula_sights : ℕ → Stage → List Placed → List Sight
 formula_sights at s [] = []
 formula_sights at s (w ∷ ws) = formula_sight at w.value (step s w.value).0 ++ formula_sights at (step s w.value).1 ws
 
--- expressions are looked at where the arguments are right otherwise
+-- Expressions are checked if the arguments are correct otherwise.
 abbrev pub by_fault : ℕ → Stage → List Placed → Option Problem → List Sight
 by_fault at s args (Some p) = found at p
 by_fault at s args None = formula_sights at s args
@@ -59,7 +59,7 @@ by_fault at s args None = formula_sights at s args
 abbrev pub judged : ℕ → Commands → List ℕ → List Placed → List Sight
 judged at c name args = if any_expanded args then [] else by_fault at (begin (row_of c).words (length args)) args (fault_of c name args)
 
--- what a `proc` defines
+-- The procedure that a `proc` defines.
 abbrev pub defined : Commands → List Placed → List Sight
 defined (Tcl tcl.Proc) (name ∷ args) = option_to_list (option_map Defines name.value)
 defined other args = []
@@ -72,21 +72,21 @@ abbrev pub named : ℕ → List Placed → Option (List ℕ) → List Sight
 named at args None = []
 named at args (Some name) = by_command at name args (command_of name)
 
--- what is seen of a command itself; one whose first word isn't written plainly isn't judged
+-- The errors and definitions of a command itself. A command whose first word isn't literal isn't checked.
 abbrev pub own : ℕ → List Placed → List Sight
 own at [] = []
 own at (name ∷ args) = named at args name.value
 
--- the scripts in a command's words stand behind where it begins; `inner` is what is seen of one
+-- The errors and definitions of a command, followed by those of the scripts in its words. `inner` gives the latter.
 abbrev pub command_sights : (Span → List Sight) → List ℕ → ℕ → List Placed × Option Finding → List Sight
 command_sights inner source at spread = own at spread.0 ++ flat_map inner (scripts_of source spread.0) ++ option_to_list (option_map Finds spread.1)
 
--- the arguments of an `expect` may stand in a list of them
+-- The arguments of an `expect` may be given as one list.
 abbrev pub reading_sights : (Span → List Sight) → List ℕ → Reading → List Sight
 reading_sights inner source (Malformed at f) = found at (Broken f)
 reading_sights inner source (Command at words) = command_sights inner source at (spread_by source words (list_of source words))
 
--- what is seen of a script that stands in so many others at most
+-- The errors and definitions of a script. `depth` is how many more scripts may nest.
 unfoldable pub sights : ℕ → List ℕ → Span → List Sight
 sights zero source s = found s.from TooDeep
 sights (suc depth) source s = flat_map (reading_sights (sights depth source) source) (readings_in source s)

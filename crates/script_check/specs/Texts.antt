@@ -6,7 +6,7 @@ use Rattle.script_check.specs.declared.problem.Problem.{Problem}
 use Rattle.script_check.specs.declared.problem.Problem.TheVariants.{Malformed, NoCommand, WrongArgs, BadOption, BadFlag, BadExpectFlag, BadRegular, BadExpression, DeepExpression, TooDeep}
 use Rattle.command_table.specs.Advice.{advice_for}
 
--- what to use in place of a command stands behind the text of its error
+-- The advice on what to use instead of a command follows the text of its error.
 abbrev pub instead_text : List ℕ → List ℕ → List ℕ
 instead_text text [] = text
 instead_text text (b ∷ bytes) = (text ++ codes ": ") ++ b ∷ bytes

@@ -1,4 +1,4 @@
-//! The scripts in brackets of a text, and of the operands of an expression.
+//! Finds the scripts in brackets of a text, and in the operands of an expression.
 
 ghost use Rattle.std.specs.Prelude.{◌≡◌, ◌++◌, IfOk, OnOk};
 ghost use Rattle.script_check.specs.Brackets.{bracket_at, brackets, operand_at, operands};
@@ -8,7 +8,8 @@ use crate::span::{Done, Span, Spans, Taken};
 use crate::stretch::{before, begins_with, behind, place};
 use std::alloc::{AllocError, Global};
 
-/// Appends the script of a bracket at the front of a text. Returns how many bytes after the first belong to what stands there.
+/// Appends the script of a bracket at the front of a text. Returns the number of bytes after the
+/// first one that belong to the token.
 fn bracket_at(alloc: Global, end: usize, b: u8, text: &[u8], out: &mut Spans) -> Taken
     ensures { IfOk result (λ n. (out.new.items ≡ out.old.items ++ (bracket_at end b text.now).0) × (n ≡ (bracket_at end b text.now).1)) }
 {
@@ -30,7 +31,7 @@ fn bracket_at(alloc: Global, end: usize, b: u8, text: &[u8], out: &mut Spans) ->
     Ok(0)
 }
 
-/// Appends the scripts in brackets of a text that ends at a place of the source.
+/// Appends the scripts in brackets of a text that ends at position `end` of the source.
 pub(crate) fn brackets(alloc: Global, end: usize, text: &[u8], out: &mut Spans) -> Done
     ensures { OnOk result (out.new.items ≡ out.old.items ++ brackets end text.now) }
 {
@@ -42,7 +43,8 @@ pub(crate) fn brackets(alloc: Global, end: usize, text: &[u8], out: &mut Spans) 
     Ok(())
 }
 
-/// Appends the scripts of the operand at the front of an expression's text. Returns how many bytes after the first belong to it.
+/// Appends the scripts of the operand at the front of an expression's text. Returns the number of
+/// bytes after the first one that belong to it.
 fn operand_at(alloc: Global, end: usize, b: u8, text: &[u8], out: &mut Spans) -> Taken
     ensures { IfOk result (λ n. (out.new.items ≡ out.old.items ++ (operand_at end b text.now).0) × (n ≡ (operand_at end b text.now).1)) }
 {
@@ -57,7 +59,8 @@ fn operand_at(alloc: Global, end: usize, b: u8, text: &[u8], out: &mut Spans) ->
     Ok(0)
 }
 
-/// Appends the scripts in the operands of an expression's text that ends at a place of the source.
+/// Appends the scripts in the operands of an expression's text that ends at position `end` of the
+/// source.
 pub(crate) fn operands(alloc: Global, end: usize, text: &[u8], out: &mut Spans) -> Done
     ensures { OnOk result (out.new.items ≡ out.old.items ++ operands end text.now) }
 {

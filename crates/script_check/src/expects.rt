@@ -1,4 +1,4 @@
-//! The arguments of `expect`.
+//! Checks the arguments of `expect`.
 
 ghost use Rattle.std.specs.Prelude.{◌≡◌, ◌++◌, [], ◌∷◌, IfOk, OnOk, option_map, slice_index_or};
 ghost use Rattle.exp_match.specs.Arguments.{Gives, patterns_of};
@@ -15,7 +15,7 @@ use std::alloc::{AllocError, Global};
 use tcl_values::Value;
 use tcl_words::{Text, is_white};
 
-/// The words, where all are written plainly.
+/// Returns the words, if all are literal.
 fn plain_texts(alloc: Global, words: &[Placed]) -> Result<Option<Vec<Value>>, AllocError>
     ensures { IfOk result (λ t. option_map (λ v. v.items) t ≡ plain_texts words.now) }
 {
@@ -31,7 +31,7 @@ fn plain_texts(alloc: Global, words: &[Placed]) -> Result<Option<Vec<Value>>, Al
     Ok(Some(texts))
 }
 
-/// Puts a text behind others, as a value.
+/// Appends a text as a value.
 fn push_text(texts: &mut Vec<Value>, alloc: Global, text: &Text) -> Done
     ensures { OnOk result (texts.new.items ≡ texts.old.items ++ text.now ∷ []) }
 {
@@ -39,7 +39,7 @@ fn push_text(texts: &mut Vec<Value>, alloc: Global, text: &Text) -> Done
     Ok(())
 }
 
-/// The text at an index.
+/// Returns the text at an index, or an empty text.
 fn text_at(alloc: Global, texts: &[Value], at: usize) -> Result<Text, AllocError>
     ensures { IfOk result (λ t. t ≡ slice_index_or texts.now at []) }
 {
@@ -49,7 +49,7 @@ fn text_at(alloc: Global, texts: &[Value], at: usize) -> Result<Text, AllocError
     }
 }
 
-/// What is wrong with arguments that are all written plainly.
+/// Checks arguments that are all literal.
 fn patterns_fault(alloc: Global, texts: &[Value]) -> Judged
     ensures { IfOk result (λ p. p ≡ by_patterns texts.now (patterns_of texts.now)) }
 {
@@ -66,7 +66,7 @@ fn patterns_fault(alloc: Global, texts: &[Value]) -> Judged
     }
 }
 
-/// What is wrong with the arguments of an `expect`. They are judged where all are written plainly.
+/// Checks the arguments of an `expect`, if all are literal.
 pub(crate) fn expect_fault(alloc: Global, args: &[Placed]) -> Judged
     ensures { IfOk result (λ p. p ≡ expect_fault args.now) }
 {
@@ -76,7 +76,7 @@ pub(crate) fn expect_fault(alloc: Global, args: &[Placed]) -> Judged
     }
 }
 
-/// Whether a word is written plainly, with a newline before its first byte that is no white space.
+/// Returns whether a word is literal, with a newline before its first byte that isn't white space.
 fn is_listing(word: &Placed) -> bool
     ensures { result ≡ is_listing word.now.value }
 {
@@ -96,15 +96,15 @@ fn is_listing(word: &Placed) -> bool
     false
 }
 
-/// Whether a word stands in braces.
+/// Returns whether a word is in braces.
 pub(crate) fn is_braced(source: &[u8], word: &Placed) -> bool
     ensures { result ≡ is_braced source.now word.now }
 {
     !word.expand && begins_with(b'{', part(source, word.span))
 }
 
-/// The stretch of the list of all arguments of an `expect`, if the command is one with such an argument. Only one in braces stands in the
-/// source as it is.
+/// Returns the range of the list of all arguments, if the command is an `expect` with such an
+/// argument. Only an argument in braces stands in the source as it is.
 fn list_of(source: &[u8], words: &[Placed]) -> Option<Span>
     ensures { result ≡ list_of source.now words.now }
 {
@@ -130,7 +130,7 @@ fn push_words(words: Words, out: &mut Vec<Placed>) -> Done
     Ok(())
 }
 
-/// Appends the words of all commands, up to a malformed one, which is what is found.
+/// Appends the words of all commands, up to a malformed one, which is returned as a finding.
 fn gather(readings: Vec<Reading>, out: &mut Vec<Placed>) -> Result<Option<Finding>, AllocError>
     ensures { IfOk result (λ f. (out.new.items ≡ out.old.items ++ (gathered readings.items).0) × (f ≡ (gathered readings.items).1)) }
 {
@@ -148,7 +148,8 @@ fn gather(readings: Vec<Reading>, out: &mut Vec<Placed>) -> Result<Option<Findin
     Ok(None)
 }
 
-/// The words of a command. If all arguments of an `expect` stand in a list, they are the words of the list, and what ends it early is found.
+/// Returns the words of a command. If all arguments of an `expect` are given as one list, these are
+/// the words of the list. An error that ends the list is returned as a finding.
 pub(crate) fn spread(
     alloc: Global,
     source: &[u8],

@@ -1,4 +1,4 @@
-//! What is wrong with the arguments of a command.
+//! Checks the arguments of a command.
 
 ghost use Rattle.std.specs.Prelude.{◌≡◌, false, IfOk};
 ghost use Rattle.script_check.specs.Faults.{wrong, counted, chosen, choice_fault, flagged, last_stage, channel, output_fault, fault_of};
@@ -13,17 +13,17 @@ use command_table::{
 use std::alloc::{AllocError, Global};
 use tcl_words::Text;
 
-/// What is wrong with arguments, if anything is.
+/// The error in arguments, or `None`.
 pub(crate) type Judged = Result<Option<Problem>, AllocError>;
 
-/// A command has too few or too many arguments.
+/// Returns the error that a command has too few or too many arguments.
 fn wrong(alloc: Global, name: &[u8]) -> Judged
     ensures { IfOk result (λ p. p ≡ wrong name.now) }
 {
     Ok(Some(Problem::WrongArgs(Text::from_slice(alloc, name)?)))
 }
 
-/// Judges the number of arguments.
+/// Checks the number of arguments.
 fn counted(alloc: Global, name: &[u8], count: Count, n: usize) -> Judged
     ensures { IfOk result (λ p. p ≡ counted name.now count n) }
 {
@@ -33,7 +33,8 @@ fn counted(alloc: Global, name: &[u8], count: Count, n: usize) -> Judged
     wrong(alloc, name)
 }
 
-/// Judges an option and the number of arguments after it. One that isn't written plainly isn't judged.
+/// Checks an option and the number of arguments after it. An option that isn't literal isn't
+/// checked.
 fn chosen(alloc: Global, command: Command, name: &[u8], option: &Placed, left: usize) -> Judged
     ensures { IfOk result (λ p. p ≡ chosen command name.now left option.now.value) }
 {
@@ -46,7 +47,7 @@ fn chosen(alloc: Global, command: Command, name: &[u8], option: &Placed, left: u
     }
 }
 
-/// Judges the arguments of a command whose first argument is an option.
+/// Checks the arguments of a command whose first argument is an option.
 fn choice_fault(alloc: Global, command: Command, name: &[u8], args: &[Placed]) -> Judged
     ensures { IfOk result (λ p. p ≡ choice_fault command name.now args.now) }
 {
@@ -61,7 +62,7 @@ fn choice_fault(alloc: Global, command: Command, name: &[u8], args: &[Placed]) -
     }
 }
 
-/// Judges flags, and the number of arguments after them.
+/// Checks flags, and the number of arguments after them.
 fn flagged(alloc: Global, name: &[u8], flags: Flags, count: Count, args: &[Placed]) -> Judged
     ensures { IfOk result (λ p. p ≡ flagged name.now flags count false args.now) }
 {
@@ -91,7 +92,7 @@ fn flagged(alloc: Global, name: &[u8], flags: Flags, count: Count, args: &[Place
     counted(alloc, name, count, 0)
 }
 
-/// The stage after the arguments of `if`.
+/// Returns the stage after the arguments of `if`.
 fn last_stage(stage: Stage, words: &[Placed]) -> Stage
     ensures { result ≡ last_stage stage words.now }
 {
@@ -104,7 +105,7 @@ fn last_stage(stage: Stage, words: &[Placed]) -> Stage
     stage
 }
 
-/// Judges a word where `stdout` may stand.
+/// Checks a word in the place of `stdout`.
 fn channel(alloc: Global, word: &Placed) -> Judged
     ensures { IfOk result (λ p. p ≡ channel word.now.value) }
 {
@@ -120,7 +121,7 @@ fn channel(alloc: Global, word: &Placed) -> Judged
     Ok(Some(Problem::BadOption(text.copied(alloc)?)))
 }
 
-/// `puts ?-nonewline? ?stdout? text`
+/// Checks `puts ?-nonewline? ?stdout? text`.
 fn output_fault(alloc: Global, name: &[u8], args: &[Placed]) -> Judged
     ensures { IfOk result (λ p. p ≡ output_fault name.now args.now) }
 {
@@ -136,7 +137,7 @@ fn output_fault(alloc: Global, name: &[u8], args: &[Placed]) -> Judged
     }
 }
 
-/// Judges the arguments of a command.
+/// Checks the arguments of a command.
 pub(crate) fn fault_of(alloc: Global, command: Command, name: &[u8], args: &[Placed]) -> Judged
     ensures { IfOk result (λ p. p ≡ fault_of command name.now args.now) }
 {

@@ -11,10 +11,10 @@ use std::alloc::{AllocError, Global};
 use std::marker::Model;
 use tcl_subst::Names;
 
-/// So many scripts may stand in one another, as in a run.
+/// The greatest nesting of scripts, as in a run.
 const DEEPEST: u8 = 200;
 
-/// What is wrong with a source, in the order of its places. A contract sees the list of it.
+/// The findings of a source, in the order of their positions. A contract sees a list.
 #[derive(Drop)]
 pub struct Findings {
     list: Vec<Finding>,
@@ -30,7 +30,7 @@ impl Model for Findings {
 }
 
 impl Findings {
-    /// The findings, in order.
+    /// Returns the findings, in order.
     pub fn as_slice(&self) -> &[Finding]
         ensures { result.now ≡ self.now }
     {
@@ -38,7 +38,7 @@ impl Findings {
     }
 }
 
-/// The names of the procedures that are defined.
+/// Returns the names of the procedures that are defined.
 fn names_of(alloc: Global, sights: &[Sight]) -> Result<Names<bool>, AllocError>
     ensures { IfOk result (λ n. n ≡ names_of [] sights.now) }
 {
@@ -53,7 +53,7 @@ fn names_of(alloc: Global, sights: &[Sight]) -> Result<Names<bool>, AllocError>
     Ok(names)
 }
 
-/// Whether it is nothing but that a word names no command, and the word names a procedure.
+/// Returns whether the problem is an unknown command whose name is that of a procedure.
 fn is_defined(names: &Names<bool>, problem: &Problem) -> bool
     ensures { result ≡ is_defined names.now problem.now }
 {
@@ -63,7 +63,7 @@ fn is_defined(names: &Names<bool>, problem: &Problem) -> bool
     }
 }
 
-/// What is wrong of what was seen.
+/// Returns the errors in a list of errors and procedure definitions.
 fn reported(alloc: Global, names: &Names<bool>, sights: Vec<Sight>) -> Result<Findings, AllocError>
     ensures { IfOk result (λ f. f ≡ reported names.now sights.items) }
 {
@@ -78,10 +78,11 @@ fn reported(alloc: Global, names: &Names<bool>, sights: Vec<Sight>) -> Result<Fi
     Ok(Findings { list })
 }
 
-/// What is wrong with a source as it is written, in the order of its places.
+/// Checks a source without running it. Returns its errors in the order of their positions.
 ///
-/// Words with substitutions aren't judged, and behind `{*}` the arguments aren't. Takes time linear in the length of the source
-/// for each depth of scripts in one another. A regular pattern that would become too big a program counts as want of memory, as in a run.
+/// Words with substitutions aren't checked, and neither are arguments if one of them stands after
+/// `{*}`. For each level of nested scripts, time is linear in the length of the source. A regular
+/// pattern whose program would be too big counts as refused memory, as in a run.
 #[tactic(auto, unfolding(crate::specs::Findings::findings))]
 pub fn check(alloc: Global, source: &[u8]) -> Result<Findings, AllocError>
     ensures { IfOk result (λ fs. fs ≡ findings source.now) }

@@ -1,10 +1,11 @@
-//! What is wrong with a script as it is written, found without running it.
+//! Finds errors in a script without running it.
 //!
-//! [`check`] reads a source whole, with the scripts that stand in its words, and lists what is wrong where the words are written
-//! plainly: malformed commands, words that name no command, numbers of arguments, flags, patterns and expressions. Each finding says
-//! at which byte of the source its command begins, and has the text that a run would end with.
+//! [`check`] reads a whole source, with the scripts in its words. It finds malformed commands and
+//! unknown commands, and errors in numbers of arguments, flags, patterns and expressions, as far as
+//! the words are literal. Each finding gives the position of its command in the source, and the
+//! text of the error that a run would end with.
 //!
-//! What the findings of a source are is defined in `specs/Findings`, over the commands that tcl_words reads.
+//! `specs/Findings` defines the findings of a source, over the commands that tcl_words reads.
 #![tactic(auto)]
 
 mod brackets;

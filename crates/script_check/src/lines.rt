@@ -6,16 +6,17 @@ ghost use Rattle.script_check.specs.Lines.{newlines, line_of};
 use crate::span::Span;
 use crate::stretch::part;
 
-/// How many newlines a stretch of the source has: so many lines further on is its end than its begin.
+/// Returns the number of newlines in a range of the source.
 pub fn newlines(source: &[u8], span: Span) -> usize
     ensures { result ≡ newlines source.now span }
 {
     part(source, span).iter().filter(|b| **b == b'\n').count()
 }
 
-/// The line of a place, counted from 1.
+/// Returns the line number of a position, counted from 1.
 ///
-/// Each call reads what stands before the place; behind a finding, `newlines` tells how many lines further on the next one is.
+/// It reads the whole source before the position. For a later finding, add `newlines` of the range
+/// between the two.
 pub fn line_of(source: &[u8], at: usize) -> usize
     ensures { result ≡ line_of source.now at }
 {

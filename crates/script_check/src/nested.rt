@@ -1,4 +1,4 @@
-//! The scripts that stand in the words of a command.
+//! Finds the scripts in the words of a command.
 
 ghost use Rattle.std.specs.Prelude.{◌≡◌, ◌++◌, IfOk, OnOk};
 ghost use Rattle.script_check.specs.Stretches.{inside};
@@ -13,7 +13,7 @@ use command_table::{Kind, Stage, begin, command_of, is, row_of, step, texts};
 use std::alloc::{AllocError, Global};
 use tcl_expr::{ExprFault, parse};
 
-/// The stretch of the script that a word is, where the source has it as it is read.
+/// Returns the range of the script that a word is, if the source contains it literally.
 fn script_at(source: &[u8], word: &Placed) -> Option<Span>
     ensures { result ≡ script_at source.now word.now }
 {
@@ -46,7 +46,7 @@ fn push_script(alloc: Global, source: &[u8], word: &Placed, out: &mut Spans) -> 
     }
 }
 
-/// Appends the scripts in brackets of an expression in braces. One that doesn't parse has none.
+/// Appends the scripts in brackets of an expression in braces. Appends none if it doesn't parse.
 fn push_formula(alloc: Global, source: &[u8], word: &Placed, out: &mut Spans) -> Done
     ensures { OnOk result (out.new.items ≡ out.old.items ++ formula_scripts source.now (inside word.now.span) word.now.value) }
 {
@@ -61,14 +61,15 @@ fn push_formula(alloc: Global, source: &[u8], word: &Placed, out: &mut Spans) ->
     }
 }
 
-/// Whether a word stands in braces, `{*}` before them or not, so that nothing in it is replaced.
+/// Returns whether a word is in braces, with or without `{*}` before them, so that nothing in it is
+/// substituted.
 fn is_enclosed(source: &[u8], word: &Placed) -> bool
     ensures { result ≡ is_enclosed source.now word.now }
 {
     begins_with(b'{', behind(part(source, word.span), mark(word.expand)))
 }
 
-/// Appends the scripts in a word, by what it is read as.
+/// Appends the scripts in a word, by the kind of the word.
 fn word_scripts(alloc: Global, source: &[u8], word: &Placed, kind: Kind, out: &mut Spans) -> Done
     ensures { OnOk result (out.new.items ≡ out.old.items ++ word_scripts source.now word.now kind) }
 {
@@ -95,14 +96,14 @@ fn nested(alloc: Global, source: &[u8], stage: Stage, args: &[Placed], out: &mut
     Ok(())
 }
 
-/// Whether any of the words stands behind `{*}`, so that nobody knows how many there are.
+/// Returns whether one of the words stands after `{*}`, so that the number of words is unknown.
 pub(crate) fn any_expanded(words: &[Placed]) -> bool
     ensures { result ≡ any_expanded words.now }
 {
     words.iter().any(|word| word.expand)
 }
 
-/// What may stand first among the arguments of a command.
+/// Returns the stage of the first argument of a command.
 pub(crate) fn stage_for(name: &Placed, args: &[Placed]) -> Stage
     ensures { result ≡ stage_for name.now.value args.now }
 {
@@ -115,7 +116,7 @@ pub(crate) fn stage_for(name: &Placed, args: &[Placed]) -> Stage
     }
 }
 
-/// The scripts that stand in the words of a command, in order.
+/// Returns the scripts in the words of a command, in order.
 pub(crate) fn scripts_of(
     alloc: Global,
     source: &[u8],

@@ -1,4 +1,4 @@
-//! The words of a command, where they stand in the source.
+//! The words of a command, with their positions in the source.
 
 ghost use Rattle.std.specs.Prelude.{◌≡◌, ◌≢◌, IfOk};
 ghost use Rattle.tcl_words.specs.Commands.{is_gap};
@@ -13,18 +13,18 @@ use std::alloc::{AllocError, Global};
 use std::marker::Model;
 use tcl_words::{Part, Text, Word, WordFault, ends_command, is_blank, is_continued, operand};
 
-/// A word of a command as it stands in the source.
+/// A word of a command, with its position in the source.
 #[derive(Drop)]
 pub struct Placed {
-    /// Where it stands, with what encloses it.
+    /// Its range, including quotes or braces.
     pub span: Span,
-    /// Whether it stands behind `{*}`.
+    /// Whether `{*}` stands before it.
     pub expand: bool,
-    /// What it is, where that is written plainly: without substitutions and not behind `{*}`.
+    /// Its text if it is literal: without substitutions and without `{*}` before it.
     pub value: Option<Text>,
 }
 
-/// The words of a command, in order. A contract sees the list of them.
+/// The words of a command, in order. A contract sees a list.
 #[derive(Drop)]
 pub struct Words {
     pub(crate) list: Vec<Placed>,
@@ -40,7 +40,7 @@ impl Model for Words {
 }
 
 impl Placed {
-    /// Tells whether it is written plainly and is this word.
+    /// Returns whether it is literal and is this word.
     pub(crate) fn is(&self, name: &[u8]) -> bool
         ensures { result ≡ is_plainly name.now self.now.value }
     {
@@ -52,7 +52,7 @@ impl Placed {
 }
 
 impl Words {
-    /// The words, in order.
+    /// Returns the words, in order.
     pub(crate) fn as_slice(&self) -> &[Placed]
         ensures { result.now ≡ self.now }
     {
@@ -60,20 +60,21 @@ impl Words {
     }
 }
 
-/// What stands before a word.
+/// The state before a word.
 #[derive(Clone, Copy, PartialEq, Eq)]
 pub enum Lead {
     /// White space and ends of commands.
     White,
-    /// A backslash, which the newline behind it belongs to.
+    /// A backslash before a newline.
     Continued,
     /// A comment.
     Comment,
-    /// A backslash in a comment, which the byte behind it belongs to.
+    /// A backslash in a comment. It belongs to the next byte.
     Quoted,
 }
 
-/// What goes on behind a byte before a word, or nothing where the word begins with it. A comment begins only where a command may.
+/// Returns the state after a byte before a word. `None` if the word begins with the byte. A comment
+/// begins only in the place of a command.
 fn next_lead(first: bool, lead: Lead, b: u8, rest: &[u8]) -> Option<Lead>
     ensures { result ≡ next_lead first lead b rest.now }
 {
@@ -90,7 +91,8 @@ fn next_lead(first: bool, lead: Lead, b: u8, rest: &[u8]) -> Option<Lead>
     }
 }
 
-/// What is left behind white space, and before a command's first word behind ends of commands and comments.
+/// Returns the rest after white space. Before a command's first word, ends of commands and comments
+/// are skipped too.
 pub(crate) fn behind_gap(first: bool, bytes: &[u8]) -> &[u8]
     ensures { result.now ≡ behind_gap first Lead.White bytes.now }
 {
@@ -106,7 +108,7 @@ pub(crate) fn behind_gap(first: bool, bytes: &[u8]) -> &[u8]
     rest
 }
 
-/// A fault that says something of the text.
+/// Returns an error of the text itself. Refused memory becomes an `AllocError`.
 pub(crate) fn told(fault: WordFault) -> Result<WordFault, AllocError>
     ensures { IfOk result (λ f. (f ≡ fault) × (fault ≢ WordFault.Memory)) }
 {
@@ -116,7 +118,7 @@ pub(crate) fn told(fault: WordFault) -> Result<WordFault, AllocError>
     }
 }
 
-/// How many bytes the operand at the front of a text takes; 1 where there is none.
+/// Returns the length of the operand at the front of a text, or 1 if there is none.
 #[tactic(auto, using(crate::proofs::Steps::fails_are))]
 pub(crate) fn taken(alloc: Global, text: &[u8]) -> Taken
     ensures { IfOk result (λ n. n ≡ taken (operand text.now)) }
@@ -131,7 +133,7 @@ pub(crate) fn taken(alloc: Global, text: &[u8]) -> Taken
     }
 }
 
-/// How many bytes behind the first one of a text belong to what stands there.
+/// Returns the number of bytes after the first one of a text that belong to its token.
 fn owned(alloc: Global, b: u8, text: &[u8]) -> Taken
     ensures { IfOk result (λ n. n ≡ owned b text.now) }
 {
@@ -144,14 +146,14 @@ fn owned(alloc: Global, b: u8, text: &[u8]) -> Taken
     Ok(0)
 }
 
-/// Whether a word without quotes or braces ends before a byte.
+/// Returns whether a word without quotes or braces ends before a byte.
 fn ends_word(b: u8, rest: &[u8]) -> bool
     ensures { result ≡ is_gap b rest.now }
 {
     is_blank(b) || ends_command(b) || is_continued(b, rest)
 }
 
-/// What is left behind a word without quotes or braces.
+/// Returns the rest after a word without quotes or braces.
 fn behind_bare(alloc: Global, bytes: &[u8]) -> Result<&[u8], AllocError>
     ensures { IfOk result (λ rest. rest.now ≡ behind_bare bytes.now) }
 {
@@ -166,14 +168,14 @@ fn behind_bare(alloc: Global, bytes: &[u8]) -> Result<&[u8], AllocError>
     Ok(rest)
 }
 
-/// How many bytes `{*}` before a word takes.
+/// Returns the length of `{*}` before a word.
 pub(crate) fn mark(expand: bool) -> usize
     ensures { result ≡ mark expand }
 {
     if expand { 3 } else { 0 }
 }
 
-/// What is left behind a word.
+/// Returns the rest after a word.
 fn behind_word(alloc: Global, expand: bool, text: &[u8]) -> Result<&[u8], AllocError>
     ensures { IfOk result (λ rest. rest.now ≡ behind_word expand text.now) }
 {
@@ -184,7 +186,7 @@ fn behind_word(alloc: Global, expand: bool, text: &[u8]) -> Result<&[u8], AllocE
     behind_bare(alloc, text)
 }
 
-/// What a part is, where it is a literal.
+/// Returns the text of a part that is a literal.
 fn literal(alloc: Global, part: &Part) -> Result<Option<Text>, AllocError>
     ensures { IfOk result (λ v. v ≡ literal_alone (part_view part.now)) }
 {
@@ -196,7 +198,7 @@ fn literal(alloc: Global, part: &Part) -> Result<Option<Text>, AllocError>
     }
 }
 
-/// What a word is, where it is written plainly.
+/// Returns the text of a word that is literal.
 fn plain_value(alloc: Global, word: &Word) -> Result<Option<Text>, AllocError>
     ensures { IfOk result (λ v. v ≡ plain_value (word_view word.now)) }
 {
@@ -210,7 +212,7 @@ fn plain_value(alloc: Global, word: &Word) -> Result<Option<Text>, AllocError>
     }
 }
 
-/// The words of a command that a text begins with, which ends at a place of the source.
+/// Returns the words of a command at the front of a text that ends at position `end` of the source.
 pub(crate) fn placed_words(
     alloc: Global,
     end: usize,

@@ -1,4 +1,4 @@
-//! What is wrong, and its text.
+//! The errors that a check finds, and their texts.
 
 ghost use Rattle.std.specs.Prelude.{◌≡◌, IfOk};
 ghost use Rattle.script_check.specs.Texts.{no_command, text_of};
@@ -9,41 +9,42 @@ use tcl_commands::{bad_option, expr_fault, quoted, too_deep, word_fault, wrong_a
 use tcl_expr::ExprFault;
 use tcl_words::{Text, WordFault};
 
-/// What is wrong with a command.
+/// An error of a command.
 #[derive(Drop)]
 pub enum Problem {
-    /// It is malformed.
+    /// The command is malformed.
     Malformed(WordFault),
-    /// Its first word, this one, names no command and no procedure of the source.
+    /// The first word names neither a command nor a procedure of the source.
     NoCommand(Text),
-    /// It has too few or too many arguments. This is its first word.
+    /// Too few or too many arguments for the command with this name.
     WrongArgs(Text),
-    /// This word is none of its options.
+    /// This word is no option of the command.
     BadOption(Text),
-    /// This word is none of its flags.
+    /// This word is no flag of the command.
     BadFlag(Text),
-    /// This word is no flag of `expect`, or one with nothing behind it.
+    /// This word is no flag of `expect`, or a flag without its argument.
     BadExpectFlag(Text),
     /// This word is no regular pattern.
     BadRegular(Text),
     /// This text is no expression.
     BadExpression(Text),
-    /// An expression has too much in one another.
+    /// An expression nests too deep.
     DeepExpression,
-    /// A script stands in more than 200 others. It was not read.
+    /// A script inside more than 200 others. It was not read.
     TooDeep,
 }
 
-/// Something that is wrong, and where.
+/// A finding: an error and its position.
 #[derive(Drop)]
 pub struct Finding {
-    /// The byte of the source at which the command begins.
+    /// The position of the command in the source, in bytes.
     pub at: usize,
-    /// What is wrong with it.
+    /// The error.
     pub what: Problem,
 }
 
-/// A word names no command. Behind the text stands what to use in its place, where that is known.
+/// Returns the text for an unknown command, followed by advice on what to use instead, if there is
+/// any.
 fn no_command(alloc: Global, name: &[u8]) -> Result<Text, AllocError>
     ensures { IfOk result (λ t. t ≡ no_command name.now) }
 {
@@ -57,7 +58,8 @@ fn no_command(alloc: Global, name: &[u8]) -> Result<Text, AllocError>
 }
 
 impl Problem {
-    /// The text of the error that a run would end with, and behind an unknown command's what to use in its place, where that is known.
+    /// Returns the text of the error that a run would end with. For an unknown command, advice on
+    /// what to use instead follows, if there is any.
     pub fn text(&self, alloc: Global) -> Result<Text, AllocError>
         ensures { IfOk result (λ t. t ≡ text_of self.now) }
     {

@@ -1,4 +1,4 @@
-//! The commands of a script, where they stand in the source.
+//! Reads the commands of a script, with their positions in the source.
 
 ghost use Rattle.std.specs.Prelude.{◌≡◌, IfOk};
 ghost use Rattle.tcl_words.specs.Pieces.{command_view};
@@ -10,23 +10,23 @@ use crate::stretch::{behind, part, place};
 use std::alloc::{AllocError, Global};
 use tcl_words::{Command, WordFault, next_command};
 
-/// What was read of a script.
+/// A command of a script.
 #[derive(Drop)]
 pub enum Reading {
-    /// A command: where it begins, and its words, at least one.
+    /// A command: its position, and its words, at least one.
     Command(usize, Words),
-    /// A malformed command: where it begins, and why. It is the last that was read.
+    /// A malformed command: its position, and the error. It is the last command.
     Malformed(usize, WordFault),
 }
 
-/// What is left of a text from the begin of its next command on.
+/// Returns the rest of a text from its next command on.
 pub fn begin_of(text: &[u8]) -> &[u8]
     ensures { result.now ≡ begin_of text.now }
 {
     behind_gap(true, text)
 }
 
-/// The command of a text that ends at a place of the source.
+/// Reads the command of a text that ends at position `end` of the source.
 fn command_in(
     alloc: Global,
     end: usize,
@@ -40,7 +40,7 @@ fn command_in(
     Ok(Reading::Command(place(end, begin), words))
 }
 
-/// What is read of a text that ends at a place of the source.
+/// Reads the commands of a text that ends at position `end` of the source.
 fn read(alloc: Global, end: usize, text: &[u8]) -> Result<Vec<Reading>, AllocError>
     ensures { IfOk result (λ v. v.items ≡ readings end text.now) }
 {
@@ -63,7 +63,7 @@ fn read(alloc: Global, end: usize, text: &[u8]) -> Result<Vec<Reading>, AllocErr
     Ok(list)
 }
 
-/// What is read of the script that is a stretch of the source.
+/// Reads the commands of the script in a range of the source.
 pub(crate) fn readings_in(
     alloc: Global,
     source: &[u8],

@@ -1,4 +1,4 @@
-//! What is seen of a script and of those that stand in it: what is wrong, and which procedures are defined.
+//! Collects errors and procedure definitions from a script and the scripts nested in it.
 
 ghost use Rattle.std.specs.Prelude.{◌≡◌, ◌++◌, IfOk, OnOk};
 ghost use Rattle.std.specs.List.{flat_map};
@@ -17,19 +17,19 @@ use std::alloc::{AllocError, Global};
 use tcl_expr::{ExprFault, parse};
 use tcl_words::Text;
 
-/// What is seen, in order.
+/// Errors and procedure definitions, in order.
 pub(crate) type Seen = Vec<Sight>;
 
-/// What is seen.
+/// An error or a definition.
 #[derive(Drop)]
 pub enum Sight {
-    /// A procedure of this name is defined.
+    /// A procedure with this name is defined.
     Defines(Text),
-    /// Something is wrong.
+    /// An error.
     Finds(Finding),
 }
 
-/// Appends what is wrong.
+/// Appends an error.
 fn push_found(at: usize, what: Problem, out: &mut Seen) -> Done
     ensures { OnOk result (out.new.items ≡ out.old.items ++ found at what) }
 {
@@ -37,7 +37,7 @@ fn push_found(at: usize, what: Problem, out: &mut Seen) -> Done
     Ok(())
 }
 
-/// Appends what is wrong with an expression.
+/// Appends the error of an expression, if it has one.
 fn push_parsed(alloc: Global, at: usize, word: &Placed, out: &mut Seen) -> Done
     ensures { OnOk result (out.new.items ≡ out.old.items ++ parse_sight at word.now.value) }
 {
@@ -52,7 +52,7 @@ fn push_parsed(alloc: Global, at: usize, word: &Placed, out: &mut Seen) -> Done
     }
 }
 
-/// Appends what is wrong with the expressions among arguments.
+/// Appends the errors of the expressions among arguments.
 fn formula_sights(alloc: Global, at: usize, stage: Stage, args: &[Placed], out: &mut Seen) -> Done
     ensures { OnOk result (out.new.items ≡ out.old.items ++ formula_sights at stage args.now) }
 {
@@ -69,7 +69,7 @@ fn formula_sights(alloc: Global, at: usize, stage: Stage, args: &[Placed], out: 
     Ok(())
 }
 
-/// Appends what is wrong with the arguments of a command.
+/// Appends the errors in the arguments of a command.
 fn judge(
     alloc: Global,
     at: usize,
@@ -105,7 +105,8 @@ fn push_defined(alloc: Global, command: Command, args: &[Placed], out: &mut Seen
     Ok(())
 }
 
-/// Appends what is seen of a command itself. One whose first word isn't written plainly isn't judged.
+/// Appends the errors and definitions of a command itself. A command whose first word isn't literal
+/// isn't checked.
 fn push_own(alloc: Global, at: usize, words: &[Placed], out: &mut Seen) -> Done
     ensures { OnOk result (out.new.items ≡ out.old.items ++ own at words.now) }
 {
@@ -124,7 +125,7 @@ fn push_own(alloc: Global, at: usize, words: &[Placed], out: &mut Seen) -> Done
     }
 }
 
-/// Appends what is seen of scripts.
+/// Appends the errors and definitions of scripts.
 #[cycle(see)]
 fn see_all(alloc: Global, source: &[u8], spans: &[Span], depth: u8, out: &mut Seen) -> Done
     ensures { OnOk result (out.new.items ≡ out.old.items ++ flat_map (sights depth source.now) spans.now) }
@@ -137,7 +138,7 @@ fn see_all(alloc: Global, source: &[u8], spans: &[Span], depth: u8, out: &mut Se
     Ok(())
 }
 
-/// Appends what is seen of a command and of the scripts in its words.
+/// Appends the errors and definitions of a command and of the scripts in its words.
 #[cycle(see)]
 fn see_one(alloc: Global, source: &[u8], at: usize, words: Words, depth: u8, out: &mut Seen) -> Done
     ensures { OnOk result (out.new.items ≡ out.old.items ++ command_sights (sights depth source.now) source.now at (spread_by source.now words (list_of source.now words))) }
@@ -152,7 +153,7 @@ fn see_one(alloc: Global, source: &[u8], at: usize, words: Words, depth: u8, out
     Ok(())
 }
 
-/// Appends what is seen of a script, in which so many may stand in one another.
+/// Appends the errors and definitions of a script. `depth` is how many more scripts may nest.
 #[cycle(see)]
 #[tactic(auto, unfolding(crate::specs::Sights::sights))]
 pub(crate) fn sights(alloc: Global, source: &[u8], span: Span, depth: u8, out: &mut Seen) -> Done
@@ -165,7 +166,7 @@ pub(crate) fn sights(alloc: Global, source: &[u8], span: Span, depth: u8, out: &
     see_script(alloc, source, readings, depth - 1, out)
 }
 
-/// Appends what is seen of all that was read of a script.
+/// Appends the errors and definitions of the commands that were read.
 #[cycle(see)]
 fn see_script(alloc: Global, source: &[u8], read: Vec<Reading>, depth: u8, out: &mut Seen) -> Done
     ensures { OnOk result (out.new.items ≡ out.old.items ++ flat_map (reading_sights (sights depth source.now) source.now) read.items) }

@@ -1,20 +1,20 @@
-//! Stretches of a source, and how functions end that need memory alone.
+//! Ranges of a source, and result types.
 
 use std::alloc::AllocError;
 
-/// A stretch of a source.
+/// A range of a source.
 #[derive(Clone, Copy, PartialEq, Eq)]
 pub struct Span {
-    /// The place of its first byte.
+    /// The position of its first byte.
     pub from: usize,
-    /// The place behind its last byte.
+    /// The position after its last byte.
     pub to: usize,
 }
 
-/// Stretches, in order.
+/// Ranges, in order.
 pub(crate) type Spans = Vec<Span>;
 
-/// What a function gives that appends, or allocates.
+/// The result of a function that appends or allocates.
 pub(crate) type Done = Result<(), AllocError>;
 
 /// A number of bytes.

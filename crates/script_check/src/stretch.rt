@@ -1,11 +1,11 @@
-//! The bytes of a stretch, and what stands where.
+//! The bytes of a range, and positions.
 
 ghost use Rattle.std.specs.Prelude.{◌≡◌, ◌-◌, drop, take, length};
 ghost use Rattle.script_check.specs.Stretches.{begins_with, part, inside};
 
 use crate::span::Span;
 
-/// The bytes from a place on, none where there are no more.
+/// Returns the bytes from index n on. Empty past the end.
 pub(crate) fn behind(bytes: &[u8], n: usize) -> &[u8]
     ensures { result.now ≡ drop n bytes.now }
 {
@@ -16,7 +16,7 @@ pub(crate) fn behind(bytes: &[u8], n: usize) -> &[u8]
     }
 }
 
-/// The bytes before a place.
+/// Returns the first n bytes, or all of them.
 pub(crate) fn before(bytes: &[u8], n: usize) -> &[u8]
     ensures { result.now ≡ take n bytes.now }
 {
@@ -27,14 +27,14 @@ pub(crate) fn before(bytes: &[u8], n: usize) -> &[u8]
     }
 }
 
-/// The bytes of a stretch.
+/// Returns the bytes in a range.
 pub(crate) fn part(source: &[u8], span: Span) -> &[u8]
     ensures { result.now ≡ part source.now span }
 {
     before(behind(source, span.from), span.to.saturating_sub(span.from))
 }
 
-/// A stretch without its first and its last byte.
+/// Returns a range without its first and its last byte.
 pub(crate) fn inside(span: Span) -> Span
     ensures { result ≡ inside span }
 {
@@ -48,14 +48,14 @@ pub(crate) fn inside(span: Span) -> Span
     }
 }
 
-/// Where a text begins that ends at a place.
+/// Returns the position of a text that ends at `end`.
 pub(crate) fn place(end: usize, text: &[u8]) -> usize
     ensures { result ≡ end - length text.now }
 {
     end.saturating_sub(text.len())
 }
 
-/// Whether a text begins with a byte.
+/// Returns whether a text begins with a byte.
 pub(crate) fn begins_with(b: u8, bytes: &[u8]) -> bool
     ensures { result ≡ begins_with b bytes.now }
 {

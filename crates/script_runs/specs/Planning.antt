@@ -1,4 +1,4 @@
--- What planning a log answers and writes.
+-- What planning a log returns and writes.
 use Rattle.std.specs.Prelude.{◌≡◌, ◌≢◌, ℕ, List, Option, Some, None, Result, Ok, Err}
 use Rattle.std.specs.Io.KnownBytes.{Appends}
 use Rattle.child_events.specs.declared.event.HallEvent.{HallEvent}
@@ -16,7 +16,7 @@ use Rattle.script_runs.specs.declared.planning.PlanLogFault.{PlanLogFault}
 use Rattle.script_runs.specs.declared.planning.PlanLogFault.TheVariants as fault
 use Rattle.report_texts.specs.Devices.{WasPut}
 
--- a fault of the timeline or the plan is no want of memory
+-- An error in the timeline or the plan is never `Memory`.
 abbrev pub IsNoWant : PlanLogFault → Type 0
 IsNoWant fault.Read = Unit {0}
 IsNoWant (fault.Timeline f) = f ≢ lines.Memory
@@ -24,12 +24,12 @@ IsNoWant (fault.Plan f) = f ≢ plans.Memory
 IsNoWant fault.Write = Unit {0}
 IsNoWant fault.Memory = Unit {0}
 
--- the timeline of a text: with a timing it is that of a typescript
+-- The timeline of a text. With a timing file, the text is a typescript.
 abbrev pub told_by : List ℕ → Option (List ℕ) → Result Timeline TimelineFault
 told_by bytes None = said_of bytes
 told_by bytes (Some timing) = timed_typescript bytes timing
 
--- what reading a timeline answers
+-- What reading a timeline returns.
 abbrev pub Tells : List ℕ → Option (List ℕ) → Result Timeline PlanLogFault → Type 0
 Tells bytes timing (Ok t) = (told_by bytes timing ≡ Ok t) × AreTold t.events
 Tells bytes timing (Err fault.Read) = ⊥
@@ -38,13 +38,13 @@ Tells bytes timing (Err (fault.Plan f)) = ⊥
 Tells bytes timing (Err fault.Write) = ⊥
 Tells bytes timing (Err fault.Memory) = Unit {0}
 
--- The text is the log of the events of the script's plan over the timeline.
+-- The text is the log of the events that the script's plan over the timeline gives.
 pub record IsLog (s : Script) (t : Timeline) (text : List ℕ) : Type 0 where
   pub events : List HallEvent
   pub plan : Plans s t (Ok events)
   pub log : LogText2 text events
 
--- what making the log answers
+-- What making the log returns.
 abbrev pub Logs : Script → Timeline → Result (List ℕ) PlanLogFault → Type 0
 Logs s t (Ok text) = IsLog s t text
 Logs s t (Err fault.Read) = ⊥
@@ -59,7 +59,7 @@ pub record IsLogOver (s : Script) (bytes : List ℕ) (timing : Option (List ℕ)
   pub read : told_by bytes timing ≡ Ok timeline
   pub log : IsLog s timeline text
 
--- what making the log of a text answers
+-- What making the log from the text of a timeline returns.
 abbrev pub LogsOver : Script → List ℕ → Option (List ℕ) → Result (List ℕ) PlanLogFault → Type 0
 LogsOver s bytes timing (Ok text) = IsLogOver s bytes timing text
 LogsOver s bytes timing (Err fault.Read) = ⊥
@@ -68,19 +68,19 @@ LogsOver s bytes timing (Err (fault.Plan f)) = (f ≢ plans.Memory) × ((t : Tim
 LogsOver s bytes timing (Err fault.Write) = ⊥
 LogsOver s bytes timing (Err fault.Memory) = Unit {0}
 
--- The log of the script's plan is written, and nothing else.
+-- The log of the script's plan is appended to the output, and nothing else.
 pub record PlannedLog (s : Script) (bytes : List ℕ) (timing old new : Option (List ℕ)) : Type 0 where
   pub text : List ℕ
   pub log : IsLogOver s bytes timing text
   pub written : Appends old new text
 
--- A front of it is written, and nothing else.
+-- A front of that log is appended to the output, and nothing else.
 pub record PartPlanned (s : Script) (bytes : List ℕ) (timing old new : Option (List ℕ)) : Type 0 where
   pub text : List ℕ
   pub log : IsLogOver s bytes timing text
   pub written : WasPut old new text
 
--- what planning over these bytes answers, and what it puts behind what was written before
+-- What planning over these bytes returns, and what it appends to the output.
 abbrev pub PlansLog : Script → List ℕ → Option (List ℕ) → Option (List ℕ) → Option (List ℕ) → Result (Unit {0}) PlanLogFault → Type 0
 PlansLog s bytes timing old new (Ok done) = PlannedLog s bytes timing old new
 PlansLog s bytes timing old new (Err fault.Read) = Unit {0}

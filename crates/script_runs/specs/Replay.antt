@@ -1,4 +1,4 @@
--- What a replay answers and writes.
+-- What a replay returns and writes.
 use Rattle.std.specs.Prelude.{◌≡◌, ◌≢◌, ℕ, List, Bool, true, false, Option, Result, Ok, Err, IfSome}
 use Rattle.std.specs.Io.KnownBytes.{Appends}
 use Rattle.child_events.specs.declared.event.HallEvent.{HallEvent}
@@ -23,18 +23,19 @@ use Rattle.report_texts.specs.Written.{AllStandFor}
 use Rattle.script_runs.specs.Shelf.{Keeps, transcripts_of}
 use Rattle.report_texts.specs.declared.form.Form.{Form}
 
--- the log that is read of bytes, which may be cut off
+-- The log that is read from bytes, which may be cut off.
 abbrev pub log_of : Bool → List ℕ → List ℕ
 log_of true bytes = mended bytes
 log_of false bytes = bytes
 
--- The bytes are the log text of some events, and the run of the scripts over these answers so.
+-- The bytes are the log of some events, and running the scripts over these events returns `answer`.
 pub record RunOver (scripts : List Script) (bytes : List ℕ) (answer : Result (List Report) RunFault) : Type 0 where
   pub events : List HallEvent
   pub log : LogText bytes events
   pub runs : Runs scripts events answer
 
--- The transcripts of the run's reports are kept, and what is written is the text of what stands for the reports, and nothing else.
+-- The transcripts of the run's reports are kept. The text of the printed reports is appended to the output, and nothing
+-- else.
 pub record Replayed (scripts : List Script) (form : Form) (bytes : List ℕ) (well : Bool) (kept kept' : Option (List (List ℕ))) (old new : Option (List ℕ)) : Type 0 where
   pub reports : List Report
   pub printed : List Report
@@ -44,7 +45,7 @@ pub record Replayed (scripts : List Script) (form : Form) (bytes : List ℕ) (we
   pub done : well ≡ all_done printed
   pub written : Appends old new (told_bytes form printed)
 
--- A front of that text is written, and nothing else.
+-- A front of that text is appended to the output, and nothing else.
 pub record PartReplayed (scripts : List Script) (form : Form) (bytes : List ℕ) (kept kept' : Option (List (List ℕ))) (old new : Option (List ℕ)) : Type 0 where
   pub reports : List Report
   pub printed : List Report
@@ -53,7 +54,7 @@ pub record PartReplayed (scripts : List Script) (form : Form) (bytes : List ℕ)
   pub stand : AllStandFor reports printed
   pub written : WasPut old new (told_bytes form printed)
 
--- what a replay of bytes answers, what it keeps, and what it puts behind what was written before
+-- What a replay of bytes returns, what it keeps, and what it appends to the output.
 abbrev pub Replays : List Script → Form → List ℕ → Option (List (List ℕ)) → Option (List (List ℕ)) → Option (List ℕ) → Option (List ℕ) → Result Bool ReplayFault → Type 0
 Replays scripts form bytes kept kept' old new (Ok well) = Replayed scripts form bytes well kept kept' old new
 Replays scripts form bytes kept kept' old new (Err Read) = Unit {0}
@@ -62,7 +63,7 @@ Replays scripts form bytes kept kept' old new (Err (Run f)) = RunOver scripts by
 Replays scripts form bytes kept kept' old new (Err Write) = PartReplayed scripts form bytes kept kept' old new
 Replays scripts form bytes kept kept' old new (Err Memory) = Unit {0}
 
--- a fault of the log or the run is no want of memory
+-- An error in the log or the run is never `Memory`.
 abbrev pub IsNoWant : ReplayFault → Type 0
 IsNoWant Read = Unit {0}
 IsNoWant (Log f) = f ≢ logs.Memory
@@ -70,7 +71,7 @@ IsNoWant (Run f) = (f ≢ run.Memory) × (f ≢ run.New halls.Memory)
 IsNoWant Write = Unit {0}
 IsNoWant Memory = Unit {0}
 
--- what beginning to read a log answers
+-- What beginning to read a log returns.
 abbrev pub Opens : List ℕ → Result Left ReplayFault → Type 0
 Opens bytes (Ok left) = SaysLog bytes left.said
 Opens bytes (Err Read) = ⊥
@@ -79,7 +80,7 @@ Opens bytes (Err (Run f)) = ⊥
 Opens bytes (Err Write) = ⊥
 Opens bytes (Err Memory) = Unit {0}
 
--- what running the scripts over what a log says answers
+-- What running the scripts over the events of a log returns.
 abbrev pub RunOrFault : List Script → Result (List HallEvent) LogFault → Result (List Report) ReplayFault → Type 0
 RunOrFault scripts said (Ok reports) = RunsSaid scripts said (Ok reports)
 RunOrFault scripts said (Err Read) = ⊥
@@ -88,7 +89,7 @@ RunOrFault scripts said (Err (Run f)) = IsNoWant (Run f) × RunsSaid scripts sai
 RunOrFault scripts said (Err Write) = ⊥
 RunOrFault scripts said (Err Memory) = Unit {0}
 
--- what the scripts over the log of these bytes answer
+-- What running the scripts over the log of these bytes returns.
 abbrev pub ReportsOver : List Script → List ℕ → Result (List Report) ReplayFault → Type 0
 ReportsOver scripts bytes (Ok reports) = RunOver scripts bytes (Ok reports)
 ReportsOver scripts bytes (Err Read) = ⊥
@@ -97,7 +98,7 @@ ReportsOver scripts bytes (Err (Run f)) = IsNoWant (Run f) × RunOver scripts by
 ReportsOver scripts bytes (Err Write) = ⊥
 ReportsOver scripts bytes (Err Memory) = Unit {0}
 
--- and where they are read, if they are known, with what reading leaves of the reader's counts
+-- The same for bytes that are read, if they are known, with the reader's counts after the reading.
 abbrev pub ReportsRead : List Script → Option (List ℕ) → ℕ → ℕ → Result (List Report) ReplayFault → Type 0
 ReportsRead scripts known failures calls (Ok reports) = IfSome known (λ bytes. RunOver scripts bytes (Ok reports))
 ReportsRead scripts known failures calls (Err Read) = GaveUp failures calls

@@ -1,4 +1,4 @@
-//! What is wrong with sources, a line for each finding.
+//! What is wrong in sources, one line per finding.
 
 ghost use Rattle.std.specs.Prelude.{◌≡◌, ◌≤◌, ◌++◌, ℕ, List, IfOk, OnOk};
 ghost use Rattle.script_check.specs.Lines.{line_of as line_at};
@@ -11,16 +11,17 @@ use std::alloc::{AllocError, Global};
 use std::io::Write;
 use tcl_words::Text;
 
-/// Why not all findings were told.
+/// Why not all findings were written.
 #[derive(Clone, Copy, PartialEq, Eq)]
 pub enum CheckFault {
-    /// A write failed, or the most writes that are made were not enough.
+    /// A write failed, or the greatest number of writes was not enough.
     Write,
     /// Memory was refused.
     Memory,
 }
 
-/// The line of a place, by the line of an earlier place. Only what stands between the two is read. If the place comes first, all before it is.
+/// Returns the line number of `at`, given the line number of `known`. Reads only the text between
+/// the two. If `at` comes before `known`, reads all the text before `at`.
 fn line_from(source: &[u8], known: usize, line: usize, at: usize) -> usize
     requires { line ≡ line_at source.now known }
     ensures { result ≡ line_at source.now at }
@@ -37,14 +38,14 @@ fn line_from(source: &[u8], known: usize, line: usize, at: usize) -> usize
     )
 }
 
-/// Whether a byte is a control character of ASCII, but DEL.
+/// Returns whether a byte is an ASCII control character other than DEL.
 fn is_control(byte: u8) -> bool
     ensures { result ≡ is_control_of byte }
 {
     byte < b' '
 }
 
-/// Puts a byte behind a text so that it ends no line.
+/// Appends a byte, escaped if it could end the line.
 fn push_within(alloc: Global, text: &mut Text, byte: u8) -> Result<(), AllocError>
     ensures { OnOk result (text.new ≡ text.old ++ within_line byte) }
 {
@@ -54,7 +55,7 @@ fn push_within(alloc: Global, text: &mut Text, byte: u8) -> Result<(), AllocErro
     text.push(byte)
 }
 
-/// Puts bytes behind a text so that they end no line.
+/// Appends bytes, escaped if they could end the line.
 fn push_lines_within(alloc: Global, text: &mut Text, bytes: &[u8]) -> Result<(), AllocError>
     ensures { OnOk result (text.new ≡ text.old ++ lines_within bytes.now) }
 {
@@ -64,7 +65,7 @@ fn push_lines_within(alloc: Global, text: &mut Text, bytes: &[u8]) -> Result<(),
     Ok(())
 }
 
-/// Puts bytes behind a text so that they do nothing on a terminal and end no line.
+/// Appends bytes as text that does nothing on a terminal and ends no line.
 fn push_in_line(alloc: Global, text: &mut Text, bytes: &[u8]) -> Result<(), AllocError>
     ensures { OnOk result (text.new ≡ text.old ++ in_line bytes.now) }
 {
@@ -73,7 +74,7 @@ fn push_in_line(alloc: Global, text: &mut Text, bytes: &[u8]) -> Result<(), Allo
     push_lines_within(alloc, text, lines.as_slice())
 }
 
-/// What is told of a finding. `line` is the finding's line in the source.
+/// Returns the text of a finding. `line` is the finding's line in the source.
 #[tactic(auto, unfolding(crate::specs::Check::finding_text))]
 fn text_of(alloc: Global, file: &[u8], line: usize, finding: &Finding) -> Result<Text, AllocError>
     ensures { (source : List ℕ) → line ≡ line_at source finding.now.at → IfOk result (λ text. text ≡ finding_text file.now source finding.now) }
@@ -87,7 +88,7 @@ fn text_of(alloc: Global, file: &[u8], line: usize, finding: &Finding) -> Result
     Ok(text)
 }
 
-/// Puts the line of a finding behind a text. `line` is the finding's line in the source.
+/// Appends the line of a finding. `line` is the finding's line in the source.
 #[tactic(auto, unfolding(crate::specs::Check::finding_line))]
 fn push_finding(
     alloc: Global,
@@ -103,7 +104,7 @@ fn push_finding(
     text.push(b'\n')
 }
 
-/// Puts the lines of findings behind a text.
+/// Appends the lines of findings.
 fn push_findings(
     alloc: Global,
     text: &mut Text,
@@ -123,7 +124,7 @@ fn push_findings(
     Ok(())
 }
 
-/// The lines of all that is found in the source of a file.
+/// Returns the lines of all findings in the source of a file.
 fn checked(alloc: Global, file: &[u8], source: &[u8]) -> Result<Text, AllocError>
     ensures { IfOk result (λ t. t ≡ checked_text file.now source.now) }
 {
@@ -142,9 +143,10 @@ fn is_nothing(text: &[u8]) -> bool
     }
 }
 
-/// Writes a line for each finding in the source of a file. The answer says whether there is none.
+/// Writes a line for each finding in the source of a file. Returns whether there are none.
 ///
-/// After `Write` a front of the lines was written, after `Memory` nothing. An interrupted write is tried again.
+/// After `Write`, a front of the lines was written. After `Memory`, nothing was written. An
+/// interrupted write is tried again.
 pub fn check_source<W: Write>(
     alloc: Global,
     file: &[u8],

@@ -1,4 +1,4 @@
-//! Scripts over children, whose record and reports go to any two writers.
+//! Runs scripts over children. The record and the reports go to any two writers.
 
 ghost use Rattle.std.specs.Prelude.{◌≡◌, ◌<◌, ◌≤◌, length, map, IsErr};
 ghost use Rattle.child_serve.specs.Whole.{keeping_of};
@@ -16,7 +16,7 @@ use std::io::Write;
 use std::sync::Wait;
 use std::thread::Threads;
 
-/// Why scripts weren't served.
+/// Why scripts were not served.
 #[derive(Clone, Copy, PartialEq, Eq)]
 pub enum DriveFault {
     /// A reason other than memory.
@@ -25,12 +25,12 @@ pub enum DriveFault {
     Memory,
 }
 
-/// What became of the record and the reports of a run. Neither depends on the other.
+/// The outcome of writing the record and the reports of a run. Neither depends on the other.
 #[derive(Clone, Copy)]
 pub struct Written {
-    /// Whether each script ended with status 0, unless a write of the reports failed.
+    /// Whether each script ended with status 0, or why not all reports were written.
     pub reports: Result<bool, Unwritten>,
-    /// Why not all of the record is written, if it isn't.
+    /// Why not all of the record was written, or `None`.
     pub log: Option<LogWriteFault>,
 }
 
@@ -60,7 +60,8 @@ impl From<ServeFault> for DriveFault {
     }
 }
 
-/// Serves scripts, each with its keeper, and writes the log text of their record as it comes, if it is recorded. Says too why not all of it is written.
+/// Serves scripts, each with its keeper. Writes the log of their record as it arises, if the run is
+/// recorded. Also returns why not all of it was written.
 fn serve_and_log<
     K: Keeper + Send + Drop + 'static,
     C: Clock + Audience + Stopping + Send + Drop + 'static,
@@ -98,7 +99,7 @@ fn serve_and_log<
     (Ok((served, writer.fault)), writer.log)
 }
 
-/// What became of the record, if scripts were served.
+/// Returns why not all of the record was written, if the scripts were served.
 fn log_fault(
     outcome: Result<(Served, Option<LogWriteFault>), DriveFault>,
 ) -> Result<Option<LogWriteFault>, DriveFault>
@@ -108,11 +109,13 @@ fn log_fault(
     Ok(fault)
 }
 
-/// Serves scripts, each with its keeper, by as many workers as there are clocks, and writes the record's log text to `log` as it comes, if it is
-/// recorded. The clocks are told of reports as scripts end. Answers why not all of the record is written, if it isn't. The log's device is given back.
+/// Serves scripts, each with its keeper, with one worker per clock. Writes the log of their record
+/// to `log` as it arises, if `recorded`. The clocks receive the reports as scripts end. Returns why
+/// not all of the record was written, or `None`, and the log's device.
 ///
-/// After a failed write, or if memory is refused for the record's text, a front of the record is written. If the scripts weren't served, a front of
-/// a log is. An interrupted write is tried again.
+/// After a failed write, or if memory is refused for the record's text, a front of the record is
+/// written. If the scripts were not served, a front of a log is written. An interrupted write is
+/// tried again.
 pub fn drive_early<
     K: Keeper + Send + Drop + 'static,
     C: Clock + Audience + Stopping + Send + Drop + 'static,
@@ -140,14 +143,16 @@ pub fn drive_early<
     (log_fault(outcome), log)
 }
 
-/// Serves scripts, each with its keeper, by as many workers as there are clocks. Writes the record's log text to `log` as it comes, if it is
-/// recorded. Then hands the transcripts to a shelf and writes the reports to `out`, in a form, whatever became of the record. Answers what became of
-/// both. The log's device is given back.
+/// Serves scripts, each with its keeper, with one worker per clock. Writes the log of their record
+/// to `log` as it arises, if `recorded`. Then passes the transcripts to a shelf and writes the
+/// reports to `out`, even if not all of the record was written. Returns the outcome of both, and
+/// the log's device.
 ///
-/// Reports are written one by one: if memory is refused for one report or its text, that script's report says `memory`, and the others are whole.
-/// After a failed write of the record, or if memory is refused for its text, a front of it is written; after a failed write of the reports, a front
-/// of them. If the scripts weren't served, a front of a log is written, nothing of the reports, and nothing is kept. An interrupted write is tried
-/// again.
+/// Reports are written one by one. If memory is refused for one report or its text, that script's
+/// report says `memory`, and the others are whole. After a failed write of the record, or if memory
+/// is refused for its text, a front of it is written. After a failed write of the reports, a front
+/// of them is written. If the scripts were not served, a front of a log is written, no report is
+/// written, and nothing is kept. An interrupted write is tried again.
 pub fn drive<
     K: Keeper + Send + Drop + 'static,
     C: Clock + Audience + Stopping + Send + Drop + 'static,

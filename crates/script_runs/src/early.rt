@@ -1,4 +1,5 @@
-//! Reports and transcripts that are written as scripts end, by a thread of their own: no dialogue waits for who reads them.
+//! Writes reports and transcripts as scripts end, in a separate thread. No dialogue waits for their
+//! reader.
 
 use crate::driving::DriveFault;
 use crate::shelf::Shelf;
@@ -20,7 +21,7 @@ struct Ended {
     report: Report,
 }
 
-/// The first of the scripts that have ended and aren't told yet.
+/// Takes the first of the ended scripts that are not yet written.
 fn next(post: &Post<Vec<Ended>>, rt: &impl Wait) -> Option<Ended> {
     let mut ended = post.held.lock(rt);
     if ended.is_empty() {
@@ -33,15 +34,15 @@ fn next(post: &Post<Vec<Ended>>, rt: &impl Wait) -> Option<Ended> {
 #[derive(Drop)]
 struct Lines<O: Drop> {
     form: Form,
-    /// For each script its line if it were refused memory.
+    /// The line for each script if it were refused memory.
     spares: Vec<Text>,
     out: O,
-    /// Whether all that was written ended with status 0, unless a write failed.
+    /// Whether all scripts written so far ended with status 0, or why a write failed.
     outcome: Result<bool, Unwritten>,
 }
 
 impl<O: Write + Copy + Drop> Lines<O> {
-    /// No lines yet of so many scripts.
+    /// Creates the state for `count` scripts, with no line written.
     fn new(alloc: Global, form: &Form, count: usize, out: O) -> Result<Lines<O>, AllocError> {
         let form = form.copied(alloc)?;
         let Spares { parts, .. } = made_spares(alloc, &form, count)?;
@@ -53,7 +54,8 @@ impl<O: Write + Copy + Drop> Lines<O> {
         })
     }
 
-    /// Writes the line of a script, or the spare one if memory for it is refused. Whether the script that it tells of ended with status 0.
+    /// Writes the line of a script, or its spare line if memory is refused. Returns whether the
+    /// written line says status 0.
     fn written(&self, alloc: Global, ended: &Ended) -> Result<bool, Unwritten> {
         let mut out = Counted::new(self.out);
         if let Ok(line) = self.form.part(alloc, ended.number, &ended.report) {
@@ -66,7 +68,7 @@ impl<O: Write + Copy + Drop> Lines<O> {
         Ok(false)
     }
 
-    /// Writes the line of a script, unless a write failed before.
+    /// Writes the line of a script, unless an earlier write failed.
     fn write(&mut self, alloc: Global, ended: &Ended) {
         if let Ok(well) = self.outcome {
             self.outcome = match self.written(alloc, ended) {
@@ -77,7 +79,7 @@ impl<O: Write + Copy + Drop> Lines<O> {
     }
 }
 
-/// Writes reports and keeps transcripts, whichever is asked for.
+/// Writes reports and keeps transcripts, if they are requested.
 #[derive(Drop)]
 struct Writer<O: Drop, S: Drop> {
     alloc: Global,
@@ -86,7 +88,7 @@ struct Writer<O: Drop, S: Drop> {
 }
 
 impl<O: Write + Copy + Drop, S: Shelf + Drop> Writer<O, S> {
-    /// Tells that a script has ended.
+    /// Writes the report and keeps the transcript of a script that has ended.
     fn tell(&mut self, ended: &Ended) {
         if let Some(shelf) = &mut self.shelf {
             shelf.keep(ended.number, ended.report.transcript.as_slice());
@@ -115,18 +117,18 @@ pub struct Ends<R: Drop> {
     rt: R,
     /// The numbers of the scripts, by their places.
     numbers: Vec<u8>,
-    /// Whether something is done with them.
+    /// Whether reports or transcripts are requested.
     are_told: bool,
     post: Arc<Post<Vec<Ended>>>,
 }
 
 impl<R: Wait + Drop> Ends<R> {
-    /// Whether reports are wanted.
+    /// Returns whether reports or transcripts are requested.
     pub fn are_told(&self) -> bool {
         self.are_told
     }
 
-    /// The script at a place has ended, with this report.
+    /// Takes the report of the script at a place, which has ended.
     pub fn put(&self, place: usize, report: Option<Report>) {
         let (Some(number), Some(report)) = (self.numbers.get(place), report) else {
             return;
@@ -140,12 +142,12 @@ impl<R: Wait + Drop> Ends<R> {
     }
 }
 
-/// What a run has told as its scripts ended.
+/// The outcome of what a run wrote as its scripts ended.
 #[derive(Drop)]
 pub struct Told<S: Drop> {
-    /// Whether each script ended with status 0, unless a write failed.
+    /// Whether each script ended with status 0, or why a write failed.
     pub outcome: Result<bool, Unwritten>,
-    /// What kept the transcripts.
+    /// The shelf that kept the transcripts.
     pub shelf: Option<S>,
 }
 
@@ -157,8 +159,8 @@ pub struct Early<O: Drop, S: Drop> {
 }
 
 impl<O: Write + Copy + Send + Drop + 'static, S: Shelf + Send + Drop + 'static> Early<O, S> {
-    /// Starts a thread that takes up to `count` scripts as they end. With a form it writes their reports to `out`; with a shelf it hands it
-    /// their transcripts.
+    /// Starts a thread that takes up to `count` scripts as they end. With a form, it writes their
+    /// reports to `out`. With a shelf, it passes their transcripts to the shelf.
     pub fn start<R: Threads + Wait + Clock + Copy + Send + Drop + 'static>(
         rt: R,
         alloc: Global,
@@ -182,7 +184,7 @@ impl<O: Write + Copy + Send + Drop + 'static, S: Shelf + Send + Drop + 'static> 
         Ok(Early { are_told, teller })
     }
 
-    /// What a worker's scripts are told to, which have these numbers.
+    /// Returns the taker of reports for a worker whose scripts have these numbers.
     pub fn ends<R: Wait + Drop>(
         &self,
         rt: R,
@@ -201,7 +203,7 @@ impl<O: Write + Copy + Send + Drop + 'static, S: Shelf + Send + Drop + 'static> 
         })
     }
 
-    /// Waits until all that was told is written.
+    /// Waits until everything is written, and returns the outcome.
     pub fn end<R: Threads>(self, rt: &R) -> Told<S> {
         let Writer { lines, shelf, .. } = self.teller.end(rt);
         let outcome = match lines {

@@ -1,4 +1,4 @@
-//! Why a replay's reports are not all there.
+//! Why a replay did not write all reports.
 
 use child_events::LogFault;
 use dialogue_sched::RunFault;
@@ -7,13 +7,13 @@ use std::alloc::AllocError;
 /// Why not all reports were written.
 #[derive(Clone, Copy, PartialEq, Eq)]
 pub enum ReplayFault {
-    /// A read of the log failed, or the most reads that are made met no end.
+    /// A read of the log failed, or the log had no end after the greatest number of reads.
     Read,
     /// The log has a bad line. This is never `LogFault::Memory`.
     Log(LogFault),
-    /// The scripts can't be run over the events. This is no want of memory.
+    /// The scripts can't be run over the events. The reason is never memory.
     Run(RunFault),
-    /// A write failed, or the most writes that are made were not enough.
+    /// A write failed, or the greatest number of writes was not enough.
     Write,
     /// Memory was refused.
     Memory,

@@ -1,4 +1,4 @@
-//! What scripts show, told while they run.
+//! Prints what scripts show, while they run.
 
 ghost use Rattle.std.specs.Prelude.{◌≡◌, ◌≤◌, ◌++◌, ◌∷◌, [], length, true, OnOk, IfOk};
 ghost use Rattle.script_runs.specs.Follow.{mark_of, marked_byte, marked, told_so};
@@ -17,27 +17,28 @@ use std::sync::{Arc, Wait};
 use std::time::Clock as SystemClock;
 use tcl_words::Text;
 
-/// How many bytes of a line are held back, at most, until the line is whole.
+/// The greatest number of bytes of a line that are held back until the line is whole.
 const LONGEST: usize = 4_096;
 
-/// For how many milliseconds a script has shown nothing when what is held back is told all the same.
+/// The time without output after which a script's held bytes are printed nevertheless, in
+/// milliseconds.
 const QUIET: u64 = 1_000;
 
-/// How many milliseconds lie between two looks at what is held back, at least.
+/// The least time between two checks of held bytes, in milliseconds.
 const PAUSE: u64 = 250;
 
-/// How a script's output is told.
+/// How a script's output is printed.
 #[derive(Clone, Copy)]
 pub enum Manner {
-    /// As it is.
+    /// Unchanged.
     Plain,
-    /// So that it does nothing on a terminal.
+    /// Escaped, so that it does nothing on a terminal.
     Escaped,
-    /// The same, each line behind the number of the script.
+    /// Escaped, with the number of the script before each line.
     Numbered(u8),
 }
 
-/// Puts what stands before each line of a script behind a text.
+/// Appends the mark before each line of a script.
 fn push_mark(alloc: Global, text: &mut Text, number: u8) -> Result<(), AllocError>
     ensures { OnOk result (text.new ≡ text.old ++ mark_of number) }
 {
@@ -45,7 +46,7 @@ fn push_mark(alloc: Global, text: &mut Text, number: u8) -> Result<(), AllocErro
     text.extend(b": ")
 }
 
-/// Puts a byte behind a text, and a mark before it where it begins a line.
+/// Appends a byte, after a mark if it begins a line.
 fn push_marked(text: &mut Text, mark: &[u8], begins: bool, byte: u8) -> Result<(), AllocError>
     ensures { OnOk result (text.new ≡ text.old ++ marked_byte mark.now begins byte) }
 {
@@ -55,7 +56,7 @@ fn push_marked(text: &mut Text, mark: &[u8], begins: bool, byte: u8) -> Result<(
     text.push(byte)
 }
 
-/// Puts lines behind a text, each behind a mark.
+/// Appends lines, each after a mark.
 fn push_lines(text: &mut Text, mark: &[u8], lines: &[u8]) -> Result<(), AllocError>
     ensures { OnOk result (text.new ≡ text.old ++ marked mark.now true lines.now) }
 {
@@ -67,7 +68,7 @@ fn push_lines(text: &mut Text, mark: &[u8], lines: &[u8]) -> Result<(), AllocErr
     Ok(())
 }
 
-/// Puts bytes of a script behind a text, as they are told.
+/// Appends bytes of a script as they are printed.
 #[tactic(auto, unfolding(crate::specs::Follow::told_so))]
 fn push_told(alloc: Global, text: &mut Text, manner: Manner, bytes: &[u8]) -> Result<(), AllocError>
     ensures { OnOk result (text.new ≡ text.old ++ told_so manner bytes.now) }
@@ -85,7 +86,7 @@ fn push_told(alloc: Global, text: &mut Text, manner: Manner, bytes: &[u8]) -> Re
     }
 }
 
-/// How many of the first bytes end with the last whole line.
+/// Returns the length of the front that ends with the last whole line.
 fn whole_lines(bytes: &[u8]) -> usize
     ensures { result ≤ length bytes.now }
 {
@@ -95,17 +96,17 @@ fn whole_lines(bytes: &[u8]) -> usize
     }
 }
 
-/// Whether a byte may begin a character of UTF-8 of several bytes, and is at least this one.
+/// Returns whether a byte is at least `least` and may begin a UTF-8 character of several bytes.
 fn begins_character(byte: u8, least: u8) -> bool {
     least <= byte && byte <= 0xF4
 }
 
-/// Whether a byte may stand in a character of UTF-8 behind its first one.
+/// Returns whether a byte may follow the first byte of a UTF-8 character.
 fn goes_on(byte: u8) -> bool {
     0x80 <= byte && byte <= 0xBF
 }
 
-/// Whether bytes may be the front of a character, or of the end of a line.
+/// Returns whether bytes may be the front of a character or of a line's end.
 fn may_go_on(bytes: &[u8]) -> bool {
     match bytes {
         [first] => *first == b'\r' || begins_character(*first, 0xC2),
@@ -117,7 +118,8 @@ fn may_go_on(bytes: &[u8]) -> bool {
     }
 }
 
-/// How many of the first bytes are told by themselves: all but what may be the front of a character or of the end of a line.
+/// Returns the length of the front that can be printed by itself: all bytes except those that may
+/// be the front of a character or of a line's end.
 fn whole_characters(bytes: &[u8]) -> usize
     ensures { result ≤ length bytes.now }
 {
@@ -129,7 +131,8 @@ fn whole_characters(bytes: &[u8]) -> usize
     bytes.len()
 }
 
-/// How many of the first bytes are told at once. Of several scripts whole lines are told, unless one is long.
+/// Returns the length of the front that is printed at once. With several scripts, only whole lines
+/// are printed, unless a line is long.
 fn told_len(manner: Manner, bytes: &[u8]) -> usize
     ensures { result ≤ length bytes.now }
 {
@@ -145,7 +148,7 @@ fn told_len(manner: Manner, bytes: &[u8]) -> usize
     }
 }
 
-/// Ends the last line of a text, so that what another script shows begins its own.
+/// Ends the last line of a text, so that the output of another script begins a new line.
 fn end_line(text: &mut Text) -> Result<(), AllocError> {
     match text.as_slice() {
         [] | [.., b'\n'] => Ok(()),
@@ -153,17 +156,17 @@ fn end_line(text: &mut Text) -> Result<(), AllocError> {
     }
 }
 
-/// A script that is followed: how it is told, and what it has shown and is not told yet.
+/// A script that is followed: how it is printed, and its output that is not printed yet.
 #[derive(Drop)]
 pub struct Tale {
     manner: Manner,
     held: Text,
-    /// The moment at which it showed something for the last time.
+    /// The moment of the script's last output.
     since: u64,
 }
 
 impl Tale {
-    /// A script that has shown nothing.
+    /// Creates the state of a script that has shown nothing.
     pub fn new(alloc: Global, manner: Manner) -> Tale {
         Tale {
             manner,
@@ -172,7 +175,7 @@ impl Tale {
         }
     }
 
-    /// The text of the first bytes that are held, which are held no more.
+    /// Takes the first `count` held bytes, and returns them as they are printed.
     fn told(&mut self, alloc: Global, count: usize) -> Result<Text, AllocError>
         requires { count ≤ length self.old.held }
     {
@@ -186,7 +189,7 @@ impl Tale {
         Ok(text)
     }
 
-    /// Tells the first bytes that are held. For want of memory it tells nothing.
+    /// Prints the first `count` held bytes. If memory is refused, it prints nothing.
     fn tell<R: Wait + Copy + Drop>(&mut self, alloc: Global, voice: &Voice<R>, count: usize)
         requires { count ≤ length self.old.held }
     {
@@ -195,7 +198,7 @@ impl Tale {
         }
     }
 
-    /// A script shows these bytes at a moment.
+    /// Takes bytes that a script shows at a moment.
     pub fn hear<R: Wait + Copy + Drop>(
         &mut self,
         alloc: Global,
@@ -210,7 +213,7 @@ impl Tale {
         }
     }
 
-    /// Tells all that is held.
+    /// Prints all held bytes.
     pub fn tell_held<R: Wait + Copy + Drop>(&mut self, alloc: Global, voice: &Voice<R>) {
         let count = self.held.len();
         if count > 0 {
@@ -218,7 +221,7 @@ impl Tale {
         }
     }
 
-    /// Tells all that is held if the script has been quiet at a moment.
+    /// Prints all held bytes if the script has been quiet at this moment.
     pub fn look<R: Wait + Copy + Drop>(&mut self, alloc: Global, voice: &Voice<R>, moment: u64) {
         if moment.saturating_sub(self.since) >= QUIET {
             self.tell_held(alloc, voice);
@@ -226,19 +229,19 @@ impl Tale {
     }
 }
 
-/// The scripts of a worker that are followed. What can't be told for want of memory is passed over.
+/// The followed scripts of a worker. Output is skipped if memory for it is refused.
 #[derive(Drop)]
 pub struct Live<R: Drop> {
     alloc: Global,
     voice: Voice<R>,
     tales: Vec<Tale>,
     moment: u64,
-    /// The moment from which on it looks at what is held back.
+    /// The next moment at which held bytes are checked.
     next: u64,
 }
 
 impl<R: Wait + Copy + Drop> Live<R> {
-    /// Scripts that are followed, by their places.
+    /// Creates the state for followed scripts, by their places.
     pub fn new(alloc: Global, voice: Voice<R>, tales: Vec<Tale>) -> Live<R> {
         Live {
             alloc,
@@ -255,7 +258,7 @@ impl<R: Wait + Copy + Drop> Live<R> {
         }
     }
 
-    /// It is this moment now.
+    /// Sets the current moment, and prints held bytes that are due.
     fn look(&mut self, moment: u64) {
         self.moment = moment;
         if moment < self.next {
@@ -274,18 +277,18 @@ impl<R: Wait + Copy + Drop> Live<R> {
     }
 }
 
-/// What a worker tells while its scripts run.
+/// What a worker prints while its scripts run.
 #[derive(Drop)]
 pub enum Told<R: Drop> {
     /// What its scripts show.
     Shown(Live<R>),
-    /// How far they are.
+    /// Their progress.
     Far(Progress<R>),
     Nothing,
 }
 
 impl<R: Wait + SystemClock + Copy + Drop> Told<R> {
-    /// It is this moment now.
+    /// Sets the current moment, and prints what is due.
     fn look(&mut self, moment: u64) {
         match self {
             Told::Shown(live) => live.look(moment),
@@ -294,7 +297,8 @@ impl<R: Wait + SystemClock + Copy + Drop> Told<R> {
         }
     }
 
-    /// Nothing more comes of the worker's scripts. Waits until all is told, unless nobody reads: reports come next.
+    /// Ends the output of the worker's scripts. Waits until everything is printed, because reports
+    /// come next. Doesn't wait for a reader that reads nothing for a second.
     fn leave(&mut self) {
         match self {
             Told::Shown(live) => {
@@ -307,13 +311,14 @@ impl<R: Wait + SystemClock + Copy + Drop> Told<R> {
     }
 }
 
-/// A worker's clock, which tells what is to be told while its scripts run, and cancels those that are over or given up.
+/// A worker's clock. It also prints what scripts show or their progress, and cancels scripts that
+/// have ended or were given up.
 #[derive(Drop)]
 pub struct Follower<R: SystemClock + Drop> {
     wall: Wall<R>,
     told: Told<R>,
     ends: Ends<R>,
-    /// Of each script that goes on.
+    /// One for each script that is still running.
     cancellations: Vec<Option<Arc<Cancellation>>>,
     stop: Arc<Stop>,
 }
@@ -338,7 +343,7 @@ impl<R: SystemClock + Drop> Follower<R> {
 }
 
 impl<R: SystemClock + Wait + Copy + Drop> Follower<R> {
-    /// The report of the script at a place of a hall is its last.
+    /// Passes on the report of the script at a place of a hall, which is its last.
     fn tell_end(&self, place: usize, hall: &Hall) {
         if self.ends.are_told() {
             self.ends.put(place, hall.report(place.saturating_add(1)));

@@ -1,4 +1,5 @@
-//! What children write on standard errors of their own, told by lines, each behind the number of its script.
+//! Prints what children write to their own standard errors, by lines, each with the number of its
+//! script.
 
 use crate::following::{Manner, Tale};
 use crate::teller::{Post, Tells};
@@ -14,13 +15,14 @@ use std::process::ChildStderr;
 use std::sync::Wait;
 use std::time::Clock as SystemClock;
 
-/// How many milliseconds pass at most until the pipe of a new child is seen.
+/// The greatest time until the pipe of a new child is noticed, in milliseconds.
 const LOOK: i32 = 50;
 
-/// How many bytes are read of a pipe at once.
+/// The number of bytes read from a pipe at once.
 const PIECE: usize = 4_096;
 
-/// For how many milliseconds pipes are read once all scripts are over, at most. A program that was left alone may write on and on.
+/// The greatest time for which pipes are read once all scripts have ended, in milliseconds. A
+/// program that was left running may go on writing.
 const LAST: u64 = 1_000;
 
 /// The standard error of a child.
@@ -31,7 +33,7 @@ struct Source {
 }
 
 impl Source {
-    /// Reads a piece and tells its lines. Returns whether more may come.
+    /// Reads a piece and prints its lines. Returns whether more may follow.
     fn read<R: Wait + Copy + Drop>(
         &mut self,
         alloc: Global,
@@ -54,7 +56,8 @@ impl Source {
     }
 }
 
-/// Reads the standard errors of children and tells their lines. What can't be told for want of memory is passed over.
+/// Reads the standard errors of children and prints their lines. Output is skipped if memory for it
+/// is refused.
 #[derive(Drop)]
 pub struct Listener<R: SystemClock + Drop> {
     rt: R,
@@ -63,12 +66,12 @@ pub struct Listener<R: SystemClock + Drop> {
     voice: Voice<R>,
     pipes: ErrorPipes,
     sources: Vec<Source>,
-    /// The moment at which it stops, once all scripts are over.
+    /// The moment at which reading stops, once all scripts have ended.
     end: Option<u64>,
 }
 
 impl<R: Wait + SystemClock + Copy + Drop> Listener<R> {
-    /// Listens to children that come.
+    /// Creates a listener for children that are started later.
     pub fn new(rt: R, alloc: Global, voice: Voice<R>, pipes: ErrorPipes) -> Listener<R> {
         Listener {
             rt,
@@ -91,7 +94,7 @@ impl<R: Wait + SystemClock + Copy + Drop> Listener<R> {
         }
     }
 
-    /// Waits until a pipe can be read, for so many milliseconds at most. Returns what poll(2) tells of each.
+    /// Waits up to `wait` milliseconds until a pipe can be read. Returns the answers of poll(2).
     fn polled(&self, wait: i32) -> Result<Vec<pollfd>, AllocError> {
         let mut asked = Vec::new(self.alloc);
         for source in &self.sources {
@@ -107,7 +110,8 @@ impl<R: Wait + SystemClock + Copy + Drop> Listener<R> {
         Ok(asked)
     }
 
-    /// Reads a piece of each pipe that has one, and tells what is held back for long. Returns whether any pipe had one.
+    /// Reads a piece from each pipe that is ready, and prints held bytes that are due. Returns
+    /// whether any pipe was ready.
     fn read_all(&mut self, asked: &[pollfd]) -> bool {
         let moment = self.wall.now();
         let Listener {
@@ -131,7 +135,7 @@ impl<R: Wait + SystemClock + Copy + Drop> Listener<R> {
         has_read
     }
 
-    /// Listens once, for so many milliseconds at most. Returns whether there was something.
+    /// Waits for output once, for up to `wait` milliseconds. Returns whether there was any.
     fn listen(&mut self, wait: i32) -> bool {
         self.take_new();
         match self.polled(wait) {
@@ -140,7 +144,7 @@ impl<R: Wait + SystemClock + Copy + Drop> Listener<R> {
         }
     }
 
-    /// Whether it stops now. All scripts are over.
+    /// Returns whether reading stops now, given that all scripts have ended.
     fn is_due(&mut self) -> bool {
         let now = self.wall.now();
         match self.end {
@@ -152,7 +156,7 @@ impl<R: Wait + SystemClock + Copy + Drop> Listener<R> {
         }
     }
 
-    /// Tells what is held back.
+    /// Prints all held bytes.
     fn tell_held(&mut self) {
         for source in &mut self.sources {
             source.tale.tell_held(self.alloc, &self.voice);

@@ -1,8 +1,9 @@
-//! Scripts over a log, over children, over a timeline, or as they are written, from readers to writers.
+//! Runs, replays, plans and checks scripts, from readers to writers.
 //!
-//! [`replay`] runs scripts over a log, and [`drive`] over children: both hand transcripts to a [`Shelf`] and write reports. [`plan_log`] writes
-//! a log for a script, and [`check_source`] what is wrong with a source. [`clocks`] tell what there is to tell while scripts run. What these
-//! write is defined in `specs/Replay`, `specs/Drive`, `specs/Planning` and `specs/Check`.
+//! [`replay`] runs scripts over a log, and [`drive`] over children. Both pass transcripts to a
+//! [`Shelf`] and write reports. [`plan_log`] writes a log for a script. [`check_source`] writes
+//! what is wrong in a source. [`clocks`] print progress while scripts run. `specs/Replay`,
+//! `specs/Drive`, `specs/Planning` and `specs/Check` define what these functions write.
 #![tactic(auto)]
 
 mod checking;

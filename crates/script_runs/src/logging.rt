@@ -1,4 +1,4 @@
-//! The log text of a run's record, written as the record comes.
+//! Writes the log of a run's record, as the record arises.
 
 ghost use Rattle.std.specs.Prelude.{◌≡◌, ◌≢◌, ◌+◌, ◌≤◌, List, ℕ, length, None, IfOk, IsOk};
 ghost use Rattle.child_events.specs.Log.{heading, lines_text, total_line, IsOfBytes};
@@ -13,7 +13,7 @@ use std::alloc::{AllocError, Global};
 use std::io::Write;
 use tcl_words::Text;
 
-/// The first line of a log.
+/// Returns the first line of a log.
 fn heading_text(alloc: Global) -> Result<Text, AllocError>
     ensures { IfOk result (λ text. text ≡ heading) }
 {
@@ -22,7 +22,7 @@ fn heading_text(alloc: Global) -> Result<Text, AllocError>
     Ok(text)
 }
 
-/// The last line of a log of so many events.
+/// Returns the last line of a log of `count` events.
 fn total_text(alloc: Global, count: u64) -> Result<Text, AllocError>
     ensures { IfOk result (λ text. text ≡ total_line count) }
 {
@@ -31,7 +31,7 @@ fn total_text(alloc: Global, count: u64) -> Result<Text, AllocError>
     Ok(text)
 }
 
-/// The lines of events.
+/// Returns the lines of events.
 fn lines_of(alloc: Global, events: &[HallEvent]) -> Result<Text, AllocError>
     ensures { IfOk result (λ text. (text ≡ lines_text events.now) × AllByRecursion IsOfBytes events.now) }
 {
@@ -41,7 +41,7 @@ fn lines_of(alloc: Global, events: &[HallEvent]) -> Result<Text, AllocError>
 }
 
 impl<L: Write + Drop> LogWriter<L> {
-    /// Writes to a device, to which nothing was written.
+    /// Creates a writer for a device to which nothing was written.
     fn new(alloc: Global, log: Counted<L>) -> LogWriter<L>
         requires failures { log.failures ≡ 0 }
         requires calls { log.calls ≡ 0 }
@@ -57,7 +57,7 @@ impl<L: Write + Drop> LogWriter<L> {
         }
     }
 
-    /// Writes a text, unless memory for it was refused or a fault came before.
+    /// Writes a text, unless memory for it was refused or there was an error before.
     fn put(&mut self, made: Result<Text, AllocError>)
         ensures put { (more : List ℕ) → IfOk made (λ text. text ≡ more) → PutsOn L.contents more self.old self.new }
         ensures count { self.new.count ≡ self.old.count }
@@ -84,7 +84,8 @@ impl<L: Write + Drop> LogWriter<L> {
         self.put(heading_text(self.alloc));
     }
 
-    /// Writes to a device, to which nothing was written. The first line of a log is written, where one is kept.
+    /// Creates a writer for a device to which nothing was written. Writes the first line of a log,
+    /// if `recorded`.
     pub fn begun(alloc: Global, log: Counted<L>, recorded: bool) -> LogWriter<L>
         requires failures { log.failures ≡ 0 }
         requires calls { log.calls ≡ 0 }
@@ -98,7 +99,7 @@ impl<L: Write + Drop> LogWriter<L> {
         writer
     }
 
-    /// Writes the last line of a log, where one is kept, with the number of the events that were written.
+    /// Writes the last line of a log with the number of events written, if `recorded`.
     pub fn end(&mut self, recorded: bool)
         ensures put { PutsOn L.contents (if_kept recorded (total_line self.old.count)) self.old self.new }
         ensures well { self.new.fault ≡ None → self.old.fault ≡ None }
@@ -109,7 +110,7 @@ impl<L: Write + Drop> LogWriter<L> {
         }
     }
 
-    /// The lines of events that are counted.
+    /// Returns the lines of events, and counts the events.
     fn counted_lines(&mut self, events: &[HallEvent]) -> Result<Text, AllocError>
         ensures log { self.new.log ≡ self.old.log }
         ensures fault { self.new.fault ≡ self.old.fault }

@@ -1,4 +1,4 @@
-//! A log that is planned: of one script, from what its children are to say.
+//! Plans the log of one script, from the output that its children shall write.
 
 ghost use Rattle.std.specs.Prelude.{◌≡◌, ◌≢◌, IfOk, IfErr, IfSome, Err};
 ghost use Rattle.child_timeline.specs.Line.{Reads};
@@ -15,16 +15,17 @@ use std::alloc::{AllocError, Global};
 use std::io::{Read, Write};
 use tcl_words::Text;
 
-/// Why no log was planned, or not all of it written.
+/// Why no log was planned, or not all of it was written.
 #[derive(Clone, Copy, PartialEq, Eq)]
 pub enum PlanLogFault {
-    /// A read of the timeline failed, or the most reads that are made met no end.
+    /// A read of the timeline failed, or the timeline had no end after the greatest number of
+    /// reads.
     Read,
-    /// The timeline, or the timing, has a bad line. This is never `TimelineFault::Memory`.
+    /// The timeline or the timing file has a bad line. This is never `TimelineFault::Memory`.
     Timeline(TimelineFault),
     /// The script has no plan. This is never `PlanFault::Memory`.
     Plan(PlanFault),
-    /// A write failed, or the most writes that are made were not enough.
+    /// A write failed, or the greatest number of writes was not enough.
     Write,
     /// Memory was refused.
     Memory,
@@ -41,7 +42,7 @@ impl From<AllocError> for PlanLogFault {
     }
 }
 
-/// The timeline of a text. With a timing it is that of a typescript.
+/// Reads the timeline of a text. With a timing file, the text is a typescript.
 fn told_by(alloc: Global, bytes: &[u8], timing: &Option<Text>) -> Result<Timeline, TimelineFault>
     ensures reads { Reads result (told_by_of bytes.now timing.now) }
     ensures told { IfOk result (λ t. AreTold t.events) }
@@ -52,7 +53,7 @@ fn told_by(alloc: Global, bytes: &[u8], timing: &Option<Text>) -> Result<Timelin
     }
 }
 
-/// The same, or the fault of planning.
+/// Like `told_by`, but returns the error of planning.
 fn told(alloc: Global, bytes: &[u8], timing: &Option<Text>) -> Result<Timeline, PlanLogFault>
     ensures { Tells bytes.now timing.now result }
 {
@@ -63,7 +64,7 @@ fn told(alloc: Global, bytes: &[u8], timing: &Option<Text>) -> Result<Timeline, 
     }
 }
 
-/// The log of a script's plan.
+/// Returns the log of a script's plan.
 fn log_of(alloc: Global, script: Script, timeline: Timeline) -> Result<Text, PlanLogFault>
     requires { AreTold timeline.events }
     ensures { Logs script timeline result }
@@ -75,7 +76,7 @@ fn log_of(alloc: Global, script: Script, timeline: Timeline) -> Result<Text, Pla
     }
 }
 
-/// The log of a script's plan over the timeline of a text.
+/// Returns the log of a script's plan over the timeline of a text.
 fn log_over(
     alloc: Global,
     script: Script,
@@ -88,10 +89,12 @@ fn log_over(
     log_of(alloc, script, timeline)
 }
 
-/// Reads a timeline, a cast or a typescript, and writes the log of a script's plan over it. A timing is that of a typescript.
+/// Reads a timeline, a cast or a typescript, and writes the log of a script's plan over it. A
+/// timing file belongs to a typescript.
 ///
-/// Faults come in the order of `PlanLogFault`'s variants, but for want of memory, which may come in place of any of them before the first
-/// write. After `Write` a front of the log was written, after any other fault nothing. An interrupted read or write is tried again.
+/// Errors are returned in the order of `PlanLogFault`'s variants, except `Memory`. `Memory` may
+/// replace any of them before the first write. After `Write`, a front of the log was written. After
+/// any other error, nothing was written. An interrupted read or write is tried again.
 pub fn plan_log<R: Read, W: Write>(
     alloc: Global,
     script: Script,

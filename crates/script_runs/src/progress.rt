@@ -1,4 +1,4 @@
-//! How far a run is, told on one line of a terminal, which is gone when the run is over.
+//! Shows a run's progress on one line of a terminal. The line is erased once the run has ended.
 
 ghost use Rattle.std.specs.Prelude.{◌≡◌, ◌++◌, ◌-◌, ◌/◌, None, OnOk, IfOk};
 ghost use Rattle.script_runs.specs.Progress.{quieter as quieter_of, quietest as quietest_of, quiet_of, over_among, failed_among, quietest_among, quiet_words, quiet_part, progress_line};
@@ -10,25 +10,25 @@ use std::sync::{Arc, Mutex, Wait};
 use std::time::Clock;
 use tcl_words::Text;
 
-/// Goes to the start of a terminal's line and erases it.
+/// Moves to the start of a terminal's line and erases the line (ECMA-48, EL).
 const ERASED: &[u8] = b"\r\x1b[K";
 
-/// The moment from which on a run's line is written, in milliseconds from the run's start.
+/// The time from the run's start until its line is written first, in milliseconds.
 const FIRST: u64 = 1_000;
 
-/// How many milliseconds the line stays as it is, at least.
+/// The least time between two changes of the line, in milliseconds.
 const PAUSE: u64 = 250;
 
-/// A script that isn't over.
+/// A script that has not ended.
 #[derive(Clone, Copy)]
 pub struct Quiet {
-    /// Its number.
+    /// The script's number.
     pub number: u8,
-    /// The moment at which it showed something for the last time, or the run's start, in milliseconds.
+    /// The moment of its last output, or the run's start, in milliseconds.
     pub since: u64,
 }
 
-/// Of two scripts the one that has shown nothing for longer.
+/// Returns the script that has shown nothing for longer, of two.
 fn quieter(one: Option<Quiet>, other: Option<Quiet>) -> Option<Quiet>
     ensures { result ≡ quieter_of one other }
 {
@@ -41,7 +41,7 @@ fn quieter(one: Option<Quiet>, other: Option<Quiet>) -> Option<Quiet>
     Some(if q.since < p.since { q } else { p })
 }
 
-/// The one that has shown nothing for longest, among those of several workers.
+/// Returns the script that has shown nothing for longest, among those of several workers.
 fn quietest_of_all(scripts: &[Option<Quiet>]) -> Option<Quiet>
     ensures { result ≡ quietest_of None scripts.now }
 {
@@ -52,17 +52,17 @@ fn quietest_of_all(scripts: &[Option<Quiet>]) -> Option<Quiet>
     found
 }
 
-/// A script, and what is known of it.
+/// A script, and its progress.
 #[derive(Clone, Copy)]
 struct Course {
     number: u8,
-    /// The moment at which it showed something for the last time.
+    /// The moment of its last output.
     since: u64,
-    /// Whether it is over, and ended with status 0.
+    /// Whether it ended with status 0. `None` while it is running.
     end: Option<bool>,
 }
 
-/// How many scripts are over.
+/// Returns the number of scripts that have ended.
 fn over(scripts: &[Course]) -> usize
     ensures { result ≡ over_among scripts.now }
 {
@@ -75,7 +75,7 @@ fn over(scripts: &[Course]) -> usize
     count
 }
 
-/// How many scripts are over and didn't end with status 0.
+/// Returns the number of scripts that have ended with a status other than 0.
 fn failed(scripts: &[Course]) -> usize
     ensures { result ≡ failed_among scripts.now }
 {
@@ -88,7 +88,7 @@ fn failed(scripts: &[Course]) -> usize
     count
 }
 
-/// Since when a script that isn't over has shown nothing.
+/// Returns since when a script has shown nothing. `None` if it has ended.
 fn quiet_for(script: Course) -> Option<Quiet>
     ensures { result ≡ quiet_of script }
 {
@@ -101,7 +101,7 @@ fn quiet_for(script: Course) -> Option<Quiet>
     })
 }
 
-/// The script that has shown nothing for longest, among those that aren't over.
+/// Returns the script that has shown nothing for longest, among those that have not ended.
 fn quietest(scripts: &[Course]) -> Option<Quiet>
     ensures { result ≡ quietest_among None scripts.now }
 {
@@ -112,18 +112,18 @@ fn quietest(scripts: &[Course]) -> Option<Quiet>
     found
 }
 
-/// How far the scripts of one worker are.
+/// The progress of one worker's scripts.
 #[derive(Clone, Copy)]
 struct Standing {
-    /// How many of them are over.
+    /// The number of scripts that have ended.
     over: u64,
-    /// How many of these didn't end with status 0.
+    /// The number of scripts that have ended with a status other than 0.
     failed: u64,
-    /// The one that has shown nothing for longest.
+    /// The script that has shown nothing for longest.
     quiet: Option<Quiet>,
 }
 
-/// How far scripts are.
+/// Returns the progress of scripts.
 fn standing_of(scripts: &[Course]) -> Standing
     ensures over { result.over ≡ over_among scripts.now }
     ensures failed { result.failed ≡ failed_among scripts.now }
@@ -136,14 +136,15 @@ fn standing_of(scripts: &[Course]) -> Standing
     }
 }
 
-/// How many whole seconds there are from a moment to another, in milliseconds.
+/// Returns the number of whole seconds between two moments in milliseconds. 0 if `moment` is
+/// earlier.
 fn seconds_between(since: u64, moment: u64) -> u64
     ensures { result ≡ (moment - since) / 1000 }
 {
     moment.saturating_sub(since) / 1000
 }
 
-/// Puts a script behind a text, and for how long it has shown nothing at a moment.
+/// Appends a script, and for how long it has shown nothing at a moment.
 #[tactic(auto, unfolding(crate::specs::Progress::quiet_words))]
 fn push_script(alloc: Global, text: &mut Text, moment: u64, script: Quiet) -> Result<(), AllocError>
     ensures { OnOk result (text.new ≡ text.old ++ quiet_words moment script) }
@@ -154,7 +155,7 @@ fn push_script(alloc: Global, text: &mut Text, moment: u64, script: Quiet) -> Re
     text.extend(b" s")
 }
 
-/// Puts a script behind a text, if there is one, and for how long it has shown nothing at a moment.
+/// Appends a script, if there is one, and for how long it has shown nothing at a moment.
 fn push_quiet(
     alloc: Global,
     text: &mut Text,
@@ -169,7 +170,8 @@ fn push_quiet(
     }
 }
 
-/// The line of a run at a moment: so many scripts of so many are over, so many of these failed, and one has shown nothing for longest.
+/// Returns the line of a run at a moment: the number of scripts that have ended, the number of
+/// scripts, the number that failed, and the script that is quiet for longest.
 #[tactic(auto, unfolding(crate::specs::Progress::progress_line))]
 fn line_of(
     alloc: Global,
@@ -191,16 +193,16 @@ fn line_of(
     Ok(text)
 }
 
-/// How far the scripts of each worker are.
+/// The progress of each worker's scripts.
 #[derive(Drop)]
 struct Board {
-    /// How many scripts there are.
+    /// The number of scripts.
     all: usize,
-    /// How many of them are over, by worker.
+    /// The number of scripts that have ended, by worker.
     over: Vec<u64>,
-    /// How many of these didn't end with status 0, by worker.
+    /// The number of scripts that have ended with a status other than 0, by worker.
     failed: Vec<u64>,
-    /// Those that have shown nothing for longest, by worker.
+    /// The script that has shown nothing for longest, by worker.
     quiet: Vec<Option<Quiet>>,
     /// The moment from which on the line may be written again.
     next: u64,
@@ -209,7 +211,7 @@ struct Board {
 }
 
 impl Board {
-    /// Where nothing is known of so many scripts of so many workers.
+    /// Creates the state for `all` scripts and `workers` workers, with no progress.
     fn new(alloc: Global, all: usize, workers: u8) -> Result<Board, AllocError> {
         let mut board = Board {
             all,
@@ -227,7 +229,7 @@ impl Board {
         Ok(board)
     }
 
-    /// Notes how far the scripts of a worker are.
+    /// Stores the progress of a worker's scripts.
     fn note(&mut self, worker: usize, standing: Standing) {
         if let Some(over) = self.over.get_mut(worker) {
             *over = standing.over;
@@ -240,7 +242,7 @@ impl Board {
         }
     }
 
-    /// The line at a moment.
+    /// Returns the line at a moment.
     fn line(&self, alloc: Global, moment: u64) -> Result<Text, AllocError> {
         let over = total(self.over.as_slice());
         let failed = total(self.failed.as_slice());
@@ -248,7 +250,8 @@ impl Board {
         line_of(alloc, over, self.all as u128, failed, moment, quiet)
     }
 
-    /// The line at a moment, if it is another than the last one and it may be written. `None` also for want of memory.
+    /// Returns the line at a moment. `None` if it equals the last line, if it may not be written
+    /// yet, or if memory is refused.
     fn next_line(&mut self, alloc: Global, moment: u64) -> Option<Text> {
         if moment < self.next {
             return None;
@@ -262,7 +265,7 @@ impl Board {
         Some(line)
     }
 
-    /// What erases the line, if there is one.
+    /// Returns the text that erases the line. `None` if there is no line, or if memory is refused.
     fn erased(&mut self, alloc: Global) -> Option<Text> {
         if self.last.len() == 0 {
             return None;
@@ -273,7 +276,7 @@ impl Board {
     }
 }
 
-/// The line of a run, which its workers share.
+/// The line of a run, shared by its workers.
 #[derive(Drop)]
 pub struct Line<R: Drop> {
     rt: R,
@@ -283,7 +286,7 @@ pub struct Line<R: Drop> {
 }
 
 impl<R: Wait + Copy + Drop> Line<R> {
-    /// The line of a run of so many scripts by so many workers, which isn't written yet.
+    /// Creates the line of a run, which is not written yet.
     pub fn new(
         rt: R,
         alloc: Global,
@@ -300,7 +303,7 @@ impl<R: Wait + Copy + Drop> Line<R> {
         })
     }
 
-    /// The same line, for another holder.
+    /// Returns the same line, for another holder.
     pub fn shared(&self) -> Result<Line<R>, AllocError> {
         Ok(Line {
             rt: self.rt,
@@ -310,7 +313,8 @@ impl<R: Wait + Copy + Drop> Line<R> {
         })
     }
 
-    /// Notes how far the scripts of a worker are at a moment, and tells the line. It is told under the lock, so that the last one stands.
+    /// Stores the progress of a worker's scripts at a moment, and prints the line. The lock is held
+    /// meanwhile, so that the newest line is printed last.
     fn tell(&self, worker: usize, standing: Standing, moment: u64) {
         let mut board = self.board.lock(&self.rt);
         board.note(worker, standing);
@@ -319,7 +323,7 @@ impl<R: Wait + Copy + Drop> Line<R> {
         }
     }
 
-    /// Erases the line. It is told again if somebody tells more.
+    /// Erases the line. It is printed again at the next progress.
     pub fn erase(&self) {
         let mut board = self.board.lock(&self.rt);
         if let Some(erased) = board.erased(self.alloc) {
@@ -328,19 +332,19 @@ impl<R: Wait + Copy + Drop> Line<R> {
     }
 }
 
-/// What one worker tells of its scripts on the line of a run.
+/// What one worker reports on the line of a run.
 #[derive(Drop)]
 pub struct Progress<R: Drop> {
     line: Line<R>,
     worker: usize,
     scripts: Vec<Course>,
     moment: u64,
-    /// The moment from which on it tells more.
+    /// The moment from which on it reports again.
     next: u64,
 }
 
 impl<R: Wait + Copy + Drop> Progress<R> {
-    /// A worker's part of a line, with the numbers of its scripts.
+    /// Creates a worker's part of a line, given the numbers of its scripts.
     pub fn new(
         alloc: Global,
         line: Line<R>,
@@ -364,21 +368,21 @@ impl<R: Wait + Copy + Drop> Progress<R> {
         })
     }
 
-    /// A script has shown something, at the moment that was told last.
+    /// Notes that a script has shown something, at the current moment.
     pub fn hear(&mut self, place: usize) {
         if let Some(script) = self.scripts.get_mut(place) {
             script.since = self.moment;
         }
     }
 
-    /// A script is over, with status 0 or otherwise.
+    /// Notes that a script has ended, with status 0 or otherwise.
     pub fn part(&mut self, place: usize, well: bool) {
         if let Some(script) = self.scripts.get_mut(place) {
             script.end = Some(well);
         }
     }
 
-    /// It is this moment now.
+    /// Sets the current moment, and reports the progress if it is due.
     pub fn look(&mut self, moment: u64) {
         self.moment = moment;
         if self.next <= moment {
@@ -390,7 +394,8 @@ impl<R: Wait + Copy + Drop> Progress<R> {
 }
 
 impl<R: Wait + Clock + Copy + Drop> Progress<R> {
-    /// Nothing more comes of these scripts: the line is gone until somebody else tells more. Waits until it is, unless nobody reads.
+    /// Reports the last progress of these scripts, and erases the line until another worker
+    /// reports. Waits until it is erased, but not for a reader that reads nothing for a second.
     pub fn leave(&mut self) {
         let standing = standing_of(self.scripts.as_slice());
         self.line.tell(self.worker, standing, self.moment);

@@ -8,15 +8,16 @@ ghost use Rattle.script_runs.specs.Record.{Keeps, KeepsTaken, contents_of};
 use std::io::{self, Write};
 use tcl_words::Text;
 
-/// Takes a record: it is handed on to a file, where there is one, and kept, where that is asked for.
+/// Takes a record. Passes it on to a file, if there is one, and keeps it, if that is requested.
 #[derive(Drop)]
 pub struct Record<F: Drop> {
     file: Option<F>,
-    /// What was taken, unless that isn't asked for, or memory for it was refused.
+    /// The bytes taken. `None` if they are not requested, or if memory for them was refused.
     kept: Option<Text>,
 }
 
-/// Keeps bytes behind those that are kept. Where memory for them is refused, nothing is kept any more.
+/// Appends bytes to those that are kept. If memory for them is refused, nothing is kept from then
+/// on.
 fn keep(kept: &mut Option<Text>, bytes: &[u8])
     ensures { Keeps kept.old bytes.now kept.new }
 {
@@ -29,7 +30,7 @@ fn keep(kept: &mut Option<Text>, bytes: &[u8])
 }
 
 impl<F: Drop> Record<F> {
-    /// What takes a record. It is kept behind what is there of a text.
+    /// Creates a taker of a record. The record is appended to the text in `kept`.
     pub fn new(file: Option<F>, kept: Option<Text>) -> Record<F>
         ensures file { result.file ≡ file }
         ensures kept { result.kept ≡ kept }
@@ -37,7 +38,7 @@ impl<F: Drop> Record<F> {
         Record { file, kept }
     }
 
-    /// The file, and what was kept of the record, if that is all that was taken.
+    /// Returns the file, and the kept text, if memory for it was never refused.
     pub fn into_parts(self) -> (Option<F>, Option<Text>)
         ensures file { result.0 ≡ self.file }
         ensures kept { result.1 ≡ self.kept }

@@ -1,4 +1,4 @@
-//! Scripts over a log of events, from any reader to any writer.
+//! Runs scripts over a log of events, from any reader to any writer.
 
 ghost use Rattle.std.specs.Prelude.{◌≡◌, ◌≢◌, length, option_map, IfOk, IfErr, IfSome, Err};
 ghost use Rattle.report_texts.specs.Devices.{GaveUp};
@@ -14,7 +14,7 @@ use std::alloc::Global;
 use std::io::{Read, Write};
 use tcl_words::Text;
 
-/// The reports of scripts over what is left of a log.
+/// Returns the reports of scripts over the rest of a log.
 fn reports_of(
     alloc: Global,
     scripts: Vec<Script>,
@@ -33,7 +33,7 @@ fn reports_of(
     }
 }
 
-/// The lines of a log of these bytes.
+/// Returns the lines of a log with these bytes.
 fn lines_of(bytes: &[u8]) -> Result<LogLines, ReplayFault>
     ensures { Opens bytes.now result }
 {
@@ -44,7 +44,7 @@ fn lines_of(bytes: &[u8]) -> Result<LogLines, ReplayFault>
     }
 }
 
-/// The reports of scripts over a log of these bytes.
+/// Returns the reports of scripts over a log with these bytes.
 fn reports_over(alloc: Global, scripts: Vec<Script>, bytes: &[u8]) -> Result<Reports, ReplayFault>
     ensures over { ReportsOver scripts.items bytes.now result }
     ensures count { IfOk result (λ rs. length rs ≡ length scripts.items) }
@@ -53,7 +53,7 @@ fn reports_over(alloc: Global, scripts: Vec<Script>, bytes: &[u8]) -> Result<Rep
     reports_of(alloc, scripts, &mut log)
 }
 
-/// The bytes that a reader has left; where they may be of a log that was cut off, the whole log that is made of them.
+/// Returns the remaining bytes of a reader. If `cut`, the log may be cut off, and it is made whole.
 fn log_bytes<R: Read>(alloc: Global, log: &mut Counted<R>, cut: bool) -> Result<Text, ReadFault>
     requires failures { log.old.failures ≡ 0 }
     requires calls { log.old.calls ≡ 0 }
@@ -68,7 +68,8 @@ fn log_bytes<R: Read>(alloc: Global, log: &mut Counted<R>, cut: bool) -> Result<
     Ok(bytes)
 }
 
-/// The reports of scripts over the log that a reader has left, which may be cut off where `cut` says so.
+/// Returns the reports of scripts over the remaining log of a reader. If `cut`, the log may be cut
+/// off.
 fn reports_read<R: Read>(
     alloc: Global,
     log: &mut Counted<R>,
@@ -89,15 +90,17 @@ fn reports_read<R: Read>(
     reports_over(alloc, scripts, bytes.as_slice())
 }
 
-/// Reads a log, runs the scripts over its events while it is judged, hands their transcripts to a shelf, and writes their reports one by one,
-/// in a form. The answer says whether each script ended with status 0. Where `cut` says so, the log may be cut off: it is taken up to its last whole
-/// line.
+/// Reads a log, runs the scripts over its events while it is checked, passes their transcripts to a
+/// shelf, and writes their reports. Returns whether each script ended with status 0. If `cut`, the
+/// log may be cut off, and is read up to its last whole line.
 ///
-/// Where memory is refused for one report or its text, that script's report says `memory`, and the others are whole.
+/// Reports are written one by one. If memory is refused for one report or its text, that script's
+/// report says `memory`, and the others are whole.
 ///
-/// Faults come in the order of `ReplayFault`'s variants, but for want of memory, which may come in place
-/// of any of them before the first transcript is kept. After `Write` a front of the reports' text was written, after any other
-/// fault nothing, and nothing was kept. An interrupted read or write is tried again.
+/// Errors are returned in the order of `ReplayFault`'s variants, except `Memory`. `Memory` may
+/// replace any of them before the first transcript is kept. After `Write`, a front of the reports'
+/// text was written. After any other error, nothing was written or kept. An interrupted read or
+/// write is tried again.
 pub fn replay<R: Read, S: Shelf, W: Write>(
     alloc: Global,
     log: &mut Counted<R>,

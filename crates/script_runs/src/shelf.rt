@@ -7,10 +7,10 @@ use session::Report;
 
 /// Keeps transcripts.
 pub trait Shelf {
-    /// The transcripts that were handed to it, in this order, where it tells them.
+    /// The transcripts that it was given, in this order, if it makes them known.
     ghost handed: { Self → Option (List (List ℕ)) };
 
-    /// Keeps the transcript of the script of a number, from 1.
+    /// Keeps the transcript of script `number`, counted from 1.
     fn keep(&mut self, number: usize, transcript: &[u8])
         ensures { Keeps (handed self.old) (handed self.new) (transcript.now ∷ []) };
 }
@@ -25,7 +25,7 @@ impl Shelf for NoShelf {
     fn keep(&mut self, _number: usize, _transcript: &[u8]) {}
 }
 
-/// Hands the transcripts of reports to a shelf, in order. The first is of script 1.
+/// Passes the transcripts of reports to a shelf, in order. The first report is that of script 1.
 pub fn keep_all<S: Shelf>(reports: &[Report], shelf: &mut S)
     ensures { Keeps (S.handed shelf.old) (S.handed shelf.new) (transcripts_of reports.now) }
 {

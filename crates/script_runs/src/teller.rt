@@ -1,4 +1,4 @@
-//! Threads that tell what other threads hand to them, so that no dialogue waits for a reader.
+//! Threads that write what other threads pass to them, so that no dialogue waits for a reader.
 
 use crate::driving::DriveFault;
 use child_serve::ServeFault;
@@ -10,23 +10,23 @@ use std::thread;
 use std::thread::{JoinHandle, Threads};
 use std::time::Clock;
 
-/// How many milliseconds a teller rests at most.
+/// The longest rest of a teller, in milliseconds.
 const REST: u64 = 1_000;
 
-/// How many bytes of stack its thread has.
+/// The stack size of its thread, in bytes.
 const STACK: usize = 262_144;
 
-/// What is handed to a teller.
+/// What is passed to a teller.
 #[derive(Drop)]
 pub struct Post<T: Drop> {
     pub held: Mutex<T>,
-    /// Whether no more comes.
+    /// Whether nothing more is passed.
     is_over: AtomicBool,
     ringer: Ringer,
 }
 
 impl<T: Drop> Post<T> {
-    /// Holds what is held already, for the teller that has this ringer's bell.
+    /// Creates a post with these contents, for the teller whose bell this ringer rings.
     fn new(alloc: Global, held: T, ringer: Ringer) -> Result<Arc<Post<T>>, AllocError> {
         let post = Post {
             held: Mutex::new(held),
@@ -36,24 +36,24 @@ impl<T: Drop> Post<T> {
         Ok(Arc::new(alloc, post)?)
     }
 
-    /// Whether no more comes.
+    /// Returns whether nothing more is passed.
     pub fn is_over(&self) -> bool {
         self.is_over.load(Ordering::SeqCst)
     }
 
-    /// Tells the teller that something was handed over.
+    /// Wakes the teller, because something was passed.
     pub fn ring(&self) {
         self.ringer.ring();
     }
 }
 
-/// Tells what is held for it.
+/// Writes what is passed to it.
 pub trait Tells<T: Drop> {
-    /// Takes what is held and tells it. Returns whether there was something.
+    /// Takes the contents and writes them. Returns whether there was something.
     fn tell_next<R: Wait + Clock>(&mut self, rt: &R, post: &Post<T>) -> bool;
 }
 
-/// Tells all that is handed over, until no more comes.
+/// Writes everything that is passed, until nothing more is passed.
 fn tell_all<R: Wait + Clock, T: Drop, L: Tells<T>>(
     rt: &R,
     mut tells: L,
@@ -72,7 +72,7 @@ fn tell_all<R: Wait + Clock, T: Drop, L: Tells<T>>(
     unreachable!()
 }
 
-/// A thread that tells.
+/// A thread that writes.
 #[derive(Drop)]
 pub struct Teller<T: Drop, L: Drop> {
     pub post: Arc<Post<T>>,
@@ -80,7 +80,7 @@ pub struct Teller<T: Drop, L: Drop> {
 }
 
 impl<T: Send + Drop + 'static, L: Tells<T> + Send + Drop + 'static> Teller<T, L> {
-    /// Starts a thread that tells what is held.
+    /// Starts a thread that writes what is passed to it.
     pub fn start<R: Threads + Wait + Clock + Copy + Send + Drop + 'static>(
         rt: R,
         alloc: Global,
@@ -99,7 +99,7 @@ impl<T: Send + Drop + 'static, L: Tells<T> + Send + Drop + 'static> Teller<T, L>
         }
     }
 
-    /// Waits until all that was handed over is told.
+    /// Waits until everything that was passed is written.
     pub fn end<R: Threads>(self, rt: &R) -> L {
         let Teller { post, thread } = self;
         post.is_over.store(true, Ordering::SeqCst);

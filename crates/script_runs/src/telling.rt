@@ -1,4 +1,4 @@
-//! What is told of scripts while they run.
+//! What is printed about scripts while they run.
 
 ghost use Rattle.std.specs.Prelude.{◌≡◌, length, IfOk};
 
@@ -17,7 +17,7 @@ use std::sync::{Arc, Wait};
 use std::thread::Threads;
 use std::time::Clock;
 
-/// How the script of a number among so many is told where it is followed.
+/// Returns how a script is printed if it is followed.
 fn manner_of(is_alone: bool, is_terminal: bool, number: u8) -> Manner {
     if !is_alone {
         return Manner::Numbered(number);
@@ -28,7 +28,7 @@ fn manner_of(is_alone: bool, is_terminal: bool, number: u8) -> Manner {
     Manner::Escaped
 }
 
-/// The numbers of the scripts of one of so many workers.
+/// Returns the numbers of one worker's scripts.
 fn numbers_of(
     alloc: Global,
     scripts: usize,
@@ -46,7 +46,7 @@ fn numbers_of(
     Ok(numbers)
 }
 
-/// Scripts as they are followed, by their numbers.
+/// Creates the state of followed scripts, given their numbers.
 fn tales_of(
     alloc: Global,
     numbers: &[u8],
@@ -63,21 +63,21 @@ fn tales_of(
     Ok(tales)
 }
 
-/// What is told while scripts run.
+/// What is printed while scripts run.
 #[derive(Drop)]
 enum Matter<R: Drop> {
-    /// What they show, on a terminal or not.
+    /// What they show, and whether it goes to a terminal.
     Shown(bool),
-    /// How far they are.
+    /// Their progress.
     Far(Line<R>),
     Nothing,
 }
 
-/// What is told while scripts run, if anything is, by a thread of its own.
+/// Prints while scripts run, in a separate thread, if anything is to be printed.
 #[derive(Drop)]
 pub struct Telling<R: Clock + Drop, E: Drop> {
     told: Option<(Matter<R>, Speaking<R, E>)>,
-    /// What tells the lines that children write on standard errors of their own.
+    /// Prints the lines that children write to their own standard errors.
     listening: Option<Teller<(), Listener<R>>>,
 }
 
@@ -85,8 +85,8 @@ impl<
     R: Threads + Wait + Clock + Copy + Send + Drop + 'static,
     E: Write + IsTerminal + Copy + Send + Drop + 'static,
 > Telling<R, E> {
-    /// Starts to tell on `to` what so many scripts of so many workers show, if that is asked for. Otherwise, on a terminal, it tells how far they are.
-    /// It also tells the lines of these standard errors, if there are any.
+    /// Starts to print on `to`. If `follow`, prints what scripts show. Otherwise, on a terminal,
+    /// prints their progress. Also prints the lines of these standard errors, if there are any.
     pub fn new(
         rt: R,
         alloc: Global,
@@ -124,7 +124,8 @@ impl<
         })
     }
 
-    /// Returns what a worker tells of its scripts, which have these numbers. `scripts` counts those of all workers.
+    /// Returns what a worker prints about its scripts, given their numbers. `scripts` counts those
+    /// of all workers.
     fn told(
         &self,
         alloc: Global,
@@ -145,7 +146,8 @@ impl<
         }
     }
 
-    /// Ends the telling. Waits until all is told, unless nobody reads.
+    /// Ends the printing. Waits until everything is printed, but not for a reader that reads
+    /// nothing for a second.
     pub fn end(self, rt: &R) {
         let Telling { told, listening } = self;
         if let Some(teller) = listening {
@@ -161,7 +163,7 @@ impl<
     }
 }
 
-/// The cancellations of the scripts of these numbers, among those of all scripts.
+/// Returns the cancellations of the scripts with these numbers.
 fn cancellations_of(
     alloc: Global,
     all: &[Arc<Cancellation>],
@@ -180,8 +182,9 @@ fn cancellations_of(
     Ok(cancellations)
 }
 
-/// One clock per worker, all with the same origin, in milliseconds. Each also prints the progress of its worker's scripts, cancels those that have
-/// ended, and gives their reports to `early`. `cancellations` has one entry per script. Fails only if memory is refused.
+/// Creates one clock per worker, all with the same origin, in milliseconds. Each also prints the
+/// progress of its worker's scripts, cancels those that have ended, and gives their reports to
+/// `early`. `cancellations` has one entry per script. Fails only if memory is refused.
 pub fn clocks<
     R: Threads + Wait + Clock + Copy + Send + Drop + 'static,
     E: Write + IsTerminal + Copy + Send + Drop + 'static,

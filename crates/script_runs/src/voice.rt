@@ -1,4 +1,5 @@
-//! What is told on standard error while scripts run. A thread of its own writes it, so that no dialogue waits for a reader.
+//! What is printed on standard error while scripts run. A separate thread writes it, so that no
+//! dialogue waits for a reader.
 
 ghost use Rattle.std.specs.Prelude.{◌≡◌, ◌↔◌, IsTrue, IfOk, OnOk, IsErr};
 ghost use Rattle.script_runs.specs.Voice.{HasRoom, Drops, Keeps, notice as notice_of};
@@ -15,36 +16,36 @@ use std::thread::Threads;
 use std::time::{Clock, Duration};
 use tcl_words::Text;
 
-/// How many bytes may be kept for a reader before a text that is kept behind them.
+/// The greatest length of the kept text, in bytes, at which more is kept.
 const MOST: usize = 262_144;
 
-/// How many bytes are written at once, at most.
+/// The greatest number of bytes written at once.
 const PIECE: usize = 4_096;
 
-/// How many milliseconds the end of a run waits for a reader that reads nothing.
+/// How long the end of a run waits for a reader that reads nothing, in milliseconds.
 const PATIENCE: u64 = 1_000;
 
-/// The most milliseconds between two looks at whether all is told.
+/// The greatest pause between two checks whether everything is written, in milliseconds.
 const PAUSE: u64 = 16;
 
-/// No time at which a reader was given up.
+/// Stands for a reader that was never given up.
 const NEVER: u64 = u64::MAX;
 
-/// What isn't told yet.
+/// What is not written yet.
 #[derive(Drop)]
 pub struct Speech {
     /// What scripts show.
     text: Text,
-    /// How many bytes that scripts showed were dropped behind it.
+    /// The number of bytes from scripts that were dropped after it.
     lost: u64,
-    /// What is to stand on the line of the run.
+    /// The new line of the run, if it changed.
     line: Option<Text>,
-    /// Whether all is told.
+    /// Whether everything is written.
     is_told: bool,
 }
 
 impl Speech {
-    /// Nothing.
+    /// Creates an empty state.
     fn new(alloc: Global) -> Speech {
         Speech {
             text: Text::new(alloc),
@@ -54,21 +55,23 @@ impl Speech {
         }
     }
 
-    /// Whether there is room for more: what is kept isn't too long, and nothing was dropped behind it.
+    /// Returns whether there is room for more: the kept text is not too long, and no bytes were
+    /// dropped after it.
     fn has_room(&self) -> bool
         ensures { IsTrue result ↔ HasRoom self.now }
     {
         self.lost == 0 && self.text.len() <= MOST
     }
 
-    /// Counts bytes that are dropped.
+    /// Counts dropped bytes.
     fn drop_bytes(&mut self, shown: usize)
         ensures { Drops self.old shown self.new }
     {
         self.lost = self.lost.saturating_add(shown as u64);
     }
 
-    /// Keeps the text of so many bytes that a script showed if there is room, and drops it otherwise. If memory is refused, it is dropped too.
+    /// Keeps the text of `shown` bytes from a script if there is room. Otherwise, or if memory is
+    /// refused, drops it and counts the bytes.
     fn keep(&mut self, text: &[u8], shown: usize) -> Result<(), AllocError>
         ensures kept { OnOk result (Keeps self.old text.now shown self.new) }
         ensures refused { IsErr result → HasRoom self.old × Drops self.old shown self.new }
@@ -85,13 +88,13 @@ impl Speech {
         Ok(())
     }
 
-    /// Keeps what is to stand on the line of the run, in place of what was to.
+    /// Keeps the line of the run, in place of an earlier one.
     fn put_line(&mut self, line: Text) {
         self.is_told = false;
         self.line = Some(line);
     }
 
-    /// Takes all of it. `None` if all is told.
+    /// Takes everything. `None` if everything is written.
     fn take(&mut self, alloc: Global) -> Option<Speech> {
         if self.text.len() == 0 && self.lost == 0 && self.line.is_none() {
             self.is_told = true;
@@ -103,7 +106,7 @@ impl Speech {
     }
 }
 
-/// The line that tells how many bytes were dropped.
+/// Returns the line that says how many bytes were dropped.
 #[tactic(auto, unfolding(crate::specs::Voice::notice))]
 fn notice(alloc: Global, lost: u64) -> Result<Text, AllocError>
     ensures { IfOk result (λ text. text ≡ notice_of lost) }
@@ -114,19 +117,20 @@ fn notice(alloc: Global, lost: u64) -> Result<Text, AllocError>
     Ok(text)
 }
 
-/// Writes what is told.
+/// Writes what scripts show.
 #[derive(Drop)]
 pub struct Speaker<E: Drop> {
     alloc: Global,
     to: E,
-    /// How many bytes were written.
+    /// The number of bytes written.
     written: Arc<AtomicU64>,
-    /// Whether what was written last was the end of a line.
+    /// Whether the last text ended a line.
     is_line: bool,
 }
 
 impl<E: Write + Drop> Speaker<E> {
-    /// Writes bytes. A write that fails ends it; one that would wait is tried again.
+    /// Writes bytes. Gives up after a failed write. A write that was interrupted or would block is
+    /// tried again.
     fn write<R: Wait + Clock>(&mut self, rt: &R, bytes: &[u8]) {
         let mut from: usize = 0;
         for _ in rt.forever() {
@@ -157,7 +161,7 @@ impl<E: Write + Drop> Speaker<E> {
         }
     }
 
-    /// Tells how many bytes were dropped, on a line of its own.
+    /// Writes how many bytes were dropped, on a separate line.
     fn write_lost<R: Wait + Clock>(&mut self, rt: &R, lost: u64) {
         if lost == 0 {
             return;
@@ -196,19 +200,19 @@ impl<E: Write + Drop> Tells<Speech> for Speaker<E> {
     }
 }
 
-/// Hands over what is to be told. It never waits for a reader, but for `await_told`.
+/// Passes on what is to be written. Only `await_told` waits for a reader.
 #[derive(Drop)]
 pub struct Voice<R: Drop> {
     rt: R,
     post: Arc<Post<Speech>>,
-    /// How many bytes were written.
+    /// The number of bytes written.
     written: Arc<AtomicU64>,
-    /// How many were when a reader was given up.
+    /// The number of bytes written when a reader was last given up.
     given_up: Arc<AtomicU64>,
 }
 
 impl<R: Copy + Drop> Voice<R> {
-    /// The same voice, for another holder.
+    /// Returns the same voice, for another holder.
     pub fn shared(&self) -> Result<Voice<R>, AllocError> {
         Ok(Voice {
             rt: self.rt,
@@ -220,7 +224,8 @@ impl<R: Copy + Drop> Voice<R> {
 }
 
 impl<R: Wait + Copy + Drop> Voice<R> {
-    /// Tells the text of so many bytes that a script showed. If there is no room or no memory for it, it is dropped, and the bytes are counted.
+    /// Passes on the text of `shown` bytes from a script. If there is no room or no memory for it,
+    /// drops it and counts the bytes.
     pub fn tell(&self, text: &[u8], shown: usize) {
         if text.is_empty() {
             return;
@@ -231,7 +236,7 @@ impl<R: Wait + Copy + Drop> Voice<R> {
         self.post.ring();
     }
 
-    /// Tells what is to stand on the line of the run. What was told before and isn't written yet is dropped.
+    /// Passes on the line of the run. An earlier line that is not written yet is dropped.
     pub fn put_line(&self, line: Text) {
         let mut held = self.post.held.lock(&self.rt);
         held.put_line(line);
@@ -246,7 +251,8 @@ impl<R: Wait + Copy + Drop> Voice<R> {
 }
 
 impl<R: Wait + Clock + Copy + Drop> Voice<R> {
-    /// Waits until all is told, unless nothing is read for a second. Returns whether all is told.
+    /// Waits until everything is written, unless nothing is read for a second. Returns whether
+    /// everything is written.
     pub fn await_told(&self) -> bool {
         let mut seen = self.written.load(Ordering::SeqCst);
         let mut still: u64 = 0;
@@ -272,12 +278,12 @@ impl<R: Wait + Clock + Copy + Drop> Voice<R> {
     }
 }
 
-/// A number that several threads have.
+/// Creates a number that several threads share.
 fn shared_number(alloc: Global, number: u64) -> Result<Arc<AtomicU64>, AllocError> {
     Ok(Arc::new(alloc, AtomicU64::new(number))?)
 }
 
-/// The thread that tells.
+/// The thread that writes.
 #[derive(Drop)]
 pub struct Speaking<R: Drop, E: Drop> {
     pub voice: Voice<R>,
@@ -288,7 +294,7 @@ impl<
     R: Threads + Wait + Clock + Copy + Send + Drop + 'static,
     E: Write + Send + Drop + 'static,
 > Speaking<R, E> {
-    /// Starts a thread that tells on `to`.
+    /// Starts a thread that writes on `to`.
     pub fn start(rt: R, alloc: Global, to: E) -> Result<Speaking<R, E>, DriveFault> {
         let written = shared_number(alloc, 0)?;
         let speaker = Speaker {
@@ -307,7 +313,8 @@ impl<
         Ok(Speaking { voice, teller })
     }
 
-    /// Waits until all is told, unless nobody reads. The thread is left behind then.
+    /// Waits until everything is written, but not for a reader that reads nothing for a second. In
+    /// that case the thread is left running.
     pub fn end(self, rt: &R) {
         let Speaking { voice, teller } = self;
         if voice.await_told() {

@@ -1,4 +1,4 @@
-//! The law of the grammar. Its function does nothing: its contract is the law.
+//! The law of the grammar. Its function does nothing at run time: its contract is the law.
 
 ghost use Rattle.std.specs.Prelude.{◌≡◌, ◌↔◌, ℕ, List, Ok, Err, Some, None};
 ghost use Rattle.tcl_words.specs.Pieces.{Spelled};
@@ -6,8 +6,9 @@ ghost use Rattle.tcl_words.specs.Commands.{next_command};
 ghost use Rattle.tcl_words.specs.declared.faults.WordFault.{WordFault};
 ghost use Rattle.tcl_grammar.specs.CommandRules.{IsNext, IsLast};
 
-/// The grammar's law: from a place on a text is read as a command, with its words and the place behind it, just where the rules give it that one, and
-/// as none just where they leave nothing there. So the rules give a text one command at most, and none where a fault is read.
+/// States the law of the grammar. From an index on, the reader finds a command exactly if the rules
+/// give it, with the same words and the same end. It finds none exactly if the rules leave no
+/// bytes. The rules therefore give at most one command, and none if the reader returns an error.
 pub fn command_rules()
     ensures some { (text : List ℕ) (at next : ℕ) (words : List Spelled) → (next_command text at ≡ Ok (Some (words, next))) ↔ IsNext text at words next }
     ensures none { (text : List ℕ) (at : ℕ) → (next_command text at ≡ Ok None) ↔ IsLast text at }

@@ -1,7 +1,8 @@
 //! The grammar of commands, rule by rule.
 //!
-//! `specs/CommandRules` has a rule for each form of a word, each substitution, white space, comments and ends of commands. [`command_rules`] says that
-//! the function of `tcl_words` gives a command just where the rules do.
+//! `specs/CommandRules` has a rule for each form of a word, each substitution, white space,
+//! comments and ends of commands. [`command_rules`] states that the reader of `tcl_words` follows
+//! the rules.
 #![tactic(auto)]
 
 mod laws;
