@@ -21,7 +21,7 @@ OPERATIONS = {
 NESTED = 200
 
 # The other commands of the language.
-LEFT_OUT = b"unset append lrange for eval string info".split()
+LEFT_OUT = b"unset append lrange for eval string info concat join lassign linsert lrepeat lreplace lreverse lsearch lset lsort split".split()
 
 
 class NotSimulated(Exception):

@@ -1,4 +1,4 @@
--- A script in its line.
+-- A script's line.
 use Rattle.std.specs.Prelude.{◌≡◌, ◌≢◌, ◌⊎◌, ℕ, ◌+◌, List, [], ◌∷◌, ◌++◌, length, map, take, slice_get, Bool, true, false, IsTrue, is_some, if◌then◌else◌, Option, Some, None}
 use Rattle.std.specs.declared.io.traits.Read.{Ghosts as ReadGhosts}
 use Rattle.child_events.specs.declared.event.Answer.{Answer}
@@ -25,18 +25,20 @@ use Rattle.child_desk.specs.declared.book.Book.{Book}
 use Rattle.child_desk.specs.declared.line.Line.{Line}
 use Rattle.child_desk.specs.declared.ends.Ends.{Ends}
 
--- a keeper before its scripts are served: its name, and how many calls it has made
+-- A keeper before its script is served: its name, and its number of calls.
 pub record Keeping : Type 0 where
   pub name : ℕ
   pub made : ℕ
 
--- the answer of a child of the script at a place
+-- The event of an answer. `at` is the script's index.
 abbrev pub answer_at : ℕ → ℕ → ℕ → Answer → HallEvent
 answer_at at child moment a = hall.Child (at + 1) child moment (what.Answer a)
 
--- Of a script whose part of the record is es, and whose session is k: the answers were told for its requests in order by its keeper's calls in order, each
--- of the child of its request; the session says what the script means; the request that waits is the next one without an answer; what was put to the hand are
--- its requests in order, those that have answers and the one that was sent, and then the stop, where it is over; one that is over has an ending.
+-- The line of a script with session `k`, part `es` of the record, and these rings. The calls of its keeper answered its
+-- requests, in order. Each answer names the child of its request. Unless the session was refused memory, its report is
+-- the script's meaning over `es` and later events. The awaited request is the first one without an answer. The hand was
+-- sent the requests with answers, in order, and then the awaited one if `sent`. After these it was sent the stop if
+-- `over`. If `over`, the script has an ending, unless memory was refused.
 pub record IsInLine (rings : Rings) (keeper : Keeping) (script : Script) (line : Line) (k : Kept) (es : List Event) : Type 0 where
   pub name : line.name ≡ keeper.name
   pub last : line.last ≡ keeper.made + length (answers_in es)
@@ -49,28 +51,29 @@ pub record IsInLine (rings : Rings) (keeper : Keeping) (script : Script) (line :
   pub asked : rings.asked ≡ map Asks (take (length (answers_in es) + (if line.sent then 1 else 0)) (meaning script.source script.settings es).requests) ++ (if line.over then Stops ∷ [] else [])
   pub over : IsTrue line.over → IsTrue k.lives → (meaning script.source script.settings es).ending ≢ Waiting
 
--- the script at a place of the hall, of whose rings this is known
+-- The script at index `at` of the hall is in line.
 abbrev pub InLine : Rings → Keeping → Script → ℕ → Line → Book → Type 0
 InLine rings keeper script at line book = (k : Kept) × (slice_get book.hall at ≡ Some k) × IsInLine rings keeper script line k (own (at + 1) (logged book))
 
--- an event that answers nothing of a script leaves that script in its line
+-- An event with no answer to a script keeps that script in line.
 abbrev pub PassesAll : HallEvent → Book → Book → Type 0
 PassesAll e old new = (rings : Rings) (keeper : Keeping) (script : Script) (at : ℕ) (line : Line) → answers_in (own (at + 1) (e ∷ [])) ≡ [] →
     InLine rings keeper script at line old → InLine rings keeper script at line new
 
--- a report of a script over its own part of the record, which has an ending where the script is over; or that of a script that was refused memory
+-- A report of a script is its meaning over its part of the record, with an ending if the script is over. Or it is the
+-- report of a script that was refused memory.
 abbrev pub Means : Script → Line → List Event → Report → Type 0
 Means script line es r = ((r ≡ meaning script.source script.settings es) × (IsTrue line.over → r.ending ≢ Waiting)) ⊎ (r ≡ memory_report)
 
--- a report of each script, which is what its line says
+-- A report of each script, as its line says.
 pub record AllShown (book : Book) (reports : List Report) : Type 0 where
   pub count : length reports ≡ length book.hall
   pub each : (at : ℕ) (report : Report) → slice_get reports at ≡ Some report →
       (rings : Rings) (keeper : Keeping) (script : Script) (line : Line) → InLine rings keeper script at line book → Means script line (own (at + 1) (logged book)) report
 
--- What a call at a desk keeps, of a book and of each script in its line.
+-- What a desk's calls keep, of a book and of each script's line.
 
--- each script stays in its line as it was, and no answer is recorded
+-- Each script stays in line, and no answer was recorded.
 pub record Leaves (old new : Book) : Type 0 where
   pub lines : (rings : Rings) (keeper : Keeping) (script : Script) (at : ℕ) (line : Line) → InLine rings keeper script at line old → InLine rings keeper script at line new
   pub answers : (script : ℕ) → replies_in (own script (logged new)) ≡ replies_in (own script (logged old))
@@ -78,7 +81,7 @@ pub record Leaves (old new : Book) : Type 0 where
   pub halls : length new.hall ≡ length old.hall
   pub log : SameIn old.log new.log
 
--- the script at a place goes on in its line, of whose rings this was known, and then that; each other stays in its line as it was
+-- The script at `at` stays in line with its new line and rings. Each other one stays in line with its old ones.
 pub record Keeps (rings rings' : Rings) (at : ℕ) (line : Line) (old : Book) (line' : Line) (new : Book) : Type 0 where
   pub here : (keeper : Keeping) (script : Script) → InLine rings keeper script at line old → InLine rings' keeper script at line' new
   pub others : (theirs : Rings) (keeper : Keeping) (script : Script) (i : ℕ) (other : Line) → i ≢ at → InLine theirs keeper script i other old → InLine theirs keeper script i other new
@@ -87,33 +90,33 @@ pub record Keeps (rings rings' : Rings) (at : ℕ) (line : Line) (old : Book) (l
   pub log : SameIn old.log new.log
 
 module _ {K O : Type 0} {g : Ghosts K O} {r : ReadGhosts O} where
-  -- nothing is taken from a script's rings
+  -- Nothing was taken from a script's rings.
   abbrev pub TakesNone : Ends K O g r → Ends K O g r → Type 0
   TakesNone e e' = (e'.readers ≡ e.readers) × (e'.answers ≡ e.answers)
 
-  -- the rings from scripts' hands stay what they are
+  -- The rings from hands stay the same rings.
   abbrev pub SameRings : List (Ends K O g r) → List (Ends K O g r) → Type 0
   SameRings ends ends' = (at : ℕ) (e : Ends K O g r) → slice_get ends at ≡ Some e → (e' : Ends K O g r) × (slice_get ends' at ≡ Some e') × SameOut e.answers e'.answers
 
-  -- nothing is taken from them, and nothing more is put to hands
+  -- Nothing was taken from these rings, and nothing was put to hands.
   pub record HearsNoHand (ends ends' : List (Ends K O g r)) : Type 0 where
     pub each : (at : ℕ) (e : Ends K O g r) → slice_get ends at ≡ Some e →
         (e' : Ends K O g r) × (slice_get ends' at ≡ Some e') × SameOut e.answers e'.answers × (taken_items e'.answers ≡ taken_items e.answers) × (asked_of_hand e' ≡ asked_of_hand e)
     pub count : length ends' ≡ length ends
 
-  -- these items begin those
+  -- The first items are a prefix of the second.
   abbrev pub IsFrontOf : List (Item K O g r) → List (Item K O g r) → Type 0
   IsFrontOf xs ys = (rest : List (Item K O g r)) × (xs ++ rest ≡ ys)
 
-  -- this is of the ring from the hand of the script at a place
+  -- This is of the ring from the hand of the script at `at`.
   abbrev pub IsEndOf : ℕ → Finished (Item K O g r) → List (Ends K O g r) → Type 0
   IsEndOf at finished ends = (e : Ends K O g r) → slice_get ends at ≡ Some e → IsFinishedOf finished e.answers
 
-  -- what was taken from that ring begins these items
+  -- What was taken from that ring is a prefix of these items.
   abbrev pub IsFrontIn : ℕ → List (Item K O g r) → List (Ends K O g r) → Type 0
   IsFrontIn at items ends = (e : Ends K O g r) → slice_get ends at ≡ Some e → IsFrontOf (taken_items e.answers) items
 
-  -- each script goes on in its line
+  -- Each script stays in line.
   pub record KeepsAll (lines : List Line) (ends : List (Ends K O g r)) (old : Book) (lines' : List Line) (ends' : List (Ends K O g r)) (new : Book) : Type 0 where
     pub each : (keeper : Keeping) (script : Script) (at : ℕ) (line : Line) (e : Ends K O g r) → slice_get lines at ≡ Some line → slice_get ends at ≡ Some e → InLine (rings_of e) keeper script at line old →
         (line' : Line) × (e' : Ends K O g r) × (slice_get lines' at ≡ Some line') × (slice_get ends' at ≡ Some e') × InLine (rings_of e') keeper script at line' new
@@ -123,11 +126,11 @@ module _ {K O : Type 0} {g : Ghosts K O} {r : ReadGhosts O} where
     pub log : SameIn old.log new.log
     pub count : length lines' ≡ length lines
 
--- a script of this ending goes on, or it has ended
+-- Whether a script with this ending goes on.
 abbrev pub Goes : Option Ending → Bool → Type 0
 Goes ending true = (ending ≡ None) ⊎ (ending ≡ Some Waiting)
 Goes ending false = (e : Ending) × (ending ≡ Some e) × (e ≢ Waiting)
 
--- each script is over
+-- Each script is over.
 abbrev pub AllOver : List Line → Type 0
 AllOver lines = (at : ℕ) (line : Line) → slice_get lines at ≡ Some line → IsTrue line.over

@@ -15,7 +15,7 @@ use Rattle.feed_rings.specs.Ends.{put_items, taken_items}
 use Rattle.feed_rings.specs.declared.feed.FeedOut.{FeedOut}
 use Rattle.child_desk.specs.declared.ends.Ends.{Ends}
 
--- the answers among events, in order
+-- The answer of an event, if it is one.
 abbrev pub answer_in : Event → List Answer
 answer_in (event.Tick m) = []
 answer_in (event.Child c m (what.Answer a)) = a ∷ []
@@ -26,12 +26,12 @@ answer_in (event.Child c m (what.ReadFail cause)) = []
 abbrev pub answers_in : List Event → List Answer
 answers_in es = flat_map answer_in es
 
--- an answer, and the child that it names
+-- An answer, and the child that it names.
 pub record Reply : Type 0 where
   pub child : ℕ
   pub answer : Answer
 
--- the answers among events, with their children
+-- The answer of an event with its child, if it is one.
 abbrev pub reply_in : Event → List Reply
 reply_in (event.Tick m) = []
 reply_in (event.Child c m (what.Answer a)) = record { child = c; answer = a } ∷ []
@@ -42,53 +42,53 @@ reply_in (event.Child c m (what.ReadFail cause)) = []
 abbrev pub replies_in : List Event → List Reply
 replies_in es = flat_map reply_in es
 
--- each answer names the child of the request in the same place
+-- Each answer names the child of the request with its index.
 abbrev pub AreOf : List Reply → List Request → Type 0
 AreOf [] qs = Unit {0}
 AreOf (x ∷ xs) [] = ⊥
 AreOf (x ∷ xs) (q ∷ qs) = (x.child ≡ q.child) × AreOf xs qs
 
--- Each answer was told by the call of its number, counted behind n, as the answer to the request in the same place; there are no more answers than
--- requests.
+-- The keeper's calls after the first `n`, in order, told these answers to the requests with their indices. There are at
+-- most as many answers as requests.
 abbrev pub AreTold : (ℕ → ℕ → Request → Answer → Type 0) → ℕ → ℕ → List Answer → List Request → Type 0
 AreTold told name n [] qs = Unit {0}
 AreTold told name n (a ∷ xs) [] = ⊥
 AreTold told name n (a ∷ xs) (q ∷ qs) = ∥ told name (n + 1) q a ∥₁ × AreTold told name (n + 1) xs qs
 
--- what a keeper told: its name, the number of the call, what was asked and what came of it
+-- What a keeper told: its name, the number of the call, the request and the answer.
 pub record Telling : Type 0 where
   pub name : ℕ
   pub call : ℕ
   pub request : Request
   pub answer : Answer
 
--- Each answer is among what was told, as what came of the request in the same place, by the keeper's calls behind n in order; there are no more answers
--- than requests.
+-- The answers to the requests with their indices are among what was told, by the keeper's calls after the first `n`, in
+-- order. There are at most as many answers as requests.
 abbrev pub AreAmong : List Telling → ℕ → ℕ → List Answer → List Request → Type 0
 AreAmong ts name n [] qs = Unit {0}
 AreAmong ts name n (a ∷ xs) [] = ⊥
 AreAmong ts name n (a ∷ xs) (q ∷ qs) = Contains ts (record { name = name; call = n + 1; request = q; answer = a }) × AreAmong ts name (n + 1) xs qs
 
--- what is put to a script's hand: a request or the stop
+-- What is put to a script's hand: a request, the stop, or anything else.
 pub data Put : Type 0 where
   Asks : (request : Request) → Put
   Stops : Put
   Else : Put
 
--- what is known of a script's rings to its hand and from it: what its keeper told, and what was put, or waits for room
+-- What is known of the rings to and from a script's hand: what its keeper told, and what was put or waits for room.
 pub record Rings : Type 0 where
   pub told : List Telling
   pub asked : List Put
 
--- rings through which nothing has come
+-- New rings.
 abbrev pub no_rings : Rings
 no_rings = record { told = []; asked = [] }
 
--- more was told
+-- The keeper told more.
 abbrev pub telling : Rings → List Telling → Rings
 telling rings more = record rings { told = rings.told ++ more }
 
--- more was put
+-- More was put.
 abbrev pub asking : Rings → List Put → Rings
 asking rings more = record rings { asked = rings.asked ++ more }
 
@@ -100,7 +100,7 @@ module _ {K O : Type 0} {g : Ghosts K O} {r : ReadGhosts O} where
   told_of None = []
   told_of (Some a) = telling_of a ∷ []
 
-  -- what an item tells, if it is an answer
+  -- What an item tells, if it is an answer.
   abbrev pub tells : Item K O g r → List Telling
   tells (item.Answer s a) = telling_of a ∷ []
   tells (item.Out s c piece) = []
@@ -112,7 +112,7 @@ module _ {K O : Type 0} {g : Ghosts K O} {r : ReadGhosts O} where
   abbrev pub all_told : List (Item K O g r) → List Telling
   all_told items = flat_map tells items
 
-  -- what the items tell that were taken from a ring
+  -- What the items tell that were taken from a ring.
   abbrev pub heard_of_hand : FeedOut (Item K O g r) → List Telling
   heard_of_hand out = all_told (taken_items out)
 
@@ -128,7 +128,7 @@ module _ {K O : Type 0} {g : Ghosts K O} {r : ReadGhosts O} where
   waiting None = []
   waiting (Some x) = put_of x ∷ []
 
-  -- what was put to the hand, and then what waits for room
+  -- What was put to the hand, and then what waits for room.
   abbrev pub asked_of_hand : Ends K O g r → List Put
   asked_of_hand e = map put_of (put_items e.asks) ++ waiting e.ready
 

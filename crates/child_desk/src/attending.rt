@@ -1,4 +1,4 @@
-//! What a turn does for a script: it takes what came, and puts what the script asks for.
+//! A script's part of a turn: it takes what came, and sends what the script asks for.
 
 ghost use Rattle.std.specs.Prelude.{◌≡◌, ◌<◌, ◌≤◌, ◌+◌, ℕ, length, true, false, OnOk, None, vec_len};
 ghost use Rattle.dialogue_sched.specs.declared.script.Script.{Script};
@@ -18,17 +18,17 @@ use child_events::HallEvent;
 use child_hands::{Keeper, LogItem};
 use std::alloc::{AllocError, Global};
 
-/// The last moment.
+/// The last moment, in milliseconds.
 const MOMENT_LIMIT: u64 = 9_000_000_000_000_000;
 
-/// Whether the time went on, and isn't past the last moment.
+/// Returns whether the time went on, and isn't past the last moment.
 fn goes_on(stamp: u64, now: u64) -> bool
     ensures { result ≡ is_later stamp now }
 {
     stamp < now && now <= MOMENT_LIMIT
 }
 
-/// Stamps what comes next with a moment.
+/// Sets the moment of what comes next.
 fn set_stamp(book: &mut Book, now: u64)
     requires { is_later book.old.stamp now ≡ true }
     ensures hall { book.new.hall ≡ book.old.hall }
@@ -38,7 +38,7 @@ fn set_stamp(book: &mut Book, now: u64)
     book.stamp = now;
 }
 
-/// A tick, where the time went on.
+/// Enters a tick, if the time went on.
 pub(crate) fn tick(book: &mut Book, now: u64)
     requires room { HasRoom book.old }
     ensures kept { Leaves book.old book.new }
@@ -56,7 +56,8 @@ pub(crate) fn tick(book: &mut Book, now: u64)
     );
 }
 
-/// Puts into the record's ring, where it has room, that no event of an earlier moment comes behind. What comes next has that stamp.
+/// Records that no later event has an earlier moment, if the ring has room and the time went on.
+/// The moment becomes the stamp.
 pub(crate) fn still(book: &mut Book, now: u64)
     ensures kept { Leaves book.old book.new }
     ensures log { logged book.new ≡ logged book.old }
@@ -70,8 +71,8 @@ pub(crate) fn still(book: &mut Book, now: u64)
     };
 }
 
-/// Takes the next answer from a script's hand, where the record has room for it, and enters it where it is the one that is awaited. True where there
-/// was one.
+/// Takes the next answer of a script's hand, if the record has room. Enters it if it is the awaited
+/// one. Returns whether there was one.
 fn hear_answer<K: Keeper>(book: &mut Book, line: &mut Line, ends: &mut Ends<K>, at: usize) -> bool
     requires { at < 64 }
     ensures kept { Keeps (rings_of ends.old) (rings_of ends.new) at line.old book.old line.new book.new }
@@ -93,7 +94,8 @@ fn hear_answer<K: Keeper>(book: &mut Book, line: &mut Line, ends: &mut Ends<K>, 
     true
 }
 
-/// Makes ready what is to be put to a script's hand: the request that waits, where it wasn't sent, or the stop, where the script has ended.
+/// Makes ready what goes to the hand next: the awaited request, unless it was sent. If the script
+/// has ended, it is the stop.
 fn prepare<K: Keeper>(
     alloc: Global,
     book: &Book,
@@ -123,7 +125,7 @@ fn prepare<K: Keeper>(
     Ok(())
 }
 
-/// Puts what a script asks for next, or the stop behind its ending. True where something was put.
+/// Sends a script's next request, or the stop after its end. Returns whether anything was sent.
 fn ask<K: Keeper>(
     alloc: Global,
     book: &mut Book,
@@ -150,7 +152,7 @@ fn ask<K: Keeper>(
     Ok(put | ends.flush())
 }
 
-/// Takes all that came for a script, and puts what it asks for. True where there was something.
+/// Takes what came for a script, and sends its next request. Returns whether there was anything.
 fn attend<K: Keeper>(
     alloc: Global,
     book: &mut Book,
@@ -172,7 +174,7 @@ fn attend<K: Keeper>(
     Ok(answered | heard | asked)
 }
 
-/// Attends to the script at a place.
+/// Attends to the script at an index. Does nothing if there is none.
 fn attend_at<K: Keeper>(
     alloc: Global,
     book: &mut Book,
@@ -196,7 +198,7 @@ fn attend_at<K: Keeper>(
     attend(alloc, book, line, ends, at)
 }
 
-/// Attends to each script.
+/// Attends to each script. Returns whether there was anything for one.
 #[tactic(auto, using(crate::proofs::Kept::all_same, crate::proofs::Kept::all_then))]
 pub(crate) fn attend_all<K: Keeper>(
     alloc: Global,

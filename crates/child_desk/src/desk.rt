@@ -21,24 +21,29 @@ use feed_rings::{Bell, FeedIn, Finished};
 use std::alloc::{AllocError, Global};
 use std::sync::Wait;
 
-/// A worker's desk: a hall with its record, and for each script what is open and its ends of the rings.
+/// A worker's desk: a hall with its record, and each script's line and endpoints of rings.
 #[derive(Drop)]
 pub struct Desk<K: Keeper> {
     alloc: Global,
+    /// The hall and the record.
     pub book: Book,
+    /// The line of each script.
     pub lines: Vec<Line>,
+    /// The endpoints of each script's rings.
     pub ends: Vec<Ends<K>>,
 }
 
-/// What came of scripts: a report of each, in order, and the end of the ring into which the events that they took were put.
+/// The result of a desk: a report of each script, in order, and the ring of the record.
 #[derive(Drop)]
 pub struct Outcome {
+    /// The reports.
     pub reports: Reports,
+    /// The ring of the record.
     pub log: FeedIn<LogItem>,
 }
 
 impl<K: Keeper> Desk<K> {
-    /// A desk over a hall to which nothing has happened, with a line and the ends of the rings for each of its scripts.
+    /// Creates a desk. The hall is new, and has a line and endpoints for each script.
     pub fn new(alloc: Global, book: Book, lines: Vec<Line>, ends: Vec<Ends<K>>) -> Desk<K>
         ensures book { result.book ≡ book }
         ensures lines { result.lines.items ≡ lines.items }
@@ -52,7 +57,8 @@ impl<K: Keeper> Desk<K> {
         }
     }
 
-    /// Waits until the record has room for an entry. False where it isn't taken any more.
+    /// Waits until the record has room for an entry. Returns false if nobody takes the record any
+    /// more.
     pub fn await_room<R: Wait>(&mut self, rt: &R, bell: &Bell) -> bool
         ensures lines { self.new.lines.items ≡ self.old.lines.items }
         ensures ends { self.new.ends.items ≡ self.old.ends.items }
@@ -62,7 +68,9 @@ impl<K: Keeper> Desk<K> {
         self.book.await_room(rt, bell)
     }
 
-    /// One turn: a tick where the time went on, then for each script all that came, and what it asks for. True where there was something.
+    /// Takes a turn: a tick if the time went on, then each script's part. That takes at most one
+    /// answer and the output of children, and sends the next request. Returns whether a script took
+    /// or sent anything.
     pub fn turn(&mut self, now: u64) -> Result<bool, AllocError>
         requires lines { (length self.old.lines.items ≤ length self.old.book.hall) × (length self.old.book.hall ≤ 64) }
         requires room { HasRoom self.old.book }
@@ -76,7 +84,8 @@ impl<K: Keeper> Desk<K> {
         attend_all(self.alloc, &mut self.book, &mut self.lines, &mut self.ends)
     }
 
-    /// Puts into the record's ring, where it has room, that no event of an earlier moment comes behind. No script's time is up at that moment.
+    /// Records that no later event has an earlier moment, if the ring has room and the time went
+    /// on. The hall takes no tick for it.
     pub fn still(&mut self, now: u64)
         ensures lines { self.new.lines.items ≡ self.old.lines.items }
         ensures ends { self.new.ends.items ≡ self.old.ends.items }
@@ -86,7 +95,7 @@ impl<K: Keeper> Desk<K> {
         still(&mut self.book, now);
     }
 
-    /// Whether something seems to have come for some script.
+    /// Returns whether anything seems to have come for a script.
     pub fn has_come(&mut self) -> bool
         ensures lines { self.new.lines.items ≡ self.old.lines.items }
         ensures book { self.new.book ≡ self.old.book }
@@ -102,7 +111,7 @@ impl<K: Keeper> Desk<K> {
         false
     }
 
-    /// Whether a script may have run out of time at this moment.
+    /// Returns whether this moment is past the deadline of a script.
     pub fn is_due(&self, moment: u64) -> bool
         ensures { result ≡ is_behind moment (soonest self.now.book.hall) }
     {
@@ -112,15 +121,17 @@ impl<K: Keeper> Desk<K> {
         }
     }
 
-    /// Whether nothing more can come: each script is over, no request waits for its answer, and the output of each child has ended.
+    /// Returns whether nothing more can come: each script has ended, no request awaits its answer,
+    /// and the output of each started child has ended.
     pub fn is_done(&self) -> bool
         ensures { IsTrue result → AllOver self.now.lines.items }
     {
         all_over(self.lines.as_slice()) && all_quiet(self.ends.as_slice())
     }
 
-    /// Takes what is left of a child of the script at a place, whose reader has finished that child's ring, as soon as the record has room. False
-    /// where it isn't taken any more.
+    /// Takes what is left in a child's ring, which its reader has finished. Waits for room in the
+    /// record. `at` is the script's index, `index` the child's. Returns false if nobody takes the
+    /// record any more.
     pub fn settle<R: Wait>(
         &mut self,
         rt: &R,
@@ -154,7 +165,8 @@ impl<K: Keeper> Desk<K> {
 }
 
 impl<K: Keeper> Desk<K> {
-    /// Looks a last time at the ring from the hand of the script at a place, which has finished it: what was taken of it begins all that was ever put
+    /// Looks once more at the ring from the hand of the script at index `at`, which has finished
+    /// it. Takes nothing. What was taken before is then known to be a prefix of all that was put
     /// there.
     pub fn close(&mut self, at: usize, finished: Finished<Item<K>>)
         requires { IsEndOf at finished self.old.ends.items }
@@ -170,8 +182,9 @@ impl<K: Keeper> Desk<K> {
         }
     }
 
-    /// What came of the scripts, for which the desk is given up. Where a script's session lives, its report is what the script means over its
-    /// part of the record, unless memory for the report was refused: that costs no other its own, nor the record.
+    /// Returns the reports and the ring of the record. The desk is dropped. A script's report is
+    /// its meaning over its part of the record, unless the session or the report was refused
+    /// memory. That affects no other report, nor the record.
     pub fn into_outcome(self) -> Outcome
         ensures shown { AllShown self.book result.reports }
         ensures log { result.log ≡ self.book.log }
@@ -180,7 +193,7 @@ impl<K: Keeper> Desk<K> {
         outcome_of(book)
     }
 
-    /// Tells each hand to stop, where the scripts can't go on.
+    /// Sends the stop to each hand whose ring has room. Call it if the scripts can't go on.
     pub fn stop_all(&mut self)
         ensures lines { self.new.lines.items ≡ self.old.lines.items }
         ensures book { self.new.book ≡ self.old.book }
@@ -192,7 +205,7 @@ impl<K: Keeper> Desk<K> {
     }
 }
 
-/// What came of the scripts of a book.
+/// Returns the result of a book's scripts.
 fn outcome_of(book: Book) -> Outcome
     ensures shown { AllShown book result.reports }
     ensures log { result.log ≡ book.log }
@@ -204,7 +217,7 @@ fn outcome_of(book: Book) -> Outcome
     }
 }
 
-/// Whether the script at a place is over.
+/// Returns whether the script at an index is over. False if there is none.
 fn is_over(lines: &[Line], at: usize) -> bool {
     match lines.get(at) {
         Some(line) => line.over,
@@ -212,7 +225,7 @@ fn is_over(lines: &[Line], at: usize) -> bool {
     }
 }
 
-/// Whether something seems to have come for the script at a place that is to be taken now.
+/// Returns whether anything to take now seems to have come for the script at an index.
 fn has_come_at<K: Keeper>(book: &Book, over: bool, ends: &mut Vec<Ends<K>>, at: usize) -> bool
     ensures heard { (es : List HallEvent) → HearsAll ends.old.items es ends.new.items es }
     ensures hands { HearsNoHand ends.old.items ends.new.items }
@@ -223,7 +236,7 @@ fn has_come_at<K: Keeper>(book: &Book, over: bool, ends: &mut Vec<Ends<K>>, at: 
     }
 }
 
-/// Whether each script is over, and no request waits for its answer.
+/// Returns whether each script is over, and no request awaits its answer.
 #[tactic(auto, using(crate::proofs::Kept::one_over, crate::proofs::Kept::none_over))]
 fn all_over(lines: &[Line]) -> bool
     ensures { IsTrue result → AllOver lines.now }
@@ -234,14 +247,14 @@ fn all_over(lines: &[Line]) -> bool
     }
 }
 
-/// Whether a script is over, and no request of it waits for its answer.
+/// Returns whether a script is over, and no request awaits its answer.
 fn is_settled(line: &Line) -> bool
     ensures { IsTrue result → IsTrue line.now.over }
 {
     line.over && line.awaited.is_none()
 }
 
-/// Whether nothing is under way in any ring.
+/// Returns whether nothing is under way in any ring.
 fn all_quiet<K: Keeper>(ends: &[Ends<K>]) -> bool {
     for ends in ends {
         if !ends.is_quiet() {

@@ -1,4 +1,4 @@
-//! A script's ends of its rings.
+//! A script's endpoints of its rings.
 
 ghost use Rattle.std.specs.Prelude.{◌≡◌, ◌≤◌, ◌++◌, [], ◌∷◌, None, OnOk, IfErr, is_some};
 ghost use Rattle.feed_rings.specs.Ends.{taken_items, all_put, SameOut, IsFinishedOf};
@@ -12,7 +12,7 @@ use expect_core::{Act, Request};
 use feed_rings::{FeedIn, FeedOut, Finished};
 use std::alloc::{AllocError, Global};
 
-/// A script's ends of its rings, and how far what travels in them is.
+/// A script's endpoints of its rings, and the counts of its children.
 #[derive(Drop)]
 pub struct Ends<K: Keeper> {
     /// To its hand.
@@ -21,18 +21,18 @@ pub struct Ends<K: Keeper> {
     pub answers: FeedOut<Item<K>>,
     /// From the readers of its children.
     pub readers: Readers<K>,
-    /// What waits for room in the ring to the hand.
+    /// The item that waits for room in the ring to the hand.
     pub ready: Option<Item<K>>,
-    /// The greatest number of a child that was to be started.
+    /// The greatest number of a child that a sent request starts.
     greatest: u8,
-    /// How many children were started.
+    /// The number of children that were started.
     started: u8,
-    /// How many children's outputs have ended.
+    /// The number of children whose output has ended.
     ended: u8,
 }
 
 impl<K: Keeper> Ends<K> {
-    /// The ends of rings through which nothing has come.
+    /// Creates endpoints of new rings.
     pub fn new(asks: FeedIn<Item<K>>, answers: FeedOut<Item<K>>, readers: Readers<K>) -> Ends<K>
         ensures readers { result.readers ≡ readers }
         ensures answers { result.answers ≡ answers }
@@ -50,19 +50,19 @@ impl<K: Keeper> Ends<K> {
         }
     }
 
-    /// Whether nothing is under way: nothing waits for room, and the output of each child that was started has ended.
+    /// Returns whether nothing waits for room, and the output of each started child has ended.
     pub(crate) fn is_quiet(&self) -> bool {
         self.ready.is_none() && self.ended >= self.started
     }
 
-    /// The greatest number of a child that was to be started.
+    /// Returns the greatest number of a child that a sent request starts, at most 16.
     pub(crate) fn children(&self) -> u8
         ensures { result ≤ 16 }
     {
         self.greatest.min(16)
     }
 
-    /// The next answer, where there is one.
+    /// Takes the next item of the hand. `None` if there is none, or it isn't an answer.
     pub(crate) fn next_answer(&mut self) -> Option<Answered<K>>
         ensures readers { self.new.readers ≡ self.old.readers }
         ensures ring { SameOut self.old.answers self.new.answers }
@@ -73,7 +73,7 @@ impl<K: Keeper> Ends<K> {
         answered_in(item)
     }
 
-    /// Whether an answer seems to have come.
+    /// Returns whether an answer seems to have come.
     pub(crate) fn has_answer(&mut self) -> bool
         ensures readers { self.new.readers ≡ self.old.readers }
         ensures ring { SameOut self.old.answers self.new.answers }
@@ -83,7 +83,7 @@ impl<K: Keeper> Ends<K> {
         !self.answers.is_empty()
     }
 
-    /// Looks at all that the hand, which has finished its ring, ever put there.
+    /// Looks once more at the ring from the hand, which has finished it.
     pub(crate) fn close(&mut self, finished: Finished<Item<K>>)
         requires finished { IsFinishedOf finished self.old.answers }
         ensures readers { self.new.readers ≡ self.old.readers }
@@ -96,7 +96,7 @@ impl<K: Keeper> Ends<K> {
         self.answers.left(&mut finished);
     }
 
-    /// Counts the output that ended with what was taken, where it did.
+    /// Counts an output as ended, if its last item was taken.
     pub(crate) fn count(&mut self, taken: &Taken)
         ensures rings { TakesNone self.old self.new }
         ensures asked { asked_of_hand self.new ≡ asked_of_hand self.old }
@@ -106,7 +106,7 @@ impl<K: Keeper> Ends<K> {
         }
     }
 
-    /// Counts a child, where it was started.
+    /// Counts a child, if it was started.
     pub(crate) fn count_start(&mut self, started: bool)
         ensures rings { TakesNone self.old self.new }
         ensures asked { asked_of_hand self.new ≡ asked_of_hand self.old }
@@ -116,14 +116,14 @@ impl<K: Keeper> Ends<K> {
         }
     }
 
-    /// Whether something waits for room in the ring to the hand.
+    /// Returns whether an item waits for room in the ring to the hand.
     pub(crate) fn is_waiting(&self) -> bool
         ensures { result ≡ is_some self.now.ready }
     {
         self.ready.is_some()
     }
 
-    /// Has a copy of a request put to the hand.
+    /// Makes a copy of a request ready for the hand. On `AllocError` nothing is made ready.
     pub(crate) fn send(&mut self, alloc: Global, request: &Request) -> Result<(), AllocError>
         requires { self.old.ready ≡ None }
         ensures rings { TakesNone self.old self.new }
@@ -138,7 +138,7 @@ impl<K: Keeper> Ends<K> {
         Ok(())
     }
 
-    /// Has the stop put to the hand, in place of what waits for room.
+    /// Makes the stop ready for the hand, in place of an item that waits for room.
     pub(crate) fn stop(&mut self)
         ensures rings { TakesNone self.old self.new }
         ensures asked { self.old.ready ≡ None → asked_of_hand self.new ≡ asked_of_hand self.old ++ Stops ∷ [] }
@@ -146,7 +146,7 @@ impl<K: Keeper> Ends<K> {
         self.ready = Some(Item::Stop);
     }
 
-    /// Puts what waits for room. True where something was put.
+    /// Puts the item that waits for room. Returns whether it was put.
     pub(crate) fn flush(&mut self) -> bool
         ensures rings { TakesNone self.old self.new }
         ensures asked { asked_of_hand self.new ≡ asked_of_hand self.old }
@@ -164,7 +164,7 @@ impl<K: Keeper> Ends<K> {
     }
 }
 
-/// The answer that an item is, if it is one.
+/// Returns the answer, if an item is one.
 fn answered_in<K: Keeper>(item: Item<K>) -> Option<Answered<K>>
     ensures { told_of result ≡ tells item }
 {
@@ -174,7 +174,7 @@ fn answered_in<K: Keeper>(item: Item<K>) -> Option<Answered<K>>
     }
 }
 
-/// Whether an answer says that a child was started.
+/// Returns whether an answer says that a child was started.
 pub(crate) fn starts<K: Keeper>(answered: &Answered<K>) -> bool {
     match &answered.request.act {
         Act::Spawn(_) => answered.answer == Answer::Ok,

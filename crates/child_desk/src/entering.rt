@@ -1,4 +1,4 @@
-//! Entries in a record, behind the hall that takes them.
+//! Enters events: the hall takes them, and the record gets them.
 
 ghost use Rattle.std.specs.Prelude.{◌≡◌, [], length, IsTrue, true, None};
 ghost use Rattle.dialogue_sched.specs.Refusal.{refusal_of};
@@ -13,7 +13,8 @@ use feed_rings::{Bell, FeedIn, await_room};
 use std::sync::Wait;
 
 impl Book {
-    /// A hall to which nothing has happened, and the ring of its record.
+    /// Creates a book of a new hall and the ring of its record. Requires that nothing was put into
+    /// it.
     pub fn new(hall: Hall, log: FeedIn<LogItem>) -> Book
         requires { put_items log ≡ [] }
         ensures hall { result.hall ≡ hall }
@@ -27,7 +28,7 @@ impl Book {
         }
     }
 
-    /// Whether there is room for an entry.
+    /// Returns whether there is room for an entry.
     pub fn has_room(&mut self) -> bool
         ensures looks { Looks self.old self.new }
         ensures room { IsTrue result → HasRoom self.new }
@@ -35,7 +36,7 @@ impl Book {
         self.log.has_room()
     }
 
-    /// Waits until there is room for an entry. False where the record isn't taken any more.
+    /// Waits until there is room for an entry. Returns false if nobody takes the record any more.
     pub fn await_room<R: Wait>(&mut self, rt: &R, bell: &Bell) -> bool
         ensures looks { Looks self.old self.new }
         ensures room { IsTrue result → HasRoom self.new }
@@ -44,7 +45,8 @@ impl Book {
     }
 }
 
-/// Steps the hall with an event, whose copy it takes, and records it. True where the hall took it; a refused one changes nothing.
+/// Passes the copy of an event to the hall, and records the event. Returns whether the hall took
+/// it. A refused event changes nothing.
 pub fn enter(book: &mut Book, event: HallEvent, copy: HallEvent) -> bool
     requires same { copy ≡ event }
     requires room { HasRoom book.old }
@@ -59,7 +61,7 @@ pub fn enter(book: &mut Book, event: HallEvent, copy: HallEvent) -> bool
     true
 }
 
-/// Steps the hall with an event that it takes, and records it.
+/// Passes the copy of an event to the hall, and records the event. Requires that the hall takes it.
 pub fn enter_taken(book: &mut Book, entry: HallEvent, copy: HallEvent)
     requires same { copy ≡ entry }
     requires room { HasRoom book.old }

@@ -1,4 +1,4 @@
-//! What the children of a script put out.
+//! The output of a script's children.
 
 ghost use Rattle.std.specs.Prelude.{◌≡◌, ◌<◌, ◌≤◌, ◌+◌, [], ◌∷◌, ℕ, List, length, IsTrue, IfOk, OnOk};
 ghost use Rattle.child_events.specs.declared.event.What.{What};
@@ -22,13 +22,14 @@ use feed_rings::{Bell, Finished};
 use std::alloc::{AllocError, Global};
 use std::sync::Wait;
 
-/// How many items are taken from one ring before the next is looked at.
+/// The most items that one turn takes from a child's ring.
 const ROUND: u32 = 64;
 
-/// How many items of a child may lie untaken before its ring is left alone, so that a child that floods waits in its write.
+/// The most untaken items of a child before its ring is left alone. A child that floods then waits
+/// in its write.
 const UNTAKEN: usize = 256;
 
-/// The event that is what came from a child of the script at a place.
+/// Returns the event of a child's output. `at` is the script's index.
 fn output_event(at: usize, child: u8, moment: u64, what: What) -> HallEvent
     requires { at < 64 }
     ensures { result ≡ output_at at child moment what }
@@ -41,7 +42,7 @@ fn output_event(at: usize, child: u8, moment: u64, what: What) -> HallEvent
     }
 }
 
-/// Enters what came from a child of the script at a place.
+/// Enters an item of a child's output. `at` is the script's index.
 fn enter_output(book: &mut Book, at: usize, child: u8, what: What, copy: What)
     requires same { copy ≡ what }
     requires output { IsOutput what × (piece_len what ≤ 4096) }
@@ -56,7 +57,7 @@ fn enter_output(book: &mut Book, at: usize, child: u8, what: What, copy: What)
     enter_taken(book, event, copy);
 }
 
-/// Enters what was taken from the ring of the child at a place. True where that was something.
+/// Enters what was taken from a child's ring. Returns whether anything was taken.
 #[tactic(auto, using(crate::proofs::Kept::leaves_all, crate::proofs::Coming::comes_all))]
 fn enter_heard<K: Keeper>(
     book: &mut Book,
@@ -85,7 +86,8 @@ fn enter_heard<K: Keeper>(
     }
 }
 
-/// Takes what comes next from the child at a place, where the record has room for it, and enters it. True where there was something.
+/// Takes the next item of a child's ring, if the record has room, and enters it. Returns whether
+/// there was one.
 #[tactic(auto, using(crate::proofs::Kept::leaves_all, crate::proofs::Kept::leaves_same, crate::proofs::Kept::leaves_then, crate::proofs::Hears::hears_at_none, crate::proofs::Hears::takes_none, crate::proofs::Coming::comes_all, crate::proofs::Coming::comes_same, crate::proofs::Coming::comes_then))]
 fn hear<K: Keeper>(
     alloc: Global,
@@ -111,7 +113,8 @@ fn hear<K: Keeper>(
     Ok(enter_heard(book, ends, at, index, taken))
 }
 
-/// Whether the ring of the child at a place is left alone: much of it lies untaken, and its script, which isn't over, may still take it.
+/// Returns whether a child's ring is left alone. Then the child has more than `UNTAKEN` untaken
+/// items, and its script isn't over and may still take them.
 fn is_held_back(book: &Book, over: bool, at: usize, index: u8) -> bool {
     !over
         && book
@@ -120,7 +123,7 @@ fn is_held_back(book: &Book, over: bool, at: usize, index: u8) -> bool {
             > UNTAKEN
 }
 
-/// Takes what the child at a place has, but not for ever. True where there was something.
+/// Takes the items of a child's ring, up to a limit. Returns whether there was one.
 #[tactic(auto, using(crate::proofs::Kept::leaves_all, crate::proofs::Hears::hears_at_same, crate::proofs::Coming::comes_all))]
 fn hear_child<K: Keeper>(
     alloc: Global,
@@ -147,7 +150,7 @@ fn hear_child<K: Keeper>(
     Ok(true)
 }
 
-/// Takes what the children of a script have. True where there was something.
+/// Takes the items of all children of a script, up to a limit each. Returns whether there was one.
 #[tactic(auto, using(crate::proofs::Kept::leaves_all, crate::proofs::Kept::leaves_then, crate::proofs::Hears::hears_same, crate::proofs::Hears::hears_then, crate::proofs::Hears::hears_of, crate::proofs::Coming::comes_all))]
 pub(crate) fn hear_children<K: Keeper>(
     alloc: Global,
@@ -171,8 +174,8 @@ pub(crate) fn hear_children<K: Keeper>(
     Ok(busy)
 }
 
-/// Takes what is left of the child at a place, whose reader has finished its ring, as soon as the record has room. False where it isn't taken any
-/// more.
+/// Takes what is left in a child's ring, which its reader has finished. Waits for room in the
+/// record. Returns false if nobody takes the record any more.
 #[tactic(auto, using(crate::proofs::Kept::leaves_all, crate::proofs::Kept::leaves_then, crate::proofs::Hears::hears_at_same, crate::proofs::Hears::hears_at_then))]
 pub(crate) fn settle_child<K: Keeper, R: Wait>(
     rt: &R,
@@ -202,7 +205,7 @@ pub(crate) fn settle_child<K: Keeper, R: Wait>(
     Ok(true)
 }
 
-/// Takes an item that is sure to be left of the child at a place, and enters what it says.
+/// Takes an item that is known to be left in a child's ring, and enters it.
 #[tactic(auto, using(crate::proofs::Kept::leaves_all, crate::proofs::Kept::leaves_same, crate::proofs::Kept::leaves_then))]
 fn hear_left<K: Keeper>(
     alloc: Global,
@@ -225,7 +228,7 @@ fn hear_left<K: Keeper>(
     Ok(())
 }
 
-/// Whether something seems to have come to a script that is to be taken now.
+/// Returns whether anything to take now seems to have come for a script.
 pub(crate) fn has_come_to<K: Keeper>(book: &Book, over: bool, ends: &mut Ends<K>, at: usize) -> bool
     ensures heard { (script : ℕ) (es : List HallEvent) → Hears script ends.old.readers es ends.new.readers es }
     ensures ring { SameOut ends.old.answers ends.new.answers }

@@ -1,4 +1,4 @@
-//! A worker's desk: a hall with the ends of its scripts' rings, and the record of what came.
+//! A worker's desk: a hall with its scripts' endpoints of rings, and the record of what it took.
 #![tactic(auto)]
 
 mod attending;

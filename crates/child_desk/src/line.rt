@@ -1,4 +1,4 @@
-//! A script in its line: the request that waits for its answer, and the answers.
+//! A script's line: its open request, and the answers.
 
 ghost use Rattle.std.specs.Prelude.{◌≡◌, ◌+◌, ◌<◌, ◌↔◌, [], ◌∷◌, false, length, IsTrue, Some, None};
 ghost use Rattle.dialogue_sched.specs.declared.script.Script.{Script};
@@ -15,23 +15,24 @@ use child_hands::{Answered, Keeper};
 use expect_core::Request;
 use session::Ending;
 
-/// What a desk keeps of a script.
+/// A desk's state of a script.
 #[derive(Drop)]
 pub struct Line {
-    /// Its keeper's name.
+    /// The name of its keeper.
     pub name: u64,
     /// The number of the keeper's last call whose answer was entered.
     pub last: u64,
-    /// The request that waits for its answer.
+    /// The open request: it awaits its answer.
     pub awaited: Option<Request>,
-    /// It was put to the hand, or waits for room in the ring to it.
+    /// Whether that request was put to the hand, or waits for room in the ring to it.
     pub sent: bool,
-    /// The script has ended.
+    /// Whether the script has ended.
     pub over: bool,
 }
 
 impl Line {
-    /// Of a script to which nothing has happened, whose keeper has this name and has made so many calls.
+    /// Creates the line of a new script. Its keeper has this name, and has made this number of
+    /// calls.
     pub fn new(name: u64, calls: u64) -> Line
         ensures { result ≡ record { name = name; last = calls; awaited = None; sent = false; over = false } }
     {
@@ -45,7 +46,7 @@ impl Line {
     }
 }
 
-/// Has the hall's next request wait for its answer, where none waits. No other script is touched.
+/// Takes a script's next request from the hall, if none is open. No other script changes.
 pub fn ask_next(book: &mut Book, line: &mut Line, at: usize)
     requires { (at < length book.old.hall) × (at < 64) }
     ensures kept { (rings : Rings) → Keeps rings rings at line.old book.old line.new book.new }
@@ -60,7 +61,8 @@ pub fn ask_next(book: &mut Book, line: &mut Line, at: usize)
     line.awaited = book.hall.request(at + 1);
 }
 
-/// Whether it is the answer that is awaited: of the keeper's next call, to the request that was sent.
+/// Returns whether this is the awaited answer: of the keeper's next call, to the request that was
+/// sent.
 fn is_awaited<K: Keeper>(line: &Line, answered: &Answered<K>) -> bool
     ensures { IsTrue result ↔ IsAwaited line.now (telling_of answered.now) }
 {
@@ -69,7 +71,7 @@ fn is_awaited<K: Keeper>(line: &Line, answered: &Answered<K>) -> bool
         && is_next(line, answered.name, answered.call)
 }
 
-/// Whether a request is the one that waits for its answer.
+/// Returns whether this is the open request.
 fn is_to_request(line: &Line, request: &Request) -> bool
     ensures { IsTrue result ↔ (line.now.awaited ≡ Some request.now) }
 {
@@ -79,14 +81,14 @@ fn is_to_request(line: &Line, request: &Request) -> bool
     }
 }
 
-/// Whether a call is the next one of the script's keeper.
+/// Returns whether this is the next call of the script's keeper.
 fn is_next(line: &Line, name: u64, call: u64) -> bool
     ensures { IsTrue result ↔ (name ≡ line.now.name) × (call ≡ line.now.last + 1) }
 {
     name == line.name && line.last < call && call - line.last == 1
 }
 
-/// The event that an answer is to a script at a place.
+/// Returns the event of an answer. `at` is the script's index.
 fn answer_event(at: usize, child: u8, moment: u64, answer: Answer) -> HallEvent
     requires { at < 64 }
     ensures { result ≡ answer_at at child moment answer }
@@ -99,7 +101,7 @@ fn answer_event(at: usize, child: u8, moment: u64, answer: Answer) -> HallEvent
     }
 }
 
-/// Nothing waits any more, behind the answer of a call.
+/// Closes the open request: this call has answered it.
 fn go_on(line: &mut Line, call: u64)
     ensures { line.new ≡ record line.old { last = call; awaited = None; sent = false } }
 {
@@ -108,7 +110,8 @@ fn go_on(line: &mut Line, call: u64)
     line.sent = false;
 }
 
-/// Enters an answer, if it is the one that is awaited. Another one is passed over.
+/// Enters an answer, if it is the awaited one. Any other is dropped. Returns whether it was
+/// entered.
 pub fn enter_answer<K: Keeper>(
     book: &mut Book,
     line: &mut Line,
@@ -137,7 +140,7 @@ pub fn enter_answer<K: Keeper>(
     true
 }
 
-/// Whether a script goes on.
+/// Returns whether a script with this ending goes on. `None` counts as going on.
 fn goes_on(ending: Option<Ending>) -> bool
     ensures { Goes ending result }
 {
@@ -148,7 +151,7 @@ fn goes_on(ending: Option<Ending>) -> bool
     }
 }
 
-/// Says that a script is over, where it has ended. True where it has.
+/// Marks a script as over, if it has ended. Returns whether it has.
 pub fn enter_end(book: &Book, line: &mut Line, at: usize) -> bool
     requires place { at < 64 }
     requires goes { line.old.over ≡ false }

@@ -1,4 +1,4 @@
-//! What comes from the readers of a script's children.
+//! The output that readers of a script's children put.
 
 ghost use Rattle.std.specs.Prelude.{◌≡◌, ◌<◌, ◌≤◌, [], ◌∷◌, length, vec_capacity, IfSome, IfNone, IfOk};
 ghost use Rattle.child_events.specs.declared.event.What.TheVariants.{Out};
@@ -10,35 +10,37 @@ use child_hands::{Item, Keeper, Piece};
 use feed_rings::{FeedOut, Finished};
 use std::alloc::{AllocError, Global};
 
-/// The ends of the rings from the readers of a script's children.
+/// The endpoints of the rings from the readers of a script's children.
 #[derive(Drop)]
 pub struct Readers<K: Keeper> {
-    /// The number that the script has in their items.
+    /// The script's number in their items.
     pub script: u8,
-    /// Of child 1 and so on.
+    /// The endpoints, from child 1 on.
     pub outs: Vec<FeedOut<Item<K>>>,
 }
 
-/// What came from a child, and a copy of it.
+/// An item of a child's output, and a copy of it.
 #[derive(Drop)]
 pub struct Heard {
+    /// The item.
     pub what: What,
+    /// Its copy.
     pub copy: What,
 }
 
-/// What was taken from the ring of a child.
+/// What was taken from a child's ring.
 #[derive(Drop)]
 pub enum Taken {
-    /// Nothing, since nothing was seen there.
+    /// No item: none was seen.
     Nothing,
-    /// An item that says nothing of the child.
+    /// An item that isn't this child's output.
     Passed,
-    /// What came from the child.
+    /// An item of the child's output.
     Heard(Heard),
 }
 
 impl<K: Keeper> Readers<K> {
-    /// Whether nothing seems to come from the child at a place.
+    /// Returns whether a child's ring seems empty. True if there is no such child.
     pub(crate) fn seems_empty(&mut self, index: u8) -> bool
         ensures { TakesAt index self.old self.new [] }
     {
@@ -48,7 +50,8 @@ impl<K: Keeper> Readers<K> {
         }
     }
 
-    /// How much is left of the child at a place, whose reader has finished its ring.
+    /// Returns the number of items left in a child's ring, which its reader has finished. 0 if
+    /// there is no such child.
     pub(crate) fn left(&mut self, index: u8, finished: &mut Finished<Item<K>>) -> usize
         requires { FinishedAt index finished.old self.old }
         ensures taken { TakesAt index self.old self.new [] }
@@ -68,7 +71,7 @@ impl<K: Keeper> Readers<K> {
         self.outs.get_mut(usize::from(index))?.take()
     }
 
-    /// Takes what comes next from the child at a place, where something does, with a copy in room that was made for it.
+    /// Takes the next item of a child's ring, if there is one, with a copy in `room`.
     pub(crate) fn next(&mut self, index: u8, room: Vec<u8>) -> Taken
         requires room { (room.items ≡ []) × (4096 ≤ vec_capacity room) }
         requires child { index < 16 }
@@ -80,7 +83,7 @@ impl<K: Keeper> Readers<K> {
         }
     }
 
-    /// Takes an item of the child at a place that is sure to be left, with a copy in room that was made for it.
+    /// Takes an item that is known to be left in a child's ring, with a copy in `room`.
     pub(crate) fn next_left(&mut self, index: u8, room: Vec<u8>) -> Taken
         requires room { (room.items ≡ []) × (4096 ≤ vec_capacity room) }
         requires child { index < 16 }
@@ -95,14 +98,14 @@ impl<K: Keeper> Readers<K> {
     }
 }
 
-/// Room for the copy of a piece.
+/// Allocates room for a copy of a piece: 4,096 bytes.
 pub(crate) fn room(alloc: Global) -> Result<Vec<u8>, AllocError>
     ensures { IfOk result (λ r. (r.items ≡ []) × (4096 ≤ vec_capacity r)) }
 {
     Vec::with_capacity(alloc, 4096)
 }
 
-/// Whether an output has ended with this.
+/// Returns whether this is the last item of a child's output.
 pub(crate) fn is_last(taken: &Taken) -> bool {
     match taken {
         Taken::Heard(heard) => matches!(heard.what, What::Eof | What::ReadFail(_)),
@@ -110,7 +113,7 @@ pub(crate) fn is_last(taken: &Taken) -> bool {
     }
 }
 
-/// What an item on the ring of a script's child says of that child, with a copy of it in room that was made for it.
+/// Returns what an item says of a script's child, with a copy in `room`.
 fn taken_of<K: Keeper>(script: u8, child: u8, item: Item<K>, room: Vec<u8>) -> Taken
     requires { (room.items ≡ []) × (4096 ≤ vec_capacity room) }
     ensures { Says (heard_of script child item) result }

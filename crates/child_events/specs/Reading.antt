@@ -1,6 +1,6 @@
--- What the lines of a log say, or the first fault. Lines count from 1; the first bad line decides, and
--- in a line the faults have one order: its length, its shape, then the fields from the left. In version 2 the
--- first line is that of the version, and the last one that of the total.
+-- The meaning of the lines of a log, or the first error. Lines count from 1, and the first bad line decides. Within a
+-- line the length is checked first, then the shape, then the fields from left to right. In version 2 the first line
+-- names the version, and the last one is the total.
 use Rattle.std.specs.Prelude.{◌≡◌, ◌≢◌, ◌<◌, ℕ, ◌+◌, ◌-◌, ◌%◌, nat_le, nat_lt, ◌==◌, List, [], ◌∷◌, length, codes, Bool, true, false, not, ◌&&◌, ◌||◌, if◌then◌else◌, Option, Some, None, Result, Ok, Err, ⊤}
 use Rattle.std.specs.Borrow.{Bor}
 use Rattle.std.specs.Str.{bytes_eq, all_ascii_digits}
@@ -22,7 +22,7 @@ use Rattle.child_events.specs.declared.version.Version.{Version}
 use Rattle.child_events.specs.declared.version.Version.TheVariants.{First, Second}
 use Rattle.child_events.specs.Log.{joined, LogText}
 
--- one reading and then another, which the first fault stops
+-- Reads one part and then the next. The first error ends the reading.
 infixl 10 ◌>>=◌
 abbrev pub ◌>>=◌ : {A B : Type 0} → Result A LogFault → (A → Result B LogFault) → Result B LogFault
 Ok x >>= f = f x
@@ -32,17 +32,17 @@ abbrev pub or_fault : {A : Type 0} → LogFault → Option A → Result A LogFau
 or_fault f None = Err f
 or_fault f (Some x) = Ok x
 
--- a byte in front of the first part
+-- Adds a byte at the front of the first part.
 abbrev pub in_front : ℕ → List (List ℕ) → List (List ℕ)
 in_front b [] = (b ∷ []) ∷ []
 in_front b (w ∷ ws) = (b ∷ w) ∷ ws
 
--- the parts of a text round a separator, of which there is always one
+-- Splits a text at each separator. There is always at least one part.
 abbrev pub parts : ℕ → List ℕ → List (List ℕ)
 parts sep [] = [] ∷ []
 parts sep (b ∷ bs) = if b == sep then [] ∷ parts sep bs else in_front b (parts sep bs)
 
--- 0 alone, or digits of which the first is not 0
+-- `0`, or digits whose first is not `0`.
 abbrev pub starts_number : List ℕ → Bool
 starts_number [] = false
 starts_number (d ∷ []) = true
@@ -51,11 +51,11 @@ starts_number (d ∷ e ∷ ds) = not (d == ascii.digit_0)
 abbrev pub digits_number : List ℕ → Option ℕ
 digits_number w = if all_ascii_digits w then Some (digits_value 10 w) else None
 
--- the number that at most sixteen decimal digits write
+-- The number that at most sixteen decimal digits write.
 abbrev pub number_of : List ℕ → Option ℕ
 number_of w = if starts_number w && nat_le (length w) 16 then digits_number w else None
 
--- a number between two bounds, or the fault of one outside
+-- A number between two bounds, or the error `outside` if it is out of bounds.
 abbrev pub number_within : ℕ → List ℕ → ℕ → ℕ → LogFault → Result ℕ LogFault
 number_within n w low high outside = do
   k ← or_fault (fault.Number n) (number_of w)
@@ -72,7 +72,7 @@ abbrev pub decoded : ℕ → Result (List ℕ) FromHexError → Result (List ℕ
 decoded n (Ok bytes) = Ok bytes
 decoded n (Err e) = Err (fault.Hex n)
 
--- the bytes of lower-case pairs, or none for a dash
+-- The bytes that lower-case pairs of digits encode. `-` encodes no bytes.
 abbrev pub piece_of : ℕ → List ℕ → Result (List ℕ) LogFault
 piece_of n w =
     if bytes_eq w (codes "-") then Ok []
@@ -89,7 +89,7 @@ cause_of w =
     else if bytes_eq w (codes "other") then Some cause.Other
     else None
 
--- what an event holds of which the line has no more than its first word
+-- The event of a line with no last word: the first word determines it.
 abbrev pub what_alone : List ℕ → Option What
 what_alone k =
     if bytes_eq k (codes "ok") then Some (what.Answer answer.Ok)
@@ -103,7 +103,7 @@ failed k c =
     else if bytes_eq k (codes "bad") then Some (what.Answer (answer.Fail c))
     else None
 
--- what an event holds of which the line ends with a cause
+-- The event of a line whose last word is a cause.
 abbrev pub what_failed : List ℕ → Option Cause → Option What
 what_failed k None = None
 what_failed k (Some c) = failed k c
@@ -111,7 +111,7 @@ what_failed k (Some c) = failed k c
 abbrev pub moment_of : ℕ → List ℕ → Result ℕ LogFault
 moment_of n m = number_within n m 0 9000000000000000 (fault.Number n)
 
--- the script, the child and the moment
+-- The script, the child and the moment of an event.
 abbrev pub stamp_of : ℕ → List ℕ → List ℕ → List ℕ → Result Stamp LogFault
 stamp_of n s c m = do
   script ← number_within n s 1 64 (fault.NoSuchScript n)
@@ -125,11 +125,11 @@ stamped stamp held = do
   w ← held
   Ok (hall.Child at.script at.child at.moment w)
 
--- where the last word is a cause, it is looked at first
+-- If the last word is a cause, it is checked before the stamp.
 abbrev pub failed_event : ℕ → List ℕ → List ℕ → Result Stamp LogFault → Result HallEvent LogFault
 failed_event n k x stamp = or_fault (fault.Shape n) (what_failed k (cause_of x)) >>= λ w. stamped stamp (Ok w)
 
--- and where it is a number or hexadecimal, it comes behind the others
+-- If the last word is a number or hexadecimal, it is checked after the stamp.
 abbrev pub held_event : ℕ → List ℕ → List ℕ → Result Stamp LogFault → Result HallEvent LogFault
 held_event n k x stamp =
     if bytes_eq k (codes "out") then stamped stamp (piece_of n x >>= λ piece. Ok (what.Out piece))
@@ -149,56 +149,56 @@ abbrev pub any_empty : List (List ℕ) → Bool
 any_empty [] = false
 any_empty (w ∷ ws) = length w == 0 || any_empty ws
 
--- the event that the fields of a line are
+-- The event that the fields of a line describe.
 abbrev pub fields_event : ℕ → List (List ℕ) → Result HallEvent LogFault
 fields_event n fields = if any_empty fields then Err (fault.Shape n) else event_of n fields
 
 abbrev pub line_event : ℕ → List ℕ → Result HallEvent LogFault
 line_event n line = if nat_lt 8219 (length line) then Err (fault.TooLong n) else fields_event n (parts ascii.space line)
 
--- What only version 2 has: a first line that names it, and a last line with the number of events.
+-- Only version 2 has a first line with its name and a last line with the number of events.
 
 abbrev pub first_word : List (List ℕ) → List ℕ
 first_word [] = []
 first_word (w ∷ ws) = w
 
--- the version that a first line names, or version 1 where it names none
+-- The version that a first line names, or version 1 if it names none.
 abbrev pub version_of : List ℕ → Result Version LogFault
 version_of line =
     if nat_lt 8219 (length line) || not (bytes_eq (first_word (parts ascii.space line)) (codes "exprun-log")) then Ok First
     else if bytes_eq line (codes "exprun-log 2") then Ok Second
     else Err (fault.Version 1)
 
--- the line of the first event
+-- The line number of the first event.
 abbrev pub first_line : Version → ℕ
 first_line First = 1
 first_line Second = 2
 
--- the number in line n, where its fields are those of a total, or else the fault for which it is no event
+-- The total in line n, if its fields are those of a total. Otherwise the error f, for which the line is no event.
 abbrev pub total_of : ℕ → LogFault → List (List ℕ) → Result ℕ LogFault
 total_of n f [] = Err f
 total_of n f (k ∷ []) = Err f
 total_of n f (k ∷ m ∷ []) = if bytes_eq k (codes "total") && not (length m == 0) then or_fault (fault.Number n) (number_of m) else Err f
 total_of n f (k ∷ m ∷ x ∷ more) = Err f
 
--- a line that is too long is no total, and version 1 has none
+-- The total in line n. A line that is too long is no total, and version 1 has no total.
 abbrev pub line_total : Version → ℕ → LogFault → List ℕ → Result ℕ LogFault
 line_total First n f line = Err f
 line_total Second n f line = if nat_lt 8219 (length line) then Err f else total_of n f (parts ascii.space line)
 
--- Line n says how many events there were, and nothing stands behind it.
+-- Line n contains the number of events, and no bytes follow it.
 abbrev pub closed : ℕ → ℕ → ℕ → List (List ℕ) → Result ⊤ LogFault
 closed n seen total behind =
     if not (total == seen) then Err (fault.Total n)
     else if not (length (joined ascii.newline behind) == 0) then Err (fault.Total (n + 1))
     else Ok tt
 
--- where line n would stand, version 1 may end, and version 2 lacks its total
+-- The log ends before line n. Version 1 may end so, and version 2 lacks its total.
 abbrev pub at_end : Version → ℕ → Result ⊤ LogFault
 at_end First n = Ok tt
 at_end Second n = Err (fault.Total n)
 
--- behind the last newline there is nothing
+-- No bytes may follow the last newline.
 abbrev pub last_part : Version → ℕ → List ℕ → Result ⊤ LogFault
 last_part v n w =
     if nat_lt 8219 (length w) then Err (fault.TooLong n)
@@ -209,22 +209,22 @@ last_part v n w =
 abbrev pub ended : Version → ℕ → List ℕ → LogFault → List (List ℕ) → Result ⊤ LogFault
 ended v n w f behind = line_total v n f w >>= λ k. closed n (n - 2) k behind
 
--- no events, where a log may end so
+-- No events, if the log may end here.
 abbrev pub none_where : Result ⊤ LogFault → Result (List HallEvent) LogFault
 none_where ended = ended >>= λ done. Ok []
 
--- A line is an event, with others behind it; or it is the total, which ends the log.
+-- A line is an event followed by others, or it is the total and ends the log.
 abbrev pub with_line : Version → ℕ → List ℕ → Result HallEvent LogFault → List (List ℕ) → Result (List HallEvent) LogFault → Result (List HallEvent) LogFault
 with_line v n w (Ok e) behind others = others >>= λ es. Ok (e ∷ es)
 with_line v n w (Err f) behind others = none_where (ended v n w f behind)
 
--- the events of the parts round the newlines, the first of them line n
+-- The events of the lines. The first line has number n.
 abbrev pub lines_events : Version → ℕ → List (List ℕ) → Result (List HallEvent) LogFault
 lines_events v n [] = Ok []
 lines_events v n (w ∷ []) = none_where (last_part v n w)
 lines_events v n (w ∷ x ∷ ws) = with_line v n w (line_event n w) (x ∷ ws) (lines_events v (n + 1) (x ∷ ws))
 
--- where the first line names this version
+-- The events of a log whose first line names this version.
 abbrev pub version_events : List ℕ → List (List ℕ) → Version → Result (List HallEvent) LogFault
 version_events w behind First = lines_events First 1 (w ∷ behind)
 version_events w behind Second = lines_events Second 2 behind
@@ -241,25 +241,25 @@ abbrev pub fault_in : {A : Type 0} → Result A LogFault → Option LogFault
 fault_in (Ok x) = None
 fault_in (Err f) = Some f
 
--- the first fault of bytes that are no log
+-- The first error of bytes that are no log, or `None`.
 abbrev pub first_fault : List ℕ → Option LogFault
 first_fault bytes = fault_in (log_events bytes)
 
--- what a reading answers that may end for want of memory
+-- The result of a reading that may also fail because memory was refused.
 abbrev pub Reads : {A : Type 0} → Result A LogFault → Result A LogFault → Type 0
 Reads (Ok x) meant = meant ≡ Ok x
 Reads (Err f) meant = f ≢ fault.Memory → meant ≡ Err f
 
--- this is the fault, and the bytes are the log of no list of events
+-- f is the first error, and the bytes are no log of any list of events.
 abbrev pub Refused : List ℕ → LogFault → Type 0
 Refused bytes f = (first_fault bytes ≡ Some f) × ((es : List HallEvent) → LogText bytes es → ⊥)
 
--- what stands in front of the first separator, and what stands behind it
+-- The bytes before and after the first separator, or `None` if there is no separator.
 abbrev pub SplitsAt : ℕ → List ℕ → Option (Bor (List ℕ) × Bor (List ℕ)) → Type 0
 SplitsAt sep bs None = parts sep bs ≡ bs ∷ []
 SplitsAt sep bs (Some found) = (parts sep bs ≡ found.0.now ∷ parts sep found.1.now) × (length found.1.now < length bs)
 
--- the first field is this number, and these fields stand behind it
+-- The first field is the number n, and these are the fields after it.
 pub record NumberFirst (bytes : List ℕ) (n : ℕ) (behind : List ℕ) : Type 0 where
   pub word : List ℕ
   pub split : parts ascii.space bytes ≡ word ∷ parts ascii.space behind

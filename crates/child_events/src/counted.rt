@@ -1,4 +1,4 @@
-//! A device, with how often it was called and how many of the calls failed.
+//! A device that counts its calls and the calls that failed.
 
 ghost use Rattle.std.specs.Prelude.{◌≡◌, ◌+◌, ◌^◌, ◌<◌};
 ghost use Rattle.std.specs.Io.{ReadsAtMost, WritesAtMost};
@@ -8,18 +8,18 @@ ghost use Rattle.child_events.specs.Counting.{CountsFailure};
 use std::io;
 use std::io::{ErrorKind, Read, Write};
 
-/// A device beside its counts. An error that is no interruption is a failure.
+/// A device with its counts. Every error except `Interrupted` is a failure.
 #[derive(Drop)]
 pub struct Counted<T> {
     pub device: T,
-    /// How many calls failed.
+    /// The number of calls that failed.
     pub failures: u64,
-    /// How many calls were made.
+    /// The number of calls.
     pub calls: u64,
 }
 
 impl<T> Counted<T> {
-    /// The device, with both counts at 0.
+    /// Wraps a device, with both counts at 0.
     pub fn new(device: T) -> Self
         ensures device { result.device ≡ device }
         ensures failures { result.failures ≡ 0 }
@@ -32,21 +32,21 @@ impl<T> Counted<T> {
         }
     }
 
-    /// How many calls failed.
+    /// Returns the number of calls that failed.
     pub fn failures(&self) -> u64
         ensures { result ≡ self.now.failures }
     {
         self.failures
     }
 
-    /// How many calls were made.
+    /// Returns the number of calls.
     pub fn calls(&self) -> u64
         ensures { result ≡ self.now.calls }
     {
         self.calls
     }
 
-    /// Counts a call of the device that gave this answer.
+    /// Counts a call of the device that returned `answer`.
     fn count(&mut self, answer: &io::Result<usize>)
         requires failures { self.old.failures < 2 ^ 63 }
         requires calls { self.old.calls < 2 ^ 63 }
@@ -69,7 +69,7 @@ impl<T> Counted<T> {
 }
 
 impl<T: Read> Counted<T> {
-    /// Reads once, and gives the device's answer.
+    /// Reads once from the device and returns the device's result. Counts the call.
     pub fn read(&mut self, buf: &mut [u8]) -> io::Result<usize>
         requires failures { self.old.failures < 2 ^ 63 }
         requires calls { self.old.calls < 2 ^ 63 }
@@ -85,7 +85,7 @@ impl<T: Read> Counted<T> {
 }
 
 impl<T: Write> Counted<T> {
-    /// Writes once, and gives the device's answer.
+    /// Writes once to the device and returns the device's result. Counts the call.
     pub fn write(&mut self, buf: &[u8]) -> io::Result<usize>
         requires failures { self.old.failures < 2 ^ 63 }
         requires calls { self.old.calls < 2 ^ 63 }

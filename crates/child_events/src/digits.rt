@@ -1,4 +1,4 @@
-//! The last word of a line, which may be the digits of a piece.
+//! The last word of a log line, which may contain the hexadecimal digits of a piece.
 
 ghost use Rattle.std.specs.Prelude.{◌≡◌, ◌*◌, ◌<◌, ℕ, true, length, Some, Ok, IfOk};
 ghost use Rattle.hex.specs.Hex.{decode_of, hex_digit_value, pair_value};
@@ -9,11 +9,11 @@ use std::alloc::{AllocError, Global};
 use std::marker::Model;
 use tcl_words::Text;
 
-/// A word, seen as its bytes, with what one walk over them told.
+/// A word, with the result of one pass over its bytes. A contract sees the bytes.
 #[derive(Drop)]
 pub struct Digits<'a> {
     word: &'a [u8],
-    /// Whether all are lower-case hexadecimal digits.
+    /// Whether all bytes are lower-case hexadecimal digits.
     lower: bool,
 }
 
@@ -34,7 +34,7 @@ fn is_lower_hex_digit(digit: u8) -> bool
     (b'0' <= digit && digit <= b'9') || (b'a' <= digit && digit <= b'f')
 }
 
-/// Whether all are lower-case hexadecimal digits.
+/// Returns whether all bytes are lower-case hexadecimal digits.
 pub fn is_lower_hex(word: &[u8]) -> bool
     ensures { result ≡ all_lower_hex word.now }
 {
@@ -45,7 +45,7 @@ pub fn is_lower_hex(word: &[u8]) -> bool
     all
 }
 
-/// The value of a lower-case digit. Of another byte nothing is said.
+/// Returns the value of a lower-case digit. The result is unspecified for other bytes.
 fn value_of(digit: u8) -> u8
     ensures value { is_digit digit ≡ true → hex_digit_value digit ≡ Some result }
     ensures small { is_digit digit ≡ true → result < 16 }
@@ -57,14 +57,15 @@ fn value_of(digit: u8) -> u8
     }
 }
 
-/// The byte of two lower-case digits. Of other bytes nothing is said.
+/// Returns the byte of two lower-case digits. The result is unspecified for other bytes.
 fn byte_of(high: u8, low: u8) -> u8
     ensures { is_digit high ≡ true → is_digit low ≡ true → (at : ℕ) → pair_value high low at ≡ Ok result }
 {
     value_of(high).wrapping_mul(16).wrapping_add(value_of(low))
 }
 
-/// Whether all are lower-case hexadecimal digits. Where they are, the bytes of their pairs are written. It is one pass over them.
+/// Decodes pairs of lower-case digits into `out` in one pass. Returns false if a byte is no such
+/// digit; `out` is then unspecified.
 fn decode_lower(word: &[u8], out: &mut [u8]) -> bool
     requires { length word.now ≡ 2 * length out.old }
     ensures judged { result ≡ all_lower_hex word.now }
@@ -80,7 +81,8 @@ fn decode_lower(word: &[u8], out: &mut [u8]) -> bool
     lower
 }
 
-/// The bytes of pairs of lower-case digits, which are judged and decoded in one pass; none where these are no such pairs.
+/// Decodes pairs of lower-case digits in one pass. `None` if the word has an odd length or another
+/// byte.
 pub fn decoded(alloc: Global, word: &[u8]) -> Result<Option<Text>, AllocError>
     ensures { IfOk result (Decodes word.now) }
 {
@@ -105,7 +107,7 @@ impl<'a> Digits<'a> {
         }
     }
 
-    /// Whether all are lower-case hexadecimal digits.
+    /// Returns whether all bytes are lower-case hexadecimal digits.
     pub fn is_lower(&self) -> bool
         ensures { result ≡ all_lower_hex self.now }
     {

@@ -6,7 +6,7 @@ ghost use Rattle.child_events.specs.World.{own_of};
 use std::alloc::{AllocError, Global};
 use tcl_words::Text;
 
-/// Why a request to a child, or reading from it, failed.
+/// Why a request to a child, or reading its output, failed.
 #[derive(Clone, Copy, PartialEq, Eq)]
 pub enum Cause {
     NotFound,
@@ -16,34 +16,34 @@ pub enum Cause {
     Other,
 }
 
-/// What a request to a child came to.
+/// The answer to a request to a child.
 #[derive(Clone, Copy, PartialEq, Eq)]
 pub enum Answer {
-    /// It was carried out.
+    /// The request was carried out.
     Ok,
-    /// It failed.
+    /// The request failed.
     Fail(Cause),
-    /// The child had ended, with this status.
+    /// The child had exited with this status.
     Exit(u8),
-    /// The child had been ended by a signal.
+    /// A signal had ended the child.
     Killed,
 }
 
-/// What an event of a child brings.
+/// The content of a child's event.
 #[derive(Drop)]
 pub enum What {
     /// Bytes that the child wrote.
     Out(Text),
     /// The end of the child's output.
     Eof,
-    /// Reading the child's output failed, and is not tried again.
+    /// Reading the child's output failed. It is not tried again.
     ReadFail(Cause),
-    /// What a request to the child came to.
+    /// The answer to a request.
     Answer(Answer),
 }
 
 impl What {
-    /// An equal one.
+    /// Returns a copy.
     pub fn copied(&self, alloc: Global) -> Result<What, AllocError>
         ensures { IfOk result (λ w. w ≡ self.now) }
     {
@@ -56,25 +56,26 @@ impl What {
     }
 }
 
-/// What comes from a child, in the order in which it came.
+/// An item that comes from a child, in order.
 #[derive(Drop)]
 pub enum Item {
     /// Bytes that the child wrote.
     Out(Text),
-    /// The end of its output.
+    /// The end of the child's output.
     Eof,
-    /// Reading its output failed; nothing comes behind.
+    /// Reading the child's output failed. No item follows.
     ReadFail(Cause),
 }
 
-/// An event of one script: of one of its children, or of time alone. Moments are milliseconds.
+/// An event of one script: of one of its children, or a tick of the clock. Moments are in
+/// milliseconds.
 #[derive(Drop)]
 pub enum Event {
     Child { child: u8, moment: u64, what: What },
     Tick { moment: u64 },
 }
 
-/// An event of any script.
+/// An event of any script. Moments are in milliseconds.
 #[derive(Drop)]
 pub enum HallEvent {
     Child {
@@ -89,7 +90,7 @@ pub enum HallEvent {
 }
 
 impl HallEvent {
-    /// An equal one.
+    /// Returns a copy.
     pub fn copied(&self, alloc: Global) -> Result<HallEvent, AllocError>
         ensures { IfOk result (λ e. e ≡ self.now) }
     {
@@ -110,7 +111,7 @@ impl HallEvent {
     }
 }
 
-/// The event that a script sees of one: none where it is of another script's child.
+/// Returns a copy of the event as this script sees it. `None` if it is of another script's child.
 pub fn own_event(alloc: Global, script: u8, event: &HallEvent) -> Result<Option<Event>, AllocError>
     ensures { IfOk result (λ e. e ≡ own_of script event.now) }
 {

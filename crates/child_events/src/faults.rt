@@ -1,23 +1,24 @@
-//! Why bytes are no log.
+//! The errors of bytes that are no log.
 
 use std::alloc::{AllocError, AllocFailed};
 
-/// The first fault of bytes that are no log, with the number of its line, counted from 1.
+/// The first error of bytes that are no log, with its line number, counted from 1.
 #[derive(Clone, Copy, Debug, PartialEq, Eq)]
 pub enum LogFault {
-    /// No newline, an unknown first word, a wrong number of fields, an empty field or an unknown cause.
+    /// No newline, an unknown first word, a wrong number of fields, an empty field or an unknown
+    /// cause.
     Shape(usize),
-    /// A moment or a status that is no number or above its limit, or a script or child that is none.
+    /// A field that should be a number and is none, or a moment or exit status above its limit.
     Number(usize),
-    /// A piece that is not of pairs of lower-case hexadecimal digits.
+    /// A piece that doesn't consist of pairs of lower-case hexadecimal digits.
     Hex(usize),
-    /// A script's number outside 1 to 64.
+    /// A script number outside 1 to 64.
     NoSuchScript(usize),
-    /// A child's number outside 1 to 16.
+    /// A child number outside 1 to 16.
     NoSuchChild(usize),
     /// A line of more than 8,219 bytes, or a piece of more than 4,096.
     TooLong(usize),
-    /// A total that isn't the number of events before it, a line behind it, or no total.
+    /// A total that isn't the number of events before it, a line after it, or no total.
     Total(usize),
     /// A version that isn't 2.
     Version(usize),

@@ -1,4 +1,4 @@
-//! The fields of a log's line, read one by one.
+//! Reads the fields of a log line one by one.
 
 ghost use Rattle.std.specs.Prelude.{◌≡◌, ◌≤◌, ◌+◌, ◌<◌, ◌∷◌, [], length, IfOk};
 ghost use Rattle.std.specs.Str.{bytes_eq};
@@ -12,19 +12,19 @@ use memchr::memchr;
 use std::alloc::Global;
 use tcl_words::Text;
 
-/// The greatest moment of a log, in milliseconds.
+/// The greatest moment in a log, in milliseconds.
 pub(crate) const MOST_MOMENT: u64 = 9_000_000_000_000_000;
 
-/// The most decimal digits of a number.
+/// The most decimal digits in a number.
 pub const MOST_DECIMALS: usize = 16;
 
-/// The most bytes of a line, without its newline.
+/// The most bytes in a line, without its newline.
 pub const LONGEST: usize = 8219;
 
-/// The most hexadecimal digits of a piece.
+/// The most hexadecimal digits in a piece.
 pub const MOST_DIGITS: usize = 8192;
 
-/// The words of a child's line that say whose event it is, and when.
+/// The three words of a child's line that give script, child and moment.
 #[derive(Clone, Copy)]
 pub struct StampWords<'a> {
     pub script: &'a [u8],
@@ -40,7 +40,7 @@ impl StampWords<'_> {
     }
 }
 
-/// What stands in front of the first separator, and what stands behind it.
+/// Returns the bytes before and after the first separator. `None` if there is no separator.
 pub fn split_first(bytes: &[u8], separator: u8) -> Option<(&[u8], &[u8])>
     ensures { SplitsAt separator bytes.now result }
 {
@@ -52,7 +52,7 @@ pub fn split_first(bytes: &[u8], separator: u8) -> Option<(&[u8], &[u8])>
     None
 }
 
-/// What stands in front of the first newline, and what stands behind it.
+/// Returns the bytes before and after the first newline. `None` if there is no newline.
 pub fn split_line(bytes: &[u8]) -> Option<(&[u8], &[u8])>
     ensures { SplitsAt 10 bytes.now result }
 {
@@ -68,7 +68,7 @@ pub fn is(word: &[u8], name: &[u8]) -> bool
     word == name
 }
 
-/// 0 alone, or anything of which the first is not 0.
+/// Returns whether the word is a single byte, or begins with a byte other than `0`.
 pub fn starts_number(word: &[u8]) -> bool
     ensures { result ≡ starts word.now }
 {
@@ -79,7 +79,7 @@ pub fn starts_number(word: &[u8]) -> bool
     }
 }
 
-/// The number that digits write.
+/// Returns the number that the decimal digits write. `None` if a byte is no digit.
 #[tactic(auto, using(crate::proofs::Numbers::number_stops, crate::proofs::Numbers::number_ends))]
 fn digits_number(word: &[u8]) -> Option<u64>
     requires { length word.now ≤ 16 }
@@ -95,7 +95,8 @@ fn digits_number(word: &[u8]) -> Option<u64>
     Some(n)
 }
 
-/// The number that at most sixteen decimal digits write, without a leading zero.
+/// Returns the number that at most sixteen decimal digits write. `None` on a leading zero or
+/// another byte.
 fn number(word: &[u8]) -> Option<u64>
     ensures { result ≡ number_of word.now }
 {
@@ -106,7 +107,7 @@ fn number(word: &[u8]) -> Option<u64>
     }
 }
 
-/// A number of any size, in a line.
+/// Reads a number without bounds. `line` is the line number for the error.
 pub fn any_number(line: usize, word: &[u8]) -> Result<u64, LogFault>
     ensures { result ≡ or_fault (LogFault.Number line) (number_of word.now) }
 {
@@ -116,7 +117,7 @@ pub fn any_number(line: usize, word: &[u8]) -> Result<u64, LogFault>
     Ok(n)
 }
 
-/// A number between two bounds, in a line.
+/// Reads a number from `low` to `high`. `outside` is the error for one out of bounds.
 fn number_within(
     line: usize,
     word: &[u8],
@@ -135,14 +136,14 @@ fn number_within(
     }
 }
 
-/// A moment, in milliseconds.
+/// Reads a moment, in milliseconds.
 pub fn moment(line: usize, word: &[u8]) -> Result<u64, LogFault>
     ensures { result ≡ moment_of line word.now }
 {
     number_within(line, word, 0, MOST_MOMENT, LogFault::Number(line))
 }
 
-/// Whose event it is, and when.
+/// The script, the child and the moment of an event.
 #[derive(Clone, Copy)]
 pub struct Stamp {
     pub script: u8,
@@ -151,7 +152,7 @@ pub struct Stamp {
 }
 
 impl Stamp {
-    /// The event that brings this.
+    /// Returns the event with this stamp and this content.
     pub fn bring(self, what: What) -> HallEvent
         ensures { result ≡ HallEvent.Child self.script self.child self.moment what }
     {
@@ -164,7 +165,7 @@ impl Stamp {
     }
 }
 
-/// The script, the child and the moment of a line.
+/// Reads the script, the child and the moment of a line.
 pub fn read_stamp(line: usize, words: &StampWords) -> Result<Stamp, LogFault>
     ensures { result ≡ stamp_of line words.now.script.now words.now.child.now words.now.moment.now }
 {
@@ -178,7 +179,7 @@ pub fn read_stamp(line: usize, words: &StampWords) -> Result<Stamp, LogFault>
     })
 }
 
-/// The status of a child that ended.
+/// Reads an exit status.
 pub fn status(line: usize, word: &[u8]) -> Result<u8, LogFault>
     ensures { result ≡ within line word.now 0 255 (LogFault.Number line) }
 {
@@ -186,7 +187,7 @@ pub fn status(line: usize, word: &[u8]) -> Result<u8, LogFault>
     Ok(n as u8)
 }
 
-/// Whether a word is a piece: lower-case pairs of hexadecimal digits, or a dash.
+/// Checks that a word is a piece: lower-case pairs of hexadecimal digits, or `-`.
 #[tactic(auto, using(crate::proofs::Judged::piece_checked))]
 pub fn check_piece(line: usize, digits: &Digits) -> Result<(), LogFault>
     ensures { result ≡ judged (piece_of line digits.now) }
@@ -204,7 +205,7 @@ pub fn check_piece(line: usize, digits: &Digits) -> Result<(), LogFault>
     Ok(())
 }
 
-/// The bytes of lower-case pairs of hexadecimal digits, or none for a dash.
+/// Reads a piece: the bytes that lower-case pairs of digits encode, or no bytes for `-`.
 pub fn piece(alloc: Global, line: usize, digits: &Digits) -> Result<Text, LogFault>
     ensures { Reads result (piece_of line digits.now) }
 {
@@ -219,7 +220,7 @@ pub fn piece(alloc: Global, line: usize, digits: &Digits) -> Result<Text, LogFau
     Ok(bytes)
 }
 
-/// The cause that a word names.
+/// Returns the cause that a word names. `None` if it names none.
 pub fn cause(word: &[u8]) -> Option<Cause>
     ensures { result ≡ cause_of word.now }
 {
@@ -238,7 +239,7 @@ pub fn cause(word: &[u8]) -> Option<Cause>
     }
 }
 
-/// What a line brings whose first word says all of it.
+/// Returns the content of an event whose first word determines it. `None` for other words.
 pub fn what_alone(kind: &[u8]) -> Option<What>
     ensures { result ≡ alone_of kind.now }
 {
@@ -253,7 +254,7 @@ pub fn what_alone(kind: &[u8]) -> Option<What>
     }
 }
 
-/// What a line brings that ends with a cause.
+/// Returns the content of an event whose line ends with a cause. `None` if a word doesn't fit.
 pub fn what_failed(kind: &[u8], word: &[u8]) -> Option<What>
     ensures { result ≡ failed_with kind.now (cause_of word.now) }
 {

@@ -1,4 +1,4 @@
-//! Events of scripts, in order.
+//! Lists of events of all scripts.
 
 ghost use Rattle.std.specs.Prelude.{◌≡◌, ◌++◌, ◌∷◌, [], length, IfOk, OnOk, OnErr};
 
@@ -6,7 +6,7 @@ use crate::event::HallEvent;
 use std::alloc::{AllocError, Global};
 use std::marker::Model;
 
-/// Events of any scripts in order. A contract sees a list.
+/// A list of events of all scripts, in order. A contract sees a list.
 #[derive(Drop)]
 pub struct HallEvents {
     /// The events, in order.
@@ -23,7 +23,7 @@ impl Model for HallEvents {
 }
 
 impl HallEvents {
-    /// No events. It allocates nothing.
+    /// Creates an empty list without allocating.
     pub fn new(alloc: Global) -> HallEvents
         ensures { result ≡ [] }
     {
@@ -32,7 +32,7 @@ impl HallEvents {
         }
     }
 
-    /// No events, and room for this many.
+    /// Creates an empty list with room for `capacity` events.
     pub fn with_capacity(alloc: Global, capacity: usize) -> Result<HallEvents, AllocError>
         ensures { IfOk result (λ es. es ≡ []) }
     {
@@ -41,21 +41,21 @@ impl HallEvents {
         })
     }
 
-    /// The events, in order.
+    /// Returns the events, in order.
     pub fn as_slice(&self) -> &[HallEvent]
         ensures { result.now ≡ self.now }
     {
         self.list.as_slice()
     }
 
-    /// How many events there are.
+    /// Returns the number of events.
     pub fn len(&self) -> usize
         ensures { result ≡ length self.now }
     {
         self.list.len()
     }
 
-    /// Puts an event behind the others. A refused one leaves the list as it was.
+    /// Appends an event. On `AllocError` the list is unchanged.
     pub fn push(&mut self, event: HallEvent) -> Result<(), AllocError>
         ensures pushed { OnOk result (self.new ≡ self.old ++ event ∷ []) }
         ensures kept { OnErr result (self.new ≡ self.old) }

@@ -1,4 +1,4 @@
-//! The lines of a log, judged without memory.
+//! Checks the lines of a log without allocating.
 
 ghost use Rattle.std.specs.Prelude.{◌≡◌, ◌+◌, ◌<◌, ◌≤◌, ◌^◌, length, IfOk, IfErr, Err};
 ghost use Rattle.child_events.specs.Reading.{parts, first_line, last_part as last_of, ended, lines_events, log_events};
@@ -9,7 +9,7 @@ use crate::fields::{LONGEST, split_line};
 use crate::line::judge_line;
 use crate::version::{Version, close, line_total, version_of};
 
-/// The version of a log, and its bytes from its first event's line on.
+/// Returns the version of a log, and its bytes from the line of its first event on.
 pub fn opened(bytes: &[u8]) -> Result<(Version, &[u8]), LogFault>
     ensures found { IfOk result (λ log. log_events bytes.now ≡ lines_events log.0 (first_line log.0) (parts 10 log.1.now)) }
     ensures refused { IfErr result (λ f. log_events bytes.now ≡ Err f) }
@@ -23,7 +23,7 @@ pub fn opened(bytes: &[u8]) -> Result<(Version, &[u8]), LogFault>
     }
 }
 
-/// The end of a log whose last newline stands before these bytes, which would be the line of this number.
+/// Checks the bytes after the last newline, which would be line `number`.
 pub fn last_part(version: Version, number: usize, rest: &[u8]) -> Result<(), LogFault>
     ensures { result ≡ last_of version number rest.now }
 {
@@ -39,7 +39,8 @@ pub fn last_part(version: Version, number: usize, rest: &[u8]) -> Result<(), Log
     }
 }
 
-/// The end of a log at a line that has this fault as an event: its total, with nothing behind it.
+/// Checks that the log ends at this line, which is no event because of `fault`. The line must be
+/// the total, with no bytes after it.
 pub fn end(
     version: Version,
     number: usize,
@@ -54,7 +55,8 @@ pub fn end(
     close(number, number.saturating_sub(2), total, behind)
 }
 
-/// How many lines of events a log of this version has, from the line with this number on, or the first fault.
+/// Counts the lines that are events, from line `first` on, and checks the end of the log. Otherwise
+/// returns the first error.
 pub fn judge_lines(version: Version, first: usize, bytes: &[u8]) -> Result<usize, LogFault>
     requires { first + length bytes.now < 2 ^ 64 }
     ensures judged { Judges version first (parts 10 bytes.now) result }

@@ -1,4 +1,4 @@
-//! What happens to the children of scripts: events, the world that they make, and the log of them.
+//! Events of the children of scripts, the world that a script knows by them, and the log of events.
 #![tactic(auto)]
 
 mod counted;

@@ -1,4 +1,4 @@
-//! A line of a log: what it says, with its faults, and the event that it is.
+//! Reads a line of a log: its content, its error, and its event.
 
 ghost use Rattle.std.specs.Prelude.{◌≡◌, ◌∷◌, []};
 ghost use Rattle.child_events.specs.Reading.{parts, stamp_of, failed_event as failed_of, fields_event, line_event, Reads, SplitsAt};
@@ -14,16 +14,16 @@ use crate::fields::{
 use crate::piece_line::{piece_line, read_piece};
 use std::alloc::Global;
 
-/// What a line says, as far as no memory is needed for it.
+/// The content of a line, as far as it needs no allocation.
 #[derive(Drop)]
 pub enum Line<'a> {
     Event(HallEvent),
-    /// Whose output this is, and when, with the digits of its piece, which were not judged.
+    /// A line of output: its stamp and the digits of its piece, which are not yet checked.
     Piece(Stamp, Digits<'a>),
 }
 
 impl Line<'_> {
-    /// Whether it is an event.
+    /// Checks that the line describes an event.
     fn check(&self, number: usize) -> Result<(), LogFault>
         ensures { result ≡ judged (said_event number self.now) }
     {
@@ -33,7 +33,7 @@ impl Line<'_> {
         }
     }
 
-    /// The event.
+    /// Returns the event of the line.
     fn event(self, alloc: Global, number: usize) -> Result<HallEvent, LogFault>
         ensures { Reads result (said_event number self.entry) }
     {
@@ -57,7 +57,7 @@ fn tick_event(line: usize, kind: &[u8], word: &[u8]) -> Result<HallEvent, LogFau
     Ok(HallEvent::Tick { moment })
 }
 
-/// The event of a child whose first word says all that it brings.
+/// Reads the event of a child whose first word determines its content.
 fn bare_event(line: usize, kind: &[u8], words: &StampWords) -> Result<HallEvent, LogFault>
     ensures { result ≡ fields_event line (kind.now ∷ words.now.script.now ∷ words.now.child.now ∷ words.now.moment.now ∷ []) }
 {
@@ -70,7 +70,7 @@ fn bare_event(line: usize, kind: &[u8], words: &StampWords) -> Result<HallEvent,
     Ok(read_stamp(line, words)?.bring(what))
 }
 
-/// The event of a child whose last word is a cause.
+/// Reads the event of a child whose last word is a cause.
 fn failed_event(
     line: usize,
     kind: &[u8],
@@ -97,7 +97,7 @@ fn failed_line<'a>(
     Ok(Line::Event(event))
 }
 
-/// The event of a child whose last word holds what it brings.
+/// Reads the event of a child whose last word is its value.
 fn held_line<'a>(
     line: usize,
     kind: &[u8],
@@ -122,7 +122,7 @@ fn held_line<'a>(
     failed_line(line, kind, words, word)
 }
 
-/// What stands round a further space. Digits of a piece have none among them.
+/// Splits the last word at its first space, if it has one. Hexadecimal digits contain no space.
 #[tactic(auto, using(crate::proofs::Judged::lower_whole))]
 fn further<'a>(held: &Digits<'a>) -> Option<(&'a [u8], &'a [u8])>
     ensures { SplitsAt 32 held.now result }
@@ -133,7 +133,7 @@ fn further<'a>(held: &Digits<'a>) -> Option<(&'a [u8], &'a [u8])>
     split_first(held.word(), b' ')
 }
 
-/// What the fields of a line say.
+/// Reads the fields of a line.
 fn read_fields(number: usize, line: &[u8]) -> Result<Line, LogFault>
     ensures { says number result ≡ fields_event number (parts 32 line.now) }
 {
@@ -168,7 +168,7 @@ fn read_fields(number: usize, line: &[u8]) -> Result<Line, LogFault>
     held_line(number, kind, &words, held)
 }
 
-/// What a line says, which is given without its newline.
+/// Reads a line, which is given without its newline.
 fn read_words(number: usize, line: &[u8]) -> Result<Line, LogFault>
     ensures { says number result ≡ line_event number line.now }
 {
@@ -178,7 +178,7 @@ fn read_words(number: usize, line: &[u8]) -> Result<Line, LogFault>
     read_fields(number, line)
 }
 
-/// Whether a line is an event.
+/// Checks that a line describes an event. It does not allocate.
 pub fn judge_line(number: usize, line: &[u8]) -> Result<(), LogFault>
     ensures { result ≡ judged (line_event number line.now) }
 {
@@ -189,7 +189,7 @@ pub fn judge_line(number: usize, line: &[u8]) -> Result<(), LogFault>
     said.check(number)
 }
 
-/// The event of a line.
+/// Reads the event that a line describes.
 pub fn read_line(alloc: Global, number: usize, line: &[u8]) -> Result<HallEvent, LogFault>
     ensures { Reads result (line_event number line.now) }
 {

@@ -1,4 +1,4 @@
-//! A log that is judged as it is read, part by part.
+//! A log that is checked while it is read, part by part.
 
 ghost use Rattle.std.specs.Prelude.{◌≡◌, ◌≢◌, ◌+◌, ◌<◌, ◌^◌, [], List, Result, length, Ok, Err, IfOk, IfErr, OnErr};
 ghost use Rattle.child_events.specs.declared.event.HallEvent.{HallEvent as HallEventOf};
@@ -16,7 +16,8 @@ use crate::version::Version;
 use std::alloc::Global;
 use std::marker::Model;
 
-/// What is left of a log: so many bytes, which say events, or have a first fault. Nothing of it is kept but its bytes.
+/// The rest of a log: its bytes, and the events or the first error in them. It holds no more than a
+/// reference to the bytes.
 #[derive(Drop)]
 pub struct LogLines<'a> {
     version: Version,
@@ -37,7 +38,8 @@ impl<'a> Model for LogLines<'a> {
     ghost invariant = { λ l. l.number + length l.rest.now < 2 ^ 64 };
 }
 
-/// The end of a log at a line that was not read as an event. Where it is one, memory was refused for it.
+/// Ends the log at a line that could not be read as an event. If it is an event, memory was
+/// refused.
 fn end_at(version: Version, number: usize, line: &[u8], behind: &[u8]) -> Result<(), LogFault>
     requires { number + 1 < 2 ^ 64 }
     ensures { (others : Result (List HallEventOf) LogFaultOf) → Reads (none_where result) (with_line version number line.now (line_event number line.now) (parts 10 behind.now) others) }
@@ -49,9 +51,9 @@ fn end_at(version: Version, number: usize, line: &[u8], behind: &[u8]) -> Result
 }
 
 impl<'a> LogLines<'a> {
-    /// The lines of a log, of which none was read yet but that of its version.
+    /// Opens a log and reads the line of its version, if it has one.
     ///
-    /// An error says that the version is none.
+    /// An error means that the version is unknown.
     #[tactic(auto, using(crate::proofs::Judged::says_log))]
     pub fn new(bytes: &'a [u8]) -> Result<LogLines<'a>, LogFault>
         ensures found { IfOk result (λ left. SaysLog bytes.now left.said) }
@@ -65,7 +67,7 @@ impl<'a> LogLines<'a> {
         })
     }
 
-    /// The same lines.
+    /// Returns the same rest of the log.
     fn again(&self) -> LogLines<'a>
         ensures { result ≡ self.now }
     {
@@ -76,14 +78,14 @@ impl<'a> LogLines<'a> {
         }
     }
 
-    /// How many bytes are left.
+    /// Returns the number of bytes left.
     pub fn bytes(&self) -> usize
         ensures { result ≡ self.now.bytes }
     {
         self.rest.len()
     }
 
-    /// The event of the next line, or none where the log has ended well.
+    /// Takes the next event. `None` if the log has ended without an error.
     fn next(&mut self, alloc: Global) -> Result<Option<HallEvent>, LogFault>
         ensures given { IfOk result (λ e. GivesNext self.old e self.new) }
         ensures refused { IfErr result (λ f. f ≢ LogFault.Memory → self.old.said ≡ Err f) }
@@ -108,11 +110,10 @@ impl<'a> LogLines<'a> {
         }
     }
 
-    /// The first events of those that are left, so many at the most; fewer, where the log ends behind them. The others are left then. At an error all
-    /// are left.
+    /// Takes up to `most` events. Fewer events mean that the log has ended without an error.
     ///
-    /// An error has the number of the first bad line of those that are left, counted from 1 at the log's first line, and says which fault is the first
-    /// in it; or it says that memory was refused.
+    /// An error is the first one in the rest. Its line number counts from 1 at the first line of
+    /// the log. It may also be `Memory`. On an error the rest is unchanged.
     pub fn take(&mut self, alloc: Global, most: usize) -> Result<HallEvents, LogFault>
         ensures given { IfOk result (λ es. GivesPart self.old es self.new) }
         ensures whole { IfOk result (λ es. length es < most → self.new.said ≡ Ok []) }
@@ -131,7 +132,7 @@ impl<'a> LogLines<'a> {
         Ok(events)
     }
 
-    /// Judges what is left to the end of the log. It takes no memory.
+    /// Checks the rest of the log to its end, without allocating.
     pub fn judge(&self) -> Result<(), LogFault>
         ensures { result ≡ judged self.now.said }
     {

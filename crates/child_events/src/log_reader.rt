@@ -1,4 +1,4 @@
-//! A log that is judged first, and gives its events part by part.
+//! A log that is checked as a whole, and then gives its events part by part.
 
 ghost use Rattle.std.specs.Prelude.{◌≡◌, ◌∷◌, ◌<◌, ◌≤◌, length, take as first, drop, IfOk, IfErr, OnOk, OnErr};
 ghost use Rattle.child_events.specs.Log.{LogText};
@@ -14,13 +14,14 @@ use crate::version::Version;
 use std::alloc::{AllocError, Global};
 use std::marker::Model;
 
-/// The events that are left of a log, seen as a list. The log was judged, and nothing of it is kept but its bytes.
+/// The events left in a checked log. A contract sees a list. It holds no more than a reference to
+/// the bytes.
 #[derive(Drop)]
 pub struct LogReader<'a> {
     rest: &'a [u8],
     /// The number of the next line.
     number: usize,
-    /// How many lines of events are left.
+    /// The number of event lines left.
     left: usize,
 }
 
@@ -38,7 +39,7 @@ impl<'a> Model for LogReader<'a> {
 }
 
 impl<'a> LogReader<'a> {
-    /// The events of the lines of a log of this version.
+    /// Checks the lines of a log of this version.
     fn of_lines(version: Version, bytes: &'a [u8]) -> Result<LogReader<'a>, LogFault>
         ensures { result ≡ lines_events version (first_line version) (parts 10 bytes.now) }
     {
@@ -50,7 +51,7 @@ impl<'a> LogReader<'a> {
         })
     }
 
-    /// The events of a log of either version.
+    /// Checks a log of either version.
     fn of_log(bytes: &'a [u8]) -> Result<LogReader<'a>, LogFault>
         ensures { result ≡ log_events bytes.now }
     {
@@ -58,9 +59,9 @@ impl<'a> LogReader<'a> {
         LogReader::of_lines(version, lines)
     }
 
-    /// The events of a log, which is judged to its end; no memory is taken for it.
+    /// Checks a whole log without allocating, and prepares to read its events.
     ///
-    /// An error has the number of the first bad line, counted from 1, and says which fault is the first in it.
+    /// An error is the first one in the log, with its line number, counted from 1.
     #[tactic(auto, using(crate::proofs::Judged::judged_found, crate::proofs::Judged::judged_refused))]
     pub fn new(bytes: &'a [u8]) -> Result<LogReader<'a>, LogFault>
         ensures found { IfOk result (λ es. LogText bytes.now es) }
@@ -69,14 +70,14 @@ impl<'a> LogReader<'a> {
         LogReader::of_log(bytes)
     }
 
-    /// How many events are left.
+    /// Returns the number of events left.
     pub fn len(&self) -> usize
         ensures { result ≡ length self.now }
     {
         self.left
     }
 
-    /// The next event.
+    /// Takes the next event. Requires at least one.
     fn next(&mut self, alloc: Global) -> Result<HallEvent, AllocError>
         requires { 0 < length self.old }
         ensures { IfOk result (λ e. self.old ≡ e ∷ self.new) }
@@ -97,7 +98,7 @@ impl<'a> LogReader<'a> {
         }
     }
 
-    /// The first events of those that are left, so many at the most; the others are left then. Where memory is refused, all are left.
+    /// Takes up to `most` events. On `AllocError` no event is taken.
     pub fn take(&mut self, alloc: Global, most: usize) -> Result<HallEvents, AllocError>
         ensures given { IfOk result (λ es. es ≡ first most self.old) }
         ensures left { OnOk result (self.new ≡ drop most self.old) }

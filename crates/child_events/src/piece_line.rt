@@ -1,4 +1,4 @@
-//! A line of output, read from the left. Most lines of a log are such.
+//! Reads a line of output from left to right. Most lines of a log are lines of output.
 
 ghost use Rattle.std.specs.Prelude.{◌≡◌, ◌≤◌, ◌<◌, ◌∷◌, take as first, length, codes, Some, IfOk, IfSome};
 ghost use Rattle.std.specs.Bool.{OnTrue};
@@ -10,7 +10,7 @@ use crate::fields::{LONGEST, MOST_DECIMALS, MOST_DIGITS, MOST_MOMENT, Stamp, sta
 use std::alloc::{AllocError, Global};
 use tcl_words::Text;
 
-/// What stands behind the first word, where that is `out`.
+/// Returns the bytes after the first word, if this is `out`.
 fn behind_out(line: &[u8]) -> Option<&[u8]>
     ensures { IfSome result (λ rest. parts 32 line.now ≡ codes "out" ∷ parts 32 rest.now) }
 {
@@ -20,7 +20,7 @@ fn behind_out(line: &[u8]) -> Option<&[u8]>
     }
 }
 
-/// The number that ends at a place, and what stands behind the space there.
+/// Returns the number before the space at index `at`, and the bytes after the space.
 fn ended(bytes: &[u8], at: usize, number: u64) -> Option<(u64, &[u8])>
     requires within { at < length bytes.now }
     requires few { at ≤ 16 }
@@ -33,7 +33,7 @@ fn ended(bytes: &[u8], at: usize, number: u64) -> Option<(u64, &[u8])>
     Some((number, &bytes[at + 1..]))
 }
 
-/// The number of one digit in front of the first space, and what stands behind that.
+/// Returns a one-digit number and the bytes after its space.
 fn one_digit<'a>(digit: u8, rest: &'a [u8]) -> Option<(u64, &'a [u8])>
     ensures { IfSome result (λ found. NumberFirst (digit ∷ 32 ∷ rest.now) found.0 found.1.now) }
 {
@@ -43,7 +43,7 @@ fn one_digit<'a>(digit: u8, rest: &'a [u8]) -> Option<(u64, &'a [u8])>
     Some((u64::from(digit - b'0'), rest))
 }
 
-/// The number of two digits in front of the first space, and what stands behind that.
+/// Returns a two-digit number and the bytes after its space.
 fn two_digits<'a>(high: u8, low: u8, rest: &'a [u8]) -> Option<(u64, &'a [u8])>
     ensures { IfSome result (λ found. NumberFirst (high ∷ low ∷ 32 ∷ rest.now) found.0 found.1.now) }
 {
@@ -53,7 +53,7 @@ fn two_digits<'a>(high: u8, low: u8, rest: &'a [u8]) -> Option<(u64, &'a [u8])>
     Some((u64::from(high - b'0') * 10 + u64::from(low - b'0'), rest))
 }
 
-/// The number of one digit or two in front of the first space, and what stands behind that.
+/// Returns a number of one or two digits and the bytes after its space.
 fn small_number(bytes: &[u8]) -> Option<(u64, &[u8])>
     ensures { IfSome result (λ found. NumberFirst bytes.now found.0 found.1.now) }
 {
@@ -64,7 +64,7 @@ fn small_number(bytes: &[u8]) -> Option<(u64, &[u8])>
     }
 }
 
-/// The number in front of the first space, and what stands behind that.
+/// Returns the number before the first space and the bytes after the space.
 fn leading_number(bytes: &[u8]) -> Option<(u64, &[u8])>
     ensures { IfSome result (λ found. NumberFirst bytes.now found.0 found.1.now) }
 {
@@ -80,7 +80,7 @@ fn leading_number(bytes: &[u8]) -> Option<(u64, &[u8])>
     None
 }
 
-/// Whether these are the digits of a piece that isn't empty.
+/// Returns true only if these are the digits of a non-empty piece.
 fn are_pairs(digits: &[u8]) -> bool
     ensures { OnTrue result (ArePairs digits.now) }
 {
@@ -90,7 +90,7 @@ fn are_pairs(digits: &[u8]) -> bool
         && is_lower_hex(digits)
 }
 
-/// Whose event it is, and when, where these are within the limits.
+/// Returns the stamp, if the three numbers are within their limits.
 fn stamp_of(script: u64, child: u64, moment: u64) -> Option<Stamp>
     ensures { IfSome result (λ stamp. IsStampOf script child moment stamp) }
 {
@@ -104,8 +104,10 @@ fn stamp_of(script: u64, child: u64, moment: u64) -> Option<Stamp>
     })
 }
 
-/// Whose output a line is, when, and its last word: where that has the digits of a piece, the line is a good one. Where none is found, nothing is
-/// said of the line.
+/// Returns the stamp and the last word of a line of output. The line is correct if that word
+/// contains the digits of a non-empty piece.
+///
+/// `None` says nothing about the line.
 fn head(line: &[u8]) -> Option<(Stamp, &[u8])>
     ensures { IfSome result (λ found. ArePairs found.1.now → IsPieceLine line.now found.0 found.1.now) }
 {
@@ -120,7 +122,8 @@ fn head(line: &[u8]) -> Option<(Stamp, &[u8])>
     Some((stamp, digits))
 }
 
-/// Whose output a good line is, when, and the digits of its bytes. Where none is found, nothing is said of the line.
+/// Returns the stamp and the digits of a correct line of output. `None` says nothing about the
+/// line.
 pub fn piece_line(line: &[u8]) -> Option<(Stamp, &[u8])>
     ensures { IfSome result (λ found. IsPieceLine line.now found.0 found.1.now) }
 {
@@ -131,8 +134,9 @@ pub fn piece_line(line: &[u8]) -> Option<(Stamp, &[u8])>
     Some((stamp, digits))
 }
 
-/// Whose output a good line is, when, and its bytes, whose digits are judged and decoded in one pass. Where none is found, nothing is said of the
-/// line.
+/// Returns the stamp and the bytes of a correct line of output, in one pass over the digits.
+///
+/// `None` says nothing about the line.
 #[tactic(auto, using(crate::proofs::Pieces::piece_read))]
 pub fn read_piece(alloc: Global, line: &[u8]) -> Result<Option<(Stamp, Text)>, AllocError>
     ensures { IfOk result (λ found. IfSome found (λ p. SaysPiece line.now p.0 p.1)) }

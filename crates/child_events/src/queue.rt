@@ -1,4 +1,4 @@
-//! What comes to a script from one child, and the echo of what is sent to it.
+//! The items of one child, and the echo of the input sent to it.
 
 ghost use Rattle.std.specs.Prelude.{◌≡◌, ◌++◌, [], map, drop, length, OnOk, OnErr, IfOk};
 ghost use Rattle.child_events.specs.Queue.{first, item_view, pushed, with_echo, how_many_came, echoes, latest, place, Rises};
@@ -11,20 +11,20 @@ use std::marker::Model;
 use std::mem;
 use tcl_words::Text;
 
-/// How many bytes of an echo make an item.
+/// The most bytes in one item of an echo.
 const PIECE: usize = 4096;
 
-/// What comes to a script from one child and from the echo of what it sends there, in the order in which
-/// the script takes it. A contract sees a list.
+/// The items that a script takes from one child: its output and the echo of input sent to it, in
+/// order. A contract sees a list.
 ///
-/// The echoes stand with the item of the child before which they are taken, so that an echo is placed and
-/// an item taken without moving what stands before.
+/// Each echo is stored with the child's item that follows it. Inserting an echo and taking an item
+/// therefore move no other items.
 #[derive(Drop)]
 pub struct Queue {
     alloc: Global,
-    /// What came from the child, in order of moments.
+    /// The child's items, in order of moments.
     slots: VecDeque<Slot>,
-    /// The echoes behind all of it.
+    /// The echoes after all of them.
     last: VecDeque<(u64, Item)>,
 }
 
@@ -39,7 +39,7 @@ impl Model for Queue {
     ghost invariant = { λ q. Rises 0 q.slots.items };
 }
 
-/// An echo in pieces, each with the moment.
+/// Cuts an echo into items, each with the moment.
 fn cut(alloc: Global, clock: u64, bytes: &[u8]) -> Result<VecDeque<(u64, Item)>, AllocError>
     ensures { IfOk result (λ made. made.items ≡ echoes clock bytes.now) }
 {
@@ -54,7 +54,8 @@ fn cut(alloc: Global, clock: u64, bytes: &[u8]) -> Result<VecDeque<(u64, Item)>,
     Ok(made)
 }
 
-/// Lays echoes behind others. Where there are none yet it moves nothing. Refused ones leave the others as they were.
+/// Appends echoes to others. Moves nothing if there are none yet. On `AllocError` the others are
+/// unchanged.
 fn lay_behind(
     echoes: &mut VecDeque<(u64, Item)>,
     mut made: VecDeque<(u64, Item)>,
@@ -70,7 +71,7 @@ fn lay_behind(
     Ok(())
 }
 
-/// The moment of the last item that came from the child, or 0.
+/// Returns the moment of the child's last item, or 0.
 fn latest(slots: &VecDeque<Slot>) -> u64
     ensures { result ≡ latest 0 slots.now.items }
 {
@@ -80,8 +81,8 @@ fn latest(slots: &VecDeque<Slot>) -> u64
     }
 }
 
-/// Where the first item of the child stands that came at a moment or later; behind all where none did. Mostly it is the first one, or none: both
-/// cost the same however many there are.
+/// Returns the index of the child's first item of moment `clock` or later, or the length. It
+/// searches from the end, after a look at the first item.
 fn place(slots: &VecDeque<Slot>, clock: u64) -> usize
     requires { Rises 0 slots.now.items }
     ensures { result ≡ place clock slots.now.items }
@@ -97,7 +98,7 @@ fn place(slots: &VecDeque<Slot>, clock: u64) -> usize
 }
 
 impl Queue {
-    /// A queue of a child of which nothing came. It allocates nothing.
+    /// Creates an empty queue without allocating.
     pub fn new(alloc: Global) -> Queue
         ensures { result ≡ [] }
     {
@@ -108,8 +109,8 @@ impl Queue {
         }
     }
 
-    /// Puts an item that came from the child behind all others. A moment before that of the child's item
-    /// before it is raised to that. A refused one leaves the queue as it was.
+    /// Appends an item of the child. Raises its moment to that of the child's previous item. On
+    /// `AllocError` the queue is unchanged.
     pub fn push(&mut self, moment: u64, item: Item) -> Result<(), AllocError>
         ensures pushed { OnOk result (self.new ≡ pushed moment item self.old) }
         ensures kept { OnErr result (self.new ≡ self.old) }
@@ -125,9 +126,10 @@ impl Queue {
         Ok(())
     }
 
-    /// Puts the echo of what was sent at a moment, in items of 4,096 bytes but the last one, before the
-    /// first item that came from the child at that moment or later, else behind all. No bytes are no item.
-    /// A refused echo leaves the queue as it was.
+    /// Inserts the echo of input sent at moment `clock`, in items of 4,096 bytes, the last one
+    /// shorter. It goes before the child's first item of that moment or later, or at the end.
+    ///
+    /// No bytes add no item. On `AllocError` the queue is unchanged.
     pub fn insert_echo(&mut self, clock: u64, bytes: &[u8]) -> Result<(), AllocError>
         ensures placed { OnOk result (self.new ≡ with_echo clock bytes.now self.old) }
         ensures kept { OnErr result (self.new ≡ self.old) }
@@ -142,14 +144,14 @@ impl Queue {
         Ok(())
     }
 
-    /// How many items that came from the child are there. The echoes among them are not counted, and nothing is walked along.
+    /// Returns the number of items that came from the child, without the echoes. Constant time.
     pub fn count_came(&self) -> usize
         ensures { result ≡ how_many_came self.now }
     {
         self.slots.len()
     }
 
-    /// The next item and its moment, which stay.
+    /// Returns the next item and its moment without taking it. `None` if the queue is empty.
     pub fn peek(&self) -> Option<(u64, &Item)>
         ensures { item_view result ≡ first self.now }
     {
@@ -165,7 +167,7 @@ impl Queue {
         }
     }
 
-    /// Takes the next item, with its moment.
+    /// Takes the next item, with its moment. `None` if the queue is empty.
     pub fn next(&mut self) -> Option<(u64, Item)>
         ensures taken { result ≡ first self.old }
         ensures rest { self.new ≡ drop 1 self.old }

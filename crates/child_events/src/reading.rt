@@ -1,4 +1,4 @@
-//! The log of events, read.
+//! Reads the log of events.
 
 ghost use Rattle.std.specs.Prelude.{◌≡◌, ◌≢◌, ◌+◌, ◌≤◌, ◌<◌, ◌^◌, ◌∷◌, ◌++◌, [], ℕ, List, length, IfOk, IfErr, Option, Result};
 ghost use Rattle.child_events.specs.Log.{heading, LogText1, LogText2, LogText};
@@ -10,10 +10,10 @@ use crate::hall_events::HallEvents;
 use crate::log_reader::LogReader;
 use std::alloc::Global;
 
-/// The events of a log.
+/// Reads all events of a log.
 ///
-/// An error has the number of the first bad line, counted from 1, and says which fault is the first in
-/// it; or it says that memory was refused.
+/// An error is the first one in the log, with its line number, counted from 1. It may also be
+/// `Memory`.
 pub fn read_log(alloc: Global, bytes: &[u8]) -> Result<HallEvents, LogFault>
     ensures found { IfOk result (λ es. LogText bytes.now es) }
     ensures refused { IfErr result (λ f. f ≢ LogFault.Memory → Refused bytes.now f) }
@@ -23,11 +23,12 @@ pub fn read_log(alloc: Global, bytes: &[u8]) -> Result<HallEvents, LogFault>
     Ok(reader.take(alloc, all)?)
 }
 
-/// Holds of every text and every list of events: a list has one log at most of each version, a text is the
-/// log of one list at most, and it is that of some list exactly where no line of it has a fault. What was
-/// written in version 2 is read as the events that were written, what was read in version 2 is what is
-/// written of its events, and where its end is lost, and not all of it, there is a fault. It does nothing
-/// when it runs.
+/// States laws of every text and every list of events. A list has at most one log of each version.
+/// A text is the log of at most one list, and is a log exactly if no line has an error.
+///
+/// A log written in version 2 is read as the events that were written. A log read in version 2 is
+/// what is written for its events. If it lost part of its end, it has an error. It does nothing at
+/// run time.
 pub fn log_laws()
     ensures one_text { (bytes others : List ℕ) (es : List HallEvent) → LogText1 bytes es → LogText1 others es → bytes ≡ others }
     ensures one_written { (bytes others : List ℕ) (es : List HallEvent) → LogText2 bytes es → LogText2 others es → bytes ≡ others }

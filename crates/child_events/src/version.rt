@@ -1,4 +1,4 @@
-//! The versions of a log, and the two lines that only version 2 has: its first and its last.
+//! The versions of a log, and the first and the last line of version 2.
 
 ghost use Rattle.std.specs.Prelude.{◌≡◌, ◌+◌, ◌<◌, ◌^◌, codes};
 ghost use Rattle.std.specs.Str.{bytes_eq};
@@ -10,14 +10,14 @@ use crate::fields::{LONGEST, any_number, is, split_first};
 /// The version of a log.
 #[derive(Clone, Copy, PartialEq, Eq)]
 pub enum Version {
-    /// Lines of events alone.
+    /// Only lines of events.
     First,
-    /// The line of the version, lines of events, and a line that says how many they are.
+    /// The line of the version, lines of events, and a line with their number.
     Second,
 }
 
 impl Version {
-    /// The number of the first event's line, counted from 1.
+    /// Returns the line number of the first event, counted from 1.
     pub fn first_line(self) -> usize
         ensures { result ≡ first_line self }
     {
@@ -28,7 +28,7 @@ impl Version {
     }
 }
 
-/// Whether a line's first word is the name of the format.
+/// Returns whether the first word of a line is the name of the format.
 fn names_format(line: &[u8]) -> bool
     ensures { result ≡ bytes_eq (first_word (parts 32 line.now)) (codes "exprun-log") }
 {
@@ -38,7 +38,8 @@ fn names_format(line: &[u8]) -> bool
     }
 }
 
-/// The version that a first line names, or version 1 where it names none.
+/// Returns the version that a first line names, or version 1 if it names none. An error means an
+/// unknown version.
 pub fn version_of(line: &[u8]) -> Result<Version, LogFault>
     ensures { result ≡ version_of_line line.now }
 {
@@ -51,7 +52,7 @@ pub fn version_of(line: &[u8]) -> Result<Version, LogFault>
     }
 }
 
-/// The number in a line `total N`. Any other line has the fault for which it is no event.
+/// Returns the number in a line `total N`. Returns `fault` for any other line.
 fn total_of(line: usize, text: &[u8], fault: LogFault) -> Result<u64, LogFault>
     ensures { result ≡ total_of_fields line fault (parts 32 text.now) }
 {
@@ -67,8 +68,7 @@ fn total_of(line: usize, text: &[u8], fault: LogFault) -> Result<u64, LogFault>
     }
 }
 
-/// The total that a line says. Any other line has the fault for which it is no event, and so has each line of
-/// version 1.
+/// Returns the total in a line. Returns `fault` for any other line, and for each line of version 1.
 pub fn line_total(
     version: Version,
     line: usize,
@@ -84,7 +84,7 @@ pub fn line_total(
     }
 }
 
-/// Ends a log at a line which says that it has this many events, where it had `seen` of them.
+/// Checks the total in line `line` against the `seen` events before it, and that no bytes follow.
 #[tactic(auto, using(crate::proofs::Closing::closed_behind))]
 pub fn close(line: usize, seen: usize, total: u64, behind: &[u8]) -> Result<(), LogFault>
     requires { line + 1 < 2 ^ 64 }

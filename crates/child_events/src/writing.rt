@@ -1,4 +1,4 @@
-//! The log of events, written.
+//! Writes the log of events.
 
 ghost use Rattle.std.specs.Bool.{Decides};
 ghost use Rattle.std.specs.Prelude.{◌≡◌, ◌<◌, ◌++◌, ◌∷◌, [], IfOk, OnOk};
@@ -12,7 +12,7 @@ use crate::fields::MOST_MOMENT;
 use std::alloc::{AllocError, Global};
 use tcl_words::Text;
 
-/// The first word of an event's line.
+/// Returns the first word of an event's line.
 fn kind_name(what: &What) -> &'static [u8]
     ensures { result.now ≡ kind_text what.now }
 {
@@ -27,7 +27,7 @@ fn kind_name(what: &What) -> &'static [u8]
     }
 }
 
-/// A cause in one word.
+/// Returns the word for a cause.
 pub fn cause_name(cause: Cause) -> &'static [u8]
     ensures { result.now ≡ cause_text cause }
 {
@@ -40,7 +40,7 @@ pub fn cause_name(cause: Cause) -> &'static [u8]
     }
 }
 
-/// Puts a space and a word behind the text.
+/// Appends a space and a word.
 fn push_word(text: &mut Text, word: &[u8]) -> Result<(), AllocError>
     ensures { OnOk result (text.new ≡ text.old ++ 32 ∷ word.now) }
 {
@@ -48,7 +48,7 @@ fn push_word(text: &mut Text, word: &[u8]) -> Result<(), AllocError>
     text.extend(word)
 }
 
-/// Puts a space and a number behind the text.
+/// Appends a space and a number.
 fn push_number(alloc: Global, text: &mut Text, number: u64) -> Result<(), AllocError>
     ensures { OnOk result (text.new ≡ text.old ++ 32 ∷ decimal number) }
 {
@@ -56,7 +56,7 @@ fn push_number(alloc: Global, text: &mut Text, number: u64) -> Result<(), AllocE
     push_word(text, digits.as_bytes())
 }
 
-/// Puts a space and a piece in hexadecimal behind the text.
+/// Appends a space and a piece in hexadecimal.
 fn push_piece(alloc: Global, text: &mut Text, piece: &[u8]) -> Result<(), AllocError>
     ensures { OnOk result (text.new ≡ text.old ++ 32 ∷ hex_text piece.now) }
 {
@@ -67,7 +67,7 @@ fn push_piece(alloc: Global, text: &mut Text, piece: &[u8]) -> Result<(), AllocE
     push_word(text, digits.as_bytes())
 }
 
-/// Puts the last word of an event's line behind the text, where it has one.
+/// Appends the last word of an event's line, if it has one.
 fn push_held(alloc: Global, text: &mut Text, what: &What) -> Result<(), AllocError>
     ensures { OnOk result (text.new ≡ text.old ++ flat_map (λ v. 32 ∷ v) (held_text what.now)) }
 {
@@ -82,14 +82,14 @@ fn push_held(alloc: Global, text: &mut Text, what: &What) -> Result<(), AllocErr
     }
 }
 
-/// Ends the line at the end of the text.
+/// Appends a newline.
 fn end_line(text: &mut Text) -> Result<(), AllocError>
     ensures { OnOk result (text.new ≡ text.old ++ 10 ∷ []) }
 {
     text.push(b'\n')
 }
 
-/// Puts an event's line behind the text, with its newline.
+/// Appends an event's line, with its newline.
 fn push_line(alloc: Global, text: &mut Text, event: &HallEvent) -> Result<(), AllocError>
     ensures { OnOk result (text.new ≡ text.old ++ (line_of event.now ++ 10 ∷ [])) }
 {
@@ -114,12 +114,12 @@ fn push_line(alloc: Global, text: &mut Text, event: &HallEvent) -> Result<(), Al
     end_line(text)
 }
 
-/// Says that a slice is of bytes. It does nothing when it runs, as the next two.
+/// States that a slice consists of bytes. Like the next two, it does nothing at run time.
 fn tell_slice_bytes(bytes: &[u8])
     ensures { IsBytes bytes.now }
 {}
 
-/// Says that what an event brings is of bytes.
+/// States that the content of an event consists of bytes.
 fn tell_bytes(what: &What)
     ensures { HoldsBytes what.now }
 {
@@ -132,7 +132,7 @@ fn tell_bytes(what: &What)
     }
 }
 
-/// Says that an event is of bytes.
+/// States that an event consists of bytes.
 fn tell_event_bytes(event: &HallEvent)
     ensures { IsOfBytes event.now }
 {
@@ -142,10 +142,10 @@ fn tell_event_bytes(event: &HallEvent)
     }
 }
 
-/// The longest piece of output that an event brings, in bytes.
+/// The longest piece of output in an event, in bytes.
 const LONGEST_PIECE: usize = 4096;
 
-/// The length of the piece that an event brings.
+/// Returns the length of the piece in an event, or 0.
 fn piece_len(what: &What) -> usize
     ensures { result ≡ piece_len_of what.now }
 {
@@ -157,7 +157,7 @@ fn piece_len(what: &What) -> usize
     }
 }
 
-/// Whether an event is within a log's limits.
+/// Returns whether an event is within the limits of a log.
 fn fits_alone(event: &HallEvent) -> bool
     ensures { result ≡ fits_meant event.now }
 {
@@ -177,22 +177,22 @@ fn fits_alone(event: &HallEvent) -> bool
     }
 }
 
-/// Whether events can be written to a log: each has a script from 1 to 64, a child from 1 to 16, a moment of at most
-/// 9,000,000,000,000,000 and a piece of at most 4,096 bytes.
+/// Returns whether events can be written to a log. Scripts are numbered 1 to 64 and children 1 to
+/// 16. A moment is at most 9,000,000,000,000,000 milliseconds, and a piece at most 4,096 bytes.
 pub fn fits(events: &[HallEvent]) -> bool
     ensures { Decides result (AllFit events.now) }
 {
     events.iter().all(|event| fits_alone(event))
 }
 
-/// Puts the first line of a log in version 2 behind the text.
+/// Appends the first line of a log in version 2.
 pub fn push_heading(text: &mut Text) -> Result<(), AllocError>
     ensures { OnOk result (text.new ≡ text.old ++ heading) }
 {
     text.extend(b"exprun-log 2\n")
 }
 
-/// Puts a line for each event behind the text.
+/// Appends one line per event.
 pub fn push_lines(alloc: Global, text: &mut Text, events: &[HallEvent]) -> Result<(), AllocError>
     ensures text { OnOk result (text.new ≡ text.old ++ lines_text events.now) }
     ensures bytes { OnOk result (AllByRecursion IsOfBytes events.now) }
@@ -204,7 +204,7 @@ pub fn push_lines(alloc: Global, text: &mut Text, events: &[HallEvent]) -> Resul
     Ok(())
 }
 
-/// Puts the last line of a log in version 2 behind the text, of which so many events stand before it.
+/// Appends the last line of a log in version 2. `count` is the number of events before it.
 pub fn push_total(alloc: Global, text: &mut Text, count: u64) -> Result<(), AllocError>
     ensures { OnOk result (text.new ≡ text.old ++ total_line count) }
 {
@@ -213,7 +213,7 @@ pub fn push_total(alloc: Global, text: &mut Text, count: u64) -> Result<(), Allo
     end_line(text)
 }
 
-/// The log of a list of events that fit, in version 2.
+/// Returns the log of these events in version 2. Requires that `fits` holds.
 pub fn write_log(alloc: Global, events: &[HallEvent]) -> Result<Text, AllocError>
     requires { AllFit events.now }
     ensures { IfOk result (λ t. LogText2 t events.now) }

@@ -5,7 +5,7 @@ use Rattle.tcl_host.specs.declared.ending.Ending.TheVariants.{Exit, Error, StepL
 use Rattle.session.specs.Left.{Kept}
 use Rattle.dialogue_sched.specs.Hall.{EndsAt}
 
--- whether it is how a script ended
+-- Whether a script with this ending has ended.
 abbrev pub is_end : Option Ending → Bool
 is_end None = false
 is_end (Some (Exit n)) = true
@@ -15,6 +15,6 @@ is_end (Some TimeLimit) = true
 is_end (Some Memory) = true
 is_end (Some Waiting) = false
 
--- the script of this number has ended: no event changes its report any more
+-- The script with this number has ended: no event changes its report any more.
 abbrev pub HasEnded : ℕ → List Kept → Type 0
 HasEnded n ks = (e : Option Ending) × (EndsAt n ks e × (is_end e ≡ true))

@@ -1,4 +1,4 @@
--- What it is to have served scripts.
+-- What serving scripts means.
 use Rattle.std.specs.Prelude.{◌≡◌, ◌≢◌, ◌⊎◌, ◌≤◌, ℕ, ◌+◌, List, [], ◌∷◌, map, length, slice_get, Bool, false, ◌||◌, IsTrue, Option, Some, None, option_map, Contains}
 use Rattle.std.specs.List.{flat_map}
 use Rattle.child_events.specs.declared.event.Answer.{Answer}
@@ -27,32 +27,33 @@ use Rattle.run_records.specs.Joined.{script_of, IsJoined}
 use Rattle.child_desk.specs.Heard.{said_by}
 use Rattle.child_desk.specs.Told.{answers_in, replies_in, AreTold, AreOf}
 
--- A script that was given up while it waited: its report is its meaning over these events, of which ticks may be missing.
+-- The report of a script that was given up while it waited: its meaning over these events, without some of the ticks.
 abbrev pub IsCutOff : Script → Report → List Event → Type 0
 IsCutOff script report es = (seen : List Event) × WithTicks seen es × (report ≡ meaning script.source script.settings seen)
 
--- what a script's report is: its meaning, which has an ending, or that of a script that was refused memory, or of one that was given up
+-- A script's report is its meaning, with an ending. Or it is the report of a script that was refused memory, or of one
+-- that was given up while it waited.
 abbrev pub Tells : Script → Report → Bool → List Event → Type 0
 Tells script report stopped es =
     ((report ≡ meaning script.source script.settings es) × (report.ending ≢ Waiting))
     ⊎ ((report ≡ memory_report) ⊎ (IsTrue stopped × (report.ending ≡ Waiting) × IsCutOff script report es))
 
 module _ (told : ℕ → ℕ → Request → Answer → Type 0) (gives : ℕ → ℕ → Option (List ℕ) → Type 0) where
-  -- of one script: its number, its keeper, its report, the children that aren't settled, whether scripts were given up, and its own part of the
-  -- record
+  -- One script was served. `number` is its number, `stopped` says whether scripts were given up, and `es` is its own
+  -- part of the record.
   pub record IsServed (number : ℕ) (keeper : Keeping) (script : Script) (report : Report) (unsettled : List Unsettled) (stopped : Bool) (es : List Event) : Type 0 where
     pub ended : Tells script report stopped es
     pub answers : AreTold told keeper.name keeper.made (answers_in es) (meaning script.source script.settings es).requests
     pub children : AreOf (replies_in es) (meaning script.source script.settings es).requests
     pub given : (child : ℕ) → 1 ≤ child → child ≤ 16 → (Contains unsettled (record { script = number; child = child }) → ⊥) → IsGiven told gives keeper.name keeper.made child (answers_in es) (meaning script.source script.settings es).requests (said_by child es)
 
-  -- of several scripts, whose numbers a function gives, from their places, over a record
+  -- Several scripts were served over a record. `number` gives a script's number for its index.
   pub record AreServed (number : ℕ → ℕ) (keepers : List Keeping) (scripts : List Script) (es : List HallEvent) (s : Served) : Type 0 where
     pub count : length s.reports ≡ length scripts
     pub each : (i : ℕ) (keeper : Keeping) (script : Script) (report : Report) → slice_get keepers i ≡ Some keeper → slice_get scripts i ≡ Some script → slice_get s.reports i ≡ Some report →
         IsServed (number i) keeper script report s.unsettled.items s.stopped (own (i + 1) es)
 
-  -- one worker has served those that are its own, and its record has entries of those alone
+  -- One worker has served its own scripts. Its record has events of these only.
   pub record IsPart (n w : ℕ) (keepers : List Keeping) (scripts : List Script) (p : Part) : Type 0 where
     pub mine : List Keeping
     pub kept : IsDealt n w keepers mine
@@ -64,11 +65,11 @@ module _ (told : ℕ → ℕ → Request → Answer → Type 0) (gives : ℕ →
   abbrev pub AreParts : List Keeping → List Script → List Part → Type 0
   AreParts keepers scripts parts = (w : ℕ) (p : Part) → slice_get parts w ≡ Some p → IsPart (length parts) w keepers scripts p
 
--- the record of each worker: the events that were put into its ring
+-- The record of each worker: the events that were put into its ring.
 abbrev pub records_of : List Part → List (List HallEvent)
 records_of parts = map (λ p. ring_log p.log) parts
 
--- whether one of them was given up
+-- Whether one of them was given up.
 abbrev pub is_any : List Bool → Bool
 is_any [] = false
 is_any (b ∷ bs) = b || is_any bs
@@ -76,21 +77,22 @@ is_any (b ∷ bs) = b || is_any bs
 abbrev pub any_stopped : List Served → Bool
 any_stopped parts = is_any (map (λ s. s.stopped) parts)
 
--- what each worker has, by kind
+-- The workers' results, by kind.
 pub record IsApart (parts : List Served) (a : Apart) : Type 0 where
   pub reports : a.reports.items ≡ map (λ s. s.reports) parts
   pub unsettled : a.unsettled.items ≡ flat_map (λ s. s.unsettled.items) parts
   pub stopped : a.stopped ≡ any_stopped parts
 
--- so many reports, one of each worker in turn, and what else each has
+-- Takes `count` reports, one of each worker in turn, and combines the other results.
 pub record IsAssembled (count : ℕ) (parts : List Served) (s : Served) : Type 0 where
   pub reports : s.reports ≡ in_turn count (map (λ p. p.reports) parts)
   pub unsettled : s.unsettled.items ≡ flat_map (λ p. p.unsettled.items) parts
   pub stopped : s.stopped ≡ any_stopped parts
 
 module _ (told : ℕ → ℕ → Request → Answer → Type 0) (gives : ℕ → ℕ → Option (List ℕ) → Type 0) where
-  -- All scripts were served by so many workers, over a record: each as its keeper told and gave, and the record is that of all workers, with every
-  -- entry within the limits of a log and of one of the scripts or a tick, so that a run of the scripts refuses none of them.
+  -- All scripts were served by this many workers, over one record that joins those of the workers. Keepers told the
+  -- answers and gave the output. Each event is within the limits of a log, and is a tick or of one of the scripts. A
+  -- run of the scripts therefore refuses none.
   pub record IsWhole (workers : ℕ) (keepers : List Keeping) (scripts : List Script) (es : List HallEvent) (s : Served) : Type 0 where
     pub served : AreServed told gives (λ i. i + 1) keepers scripts es s
     pub records : List (List HallEvent)

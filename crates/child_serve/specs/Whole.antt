@@ -1,4 +1,4 @@
--- What serving scripts answers.
+-- The result of serving scripts.
 use Rattle.std.specs.Prelude.{◌≡◌, ℕ, List, [], ◌∷◌, ◌++◌, Bool, IsTrue, Option, None, Some, Result, Ok, Err}
 use Rattle.child_events.specs.declared.event.Answer.{Answer}
 use Rattle.expect_core.specs.declared.request.Request.{Request}
@@ -17,7 +17,7 @@ use Rattle.child_serve.specs.declared.worker.WorkFault.TheVariants as work
 use Rattle.child_desk.specs.Line.{Keeping}
 use Rattle.child_serve.specs.Served.{IsAssembled, IsWhole}
 
--- a keeper as it is handed in
+-- A keeper before its script is served.
 abbrev pub keeping_of : {K : Type 0} → (K → ℕ) → (K → ℕ) → K → Keeping
 keeping_of named made k = record { name = named k; made = made k }
 
@@ -27,15 +27,15 @@ module _ (told : ℕ → ℕ → Request → Answer → Type 0) (gives : ℕ →
     pub opens : opening_fault scripts ≡ None
     pub whole : IsWhole told gives workers keepers scripts es s
 
-  -- What serving them answers, and the recorder that is given back: it was handed the record, where that is asked for. Where they weren't served, it
-  -- was handed some events.
+  -- The result of serving, and the returned recorder. If `keeps`, it was handed the record. On an error it was handed
+  -- some events.
   abbrev pub IsServing : {R : Type 0} → (R → List HallEvent → R → Type 0) → R → Bool → Result Served ServeFault → R → Type 0
   IsServing notes first keeps (Ok s) last = (es : List HallEvent) × WasServed es s × (IsTrue keeps → Handed notes first es last)
   IsServing notes first keeps (Err (New fault)) last = (opening_fault scripts ≡ Some fault) × WasHanded notes first last
   IsServing notes first keeps (Err Memory) last = WasHanded notes first last
   IsServing notes first keeps (Err NoThread) last = WasHanded notes first last
 
--- what came of so many scripts, from what came of each worker, and that a recorder was handed one record of theirs
+-- The result of `count` scripts, from those of the workers. The recorder was handed one record of all workers.
 module _ {R : Type 0} (notes : R → List HallEvent → R → Type 0) (count : ℕ) where
   abbrev pub Gathers : Result Joined WorkFault → Merger R → Result Served ServeFault → R → Type 0
   Gathers (Ok j) merger (Ok s) last = IsAssembled count j.parts.items s × ((first : R) → IsTrue merger.keeps → IsMerging notes first merger → HasOne notes first j.logs.items last)
@@ -44,16 +44,16 @@ module _ {R : Type 0} (notes : R → List HallEvent → R → Type 0) (count : �
   Gathers joined merger (Err Memory) last = Unit {0}
   Gathers joined merger (Err NoThread) last = Unit {0}
 
--- a worker's fault as that of all
+-- A worker's error, as that of serving.
 abbrev pub fault_of : WorkFault → ServeFault
 fault_of work.Memory = Memory
 fault_of work.NoThread = NoThread
 
--- what came of one worker more, and the end of the ring of its record
+-- The result of one more worker, and the ring of its record.
 pub record JoinsPart (part : Part) (old new : Joined) : Type 0 where
   pub parts : new.parts.items ≡ old.parts.items ++ part.served ∷ []
   pub logs : new.logs.items ≡ old.logs.items ++ part.log ∷ []
 
--- unless a fault came before or comes with it
+-- Without an error afterwards, there was none before, and the worker's result was added.
 abbrev pub Joins : Result Part WorkFault → Joined → Joined → Type 0
 Joins outcome old new = new.fault ≡ None → (old.fault ≡ None) × ((part : Part) × (outcome ≡ Ok part) × JoinsPart part old new)

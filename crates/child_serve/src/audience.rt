@@ -1,21 +1,23 @@
-//! Who is told what scripts show, and how they end.
+//! Audiences: receivers of transcripts.
 
 ghost use Rattle.std.specs.Prelude.{◌+◌};
 ghost use Rattle.child_serve.specs.Over.{HasEnded};
 
 use dialogue_sched::Hall;
 
-/// Is told what the scripts of a worker show while they run, and which of them have ended. It hears each byte of a script's transcript once, in
-/// order. Scripts are named by their place among those of the worker, from 0; their hall counts them from 1.
+/// Receives the transcripts of a worker's scripts while they run, and learns which have ended. Each
+/// byte is passed once, in order. `place` is a script's index, from 0; its number in the hall is
+/// one more.
 pub trait Audience {
-    /// The script at this place has shown these bytes, behind those that it showed before.
+    /// Receives the next bytes of a script's transcript.
     fn hear(&mut self, _place: usize, _bytes: &[u8]) {}
 
-    /// The script at this place has ended: the hall's report of it stays as it is. It is told once, behind all that the script showed.
+    /// Learns that a script has ended: its report in the hall doesn't change any more. Called once
+    /// per script, after all of its transcript.
     fn part(&mut self, _place: usize, _hall: &Hall)
         requires { HasEnded (_place + 1) _hall.now }
     {}
 
-    /// Nothing more comes for any of them: all reports of the hall stay as they are.
+    /// Learns that nothing more comes: no report of the hall changes any more.
     fn leave(&mut self, _hall: &Hall) {}
 }

@@ -1,4 +1,4 @@
-//! Dealing out scripts and their keepers to workers.
+//! Distributes scripts and their keepers to workers.
 
 ghost use Rattle.std.specs.Prelude.{◌≡◌, ◌+◌, ◌<◌, [], ◌∷◌, length, map, vec_len, nat_lt, if◌then◌else◌, IfOk, OnOk, None};
 ghost use Rattle.dialogue_sched.specs.Hall.{opening_fault};
@@ -11,7 +11,7 @@ use child_hands::{Clock, Keeper};
 use dialogue_sched::Script;
 use std::alloc::{AllocError, Global};
 
-/// Puts an element behind those of the list at a place.
+/// Appends an element to the list at an index.
 fn push_at<T: Drop>(parts: &mut Vec<Vec<T>>, at: usize, x: T) -> Result<(), AllocError>
     requires { at < vec_len parts.old }
     ensures { OnOk result (Pushed at x (map (λ p. p.items) parts.old.items) (map (λ p. p.items) parts.new.items)) }
@@ -23,7 +23,7 @@ fn push_at<T: Drop>(parts: &mut Vec<Vec<T>>, at: usize, x: T) -> Result<(), Allo
     Ok(())
 }
 
-/// So many empty lists.
+/// Creates `n` empty lists.
 fn empty_parts<T: Drop>(alloc: Global, n: usize) -> Result<Vec<Vec<T>>, AllocError>
     ensures { IfOk result (λ ps. (length ps.items ≡ n) × AllDealt n [] (map (λ p. p.items) ps.items)) }
 {
@@ -36,7 +36,7 @@ fn empty_parts<T: Drop>(alloc: Global, n: usize) -> Result<Vec<Vec<T>>, AllocErr
     Ok(parts)
 }
 
-/// Whose turn it is behind this one, of so many.
+/// Returns the index whose turn is next, of `n`.
 fn next_turn(turn: usize, n: usize) -> usize
     requires { turn < n }
     ensures { result ≡ (if nat_lt (turn + 1) n then turn + 1 else 0) }
@@ -44,7 +44,7 @@ fn next_turn(turn: usize, n: usize) -> usize
     if turn + 1 < n { turn + 1 } else { 0 }
 }
 
-/// So many lists, to each of which every so manyth element goes in turn.
+/// Distributes elements to `n` lists in turn.
 fn dealt_out<T: Drop>(alloc: Global, n: usize, all: Vec<T>) -> Result<Vec<Vec<T>>, AllocError>
     requires { 0 < n }
     ensures { IfOk result (λ ps. (length ps.items ≡ n) × AllDealt n all.items (map (λ p. p.items) ps.items)) }
@@ -66,7 +66,7 @@ fn take_first<T: Drop>(list: &mut Vec<T>) -> T
     list.remove(0)
 }
 
-/// A team for each clock, with the scripts and keepers that were dealt to it.
+/// Creates a team for each clock, with the scripts and keepers that were dealt to it.
 fn teams_of<K: Keeper + Drop, C: Clock + Drop>(
     alloc: Global,
     scripts: Vec<Vec<Script>>,
@@ -92,7 +92,7 @@ fn teams_of<K: Keeper + Drop, C: Clock + Drop>(
     Ok(teams)
 }
 
-/// Deals scripts, each with its keeper, out in turn: to as many teams as there are clocks.
+/// Distributes scripts and their keepers, in turn, to one team per clock.
 pub fn dealt<K: Keeper + Drop, C: Clock + Drop>(
     alloc: Global,
     scripts: Vec<Script>,

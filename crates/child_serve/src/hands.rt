@@ -1,4 +1,4 @@
-//! The rings and the hand of a script.
+//! A script's rings and hand.
 
 ghost use Rattle.std.specs.Prelude.{IfOk};
 ghost use Rattle.child_serve.specs.Opened.{AreRings, IsOpened};
@@ -11,23 +11,23 @@ use std::alloc::{AllocError, Global};
 use std::sync::{Arc, Wait};
 use std::thread::{PromisedHandle, Threads};
 
-/// How many children a script has at most.
+/// The most children of a script.
 const CHILDREN: usize = 16;
 
-/// How many items a ring has room for.
+/// The number of items that a ring has room for.
 const ROOM: usize = 16;
 
-/// A hand that runs.
+/// A running hand.
 pub type Hand<K> = PromisedHandle<HandEnd<K>, Obeys<K>>;
 
-/// The ends of the rings of a script's children: those of the readers, and those of the desk.
+/// The endpoints of the rings of a script's children: those of the readers, and those of the desk.
 #[derive(Drop)]
 struct Children<K: Keeper> {
     works: Vec<Work<K>>,
     outs: Vec<FeedOut<Item<K>>>,
 }
 
-/// The rings of the children of a script, whose desk rests on this bell.
+/// Creates the rings of a script's children. `desk` is the bell of the desk.
 fn child_rings<K: Keeper>(alloc: Global, desk: &Bell) -> Result<Children<K>, AllocError>
     ensures { IfOk result (λ c. AreRings 16 c.works.items c.outs.items) }
 {
@@ -42,7 +42,7 @@ fn child_rings<K: Keeper>(alloc: Global, desk: &Bell) -> Result<Children<K>, All
     Ok(Children { works, outs })
 }
 
-/// Makes the rings of a script and starts its hand.
+/// Creates the rings of a script and starts its hand. Returns the desk's endpoints and the hand.
 pub fn start<
     K: Keeper + Send + Drop + 'static,
     G: Gate + Sync + Send + Drop + 'static,

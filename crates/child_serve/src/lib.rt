@@ -1,4 +1,4 @@
-//! Scripts over real children, by several workers.
+//! Serves scripts over real children, with several workers.
 #![tactic(auto)]
 
 mod audience;

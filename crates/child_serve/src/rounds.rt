@@ -1,4 +1,4 @@
-//! Turning a desk until nothing more can come.
+//! Takes a desk's turns until nothing more can come.
 
 ghost use Rattle.std.specs.Prelude.{◌≡◌, ◌≤◌, ◌+◌, length, false, IfOk, IfSome};
 ghost use Rattle.child_desk.specs.Book.{logged};
@@ -18,25 +18,25 @@ use std::alloc::{AllocError, Global};
 use std::sync::Wait;
 use tcl_host::Ending;
 
-/// How many milliseconds a desk rests at most.
+/// The longest rest of a desk, in milliseconds.
 const REST: u64 = 100;
 
-/// How many milliseconds after a deadline a desk may wake and still take what came as in time.
+/// A desk may wake this many milliseconds after a deadline, and still take what came as in time.
 const LATE: u64 = 1_000;
 
-/// The last moment.
+/// The last moment, in milliseconds.
 const LAST: u64 = 9_000_000_000_000_000;
 
-/// What an audience was told of a script.
+/// What an audience has learned of a script.
 #[derive(Clone, Copy)]
 struct Told {
-    /// How many bytes it has shown.
+    /// The number of bytes of its transcript.
     shown: usize,
-    /// Whether it is over.
+    /// Whether it learned that the script has ended.
     is_over: bool,
 }
 
-/// Tells an audience what the script at a place has shown since it was told last.
+/// Passes the new bytes of a script's transcript to an audience.
 fn tell_shown<A: Audience>(audience: &mut A, place: usize, shown: &[u8], told: &mut Told) {
     if told.shown < shown.len() {
         audience.hear(place, shown.split_at(told.shown).1);
@@ -44,7 +44,7 @@ fn tell_shown<A: Audience>(audience: &mut A, place: usize, shown: &[u8], told: &
     }
 }
 
-/// Whether it is how a script ended.
+/// Returns whether a script with this ending has ended.
 fn is_end(ending: Option<Ending>) -> bool
     ensures { result ≡ is_end_of ending }
 {
@@ -59,7 +59,8 @@ fn is_end(ending: Option<Ending>) -> bool
     }
 }
 
-/// Tells an audience that the script at a place of a hall, which has this number, has ended, if it has and that wasn't told.
+/// Tells an audience that a script has ended, if it has and that is new. `place` is the script's
+/// index, `number` its number in the hall.
 fn tell_end<A: Audience>(
     audience: &mut A,
     place: usize,
@@ -75,7 +76,7 @@ fn tell_end<A: Audience>(
     }
 }
 
-/// Tells an audience what the scripts of a hall have shown since it was told last, and which are over, by what it was told of each.
+/// Tells an audience what is new of each script of a hall.
 fn tell_all<A: Audience>(hall: &Hall, audience: &mut A, told: &mut [Told]) {
     for place in 0..told.len() {
         let told = &mut told[place];
@@ -84,7 +85,7 @@ fn tell_all<A: Audience>(hall: &Hall, audience: &mut A, told: &mut [Told]) {
     }
 }
 
-/// Where nothing was told of any script of a hall.
+/// Creates the initial state of an audience: it has learned nothing.
 fn nothing_told(alloc: Global, hall: &Hall) -> Result<Vec<Told>, AllocError> {
     let mut told = Vec::with_capacity(alloc, hall.len())?;
     for _ in 0..hall.len() {
@@ -96,7 +97,8 @@ fn nothing_told(alloc: Global, hall: &Hall) -> Result<Vec<Told>, AllocError> {
     Ok(told)
 }
 
-/// Turns a desk as soon as its record has room, and tells what its scripts have shown. False where the record isn't taken any more.
+/// Takes a turn of a desk once its record has room, and tells the audience what is new. Returns
+/// false if nobody takes the record any more.
 fn turn<K: Keeper, C: Audience, W: Wait>(
     rt: &W,
     bell: &Bell,
@@ -117,7 +119,7 @@ fn turn<K: Keeper, C: Audience, W: Wait>(
     Ok(true)
 }
 
-/// Says that nothing more comes, as soon as the record has room for it.
+/// Records that nothing more comes, once the record has room.
 pub(crate) fn end_record<K: Keeper, W: Wait>(rt: &W, bell: &Bell, desk: &mut Desk<K>)
     ensures lines { desk.new.lines.items ≡ desk.old.lines.items }
     ensures ends { desk.new.ends.items ≡ desk.old.ends.items }
@@ -130,7 +132,7 @@ pub(crate) fn end_record<K: Keeper, W: Wait>(rt: &W, bell: &Bell, desk: &mut Des
     desk.still(LAST);
 }
 
-/// Turns a desk for the last time, as it is given up.
+/// Takes the last turn of a desk that gives up its scripts.
 fn last_turn<K: Keeper, C: Clock + Audience, W: Wait>(
     rt: &W,
     bell: &Bell,
@@ -149,12 +151,16 @@ fn last_turn<K: Keeper, C: Clock + Audience, W: Wait>(
     Ok(())
 }
 
-/// Turns a desk until nothing more can come for any script, or the scripts are given up, and tells what they show as it comes. Returns whether
-/// they were given up.
+/// Takes a desk's turns until nothing more can come for any script, or the scripts are given up.
+/// Tells the audience what is new after each turn. Returns whether the scripts were given up.
 ///
-/// A turn behind another one gets the reading from before that one, and a turn behind a rest the reading from the rest's end: what came in time is
-/// heard before the tick that would make it late. So an event has a moment that is earlier than itself by one turn at most. There is a turn only
-/// where something came or a script may time out. Where the record isn't taken any more, the scripts are given up.
+/// After the first turn there is one only if something came or a script may time out, or as the
+/// last one before giving up. The scripts are given up if the clock says so, or nobody takes the
+/// record any more.
+///
+/// A turn after another one uses the clock's reading from before that one. A turn after a rest uses
+/// the reading from the end of the rest, or a deadline that passed at most `LATE` before it. What
+/// came in time is therefore taken before the tick that would make it late.
 pub fn turn_all<K: Keeper, C: Clock + Audience + Stopping, W: Wait + std::time::Clock>(
     rt: &W,
     alloc: Global,
@@ -193,7 +199,8 @@ pub fn turn_all<K: Keeper, C: Clock + Audience + Stopping, W: Wait + std::time::
     unreachable!()
 }
 
-/// The moment of what came while a desk rested, which woke at this moment. If the deadline passed no longer than a second before, what came is in time.
+/// Returns the moment of what came while a desk rested, given when it woke. If the deadline passed
+/// at most `LATE` before, what came is in time.
 fn woken_at(deadline: Option<u64>, woken: u64) -> u64
     ensures { result ≡ woken_of deadline woken }
 {
@@ -203,7 +210,7 @@ fn woken_at(deadline: Option<u64>, woken: u64) -> u64
     }
 }
 
-/// Says that nothing earlier than a moment comes, and rests until something comes.
+/// Records that no later event is earlier than a moment, and rests until something comes.
 fn stand_by<K: Keeper, W: Wait + std::time::Clock>(
     rt: &W,
     bell: &Bell,
@@ -217,7 +224,7 @@ fn stand_by<K: Keeper, W: Wait + std::time::Clock>(
     rest(rt, bell, desk, moment);
 }
 
-/// How many milliseconds a desk rests at a moment: until its deadline is past, but not too long.
+/// Returns how many milliseconds a desk rests: until its deadline is past, but at most `REST`.
 fn rest_before(deadline: Option<u64>, moment: u64) -> u64
     ensures most { result ≤ 100 }
     ensures before { IfSome deadline (λ last. moment ≤ last → moment + result ≤ last + 1) }
@@ -228,7 +235,7 @@ fn rest_before(deadline: Option<u64>, moment: u64) -> u64
     }
 }
 
-/// Rests until something comes or a script may have run out of time, but not too long.
+/// Rests until something comes or a script may time out, but at most `REST` milliseconds.
 fn rest<K: Keeper, W: Wait + std::time::Clock>(rt: &W, bell: &Bell, desk: &mut Desk<K>, moment: u64)
     ensures same { (desk.new.lines.items ≡ desk.old.lines.items) × (desk.new.book ≡ desk.old.book) }
     ensures heard { HearsAll desk.old.ends.items (logged desk.old.book) desk.new.ends.items (logged desk.new.book) }

@@ -1,4 +1,4 @@
-//! What came of scripts that were served.
+//! The results of served scripts.
 
 ghost use Rattle.std.specs.Prelude.{◌≡◌, IfOk};
 ghost use Rattle.child_serve.specs.Turns.{in_turn, TakesFirst, TakesTurn};
@@ -10,34 +10,38 @@ use feed_rings::FeedIn;
 use session::Report;
 use std::alloc::{AllocError, Global};
 
-/// A child of which not all that came may stand in the record.
+/// A child whose output may be incomplete in the record.
 #[derive(Clone, Copy, PartialEq, Eq)]
 pub struct Unsettled {
-    /// Its script's number.
+    /// The number of its script.
     pub script: u8,
+    /// The number of the child.
     pub child: u8,
 }
 
-/// What came of scripts: of all of them, or of those of one worker.
+/// The results of scripts: of all, or of those of one worker.
 #[derive(Drop)]
 pub struct Served {
     /// Their reports, in order.
     pub reports: Reports,
+    /// The children whose output may be incomplete in the record.
     pub unsettled: Vec<Unsettled>,
-    /// How many requests were let through although the gate refused them.
+    /// The number of requests that were carried out although the gate refused them.
     pub forced: u64,
     /// Whether scripts were given up before they had ended.
     pub stopped: bool,
 }
 
-/// What came of the scripts of one worker, and the end of the ring into which their record was put.
+/// The results of one worker's scripts, and the ring of their record.
 #[derive(Drop)]
 pub struct Part {
+    /// The results.
     pub served: Served,
+    /// The ring of the record.
     pub log: FeedIn<LogItem>,
 }
 
-/// Takes what is next of the reports whose turn it is. These go behind the others.
+/// Takes the first report of the first list, and makes that list the last. `None` if it has none.
 fn next_in_turn(parts: &mut Vec<Reports>) -> Result<Option<Report>, AllocError>
     ensures { IfOk result (λ r. TakesTurn parts.old.items r parts.new.items) }
 {
@@ -62,7 +66,7 @@ fn first_of(reports: &mut Reports) -> Option<Report>
     Some(reports.list.remove(0))
 }
 
-/// So many reports, one of each worker in turn.
+/// Takes up to `count` reports, one of each worker in turn.
 fn all_in_turn(alloc: Global, count: usize, parts: Vec<Reports>) -> Result<Reports, AllocError>
     ensures { IfOk result (λ rs. rs ≡ in_turn count parts.items) }
 {
@@ -77,7 +81,7 @@ fn all_in_turn(alloc: Global, count: usize, parts: Vec<Reports>) -> Result<Repor
     Ok(Reports { list })
 }
 
-/// What each worker has, by kind.
+/// The workers' results, by kind.
 #[derive(Drop)]
 struct Apart {
     reports: Vec<Reports>,
@@ -107,7 +111,8 @@ fn taken_apart(alloc: Global, parts: Vec<Served>) -> Result<Apart, AllocError>
     })
 }
 
-/// What came of all scripts, from what came of those of each worker: so many scripts, of which each worker has one in turn.
+/// Combines the results of all workers. `count` is the number of scripts. These were distributed to
+/// the workers in turn.
 pub fn assembled(alloc: Global, count: usize, parts: Vec<Served>) -> Result<Served, AllocError>
     ensures { IfOk result (λ s. IsAssembled count parts.items s) }
 {

@@ -1,4 +1,4 @@
-//! Scripts over real children, by workers in threads.
+//! Serves scripts over real children, with workers in threads.
 
 ghost use Rattle.std.specs.Prelude.{◌≡◌, ◌<◌, ◌≤◌, [], ℕ, List, length, map, false, None, IfOk, IfSome, OnOk};
 ghost use mathlib.Core.List.{Mem};
@@ -29,7 +29,7 @@ use std::time::Duration;
 /// Why scripts weren't served.
 #[derive(Clone, Copy, Debug, PartialEq, Eq)]
 pub enum ServeFault {
-    /// There is no hall for them, for another reason than memory.
+    /// There is no hall for them, for a reason other than memory.
     New(HallFault),
     /// Memory was refused.
     Memory,
@@ -73,12 +73,16 @@ impl From<WorkFault> for ServeFault {
     }
 }
 
-/// What a worker's thread promises.
+/// The promise of a worker's thread.
 #[derive(Drop)]
 pub struct Works<K: Drop, C: Drop> {
+    /// The number of workers.
     pub workers: u8,
+    /// The worker's index.
     pub worker: u8,
+    /// Its team at the start.
     pub team: Snapshot<Team<K, C>>,
+    /// The ring of its record at the start.
     pub log: Snapshot<FeedIn<LogItem>>,
 }
 
@@ -86,19 +90,21 @@ impl<K: Keeper + Drop, C: Drop> Promise<Result<Part, WorkFault>> for Works<K, C>
     ghost kept_by = { λ w r. IfOk r (λ p. IsWork K.told K.gives K.named K.made w.workers w.worker w.team.value p × SameIn w.log.value p.log) };
 }
 
-/// A worker that runs.
+/// A running worker.
 type Handle<K, C> = PromisedHandle<Result<Part, WorkFault>, Works<K, C>>;
 
-/// How many items a worker's ring has room for.
+/// The number of items that a worker's ring has room for.
 const ROOM: usize = 1_024;
 
-/// How many milliseconds pass at most before the rings of workers are looked at again.
+/// The longest time, in milliseconds, before the workers' rings are looked at again.
 const REST: u64 = 100;
 
-/// How many milliseconds pass if there was something in a ring: so that not each entry wakes the thread that takes it.
+/// The pause, in milliseconds, after there was something in a ring. It prevents that each entry
+/// wakes the thread that takes it.
 const PAUSE: u64 = 1;
 
-/// Where the records of workers are taken: a bell that they ring, and how many of them have ended.
+/// What the thread that takes records waits for: a bell that the workers ring, and the number of
+/// workers that have ended.
 #[derive(Drop)]
 struct Takings {
     bell: Bell,
@@ -141,7 +147,7 @@ fn start_worker<
     .ok()
 }
 
-/// Starts a worker, and gives the end of its record's ring, from which nothing was taken.
+/// Starts a worker. Returns it, and the taking endpoint of its record's ring.
 fn start_at<
     K: Keeper + Send + Drop + 'static,
     C: Clock + Audience + Stopping + Send + Drop + 'static,
@@ -177,7 +183,7 @@ fn start_at<
     }
 }
 
-/// Starts a worker for each team. Where one can't be started, those before it run.
+/// Starts a worker for each team. On an error, those before it run.
 fn start_all<
     K: Keeper + Send + Drop + 'static,
     C: Clock + Audience + Stopping + Send + Drop + 'static,
@@ -214,7 +220,7 @@ fn start_all<
     Ok(())
 }
 
-/// Takes the records of workers as they come, until all of the workers have ended.
+/// Takes the workers' records as they come, until all workers have ended.
 fn take_records<R: Recorder + Drop, W: Wait + std::time::Clock>(
     rt: &W,
     takings: &Takings,
@@ -243,7 +249,7 @@ fn take_records<R: Recorder + Drop, W: Wait + std::time::Clock>(
     unreachable!()
 }
 
-/// What came of workers so far, in order, the ends of the rings of their records, and the first fault.
+/// The workers' results and the rings of their records so far, in order, and the first error.
 #[derive(Drop)]
 pub(crate) struct Joined {
     pub(crate) parts: Vec<Served>,
@@ -251,7 +257,7 @@ pub(crate) struct Joined {
     pub(crate) fault: Option<WorkFault>,
 }
 
-/// What came of one worker more.
+/// Adds the result of one worker.
 fn join_part(joined: &mut Joined, part: Part) -> Result<(), AllocError>
     ensures { OnOk result (JoinsPart part joined.old joined.new) }
 {
@@ -261,7 +267,7 @@ fn join_part(joined: &mut Joined, part: Part) -> Result<(), AllocError>
     Ok(())
 }
 
-/// What came of one worker more, unless a fault came before.
+/// Adds the result of one worker, unless there was an error before.
 fn join_one(joined: &mut Joined, outcome: Result<Part, WorkFault>)
     ensures { Joins outcome joined.old joined.new }
 {
@@ -279,7 +285,7 @@ fn join_one(joined: &mut Joined, outcome: Result<Part, WorkFault>)
     }
 }
 
-/// Waits for all workers. What came of each, in order, or the first fault.
+/// Waits for all workers. Returns their results, in order, or the first error.
 fn join_all<K: Keeper + Drop, C: Drop, W: Threads>(
     rt: &W,
     alloc: Global,
@@ -303,7 +309,7 @@ fn join_all<K: Keeper + Drop, C: Drop, W: Threads>(
     }
 }
 
-/// What workers share, and the team of each.
+/// What workers share, and their teams.
 #[derive(Drop)]
 struct Prepared<K: Drop, C: Drop, G: Drop> {
     gate: Arc<G>,
@@ -311,7 +317,7 @@ struct Prepared<K: Drop, C: Drop, G: Drop> {
     teams: Vec<Team<K, C>>,
 }
 
-/// Deals out scripts, each with its keeper, to as many workers as there are clocks.
+/// Distributes scripts and their keepers to one worker per clock.
 fn prepare<K: Keeper + Drop, C: Clock + Drop, G: Drop>(
     alloc: Global,
     scripts: Vec<Script>,
@@ -333,7 +339,8 @@ fn prepare<K: Keeper + Drop, C: Clock + Drop, G: Drop>(
     })
 }
 
-/// What came of so many scripts, from what came of each worker, and the recorder, which is handed what is left of their records.
+/// Combines the workers' results. Passes the rest of their records to the recorder, and returns it
+/// too.
 fn gathered<R: Recorder + Drop>(
     alloc: Global,
     count: usize,
@@ -360,8 +367,11 @@ fn gathered<R: Recorder + Drop>(
     }
 }
 
-/// Serves scripts, each with its keeper, by as many workers as there are clocks, each with its own. Where `keeps` says so, a recorder is handed the
-/// record as it comes. It is given back; after a fault it was handed a part of what came.
+/// Serves scripts, each with its keeper, with one worker per clock. Returns the results and the
+/// recorder.
+///
+/// If `keeps`, the recorder gets the record as it comes. After an error it has got only a part of
+/// it.
 pub fn serve<
     K: Keeper + Send + Drop + 'static,
     C: Clock + Audience + Stopping + Send + Drop + 'static,

@@ -1,8 +1,8 @@
-//! What gives scripts up.
+//! Gives scripts up.
 
-/// Says whether the scripts of a worker are given up before they have ended.
+/// Says whether a worker gives up its scripts before they have ended.
 pub trait Stopping {
-    /// Whether they are. Once they are, they stay so.
+    /// Returns whether the worker gives up. Once true, it must stay true.
     fn is_stopped(&mut self) -> bool {
         false
     }

@@ -1,4 +1,4 @@
-//! A worker: scripts at one desk, to their end.
+//! A worker: serves its scripts at one desk, to their end.
 
 ghost use Rattle.std.specs.Prelude.{◌≡◌, ◌<◌, ◌≤◌, ◌+◌, [], length, IsTrue, Contains, IfOk, IfSome, OnOk, None, true};
 ghost use Rattle.dialogue_sched.specs.Hall.{AllBegin, opening_fault};
@@ -24,26 +24,35 @@ use std::sync::atomic::{AtomicU64, Ordering};
 use std::sync::{Arc, Wait};
 use std::thread::Threads;
 
-/// What a worker is handed: its scripts, each with its keeper, and its clock, which is also told what the scripts show.
+/// A worker's scripts with their keepers, and its clock, which is also its audience.
 #[derive(Drop)]
 pub struct Team<K: Drop, C: Drop> {
+    /// The keepers.
     pub keepers: Vec<K>,
+    /// The scripts.
     pub scripts: Vec<Script>,
+    /// The clock and audience.
     pub clock: C,
 }
 
-/// Where a worker works: its team, the bell on which it rests, the end of the ring into which its record is put, and what tells that it has ended.
+/// A worker's team and bell, the ring of its record, and the sign that it has ended.
 #[derive(Drop)]
 pub struct Seat<K: Drop, C: Drop> {
+    /// The scripts, keepers and clock.
     pub team: Team<K, C>,
+    /// The bell on which the worker rests.
     pub bell: Bell,
+    /// The ring of its record.
     pub log: FeedIn<LogItem>,
+    /// Says that the worker has ended.
     pub over: Over,
 }
 
-/// Tells that a worker has ended, when it is dropped: it counts it, and rings whoever takes its record.
+/// Counts its worker as ended when dropped, and rings the bell of the thread that takes the record.
 pub struct Over {
+    /// The number of workers that have ended.
     pub ended: Arc<AtomicU64>,
+    /// Rings when dropped.
     pub ringer: Ringer,
 }
 
@@ -57,10 +66,13 @@ impl Drop for Over {
     }
 }
 
-/// Which worker it is, of how many. Its scripts are those of the numbers worker + 1, worker + 1 + workers, ..
+/// The number of workers, and a worker's index, from 0. Its scripts have the numbers worker + 1,
+/// worker + 1 + workers, ..
 #[derive(Clone, Copy)]
 pub struct Place {
+    /// The number of workers.
     pub workers: u8,
+    /// The worker's index.
     pub worker: u8,
 }
 
@@ -95,14 +107,14 @@ impl<T: Drop> From<AllocFailed<T>> for WorkFault {
     }
 }
 
-/// The hands of a worker's scripts, and the ends of their rings.
+/// The hands of a worker's scripts, and the desk's endpoints of their rings.
 #[derive(Drop)]
 struct Opened<K: Keeper> {
     ends: Vec<Ends<K>>,
     hands: Vec<Hand<K>>,
 }
 
-/// A line for each keeper.
+/// Creates a line for each keeper.
 fn lines_of<K: Keeper>(alloc: Global, keepers: &[K]) -> Result<Vec<Line>, AllocError>
     ensures { IfOk result (λ ls. AreFirst K.named K.made keepers.now ls.items) }
 {
@@ -113,7 +125,7 @@ fn lines_of<K: Keeper>(alloc: Global, keepers: &[K]) -> Result<Vec<Line>, AllocE
     Ok(lines)
 }
 
-/// The number among all of the script at a place of a worker.
+/// Returns the number, among all scripts, of a worker's script. `at` is its index at the worker.
 fn number_of(place: Place, at: usize) -> u8
     requires few { at < 64 }
     requires number { script_of place.workers place.worker (at + 1) ≤ 64 }
@@ -122,7 +134,7 @@ fn number_of(place: Place, at: usize) -> u8
     at as u8 * place.workers + place.worker + 1
 }
 
-/// Starts a hand for each keeper. Where one can't be started, those before it are given back.
+/// Starts a hand for each keeper. On an error, `opened` contains those before it.
 fn open_all<
     K: Keeper + Send + Drop + 'static,
     G: Gate + Sync + Send + Drop + 'static,
@@ -156,7 +168,7 @@ fn open_all<
     Ok(())
 }
 
-/// Opens a hall. What is wrong with scripts was told before.
+/// Opens a hall. Requires scripts that can be opened.
 fn hall_of(alloc: Global, scripts: Vec<Script>) -> Result<Hall, WorkFault>
     requires { opening_fault scripts.items ≡ None }
     ensures { IfOk result (λ ks. AllBegin scripts.items ks) }
@@ -169,7 +181,7 @@ fn hall_of(alloc: Global, scripts: Vec<Script>) -> Result<Hall, WorkFault>
     }
 }
 
-/// Ends a worker that can't go on: each hand is stopped and waited for.
+/// Ends a worker that can't go on: stops each hand and waits for it.
 fn let_go<K: Keeper, W: Threads>(rt: &W, desk: Desk<K>, hands: Vec<Hand<K>>) {
     let mut desk = desk;
     desk.stop_all();
@@ -179,7 +191,7 @@ fn let_go<K: Keeper, W: Threads>(rt: &W, desk: Desk<K>, hands: Vec<Hand<K>>) {
     }
 }
 
-/// Lists each child of hands, which are waited for.
+/// Waits for each hand, and lists all children of its script as unsettled.
 fn list_all<K: Keeper, W: Threads>(
     rt: &W,
     alloc: Global,
@@ -204,7 +216,7 @@ fn list_all<K: Keeper, W: Threads>(
     Ok(settled)
 }
 
-/// Lists the 16 children of a script.
+/// Lists the 16 children of a script as unsettled.
 fn list_children(script: u8, settled: &mut Settled) -> Result<(), AllocError>
     ensures kept { KeepsListed settled.old.unsettled.items settled.new.unsettled.items }
     ensures listed { OnOk result (AreListed script settled.new.unsettled.items) }
@@ -215,8 +227,8 @@ fn list_children(script: u8, settled: &mut Settled) -> Result<(), AllocError>
     Ok(())
 }
 
-/// Ends the part of a worker that was told to stop. It stops each hand and waits for it. What children do meanwhile is dropped, so no hand
-/// waits for room.
+/// Ends a worker that gives up: stops each hand and waits for it. Further output of children is
+/// dropped, so that no hand waits for room.
 fn give_up<K: Keeper, W: Threads>(
     rt: &W,
     alloc: Global,
@@ -238,7 +250,7 @@ fn give_up<K: Keeper, W: Threads>(
     Ok(part_of(desk.into_outcome(), settled, true))
 }
 
-/// What came of a worker's scripts, and of their children.
+/// Returns the result of a worker's scripts and their children.
 fn part_of(outcome: Outcome, settled: Settled, stopped: bool) -> Part
     ensures { result ≡ record { served = record { reports = outcome.reports; unsettled = settled.unsettled; forced = settled.forced; stopped = stopped }; log = outcome.log } }
 {
@@ -255,14 +267,15 @@ fn part_of(outcome: Outcome, settled: Settled, stopped: bool) -> Part
     }
 }
 
-/// What is known of the children when all hands have ended.
+/// What is known of the children after all hands have ended.
 #[derive(Drop)]
 struct Settled {
     unsettled: Vec<Unsettled>,
     forced: u64,
 }
 
-/// The finished ring of a child that wasn't started, or whose reader finished it. None where that can't be had.
+/// Returns the finished ring of a child that wasn't started, or whose reader has ended. `None` if
+/// there is none.
 fn finished_of<K: Keeper>(work: Work<K>) -> Option<Finished<Item<K>>>
     ensures { IfSome result (IsFinishOf work) }
 {
@@ -272,7 +285,7 @@ fn finished_of<K: Keeper>(work: Work<K>) -> Option<Finished<Item<K>>>
     }
 }
 
-/// Looks a last time at what the hand of the script at a place answered. False where that can't be had.
+/// Looks once more at the finished ring of a script's hand. Returns false if there is none.
 fn close<K: Keeper>(desk: &mut Desk<K>, at: usize, answers: Option<Finished<Item<K>>>) -> bool
     requires { IfSome answers (λ f. IsEndOf at f desk.old.ends.items) }
     ensures lines { desk.new.lines.items ≡ desk.old.lines.items }
@@ -289,8 +302,8 @@ fn close<K: Keeper>(desk: &mut Desk<K>, at: usize, answers: Option<Finished<Item
     true
 }
 
-/// Takes what is left of the child at a place. Where that can't be had, or what its hand answered, or the record isn't taken any more, the child isn't
-/// settled.
+/// Takes what is left of a child's output. Lists the child as unsettled if its ring or its hand's
+/// is missing, or nobody takes the record any more.
 fn settle_child<K: Keeper, W: Wait>(
     rt: &W,
     bell: &Bell,
@@ -324,7 +337,7 @@ fn settle_child<K: Keeper, W: Wait>(
     list_child(script, index, settled)
 }
 
-/// Lists the child at a place, which isn't settled.
+/// Lists a child as unsettled. Its number is one more than `index`.
 fn list_child(script: u8, index: u8, settled: &mut Settled) -> Result<(), AllocError>
     requires { index < 16 }
     ensures kept { KeepsListed settled.old.unsettled.items settled.new.unsettled.items }
@@ -335,7 +348,7 @@ fn list_child(script: u8, index: u8, settled: &mut Settled) -> Result<(), AllocE
     Ok(())
 }
 
-/// Takes what is left of the children of the script at a place, whose hand has ended.
+/// Takes what is left of the output of a script's children. Its hand has ended.
 fn settle_script<K: Keeper, W: Wait>(
     rt: &W,
     bell: &Bell,
@@ -367,7 +380,8 @@ fn settle_script<K: Keeper, W: Wait>(
     Ok(())
 }
 
-/// Waits for each hand, and takes what is left of its children. Nothing more comes then.
+/// Waits for each hand, and takes what is left of its children's output. Then records that nothing
+/// more comes.
 fn settle_all<K: Keeper, W: Threads + Wait>(
     rt: &W,
     alloc: Global,
@@ -400,7 +414,7 @@ fn settle_all<K: Keeper, W: Threads + Wait>(
     Ok(settled)
 }
 
-/// Serves the scripts of a worker, to their end.
+/// Serves the scripts of a worker to their end.
 pub fn work<
     K: Keeper + Send + Drop + 'static,
     C: Clock + Audience + Stopping + Drop,

@@ -1,4 +1,5 @@
--- What to use in place of commands of Tcl(n) and expect(1) that have no row, as docs/FOR_EXPECT_USERS.md says. Empty: the page says nothing.
+-- What to use instead of commands of Tcl(n) and expect(1) that have no row, as in docs/FOR_EXPECT_USERS.md.
+-- Empty if the page has no advice.
 use Rattle.std.specs.Prelude.{ℕ, ◌||◌, List, [], ◌∷◌, codes, bytes_eq, if◌then◌else◌}
 
 abbrev pub waiting : List ℕ → List ℕ
@@ -6,7 +7,7 @@ waiting word =
     if bytes_eq word (codes "after") || bytes_eq word (codes "sleep") || bytes_eq word (codes "exp_sleep") then codes "expect -timeout 2 timeout {} waits for two seconds"
     else if bytes_eq word (codes "update") || bytes_eq word (codes "vwait") then codes "expect waits"
     else if bytes_eq word (codes "clock") || bytes_eq word (codes "timestamp") || bytes_eq word (codes "exp_timestamp") then codes "spawn date"
-    else if bytes_eq word (codes "time") then codes "a record has the moments"
+    else if bytes_eq word (codes "time") then codes "a record has the time of each event"
     else []
 
 abbrev pub choosing : List ℕ → List ℕ
@@ -15,41 +16,31 @@ choosing word =
     else if bytes_eq word (codes "apply") then codes "use proc"
     else if bytes_eq word (codes "try") then codes "use catch"
     else if bytes_eq word (codes "throw") then codes "use error"
-    else if bytes_eq word (codes "uplevel") || bytes_eq word (codes "upvar") then codes "use global, or give the value back"
+    else if bytes_eq word (codes "uplevel") || bytes_eq word (codes "upvar") then codes "use global, or return the value"
     else if bytes_eq word (codes "namespace") || bytes_eq word (codes "variable") then codes "use a prefix of the names"
-    else if bytes_eq word (codes "source") then codes "put the files together before"
+    else if bytes_eq word (codes "source") then codes "concatenate the files first"
     else if bytes_eq word (codes "subst") then codes "use words in quotes"
     else []
 
 abbrev pub lists : List ℕ → List ℕ
 lists word =
-    if bytes_eq word (codes "array") then codes "keep the names in a list of their own; info exists a(x) asks for one"
+    if bytes_eq word (codes "array") then codes "keep the names in a list; info exists a(x) tests for one"
     else if bytes_eq word (codes "dict") then codes "use the elements of an array"
-    else if bytes_eq word (codes "concat") then codes "use list {*}$a {*}$b"
-    else if bytes_eq word (codes "join") then codes "use foreach and append"
-    else if bytes_eq word (codes "lassign") then codes "use foreach {a b} $list break"
-    else if bytes_eq word (codes "linsert") then codes "use list {*}[lrange $l 0 1] $new {*}[lrange $l 2 end]"
     else if bytes_eq word (codes "lmap") then codes "use foreach and lappend"
-    else if bytes_eq word (codes "lrepeat") || bytes_eq word (codes "lreverse") then codes "use for and lappend"
-    else if bytes_eq word (codes "lreplace") then codes "use lrange twice"
-    else if bytes_eq word (codes "lsearch") then codes "use foreach and eq"
-    else if bytes_eq word (codes "lset") then codes "use an array, or lrange twice"
-    else if bytes_eq word (codes "lsort") then codes "spawn sort"
     else []
 
 abbrev pub texts : List ℕ → List ℕ
 texts word =
-    if bytes_eq word (codes "format") then codes "join texts in quotes, or spawn printf"
-    else if bytes_eq word (codes "scan") then codes "use string range"
-    else if bytes_eq word (codes "regexp") || bytes_eq word (codes "regsub") then codes "use expect -re and its groups, or string first and string range"
-    else if bytes_eq word (codes "split") then codes "use string first and string range in a loop"
+    if bytes_eq word (codes "format") then codes "put texts together in quotes, or spawn printf"
+    else if bytes_eq word (codes "scan") then codes "use split and string range"
+    else if bytes_eq word (codes "regexp") || bytes_eq word (codes "regsub") then codes "use expect -re and its groups, or string match"
     else if bytes_eq word (codes "binary") || bytes_eq word (codes "encoding") then codes "texts are bytes"
     else []
 
 abbrev pub files : List ℕ → List ℕ
 files word =
-    if bytes_eq word (codes "open") || bytes_eq word (codes "read") || bytes_eq word (codes "gets") || bytes_eq word (codes "seek") || bytes_eq word (codes "tell") || bytes_eq word (codes "flush") then codes "use a child that reads or writes, as spawn cat FILE"
-    else if bytes_eq word (codes "file") || bytes_eq word (codes "fconfigure") || bytes_eq word (codes "fcopy") || bytes_eq word (codes "fileevent") || bytes_eq word (codes "fblocked") || bytes_eq word (codes "socket") then codes "use a child that reads or writes, as spawn cat FILE"
+    if bytes_eq word (codes "open") || bytes_eq word (codes "read") || bytes_eq word (codes "gets") || bytes_eq word (codes "seek") || bytes_eq word (codes "tell") || bytes_eq word (codes "flush") then codes "use a child that reads or writes: spawn cat FILE"
+    else if bytes_eq word (codes "file") || bytes_eq word (codes "fconfigure") || bytes_eq word (codes "fcopy") || bytes_eq word (codes "fileevent") || bytes_eq word (codes "fblocked") || bytes_eq word (codes "socket") then codes "use a child that reads or writes: spawn cat FILE"
     else if bytes_eq word (codes "exec") then codes "spawn the program, and expect its output"
     else if bytes_eq word (codes "system") || bytes_eq word (codes "exp_system") then codes "use spawn sh -c {..}"
     else if bytes_eq word (codes "cd") then codes "use spawn sh -c {cd folder && exec program}"
@@ -62,16 +53,16 @@ telling word =
     if bytes_eq word (codes "send_tty") || bytes_eq word (codes "send_error") || bytes_eq word (codes "send_log") then codes "use send_user"
     else if bytes_eq word (codes "exp_send_user") || bytes_eq word (codes "exp_send_tty") || bytes_eq word (codes "exp_send_error") || bytes_eq word (codes "exp_send_log") then codes "use send_user"
     else if bytes_eq word (codes "tclLog") || bytes_eq word (codes "strace") || bytes_eq word (codes "exp_strace") then codes "use puts"
-    else if bytes_eq word (codes "log_file") || bytes_eq word (codes "exp_log_file") then codes "the report has the transcript, and --record writes all that happened"
+    else if bytes_eq word (codes "log_file") || bytes_eq word (codes "exp_log_file") then codes "the report has the transcript; --record writes every event"
     else if bytes_eq word (codes "exp_internal") || bytes_eq word (codes "debug") || bytes_eq word (codes "exp_debug") then codes "use --record, and exprun replay"
     else []
 
 abbrev pub expecting : List ℕ → List ℕ
 expecting word =
-    if bytes_eq word (codes "interact") || bytes_eq word (codes "exp_interact") then codes "nobody is there to interact with"
-    else if bytes_eq word (codes "expect_user") || bytes_eq word (codes "expect_tty") then codes "set the answer in front of the script"
+    if bytes_eq word (codes "interact") || bytes_eq word (codes "exp_interact") then codes "keep expect for scripts that interact"
+    else if bytes_eq word (codes "expect_user") || bytes_eq word (codes "expect_tty") then codes "set the answer at the top of the script"
     else if bytes_eq word (codes "expect_background") then codes "use several -i in one expect"
-    else if bytes_eq word (codes "expect_after") || bytes_eq word (codes "expect_before") then codes "put the patterns into each expect"
+    else if bytes_eq word (codes "expect_after") || bytes_eq word (codes "expect_before") then codes "repeat the patterns in each expect"
     else if bytes_eq word (codes "eof") then codes "use the pattern eof"
     else []
 
@@ -79,7 +70,7 @@ abbrev pub starting : List ℕ → List ℕ
 starting word =
     if bytes_eq word (codes "stty") || bytes_eq word (codes "exp_stty") then codes "set stty_init before the spawn"
     else if bytes_eq word (codes "fork") || bytes_eq word (codes "exp_fork") then codes "run several scripts together"
-    else if bytes_eq word (codes "disconnect") || bytes_eq word (codes "exp_disconnect") then codes "start exprun behind the shell: nohup exprun run FILE &"
+    else if bytes_eq word (codes "disconnect") || bytes_eq word (codes "exp_disconnect") then codes "start exprun in the background: nohup exprun run FILE &"
     else []
 
 abbrev pub renamed : List ℕ → List ℕ
@@ -93,7 +84,7 @@ renamed word =
     else if bytes_eq word (codes "exp_remove_nulls") then codes "use remove_nulls"
     else []
 
--- the first of two texts that has bytes
+-- The first of two texts unless it is empty, otherwise the second.
 abbrev pub first_of : List ℕ → List ℕ → List ℕ
 first_of [] other = other
 first_of (b ∷ bytes) other = b ∷ bytes

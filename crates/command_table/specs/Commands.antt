@@ -1,4 +1,4 @@
--- The names of the commands of Tcl(n) and expect(1) that are there.
+-- The commands of Tcl(n) and expect(1) that exist, by their names.
 use Rattle.std.specs.Prelude.{ℕ, List, codes, Option, Some, None, option_map, bytes_eq, if◌then◌else◌}
 use Rattle.command_table.specs.declared.commands.ValueCommand.{ValueCommand}
 use Rattle.command_table.specs.declared.commands.ValueCommand.TheVariants as value
@@ -9,7 +9,7 @@ use Rattle.command_table.specs.declared.commands.ExpectCommand.TheVariants as ex
 use Rattle.command_table.specs.declared.commands.Command.{Command}
 use Rattle.command_table.specs.declared.commands.Command.TheVariants.{Tcl, Expect}
 
--- the command that a word names, where it evaluates nothing
+-- The value command that a word names, if no procedure can have its name.
 abbrev pub value_command : List ℕ → Option ValueCommand
 value_command word =
     if bytes_eq word (codes "set") then Some value.Set
@@ -30,7 +30,7 @@ value_command word =
     else if bytes_eq word (codes "unset") then Some value.Unset
     else None
 
--- the command that a word names, where it evaluates a script or an expression, defines a procedure or ends the script
+-- The command that a word names, if it evaluates a script or an expression, defines a procedure or ends the script.
 abbrev pub control_command : List ℕ → Option TclCommand
 control_command word =
     if bytes_eq word (codes "if") then Some tcl.If
@@ -48,11 +48,39 @@ abbrev pub value_or_control : Option ValueCommand → List ℕ → Option TclCom
 value_or_control (Some c) word = Some (tcl.Value c)
 value_or_control None word = control_command word
 
--- the command of the language that a word names
+-- The command of Tcl that a word names, if no procedure can have its name.
 abbrev pub tcl_command : List ℕ → Option TclCommand
 tcl_command word = value_or_control (value_command word) word
 
--- the command of Expect that a word names
+-- The value command that a word names, if a procedure can have its name.
+abbrev pub redefinable_value : List ℕ → Option ValueCommand
+redefinable_value word =
+    if bytes_eq word (codes "split") then Some value.Split
+    else if bytes_eq word (codes "join") then Some value.Join
+    else if bytes_eq word (codes "concat") then Some value.Concat
+    else if bytes_eq word (codes "linsert") then Some value.Linsert
+    else if bytes_eq word (codes "lreplace") then Some value.Lreplace
+    else if bytes_eq word (codes "lset") then Some value.Lset
+    else if bytes_eq word (codes "lreverse") then Some value.Lreverse
+    else if bytes_eq word (codes "lrepeat") then Some value.Lrepeat
+    else if bytes_eq word (codes "lassign") then Some value.Lassign
+    else if bytes_eq word (codes "lsearch") then Some value.Lsearch
+    else if bytes_eq word (codes "lsort") then Some value.Lsort
+    else None
+
+-- The command of Tcl that a word names, if a procedure can have its name. Such a procedure is called instead.
+abbrev pub redefinable_command : List ℕ → Option TclCommand
+redefinable_command word = option_map tcl.Value (redefinable_value word)
+
+abbrev pub or_redefinable : Option TclCommand → List ℕ → Option TclCommand
+or_redefinable (Some c) word = Some c
+or_redefinable None word = redefinable_command word
+
+-- The command of Tcl that a word names.
+abbrev pub language_command : List ℕ → Option TclCommand
+language_command word = or_redefinable (tcl_command word) word
+
+-- The command of Expect that a word names.
 abbrev pub expect_command : List ℕ → Option ExpectCommand
 expect_command word =
     if bytes_eq word (codes "send") then Some expect.Send
@@ -73,6 +101,6 @@ abbrev pub tcl_or_expect : Option TclCommand → List ℕ → Option Command
 tcl_or_expect (Some c) word = Some (Tcl c)
 tcl_or_expect None word = option_map Expect (expect_command word)
 
--- the command that a word names
+-- The command that a word names.
 abbrev pub command_of : List ℕ → Option Command
-command_of word = tcl_or_expect (tcl_command word) word
+command_of word = tcl_or_expect (language_command word) word

@@ -15,6 +15,6 @@ abbrev pub within : ℕ → ℕ → Option ℕ → Bool
 within n least None = nat_le least n
 within n least (Some most) = nat_le least n && nat_le n most
 
--- whether a command may have this number of arguments
+-- A command may have this number of arguments.
 abbrev pub fits : Count → ℕ → Bool
 fits c n = within n c.least c.most

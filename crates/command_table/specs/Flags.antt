@@ -7,7 +7,7 @@ use Rattle.command_table.specs.declared.flags.Flags.{Flags}
 use Rattle.command_table.specs.declared.flags.Role.{Role}
 use Rattle.command_table.specs.declared.flags.Role.TheVariants as role
 
--- the flags without a value that one command has
+-- A word is the command's own flag, which has no value.
 abbrev pub is_own : Own → List ℕ → Bool
 is_own own.None word = false
 is_own own.NoEcho word = bytes_eq word (codes "-noecho")
@@ -18,7 +18,7 @@ abbrev pub begins_with_minus : List ℕ → Bool
 begins_with_minus [] = false
 begins_with_minus (b ∷ bytes) = b == ascii.minus
 
--- what a word is if a flag may stand at its place
+-- The role of an argument that may be a flag.
 abbrev pub flag_role : Flags → List ℕ → Role
 flag_role f word =
     if not (begins_with_minus word) then role.Word

@@ -1,5 +1,5 @@
--- The options that are the first argument of a command: string(n), info(n), and log_user of expect(1).
-use Rattle.std.specs.Prelude.{ℕ, ◌||◌, List, codes, Option, Some, None, option_map, bytes_eq, if◌then◌else◌}
+-- The options of commands, their first arguments: string(n), info(n), and log_user of expect(1).
+use Rattle.std.specs.Prelude.{ℕ, ◌||◌, List, codes, Option, Some, None, option_map, bytes_eq, if◌then◌else◌, option_and_then}
 use Rattle.command_table.specs.declared.commands.Command.{Command}
 use Rattle.command_table.specs.declared.commands.Command.TheVariants.{Tcl, Expect}
 use Rattle.command_table.specs.declared.commands.TclCommand.TheVariants.{Value}
@@ -10,7 +10,9 @@ use Rattle.command_table.specs.declared.options.StringOption.{StringOption}
 use Rattle.command_table.specs.declared.options.StringOption.TheVariants as string
 use Rattle.command_table.specs.declared.options.InfoOption.{InfoOption}
 use Rattle.command_table.specs.declared.options.InfoOption.TheVariants as info
-use Rattle.command_table.specs.Counts.{exactly}
+use Rattle.command_table.specs.declared.switches.Switches.{Switches}
+use Rattle.command_table.specs.declared.switches.Switches.TheVariants.{Case, Strict}
+use Rattle.command_table.specs.Counts.{exactly, at_least, between}
 
 abbrev pub string_option : List ℕ → Option StringOption
 string_option word =
@@ -23,6 +25,13 @@ string_option word =
     else if bytes_eq word (codes "tolower") then Some string.ToLower
     else if bytes_eq word (codes "toupper") then Some string.ToUpper
     else if bytes_eq word (codes "trim") then Some string.Trim
+    else if bytes_eq word (codes "last") then Some string.Last
+    else if bytes_eq word (codes "trimleft") then Some string.TrimLeft
+    else if bytes_eq word (codes "trimright") then Some string.TrimRight
+    else if bytes_eq word (codes "match") then Some string.Match
+    else if bytes_eq word (codes "map") then Some string.Map
+    else if bytes_eq word (codes "is") then Some string.Is
+    else if bytes_eq word (codes "reverse") then Some string.Reverse
     else None
 
 abbrev pub string_count : StringOption → Count
@@ -32,18 +41,41 @@ string_count string.Length = exactly 1
 string_count string.Index = exactly 2
 -- string range string first last
 string_count string.Range = exactly 3
--- string equal string1 string2
-string_count string.Equal = exactly 2
--- string compare string1 string2
-string_count string.Compare = exactly 2
+-- string equal ?-nocase? string1 string2
+string_count string.Equal = at_least 2
+-- string compare ?-nocase? string1 string2
+string_count string.Compare = at_least 2
 -- string first needleString haystackString
 string_count string.First = exactly 2
+-- string last needleString haystackString
+string_count string.Last = exactly 2
 -- string tolower string
 string_count string.ToLower = exactly 1
 -- string toupper string
 string_count string.ToUpper = exactly 1
--- string trim string
-string_count string.Trim = exactly 1
+-- string trim string ?chars?
+string_count string.Trim = between 1 2
+-- string trimleft string ?chars?
+string_count string.TrimLeft = between 1 2
+-- string trimright string ?chars?
+string_count string.TrimRight = between 1 2
+-- string match ?-nocase? pattern string
+string_count string.Match = at_least 2
+-- string map ?-nocase? mapping string
+string_count string.Map = at_least 2
+-- string is class ?-strict? string
+string_count string.Is = at_least 2
+-- string reverse string
+string_count string.Reverse = exactly 1
+
+-- The flags before the last arguments of an option.
+abbrev pub string_switches : StringOption → Option Switches
+string_switches string.Equal = Some Case
+string_switches string.Compare = Some Case
+string_switches string.Match = Some Case
+string_switches string.Map = Some Case
+string_switches string.Is = Some Strict
+string_switches other = None
 
 abbrev pub info_option : List ℕ → Option InfoOption
 info_option word = if bytes_eq word (codes "exists") then Some info.Exists else None
@@ -52,10 +84,15 @@ abbrev pub info_count : InfoOption → Count
 -- info exists varName
 info_count info.Exists = exactly 1
 
--- the number of arguments after an option, if the command has it
+-- How many arguments an option takes, if the command has it.
 abbrev pub option_count : Command → List ℕ → Option Count
 option_count (Tcl (Value value.String)) word = option_map string_count (string_option word)
 option_count (Tcl (Value value.Info)) word = option_map info_count (info_option word)
 -- log_user -info|0|1
 option_count (Expect expect.LogUser) word = if bytes_eq word (codes "0") || bytes_eq word (codes "1") || bytes_eq word (codes "-info") then Some (exactly 0) else None
 option_count other word = None
+
+-- The flags before the last arguments of an option, if there are any.
+abbrev pub option_switches : Command → List ℕ → Option Switches
+option_switches (Tcl (Value value.String)) word = option_and_then string_switches (string_option word)
+option_switches other word = None

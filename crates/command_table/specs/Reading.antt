@@ -1,4 +1,4 @@
--- How arguments are read, one after another: those of `if` by if(n), a pattern list by `expect` of expect(1).
+-- How arguments are read, one after another: those of `if` (if(n)), and pattern lists (expect(1)).
 use Rattle.std.specs.Prelude.{ℕ, ◌==◌, Bool, true, false, ◌||◌, List, codes, Option, Some, None, bytes_eq, if◌then◌else◌}
 use Rattle.command_table.specs.declared.reading.Kind.{Kind}
 use Rattle.command_table.specs.declared.reading.Kind.TheVariants.{Text, Script, Expression}
@@ -6,18 +6,18 @@ use Rattle.command_table.specs.declared.reading.Stage.{Stage}
 use Rattle.command_table.specs.declared.reading.Stage.TheVariants.{Each, Alone, Choice, Test, Then, Branch, Ends, Else, Done, Over, Pattern, Operand, Written, Action, Output}
 use Rattle.command_table.specs.Flags.{begins_with_minus}
 
--- all further arguments are texts
+-- All further arguments are texts.
 abbrev pub texts : Stage
 texts = Each Text Text Text Text
 
--- A word that isn't written plainly, `None`, may be any word. Arguments after it are then read as texts.
+-- `None` is a word that isn't written plainly: it may be any word. Arguments after it are read as texts.
 
--- after a condition of `if`
+-- After a condition of `if`.
 abbrev pub behind_test : Option (List ℕ) → Kind × Stage
 behind_test None = (Text, texts)
 behind_test (Some word) = if bytes_eq word (codes "then") then (Text, Branch) else (Script, Ends)
 
--- after a body of `if`
+-- After a body of `if`.
 abbrev pub behind_body : Option (List ℕ) → Kind × Stage
 behind_body None = (Text, texts)
 behind_body (Some word) =
@@ -25,7 +25,7 @@ behind_body (Some word) =
     else if bytes_eq word (codes "else") then (Text, Else)
     else (Script, Done)
 
--- what follows a word where a flag or a pattern may stand; after an unknown flag all are texts
+-- The stage after a flag or a pattern. After an unknown flag, all arguments are texts.
 abbrev pub expect_word : List ℕ → Stage
 expect_word word =
     if bytes_eq word (codes "-i") || bytes_eq word (codes "-timeout") then Operand
@@ -35,12 +35,12 @@ expect_word word =
     else if begins_with_minus word || bytes_eq word (codes "null") then texts
     else Action
 
--- here a word that isn't written plainly is a pattern
+-- Here, a word that isn't written plainly is a pattern.
 abbrev pub expect_step : Option (List ℕ) → Kind × Stage
 expect_step None = (Text, Action)
 expect_step (Some word) = (Text, expect_word word)
 
--- what an argument is read as, and how those after it are read
+-- What an argument is read as, and how those after it are read.
 abbrev pub step : Stage → Option (List ℕ) → Kind × Stage
 step (Each first second third others) word = (first, Each second third others others)
 step (Alone kind) word = (kind, texts)
@@ -60,12 +60,12 @@ step Written word = (Text, Action)
 step Action word = (Script, Pattern)
 step Output word = (Text, texts)
 
--- the first stage of a command with this number of arguments
+-- The first stage of a command with this number of arguments.
 abbrev pub begin : Stage → ℕ → Stage
 begin (Alone kind) n = if n == 1 then Alone kind else texts
 begin other n = other
 
--- whether arguments of `if` are missing at a stage, or too many
+-- An `if` that ends at this stage has too few or too many arguments.
 abbrev pub is_short : Stage → Bool
 is_short Test = true
 is_short Then = true

@@ -1,5 +1,5 @@
--- The rows of the table, each below its synopsis: of its page in Tcl(n), or of expect(1), without the forms that are not there.
-use Rattle.std.specs.Prelude.{Bool, true, false, Some, None}
+-- The rows of the table. Each follows its synopsis in Tcl(n) or expect(1), without unsupported forms.
+use Rattle.std.specs.Prelude.{ℕ, Bool, true, false, Some, None}
 use Rattle.command_table.specs.declared.commands.ValueCommand.{ValueCommand}
 use Rattle.command_table.specs.declared.commands.ValueCommand.TheVariants as value
 use Rattle.command_table.specs.declared.commands.TclCommand.{TclCommand}
@@ -14,23 +14,31 @@ use Rattle.command_table.specs.declared.flags.Own.TheVariants as own
 use Rattle.command_table.specs.declared.reading.Kind.TheVariants.{Text, Name, Script, Expression}
 use Rattle.command_table.specs.declared.reading.Stage.{Stage}
 use Rattle.command_table.specs.declared.reading.Stage.TheVariants.{Each, Alone, Choice, Test, Pattern, Output}
+use Rattle.command_table.specs.declared.switches.Switches.{Switches}
+use Rattle.command_table.specs.declared.switches.Switches.TheVariants.{Search, Sort}
 use Rattle.command_table.specs.declared.rows.Row.{Row}
 use Rattle.command_table.specs.Counts.{exactly, at_least, between}
 use Rattle.command_table.specs.Reading.{texts}
 
--- a command without flags
+-- A command without flags.
 abbrev pub plain : Count → Stage → Row
-plain count words = record { count = count; flags = None; words = words }
+plain count words = record { count = count; flags = None; switches = None; words = words }
 
--- a command with flags of its own, `-i` or not, `--` or not, and texts after them
+-- A command with its own flag, maybe `-i`, maybe `--`, followed by texts.
 abbrev pub flagged : Own → Bool → Bool → Count → Row
-flagged o id end count = record { count = count; flags = Some (record { own = o; id = id; end = end }); words = texts }
+flagged o id end count = record { count = count; flags = Some (record { own = o; id = id; end = end }); switches = None; words = texts }
+
+-- A command with flags before its last n arguments. All its arguments are texts.
+abbrev pub switched : Switches → ℕ → Row
+switched s n = record { count = at_least n; flags = None; switches = Some s; words = texts }
 
 abbrev pub value_row : ValueCommand → Row
 -- append varName ?value value value ...?
 value_row value.Append = plain (at_least 1) (Each Name Text Text Text)
 -- break
 value_row value.Break = plain (exactly 0) texts
+-- concat ?arg arg ...?
+value_row value.Concat = plain (at_least 0) texts
 -- continue
 value_row value.Continue = plain (exactly 0) texts
 -- error message
@@ -41,23 +49,43 @@ value_row value.Global = plain (at_least 0) (Each Name Name Name Name)
 value_row value.Incr = plain (between 1 2) (Each Name Text Text Text)
 -- info option ?arg arg ...?
 value_row value.Info = plain (at_least 1) Choice
+-- join list ?joinString?
+value_row value.Join = plain (between 1 2) texts
 -- lappend varName ?value value value ...?
 value_row value.Lappend = plain (at_least 1) (Each Name Text Text Text)
+-- lassign list ?varName ...?
+value_row value.Lassign = plain (at_least 1) (Each Text Name Name Name)
 -- lindex list ?index?
 value_row value.Lindex = plain (between 1 2) texts
+-- linsert list index ?element element ...?
+value_row value.Linsert = plain (at_least 2) texts
 -- list ?arg arg ...?
 value_row value.List = plain (at_least 0) texts
 -- llength list
 value_row value.Llength = plain (exactly 1) texts
 -- lrange list first last
 value_row value.Lrange = plain (exactly 3) texts
+-- lrepeat count ?element ...?
+value_row value.Lrepeat = plain (at_least 1) texts
+-- lreplace list first last ?element element ...?
+value_row value.Lreplace = plain (at_least 3) texts
+-- lreverse list
+value_row value.Lreverse = plain (exactly 1) texts
+-- lsearch ?-exact|-glob? ?-all? ?-inline? ?-not? ?-nocase? ?-start index? list pattern
+value_row value.Lsearch = switched Search 2
+-- lset varName index newValue
+value_row value.Lset = plain (exactly 3) (Each Name Text Text Text)
+-- lsort ?-integer? ?-decreasing? ?-unique? ?-nocase? ?-index index? list
+value_row value.Lsort = switched Sort 1
 -- return ?result?
 value_row value.Return = plain (between 0 1) texts
 -- set varName ?value?
 value_row value.Set = plain (between 1 2) (Each Name Text Text Text)
+-- split string ?splitChars?
+value_row value.Split = plain (between 1 2) texts
 -- string option arg ?arg ...?
 value_row value.String = plain (at_least 1) Choice
--- unset ?name name name ...?
+-- unset ?-nocomplain? ?name name name ...?
 value_row value.Unset = plain (at_least 0) (Each Name Name Name Name)
 
 abbrev pub tcl_row : TclCommand → Row
@@ -105,7 +133,7 @@ expect_row expect.Spawn = flagged own.NoEcho false true (at_least 1)
 -- wait ?-i spawn_id?
 expect_row expect.Wait = flagged own.None true false (exactly 0)
 
--- the row of a command
+-- The row of a command.
 abbrev pub row_of : Command → Row
 row_of (Tcl c) = tcl_row c
 row_of (Expect c) = expect_row c

@@ -1,11 +1,11 @@
-//! What to use in place of commands that have no row.
+//! Advice on commands that have no row: what to use instead.
 
 ghost use Rattle.std.specs.Prelude.{◌≡◌};
 ghost use Rattle.command_table.specs.Advice.{first_of, waiting, choosing, lists, texts, files, telling, expecting, starting, renamed, advice_for};
 
 use crate::commands::is;
 
-/// Commands that wait, or tell the time.
+/// Returns advice on commands that wait or tell the time.
 fn waiting(word: &[u8]) -> &'static [u8]
     ensures { result.now ≡ waiting word.now }
 {
@@ -16,13 +16,13 @@ fn waiting(word: &[u8]) -> &'static [u8]
     } else if is(word, b"clock") || is(word, b"timestamp") || is(word, b"exp_timestamp") {
         b"spawn date"
     } else if is(word, b"time") {
-        b"a record has the moments"
+        b"a record has the time of each event"
     } else {
         b""
     }
 }
 
-/// Choices, loops, procedures and errors.
+/// Returns advice on choices, procedures, errors and sourcing.
 fn choosing(word: &[u8]) -> &'static [u8]
     ensures { result.now ≡ choosing word.now }
 {
@@ -35,11 +35,11 @@ fn choosing(word: &[u8]) -> &'static [u8]
     } else if is(word, b"throw") {
         b"use error"
     } else if is(word, b"uplevel") || is(word, b"upvar") {
-        b"use global, or give the value back"
+        b"use global, or return the value"
     } else if is(word, b"namespace") || is(word, b"variable") {
         b"use a prefix of the names"
     } else if is(word, b"source") {
-        b"put the files together before"
+        b"concatenate the files first"
     } else if is(word, b"subst") {
         b"use words in quotes"
     } else {
@@ -47,51 +47,31 @@ fn choosing(word: &[u8]) -> &'static [u8]
     }
 }
 
-/// Commands of lists and arrays.
+/// Returns advice on commands for lists and arrays.
 fn lists(word: &[u8]) -> &'static [u8]
     ensures { result.now ≡ lists word.now }
 {
     if is(word, b"array") {
-        b"keep the names in a list of their own; info exists a(x) asks for one"
+        b"keep the names in a list; info exists a(x) tests for one"
     } else if is(word, b"dict") {
         b"use the elements of an array"
-    } else if is(word, b"concat") {
-        b"use list {*}$a {*}$b"
-    } else if is(word, b"join") {
-        b"use foreach and append"
-    } else if is(word, b"lassign") {
-        b"use foreach {a b} $list break"
-    } else if is(word, b"linsert") {
-        b"use list {*}[lrange $l 0 1] $new {*}[lrange $l 2 end]"
     } else if is(word, b"lmap") {
         b"use foreach and lappend"
-    } else if is(word, b"lrepeat") || is(word, b"lreverse") {
-        b"use for and lappend"
-    } else if is(word, b"lreplace") {
-        b"use lrange twice"
-    } else if is(word, b"lsearch") {
-        b"use foreach and eq"
-    } else if is(word, b"lset") {
-        b"use an array, or lrange twice"
-    } else if is(word, b"lsort") {
-        b"spawn sort"
     } else {
         b""
     }
 }
 
-/// Commands of texts.
+/// Returns advice on commands for texts.
 fn texts(word: &[u8]) -> &'static [u8]
     ensures { result.now ≡ texts word.now }
 {
     if is(word, b"format") {
-        b"join texts in quotes, or spawn printf"
+        b"put texts together in quotes, or spawn printf"
     } else if is(word, b"scan") {
-        b"use string range"
+        b"use split and string range"
     } else if is(word, b"regexp") || is(word, b"regsub") {
-        b"use expect -re and its groups, or string first and string range"
-    } else if is(word, b"split") {
-        b"use string first and string range in a loop"
+        b"use expect -re and its groups, or string match"
     } else if is(word, b"binary") || is(word, b"encoding") {
         b"texts are bytes"
     } else {
@@ -99,7 +79,7 @@ fn texts(word: &[u8]) -> &'static [u8]
     }
 }
 
-/// Commands of files and of the system.
+/// Returns advice on commands for files and the system.
 fn files(word: &[u8]) -> &'static [u8]
     ensures { result.now ≡ files word.now }
 {
@@ -110,7 +90,7 @@ fn files(word: &[u8]) -> &'static [u8]
         || is(word, b"tell")
         || is(word, b"flush")
     {
-        b"use a child that reads or writes, as spawn cat FILE"
+        b"use a child that reads or writes: spawn cat FILE"
     } else if is(word, b"file")
         || is(word, b"fconfigure")
         || is(word, b"fcopy")
@@ -118,7 +98,7 @@ fn files(word: &[u8]) -> &'static [u8]
         || is(word, b"fblocked")
         || is(word, b"socket")
     {
-        b"use a child that reads or writes, as spawn cat FILE"
+        b"use a child that reads or writes: spawn cat FILE"
     } else if is(word, b"exec") {
         b"spawn the program, and expect its output"
     } else if is(word, b"system") || is(word, b"exp_system") {
@@ -134,7 +114,7 @@ fn files(word: &[u8]) -> &'static [u8]
     }
 }
 
-/// What is written and told.
+/// Returns advice on commands for output and logging.
 fn telling(word: &[u8]) -> &'static [u8]
     ensures { result.now ≡ telling word.now }
 {
@@ -149,7 +129,7 @@ fn telling(word: &[u8]) -> &'static [u8]
     } else if is(word, b"tclLog") || is(word, b"strace") || is(word, b"exp_strace") {
         b"use puts"
     } else if is(word, b"log_file") || is(word, b"exp_log_file") {
-        b"the report has the transcript, and --record writes all that happened"
+        b"the report has the transcript; --record writes every event"
     } else if is(word, b"exp_internal") || is(word, b"debug") || is(word, b"exp_debug") {
         b"use --record, and exprun replay"
     } else {
@@ -157,18 +137,18 @@ fn telling(word: &[u8]) -> &'static [u8]
     }
 }
 
-/// Commands of Expect that wait.
+/// Returns advice on Expect commands that wait.
 fn expecting(word: &[u8]) -> &'static [u8]
     ensures { result.now ≡ expecting word.now }
 {
     if is(word, b"interact") || is(word, b"exp_interact") {
-        b"nobody is there to interact with"
+        b"keep expect for scripts that interact"
     } else if is(word, b"expect_user") || is(word, b"expect_tty") {
-        b"set the answer in front of the script"
+        b"set the answer at the top of the script"
     } else if is(word, b"expect_background") {
         b"use several -i in one expect"
     } else if is(word, b"expect_after") || is(word, b"expect_before") {
-        b"put the patterns into each expect"
+        b"repeat the patterns in each expect"
     } else if is(word, b"eof") {
         b"use the pattern eof"
     } else {
@@ -176,7 +156,7 @@ fn expecting(word: &[u8]) -> &'static [u8]
     }
 }
 
-/// Commands of Expect that start programs.
+/// Returns advice on Expect commands for terminals and processes.
 fn starting(word: &[u8]) -> &'static [u8]
     ensures { result.now ≡ starting word.now }
 {
@@ -185,13 +165,13 @@ fn starting(word: &[u8]) -> &'static [u8]
     } else if is(word, b"fork") || is(word, b"exp_fork") {
         b"run several scripts together"
     } else if is(word, b"disconnect") || is(word, b"exp_disconnect") {
-        b"start exprun behind the shell: nohup exprun run FILE &"
+        b"start exprun in the background: nohup exprun run FILE &"
     } else {
         b""
     }
 }
 
-/// Other names of commands of Expect.
+/// Returns advice on other names of Expect commands.
 fn renamed(word: &[u8]) -> &'static [u8]
     ensures { result.now ≡ renamed word.now }
 {
@@ -214,14 +194,14 @@ fn renamed(word: &[u8]) -> &'static [u8]
     }
 }
 
-/// The first of two texts that has bytes.
+/// Returns the first of two texts unless it is empty, otherwise the second.
 fn first_of(a: &'static [u8], b: &'static [u8]) -> &'static [u8]
     ensures { result.now ≡ first_of a.now b.now }
 {
     if a.is_empty() { b } else { a }
 }
 
-/// What to use in place of a command that has no row. Empty if nothing is known.
+/// Returns what to use instead of a command that has no row. Empty if there is no advice.
 #[tactic(auto, unfolding(crate::specs::Advice::advice_for))]
 pub fn advice_for(word: &[u8]) -> &'static [u8]
     ensures { result.now ≡ advice_for word.now }

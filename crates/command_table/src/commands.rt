@@ -2,33 +2,44 @@
 
 ghost use Rattle.std.specs.Prelude.{◌≡◌};
 ghost use Rattle.std.specs.Str.{bytes_eq};
-ghost use Rattle.command_table.specs.Commands.{value_command, control_command, tcl_command, expect_command, command_of};
+ghost use Rattle.command_table.specs.Commands.{value_command, control_command, tcl_command, redefinable_value, redefinable_command, expect_command, language_command, command_of};
 
-/// A command that reads and changes variables and texts alone.
+/// A value command: it evaluates no script.
 #[derive(Clone, Copy, PartialEq, Eq)]
 pub enum ValueCommand {
     Append,
     Break,
+    Concat,
     Continue,
     Error,
     Global,
     Incr,
     Info,
+    Join,
     Lappend,
+    Lassign,
     Lindex,
+    Linsert,
     List,
     Llength,
     Lrange,
+    Lrepeat,
+    Lreplace,
+    Lreverse,
+    Lsearch,
+    Lset,
+    Lsort,
     Return,
     Set,
+    Split,
     String,
     Unset,
 }
 
-/// A command of the language.
+/// A command of Tcl.
 #[derive(Clone, Copy, PartialEq, Eq)]
 pub enum TclCommand {
-    /// One that evaluates nothing.
+    /// A value command.
     Value(ValueCommand),
     Catch,
     Eval,
@@ -64,7 +75,7 @@ pub enum Command {
     Expect(ExpectCommand),
 }
 
-/// Tells whether a word is this name. A word of another length costs no call.
+/// Returns whether a word is this name. Words of another length are compared in constant time.
 #[inline(always)]
 pub fn is(word: &[u8], name: &[u8]) -> bool
     ensures { result ≡ bytes_eq word.now name.now }
@@ -72,7 +83,8 @@ pub fn is(word: &[u8], name: &[u8]) -> bool
     word.len() == name.len() && word == name
 }
 
-/// Finds a command that evaluates nothing. The names that scripts use most come first.
+/// Returns the value command that a word names, if no procedure can have its name. The most used
+/// names come first.
 fn value_command(word: &[u8]) -> Option<ValueCommand>
     ensures { result ≡ value_command word.now }
 {
@@ -113,7 +125,8 @@ fn value_command(word: &[u8]) -> Option<ValueCommand>
     }
 }
 
-/// Finds a command that evaluates a script or an expression, defines a procedure or ends the script.
+/// Returns the command that a word names, if it evaluates a script or an expression, defines a
+/// procedure or ends the script.
 fn control_command(word: &[u8]) -> Option<TclCommand>
     ensures { result ≡ control_command word.now }
 {
@@ -140,7 +153,7 @@ fn control_command(word: &[u8]) -> Option<TclCommand>
     }
 }
 
-/// Finds a command of the language.
+/// Returns the command of Tcl that a word names, if no procedure can have its name.
 pub fn tcl_command(word: &[u8]) -> Option<TclCommand>
     ensures { result ≡ tcl_command word.now }
 {
@@ -150,7 +163,59 @@ pub fn tcl_command(word: &[u8]) -> Option<TclCommand>
     }
 }
 
-/// Finds a command of Expect.
+/// Returns the value command that a word names, if a procedure can have its name.
+fn redefinable_value(word: &[u8]) -> Option<ValueCommand>
+    ensures { result ≡ redefinable_value word.now }
+{
+    if is(word, b"split") {
+        Some(ValueCommand::Split)
+    } else if is(word, b"join") {
+        Some(ValueCommand::Join)
+    } else if is(word, b"concat") {
+        Some(ValueCommand::Concat)
+    } else if is(word, b"linsert") {
+        Some(ValueCommand::Linsert)
+    } else if is(word, b"lreplace") {
+        Some(ValueCommand::Lreplace)
+    } else if is(word, b"lset") {
+        Some(ValueCommand::Lset)
+    } else if is(word, b"lreverse") {
+        Some(ValueCommand::Lreverse)
+    } else if is(word, b"lrepeat") {
+        Some(ValueCommand::Lrepeat)
+    } else if is(word, b"lassign") {
+        Some(ValueCommand::Lassign)
+    } else if is(word, b"lsearch") {
+        Some(ValueCommand::Lsearch)
+    } else if is(word, b"lsort") {
+        Some(ValueCommand::Lsort)
+    } else {
+        None
+    }
+}
+
+/// Returns the command of Tcl that a word names, if a procedure can have its name. Such a procedure
+/// is called instead.
+pub fn redefinable_command(word: &[u8]) -> Option<TclCommand>
+    ensures { result ≡ redefinable_command word.now }
+{
+    match redefinable_value(word) {
+        Some(command) => Some(TclCommand::Value(command)),
+        None => None,
+    }
+}
+
+/// Returns the command of Tcl that a word names, or `None`.
+fn language_command(word: &[u8]) -> Option<TclCommand>
+    ensures { result ≡ language_command word.now }
+{
+    match tcl_command(word) {
+        Some(command) => Some(command),
+        None => redefinable_command(word),
+    }
+}
+
+/// Returns the command of Expect that a word names, or `None`.
 pub fn expect_command(word: &[u8]) -> Option<ExpectCommand>
     ensures { result ≡ expect_command word.now }
 {
@@ -183,11 +248,11 @@ pub fn expect_command(word: &[u8]) -> Option<ExpectCommand>
     }
 }
 
-/// Finds a command.
+/// Returns the command that a word names, or `None`.
 pub fn command_of(word: &[u8]) -> Option<Command>
     ensures { result ≡ command_of word.now }
 {
-    match tcl_command(word) {
+    match language_command(word) {
         Some(command) => Some(Command::Tcl(command)),
         None => match expect_command(word) {
             Some(command) => Some(Command::Expect(command)),

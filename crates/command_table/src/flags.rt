@@ -5,7 +5,7 @@ ghost use Rattle.command_table.specs.Flags.{is_own, begins_with_minus, flag_role
 
 use crate::commands::is;
 
-/// The flags without a value that one command has.
+/// A flag without a value that only some commands have.
 #[derive(Clone, Copy, PartialEq, Eq)]
 pub enum Own {
     None,
@@ -20,18 +20,18 @@ pub enum Own {
 /// The flags of a command.
 #[derive(Clone, Copy, PartialEq, Eq)]
 pub struct Flags {
-    /// Its own flags.
+    /// The flag of its own.
     pub own: Own,
-    /// `-i` and a spawn id.
+    /// Whether it takes `-i` and a spawn id.
     pub id: bool,
-    /// `--`, which ends the flags.
+    /// Whether `--` ends its flags.
     pub end: bool,
 }
 
-/// What a word is if a flag may stand at its place.
+/// The role of an argument that may be a flag.
 #[derive(Clone, Copy, PartialEq, Eq)]
 pub enum Role {
-    /// It is no flag.
+    /// Not a flag.
     Word,
     /// `--`
     End,
@@ -43,7 +43,7 @@ pub enum Role {
     Bad,
 }
 
-/// Tells whether a word is one of a command's own flags.
+/// Returns whether a word is the command's own flag.
 fn is_own(own: Own, word: &[u8]) -> bool
     ensures { result ≡ is_own own word.now }
 {
@@ -55,8 +55,8 @@ fn is_own(own: Own, word: &[u8]) -> bool
     }
 }
 
-/// Tells whether a word begins as flags do.
-pub(crate) fn begins_with_minus(word: &[u8]) -> bool
+/// Returns whether a word begins with `-`.
+pub fn begins_with_minus(word: &[u8]) -> bool
     ensures { result ≡ begins_with_minus word.now }
 {
     match word {
@@ -65,7 +65,7 @@ pub(crate) fn begins_with_minus(word: &[u8]) -> bool
     }
 }
 
-/// What a word is if a flag of a command may stand at its place.
+/// Returns the role of an argument that may be a flag of the command.
 pub fn flag_role(flags: Flags, word: &[u8]) -> Role
     ensures { result ≡ flag_role flags word.now }
 {

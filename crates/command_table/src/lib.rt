@@ -1,7 +1,8 @@
-//! The table of commands: one row for each command of the language and of Expect.
+//! The table of commands: one row for each command of Tcl and Expect.
 //!
-//! A row says how many arguments a command takes, which flags it has, and how each argument is read. The rows follow the synopses of
-//! Tcl(n) and expect(1), in `specs/Rows`; the names are in `specs/Commands`, and what to use for missing commands in `specs/Advice`.
+//! A row says how many arguments a command takes, which flags it has, and how each argument is
+//! read. The rows in `specs/Rows` follow the synopses of Tcl(n) and expect(1). The names are in
+//! `specs/Commands`. `specs/Advice` says what to use instead of missing commands.
 #![tactic(auto)]
 
 mod advice;
@@ -11,15 +12,19 @@ mod flags;
 mod options;
 mod reading;
 mod rows;
+mod switches;
 
 pub use advice::advice_for;
 pub use commands::{
-    Command, ExpectCommand, TclCommand, ValueCommand, command_of, expect_command, is, tcl_command,
+    Command, ExpectCommand, TclCommand, ValueCommand, command_of, expect_command, is,
+    redefinable_command, tcl_command,
 };
 pub use counts::{Count, fits};
-pub use flags::{Flags, Own, Role, flag_role};
+pub use flags::{Flags, Own, Role, begins_with_minus, flag_role};
 pub use options::{
-    InfoOption, StringOption, info_count, info_option, option_count, string_count, string_option,
+    InfoOption, StringOption, info_count, info_option, option_count, option_switches, string_count,
+    string_option,
 };
 pub use reading::{Kind, Stage, begin, is_short, step, texts};
 pub use rows::{Row, expect_row, row_of, tcl_row, value_row};
+pub use switches::{Switch, Switches, switch_of, takes_value, words_before};

@@ -1,10 +1,11 @@
-//! The options that are the first argument of a command.
+//! The options of commands: their first arguments.
 
 ghost use Rattle.std.specs.Prelude.{◌≡◌};
-ghost use Rattle.command_table.specs.Options.{string_option, string_count, info_option, info_count, option_count};
+ghost use Rattle.command_table.specs.Options.{string_option, string_count, string_switches, option_switches, info_option, info_count, option_count};
 
 use crate::commands::{Command, ExpectCommand, TclCommand, ValueCommand, is};
-use crate::counts::{Count, exactly};
+use crate::counts::{Count, at_least, between, exactly};
+use crate::switches::Switches;
 
 /// An option of `string`.
 #[derive(Clone, Copy, PartialEq, Eq)]
@@ -15,9 +16,16 @@ pub enum StringOption {
     Equal,
     Compare,
     First,
+    Last,
     ToLower,
     ToUpper,
     Trim,
+    TrimLeft,
+    TrimRight,
+    Match,
+    Map,
+    Is,
+    Reverse,
 }
 
 /// An option of `info`.
@@ -26,7 +34,7 @@ pub enum InfoOption {
     Exists,
 }
 
-/// Finds an option of `string`.
+/// Returns the option of `string` that a word names, or `None`.
 pub fn string_option(word: &[u8]) -> Option<StringOption>
     ensures { result ≡ string_option word.now }
 {
@@ -48,12 +56,26 @@ pub fn string_option(word: &[u8]) -> Option<StringOption>
         Some(StringOption::ToUpper)
     } else if is(word, b"trim") {
         Some(StringOption::Trim)
+    } else if is(word, b"last") {
+        Some(StringOption::Last)
+    } else if is(word, b"trimleft") {
+        Some(StringOption::TrimLeft)
+    } else if is(word, b"trimright") {
+        Some(StringOption::TrimRight)
+    } else if is(word, b"match") {
+        Some(StringOption::Match)
+    } else if is(word, b"map") {
+        Some(StringOption::Map)
+    } else if is(word, b"is") {
+        Some(StringOption::Is)
+    } else if is(word, b"reverse") {
+        Some(StringOption::Reverse)
     } else {
         None
     }
 }
 
-/// The number of arguments after an option of `string`.
+/// Returns how many arguments an option of `string` takes.
 pub fn string_count(option: StringOption) -> Count
     ensures { result ≡ string_count option }
 {
@@ -61,16 +83,23 @@ pub fn string_count(option: StringOption) -> Count
         StringOption::Length => exactly(1),
         StringOption::Index => exactly(2),
         StringOption::Range => exactly(3),
-        StringOption::Equal => exactly(2),
-        StringOption::Compare => exactly(2),
+        StringOption::Equal => at_least(2),
+        StringOption::Compare => at_least(2),
         StringOption::First => exactly(2),
+        StringOption::Last => exactly(2),
         StringOption::ToLower => exactly(1),
         StringOption::ToUpper => exactly(1),
-        StringOption::Trim => exactly(1),
+        StringOption::Trim => between(1, 2),
+        StringOption::TrimLeft => between(1, 2),
+        StringOption::TrimRight => between(1, 2),
+        StringOption::Match => at_least(2),
+        StringOption::Map => at_least(2),
+        StringOption::Is => at_least(2),
+        StringOption::Reverse => exactly(1),
     }
 }
 
-/// Finds an option of `info`.
+/// Returns the option of `info` that a word names, or `None`.
 pub fn info_option(word: &[u8]) -> Option<InfoOption>
     ensures { result ≡ info_option word.now }
 {
@@ -81,7 +110,7 @@ pub fn info_option(word: &[u8]) -> Option<InfoOption>
     }
 }
 
-/// The number of arguments after an option of `info`.
+/// Returns how many arguments an option of `info` takes.
 pub fn info_count(option: InfoOption) -> Count
     ensures { result ≡ info_count option }
 {
@@ -90,7 +119,8 @@ pub fn info_count(option: InfoOption) -> Count
     }
 }
 
-/// The number of arguments after the option of a command, or `None` if it has no such option.
+/// Returns how many arguments an option of a command takes. `None` if the command has no such
+/// option.
 pub fn option_count(command: Command, word: &[u8]) -> Option<Count>
     ensures { result ≡ option_count command word.now }
 {
@@ -110,6 +140,31 @@ pub fn option_count(command: Command, word: &[u8]) -> Option<Count>
                 None
             }
         }
+        _ => None,
+    }
+}
+
+/// Returns the flags before the last arguments of an option.
+fn string_switches(option: StringOption) -> Option<Switches>
+    ensures { result ≡ string_switches option }
+{
+    match option {
+        StringOption::Equal | StringOption::Compare | StringOption::Match | StringOption::Map =>
+            Some(Switches::Case),
+        StringOption::Is => Some(Switches::Strict),
+        _ => None,
+    }
+}
+
+/// Returns the flags before the last arguments of an option. `None`: no argument is a flag, or there is no such option.
+pub fn option_switches(command: Command, word: &[u8]) -> Option<Switches>
+    ensures { result ≡ option_switches command word.now }
+{
+    match command {
+        Command::Tcl(TclCommand::Value(ValueCommand::String)) => match string_option(word) {
+            Some(option) => string_switches(option),
+            None => None,
+        },
         _ => None,
     }
 }

@@ -17,14 +17,14 @@ pub enum Kind {
     Expression,
 }
 
-/// How the next argument is read, and those after it.
+/// How the next argument and those after it are read.
 #[derive(Clone, Copy, PartialEq, Eq)]
 pub enum Stage {
-    /// The next three arguments, and each one after them.
+    /// The kinds of the next three arguments, and of every later one.
     Each(Kind, Kind, Kind, Kind),
-    /// An argument of this kind if there is one alone. Several are texts.
+    /// The only argument has this kind. Several arguments are texts.
     Alone(Kind),
-    /// An option of the command, and texts.
+    /// An option of the command, followed by texts.
     Choice,
     /// A condition of `if`.
     Test,
@@ -32,34 +32,34 @@ pub enum Stage {
     Then,
     /// A body of `if`.
     Branch,
-    /// The end of an `if`, or more of it.
+    /// `elseif`, `else`, the last body, or the end of an `if`.
     Ends,
     /// The body after `else`.
     Else,
     /// The end of an `if`.
     Done,
-    /// Arguments after the end of an `if`.
+    /// Too many arguments of `if`.
     Over,
     /// A flag or a pattern of a pattern list.
     Pattern,
-    /// The value of a flag of a pattern list.
+    /// The value of a flag in a pattern list.
     Operand,
     /// A pattern after the flag for its kind.
     Written,
     /// The action of a pattern.
     Action,
-    /// The text of `puts`, `-nonewline` and `stdout` before it or not.
+    /// The arguments of `puts`.
     Output,
 }
 
-/// The stage at which all further arguments are texts.
+/// Returns the stage at which all further arguments are texts.
 pub fn texts() -> Stage
     ensures { result ≡ texts }
 {
     Stage::Each(Kind::Text, Kind::Text, Kind::Text, Kind::Text)
 }
 
-/// The word after a condition of `if`. If it isn't written plainly it may be any word.
+/// Reads the word after a condition of `if`. One that isn't written plainly may be any word.
 fn behind_test(word: &Option<Text>) -> (Kind, Stage)
     ensures { result ≡ behind_test word.now }
 {
@@ -75,7 +75,7 @@ fn behind_test(word: &Option<Text>) -> (Kind, Stage)
     }
 }
 
-/// The word after a body of `if`.
+/// Reads the word after a body of `if`.
 fn behind_body(word: &Option<Text>) -> (Kind, Stage)
     ensures { result ≡ behind_body word.now }
 {
@@ -93,7 +93,7 @@ fn behind_body(word: &Option<Text>) -> (Kind, Stage)
     }
 }
 
-/// What follows a word where a flag or a pattern may stand. After an unknown flag all are texts.
+/// Returns the stage after a flag or a pattern. After an unknown flag, all arguments are texts.
 fn expect_word(text: &[u8]) -> Stage
     ensures { result ≡ expect_word text.now }
 {
@@ -112,7 +112,7 @@ fn expect_word(text: &[u8]) -> Stage
     }
 }
 
-/// The same for any word. One that isn't written plainly is a pattern.
+/// Reads a flag or a pattern. A word that isn't written plainly is a pattern.
 fn expect_step(word: &Option<Text>) -> (Kind, Stage)
     ensures { result ≡ expect_step word.now }
 {
@@ -122,7 +122,8 @@ fn expect_step(word: &Option<Text>) -> (Kind, Stage)
     }
 }
 
-/// What an argument is read as, and how those after it are read. `None` is an argument that isn't written plainly.
+/// Returns what an argument is read as, and how those after it are read. `None` is an argument that
+/// isn't written plainly.
 pub fn step(stage: Stage, word: &Option<Text>) -> (Kind, Stage)
     ensures { result ≡ step stage word.now }
 {
@@ -147,7 +148,7 @@ pub fn step(stage: Stage, word: &Option<Text>) -> (Kind, Stage)
     }
 }
 
-/// The first stage of a command with this number of arguments.
+/// Returns the first stage of a command with this number of arguments.
 pub fn begin(stage: Stage, count: usize) -> Stage
     ensures { result ≡ begin stage count }
 {
@@ -163,7 +164,7 @@ pub fn begin(stage: Stage, count: usize) -> Stage
     }
 }
 
-/// Tells whether arguments of `if` are missing at a stage, or too many.
+/// Returns whether an `if` that ends at this stage has too few or too many arguments.
 pub fn is_short(stage: Stage) -> bool
     ensures { result ≡ is_short stage }
 {

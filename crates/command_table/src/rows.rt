@@ -1,7 +1,7 @@
 //! The rows of the table.
 
 ghost use Rattle.std.specs.Prelude.{◌≡◌};
-ghost use Rattle.command_table.specs.Rows.{plain, flagged, value_row, tcl_row, expect_row, row_of};
+ghost use Rattle.command_table.specs.Rows.{plain, flagged, switched, value_row, tcl_row, expect_row, row_of};
 
 use crate::commands::{Command, ExpectCommand, TclCommand, ValueCommand};
 use crate::counts::{Count, at_least, between, exactly};
@@ -9,65 +9,93 @@ use crate::flags::{Flags, Own};
 use crate::reading::Kind::{Expression, Name, Script, Text};
 use crate::reading::Stage::{Alone, Choice, Each, Output, Pattern, Test};
 use crate::reading::{Stage, texts};
+use crate::switches::Switches;
 
-/// What a command takes.
+/// What a command accepts.
 #[derive(Clone, Copy, PartialEq, Eq)]
 pub struct Row {
     /// The number of arguments, without the flags.
     pub count: Count,
-    /// Its flags. `None`: no argument is a flag.
+    /// The flags. `None` if no argument is a flag.
     pub flags: Option<Flags>,
+    /// The flags before its last arguments, as many as `count.least` says. `None`: no argument is one.
+    pub switches: Option<Switches>,
     /// How the arguments are read.
     pub words: Stage,
 }
 
-/// A command without flags.
+/// Returns the row of a command without flags.
 fn plain(count: Count, words: Stage) -> Row
     ensures { result ≡ plain count words }
 {
     Row {
         count,
         flags: None,
+        switches: None,
         words,
     }
 }
 
-/// A command with flags, and texts after them.
+/// Returns the row of a command with flags, followed by texts.
 fn flagged(own: Own, id: bool, end: bool, count: Count) -> Row
     ensures { result ≡ flagged own id end count }
 {
     Row {
         count,
         flags: Some(Flags { own, id, end }),
+        switches: None,
         words: texts(),
     }
 }
 
-/// The row of a command that evaluates nothing.
+/// Returns the row of a command with flags before its last n arguments. All its arguments are texts.
+fn switched(switches: Switches, n: usize) -> Row
+    ensures { result ≡ switched switches n }
+{
+    Row {
+        count: at_least(n),
+        flags: None,
+        switches: Some(switches),
+        words: texts(),
+    }
+}
+
+/// Returns the row of a value command.
 pub fn value_row(command: ValueCommand) -> Row
     ensures { result ≡ value_row command }
 {
     match command {
         ValueCommand::Append => plain(at_least(1), Each(Name, Text, Text, Text)),
         ValueCommand::Break => plain(exactly(0), texts()),
+        ValueCommand::Concat => plain(at_least(0), texts()),
         ValueCommand::Continue => plain(exactly(0), texts()),
         ValueCommand::Error => plain(exactly(1), texts()),
         ValueCommand::Global => plain(at_least(0), Each(Name, Name, Name, Name)),
         ValueCommand::Incr => plain(between(1, 2), Each(Name, Text, Text, Text)),
         ValueCommand::Info => plain(at_least(1), Choice),
+        ValueCommand::Join => plain(between(1, 2), texts()),
         ValueCommand::Lappend => plain(at_least(1), Each(Name, Text, Text, Text)),
+        ValueCommand::Lassign => plain(at_least(1), Each(Text, Name, Name, Name)),
         ValueCommand::Lindex => plain(between(1, 2), texts()),
+        ValueCommand::Linsert => plain(at_least(2), texts()),
         ValueCommand::List => plain(at_least(0), texts()),
         ValueCommand::Llength => plain(exactly(1), texts()),
         ValueCommand::Lrange => plain(exactly(3), texts()),
+        ValueCommand::Lrepeat => plain(at_least(1), texts()),
+        ValueCommand::Lreplace => plain(at_least(3), texts()),
+        ValueCommand::Lreverse => plain(exactly(1), texts()),
+        ValueCommand::Lsearch => switched(Switches::Search, 2),
+        ValueCommand::Lset => plain(exactly(3), Each(Name, Text, Text, Text)),
+        ValueCommand::Lsort => switched(Switches::Sort, 1),
         ValueCommand::Return => plain(between(0, 1), texts()),
         ValueCommand::Set => plain(between(1, 2), Each(Name, Text, Text, Text)),
+        ValueCommand::Split => plain(between(1, 2), texts()),
         ValueCommand::String => plain(at_least(1), Choice),
         ValueCommand::Unset => plain(at_least(0), Each(Name, Name, Name, Name)),
     }
 }
 
-/// The row of a command of the language.
+/// Returns the row of a Tcl command.
 pub fn tcl_row(command: TclCommand) -> Row
     ensures { result ≡ tcl_row command }
 {
@@ -85,7 +113,7 @@ pub fn tcl_row(command: TclCommand) -> Row
     }
 }
 
-/// The row of a command of Expect.
+/// Returns the row of an Expect command.
 pub fn expect_row(command: ExpectCommand) -> Row
     ensures { result ≡ expect_row command }
 {
@@ -104,7 +132,7 @@ pub fn expect_row(command: ExpectCommand) -> Row
     }
 }
 
-/// The row of a command.
+/// Returns the row of a command.
 pub fn row_of(command: Command) -> Row
     ensures { result ≡ row_of command }
 {

@@ -4,3 +4,4 @@ pub mod Starts
 pub mod Found
 pub mod Made
 pub mod Endings
+pub mod Wholes

@@ -1,5 +1,5 @@
--- How a glob pattern is read, as `string match` of Tcl(n) reads it, with the `^` and `$` of expect(1).
--- A `[` without a `]` behind it and a backslash at the end stand for themselves; a class ends at its first `]`.
+-- Reads a glob pattern, by the rules of `string match` in Tcl(n), with `^` and `$` as in expect(1). A `[` without a
+-- later `]` and a backslash at the end stand for themselves. A class ends at its first `]`.
 use Rattle.std.specs.Prelude.{ℕ, zero, suc, ◌+◌, true, false, ◌==◌, if◌then◌else◌, List, [], ◌∷◌, take, Option, Some, None, position}
 use Rattle.tcl_words.specs.Bytes as ascii
 use Rattle.exp_glob.specs.declared.element.Element.{Element}
@@ -7,22 +7,22 @@ use Rattle.exp_glob.specs.declared.element.Element.TheVariants.{Star, One, End}
 use Rattle.exp_glob.specs.declared.element.Single.TheVariants.{Any, Byte, Class}
 use Rattle.exp_glob.specs.declared.pattern.Glob.{Glob}
 
--- what a `[` is with these bytes behind it, of which the first `]` stands at the place that is given
+-- The element that a `[` begins. `Some n` is the index of the first `]` in the bytes after it.
 abbrev pub class_or_bracket : List ℕ → Option ℕ → Element × ℕ
 class_or_bracket rest (Some n) = (One (Class (take n rest)), n + 1)
 class_or_bracket rest None = (One (Byte ascii.open_bracket), 0)
 
--- what a backslash is
+-- The element that a backslash begins.
 abbrev pub escaped : List ℕ → Element × ℕ
 escaped [] = (One (Byte ascii.backslash), 0)
 escaped (b ∷ rest) = (One (Byte b), 1)
 
--- what a `$` is
+-- The element of a `$`.
 abbrev pub dollar : List ℕ → Element × ℕ
 dollar [] = (End, 0)
 dollar (b ∷ rest) = (One (Byte ascii.dollar), 0)
 
--- the element that begins with a byte, and how many bytes behind it belong to it
+-- The element that a byte begins, and the number of later bytes that belong to it.
 unfoldable pub element_at : ℕ → List ℕ → Element × ℕ
 element_at b rest =
     if b == ascii.star then (Star, 0)
@@ -32,7 +32,7 @@ element_at b rest =
     else (if b == ascii.dollar then dollar rest
     else (One (Byte b), 0)))))
 
--- the elements that begin k bytes in or later
+-- The elements that begin at index k or later.
 abbrev pub elements_from : List ℕ → ℕ → List Element
 elements_from [] k = []
 elements_from (b ∷ bytes) zero = (element_at b bytes).0 ∷ elements_from bytes (element_at b bytes).1
@@ -41,7 +41,7 @@ elements_from (b ∷ bytes) (suc k) = elements_from bytes k
 abbrev pub elements_of : List ℕ → List Element
 elements_of bytes = elements_from bytes 0
 
--- a pattern, with `^` at its start taken off
+-- A pattern. A `^` at its start makes it anchored.
 abbrev pub glob_of : List ℕ → Glob
 glob_of [] = record { anchored = false; elements = [] }
 glob_of (b ∷ bytes) =

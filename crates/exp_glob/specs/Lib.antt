@@ -6,3 +6,4 @@ pub mod Runs
 pub mod Literals
 pub mod Endings
 pub mod Search
+pub mod Whole

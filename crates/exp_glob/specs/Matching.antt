@@ -7,18 +7,18 @@ use Rattle.exp_glob.specs.declared.element.Element.TheVariants.{Star, One, End}
 use Rattle.exp_glob.specs.declared.element.Single.{Single}
 use Rattle.exp_glob.specs.declared.element.Single.TheVariants.{Any, Byte, Class}
 
--- between two bytes, in either order
+-- The byte c is between the two bytes, in either order.
 abbrev pub in_range : ℕ → ℕ → ℕ → Bool
 in_range one other c = (nat_le one c && nat_le c other) || (nat_le other c && nat_le c one)
 
--- The other end of the range that begins with a member, and how many bytes behind it belong to it.
--- Without a `-` and a byte behind that the range is the member alone.
+-- The other end of the range that begins with a member, and the number of later bytes that belong to it. Without a `-`
+-- and a byte after it, the range is the member alone.
 abbrev pub range_after : ℕ → List ℕ → ℕ × ℕ
 range_after member [] = (member, 0)
 range_after member (dash ∷ []) = (member, 0)
 range_after member (dash ∷ end ∷ rest) = if dash == ascii.minus then (end, 2) else (member, 0)
 
--- a byte is in one of the ranges that begin k bytes in or later
+-- The byte c is in one of the ranges that begin at index k or later.
 abbrev pub has_from : List ℕ → ℕ → ℕ → Bool
 has_from [] k c = false
 has_from (member ∷ rest) zero c = in_range member (range_after member rest).0 c || has_from rest (range_after member rest).1 c
@@ -27,7 +27,7 @@ has_from (member ∷ rest) (suc k) c = has_from rest k c
 abbrev pub class_has : List ℕ → ℕ → Bool
 class_has members c = has_from members 0 c
 
--- a byte is taken; without case a class has a byte where it has either case of it
+-- The element matches the byte. Without case, a class matches a byte if it contains either case of it.
 abbrev pub takes : Bool → Single → ℕ → Bool
 takes nocase Any c = true
 takes nocase (Byte b) c = if nocase then to_ascii_lowercase c == to_ascii_lowercase b else c == b
@@ -35,7 +35,7 @@ takes nocase (Class members) c =
     if nocase then class_has members (to_ascii_lowercase c) || class_has members (to_ascii_uppercase c)
     else class_has members c
 
--- elements match s from a to b
+-- The elements match s from a to b.
 abbrev pub Spans : Bool → List Element → List ℕ → ℕ → ℕ → Type 0
 Spans nocase [] s a b = a ≡ b
 Spans nocase (Star ∷ es) s a b = (k : ℕ) × (a ≤ k) × (k ≤ length s) × Spans nocase es s k b

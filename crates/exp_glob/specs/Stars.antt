@@ -1,4 +1,4 @@
--- Where the first run ends.
+-- The end of the first run.
 use Rattle.std.specs.Prelude.{Bool, true, false, List, [], ◌∷◌, Option, Some, None}
 use Rattle.exp_glob.specs.declared.element.Element.{Element}
 use Rattle.exp_glob.specs.declared.element.Element.TheVariants.{Star, One, End}
@@ -8,7 +8,7 @@ is_star Star = true
 is_star (One single) = false
 is_star End = false
 
--- the elements behind the first star
+-- The elements after the first star, or `None` if there is no star.
 abbrev pub behind_star : List Element → Option (List Element)
 behind_star [] = None
 behind_star (Star ∷ es) = Some es

@@ -1,4 +1,4 @@
-//! What a glob pattern is made of.
+//! The elements of a glob pattern.
 
 ghost use Rattle.std.specs.Prelude.{◌≡◌, ◌++◌, ◌∷◌, [], IfOk, OnOk, OnErr};
 
@@ -21,7 +21,7 @@ impl Model for Members {
 }
 
 impl Members {
-    /// A class of these bytes, copied.
+    /// Creates a class from a copy of these bytes.
     pub fn from_slice(alloc: Global, bytes: &[u8]) -> Result<Members, AllocError>
         ensures { IfOk result (λ m. m ≡ bytes.now) }
     {
@@ -30,7 +30,7 @@ impl Members {
         })
     }
 
-    /// The bytes, in order.
+    /// Returns the bytes, in order.
     pub fn as_slice(&self) -> &[u8]
         ensures { result.now ≡ self.now }
     {
@@ -38,10 +38,10 @@ impl Members {
     }
 }
 
-/// What matches one byte.
+/// A part of a pattern that matches one byte.
 #[derive(Drop)]
 pub enum Single {
-    /// `?`: each byte.
+    /// `?`: any byte.
     Any,
     /// This byte.
     Byte(u8),
@@ -52,15 +52,15 @@ pub enum Single {
 /// An element of a pattern.
 #[derive(Drop)]
 pub enum Element {
-    /// `*`: bytes, none or more.
+    /// `*`: any bytes, also none.
     Star,
     /// One byte.
     One(Single),
-    /// `$` at the pattern's end: the end of the data.
+    /// `$` at the end of the pattern: the end of the text.
     End,
 }
 
-/// Elements in order. A contract sees a list.
+/// A list of elements, in order. A contract sees a list.
 #[derive(Drop)]
 pub struct Elements {
     /// The elements, in order.
@@ -77,7 +77,7 @@ impl Model for Elements {
 }
 
 impl Elements {
-    /// No elements. It allocates nothing.
+    /// Creates an empty list without allocating.
     pub fn new(alloc: Global) -> Elements
         ensures { result ≡ [] }
     {
@@ -86,7 +86,7 @@ impl Elements {
         }
     }
 
-    /// Puts an element behind the others. A refused one leaves the list as it was.
+    /// Appends an element. On `AllocError` the list is unchanged.
     pub fn push(&mut self, element: Element) -> Result<(), AllocError>
         ensures pushed { OnOk result (self.new ≡ self.old ++ element ∷ []) }
         ensures kept { OnErr result (self.new ≡ self.old) }
@@ -95,7 +95,7 @@ impl Elements {
         Ok(())
     }
 
-    /// The elements, in order.
+    /// Returns the elements, in order.
     pub fn as_slice(&self) -> &[Element]
         ensures { result.now ≡ self.now }
     {

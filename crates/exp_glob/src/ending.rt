@@ -1,4 +1,5 @@
-//! What is sought of a pattern behind a place up to which nothing was found.
+//! Decides by a few bytes that a pattern cannot match text that has arrived since an earlier
+//! search.
 
 ghost use Rattle.std.specs.Prelude.{◌≡◌, ◌≤◌, ◌<◌, ◌+◌, ℕ, true, drop, length, IfOk};
 ghost use Rattle.memchr.specs.Find.{OccursAt};
@@ -14,16 +15,16 @@ use crate::runs::is_star;
 use memchr::memmem;
 use std::alloc::{AllocError, Global};
 
-/// The literal of the last run that has elements.
+/// The literal of the last run that is not empty.
 #[derive(Drop)]
 pub struct Ending {
-    /// How far before the end of the run it begins, or more.
+    /// An upper bound of its distance from the end of the run, in bytes.
     pub back: usize,
-    /// The bytes. None where nothing is known of them.
+    /// The bytes, or no bytes if the run has no literal.
     pub bytes: Vec<u8>,
 }
 
-/// The place behind the last element that is no star.
+/// Returns the index after the last element that is no star.
 fn stars_from(elements: &[Element]) -> usize
     ensures within { result ≤ length elements.now }
     ensures stars { AreStars (drop result elements.now) }
@@ -38,7 +39,7 @@ fn stars_from(elements: &[Element]) -> usize
     from
 }
 
-/// The place behind the last star.
+/// Returns the index after the last star.
 fn run_from(elements: &[Element]) -> usize
     ensures within { result ≤ length elements.now }
     ensures none { HasNoStar (drop result elements.now) }
@@ -53,7 +54,7 @@ fn run_from(elements: &[Element]) -> usize
     from
 }
 
-/// What each match has at its end, of the last run that has elements. It takes memory only where there are some.
+/// Returns the literal of the last run that is not empty. It allocates only if there are elements.
 pub(crate) fn ending_of(
     alloc: Global,
     elements: &[Element],
@@ -71,8 +72,8 @@ pub(crate) fn ending_of(
 }
 
 impl Ending {
-    /// Whether a text has no bytes with which a match could end behind a place. It looks at what stands behind the place, and at a few bytes
-    /// before it.
+    /// Returns true only if no match can end after index `place`, because the bytes that each match
+    /// ends with are missing there. It reads the bytes from a little before `place` on.
     pub(crate) fn is_missing(&self, text: &[u8], place: usize) -> bool
         ensures { result ≡ true → (place < length text.now) × (0 < length self.now.bytes.items) × ((k : ℕ) → place < k + self.now.back → ¬ OccursAt text.now self.now.bytes.items k) }
     {
@@ -91,7 +92,8 @@ impl Ending {
     }
 }
 
-/// Whether no match of these elements ends with the text. It looks at the last bytes alone, as many as stand behind the last star.
+/// Returns true only if no match of these elements ends at the end of the text. It reads no more
+/// bytes than there are elements after the last star.
 fn ends_nowhere(elements: &[Element], text: &[u8], nocase: bool) -> bool
     ensures { result ≡ true → (a : ℕ) → ¬ Spans nocase elements.now text.now a (length text.now) }
 {
@@ -113,14 +115,15 @@ fn ends_nowhere(elements: &[Element], text: &[u8], nocase: bool) -> bool
     false
 }
 
-/// Whether an element is the end of the data.
+/// Returns true only if the element is the end of the text.
 fn is_end(element: &Element) -> bool
     ensures { result ≡ true → element.now ≡ Element.End }
 {
     matches!(element, Element::End)
 }
 
-/// Whether a pattern that ends with `$` has no match in a text, by the text's last bytes alone.
+/// Returns true only if the pattern ends with `$` and has no match in the text. It reads the last
+/// bytes of the text only.
 pub(crate) fn lacks_end(elements: &[Element], text: &[u8], nocase: bool) -> bool
     ensures { result ≡ true → (a b : ℕ) → ¬ Spans nocase elements.now text.now a b }
 {

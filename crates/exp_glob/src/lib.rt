@@ -1,6 +1,8 @@
-//! Glob patterns as expect(1) searches with them: `*`, `?`, `[..]`, `\x`, `^` at the start and `$` at the end.
+//! Glob patterns and their search as in expect(1): `*`, `?`, `[..]`, `\x`, `^` at the start and `$`
+//! at the end.
 //!
-//! Texts are bytes. `specs/Elements.antt` says how a pattern is read, `specs/Spans.antt` what it matches and which match is found.
+//! Texts are bytes. `specs/Elements.antt` defines how a pattern is read. `specs/Spans.antt` defines
+//! what it matches and which match is found.
 #![tactic(auto)]
 
 mod element;
@@ -12,6 +14,7 @@ mod places;
 mod plan;
 mod reading;
 mod runs;
+mod whole;
 
 pub use element::{Element, Elements, Members, Single};
 pub use ending::Ending;

@@ -1,4 +1,4 @@
-//! Literals: the bytes that stand in each match of a run. A run is sought by them.
+//! Literals: bytes that each match of a run contains. A search looks for them first.
 
 ghost use Rattle.std.specs.Prelude.{◌≡◌, ◌<◌, ℕ, Bool, true, List, drop, length};
 ghost use Rattle.memchr.specs.Find.{OccursAt};
@@ -10,27 +10,27 @@ use crate::ending::Ending;
 use crate::places::after;
 use memchr::memmem;
 
-/// Bytes of a run that each match of it has.
+/// Bytes that each match of a run contains.
 #[derive(Drop)]
 pub struct Literal {
-    /// How far behind the start of a match they stand.
+    /// Their distance from the start of a match, in bytes.
     pub offset: usize,
-    /// The bytes. None where each byte may be one of many.
+    /// The bytes, or no bytes if the run has no literal.
     pub bytes: Vec<u8>,
 }
 
 /// The literals of a pattern.
 #[derive(Drop)]
 pub struct Literals {
-    /// A literal of each run, in order. The last runs may have none.
+    /// One literal per run, in order. The last runs may have none.
     pub runs: Vec<Literal>,
-    /// The run whose literal is sought before all else, or 0: the first run is sought by its own.
+    /// The run whose literal a search looks for first, or 0 for the first run.
     pub ahead: usize,
-    /// What stands at the end of a match.
+    /// The literal at the end of a match.
     pub ending: Ending,
 }
 
-/// The first run's literal: how far behind the start of a match it stands, and its bytes.
+/// Returns the literal of the first run: its distance from the start of a match, and its bytes.
 pub(crate) fn first_literal(literals: &[Literal]) -> (usize, &[u8])
     ensures { (nocase : Bool) → (es : List ElementOf) → AreLiterals nocase es literals.now → IsLiteral nocase es result.0 result.1.now }
 {
@@ -40,7 +40,7 @@ pub(crate) fn first_literal(literals: &[Literal]) -> (usize, &[u8])
     }
 }
 
-/// The literals of the runs behind the first.
+/// Returns the literals of the runs after the first.
 pub(crate) fn later_literals(literals: &[Literal]) -> &[Literal]
     ensures { result.now ≡ drop 1 literals.now }
 {
@@ -50,7 +50,7 @@ pub(crate) fn later_literals(literals: &[Literal]) -> &[Literal]
     }
 }
 
-/// Whether bytes that each match of the pattern has aren't in a text.
+/// Returns true only if the text lacks bytes that each match contains.
 pub(crate) fn lacks_literal(literals: &Literals, text: &[u8]) -> bool
     ensures { result ≡ true → (nocase : Bool) → (es : List ElementOf) → (a b : ℕ) → AreLiterals nocase es literals.now.runs.items → ¬ Spans nocase es text.now a b }
 {
@@ -63,7 +63,7 @@ pub(crate) fn lacks_literal(literals: &Literals, text: &[u8]) -> bool
     }
 }
 
-/// Whether there are bytes, and a text doesn't have them.
+/// Returns true only if `bytes` is not empty and does not occur in the text.
 fn is_missing(bytes: &[u8], text: &[u8]) -> bool
     ensures { result ≡ true → (0 < length bytes.now) × ((k : ℕ) → ¬ OccursAt text.now bytes.now k) }
 {

@@ -1,4 +1,4 @@
-//! Which byte an element takes.
+//! Decides which bytes an element matches.
 
 ghost use Rattle.std.specs.Prelude.{◌≡◌, ◌≤◌, length};
 ghost use Rattle.exp_glob.specs.Spans.{in_range as in_range_of, range_after as range_after_of, class_has as class_has_of, takes as takes_of};
@@ -6,14 +6,15 @@ ghost use Rattle.exp_glob.specs.Spans.{in_range as in_range_of, range_after as r
 use crate::element::Single;
 use crate::places::after;
 
-/// Between two bytes, in either order.
+/// Returns whether a byte is between two others, in either order.
 fn in_range(one: u8, other: u8, byte: u8) -> bool
     ensures { result ≡ in_range_of one other byte }
 {
     (one <= byte && byte <= other) || (other <= byte && byte <= one)
 }
 
-/// The other end of the range that begins with a member, and how many bytes behind the member belong to it.
+/// Returns the other end of the range that begins with a member, and the number of later bytes that
+/// belong to it.
 fn range_after(member: u8, rest: &[u8]) -> (u8, usize)
     ensures value { result ≡ range_after_of member rest.now }
     ensures within { result.1 ≤ length rest.now }
@@ -31,7 +32,7 @@ fn range_after(member: u8, rest: &[u8]) -> (u8, usize)
     }
 }
 
-/// Whether a class has a byte.
+/// Returns whether a class contains a byte.
 fn class_has(members: &[u8], byte: u8) -> bool
     ensures { result ≡ class_has_of members.now byte }
 {
@@ -46,7 +47,8 @@ fn class_has(members: &[u8], byte: u8) -> bool
     false
 }
 
-/// Whether a byte is taken. Under `nocase` letters of ASCII are compared without case.
+/// Returns whether an element matches a byte. Under `nocase`, ASCII letters are compared without
+/// case.
 pub(crate) fn takes(single: &Single, byte: u8, nocase: bool) -> bool
     ensures { result ≡ takes_of nocase single.now byte }
 {

@@ -1,4 +1,4 @@
-//! A pattern and its search.
+//! Glob patterns and their search.
 
 ghost use Rattle.std.specs.Prelude.{◌≡◌, ◌≤◌, ◌+◌, ◌<◌, ℕ, true, false, take, length, None, IfOk, IfSome};
 ghost use Rattle.exp_glob.specs.Elements.{glob_of};
@@ -16,17 +16,17 @@ use crate::reading::elements;
 use crate::runs::{least_run, longest, run_end, star_end};
 use std::alloc::{AllocError, Global};
 
-/// A glob pattern, read once.
+/// A parsed glob pattern.
 #[derive(Drop)]
 pub struct Glob {
-    /// It began with `^`: it matches at the start of the text alone.
+    /// The pattern began with `^`: it matches only at the start of the text.
     pub anchored: bool,
-    /// Its elements, without that `^`.
+    /// The elements, without that `^`.
     pub elements: Plan,
 }
 
 impl Glob {
-    /// The pattern that a text writes. Each text writes one.
+    /// Parses a pattern. Every text is a pattern.
     pub fn new(alloc: Global, pattern: &[u8]) -> Result<Glob, AllocError>
         ensures { IfOk result (λ g. g ≡ glob_of pattern.now) }
     {
@@ -55,7 +55,7 @@ impl Glob {
         }
     }
 
-    /// The places where a match may start are those below this one.
+    /// Returns a bound: a match may start at each index below it.
     fn starts(&self, text: &[u8]) -> usize
         ensures anchored { self.now.anchored ≡ true → result ≡ 1 }
         ensures free { self.now.anchored ≡ false → result ≡ length text.now + 1 }
@@ -63,14 +63,17 @@ impl Glob {
         if self.anchored { 1 } else { text.len() + 1 }
     }
 
-    /// Whether the first run stands where it has to, where that is one place alone.
+    /// Returns whether an anchored pattern's first run matches at the start. True if the pattern is
+    /// not anchored.
     fn can_begin(&self, text: &[u8], nocase: bool) -> bool {
         !self.anchored || run_end(self.elements.as_slice(), text, 0, nocase).is_some()
     }
 
-    /// The match that starts first and is the longest from there: its start, and the place behind its last byte.
+    /// Finds the match that starts first, and the longest one from there. Returns the index of its
+    /// start, and the index after its end.
     ///
-    /// Under `nocase` letters of ASCII are compared without case. It takes no memory, and time in the product of both lengths.
+    /// Under `nocase`, ASCII letters are compared without case. It does not allocate. Time is at
+    /// most the product of both lengths.
     pub fn find(&self, text: &[u8], nocase: bool) -> Option<(usize, usize)>
         ensures first { FindsFirst self.now nocase text.now result }
         ensures value { result ≡ first_span self.now nocase text.now }
@@ -96,10 +99,12 @@ impl Glob {
         Some((start, end))
     }
 
-    /// The same, where nothing was found in so many bytes of the text's front, or none were sought. A pattern that ends with `$` is sought only
-    /// where the text's last bytes are such as it ends with. One that may begin anywhere is sought in that front no more: one without a star is
-    /// sought behind those bytes and in as many before them as it has elements, any other in the whole text where the bytes behind have what a
-    /// match ends with.
+    /// Like `find`, given that `text[..sought]` holds no match. Pass 0 if unknown.
+    ///
+    /// The search is shorter than that of `find`. A pattern that ends with `$` is searched only if
+    /// the last bytes of the text fit it. A pattern without a star that isn't anchored is searched
+    /// from a few bytes before `sought` on. Any other pattern that isn't anchored is searched only
+    /// if the new bytes contain what a match ends with.
     pub fn find_on(&self, text: &[u8], sought: usize, nocase: bool) -> Option<(usize, usize)>
         requires { self.now.anchored ≡ false → 0 < sought → FindsFirst self.now nocase (take sought text.now) None }
         ensures first { FindsFirst self.now nocase text.now result }
@@ -119,7 +124,7 @@ impl Glob {
         self.find(text, nocase)
     }
 
-    /// The match of a pattern without a star, where none begins before a place.
+    /// Finds the match of a pattern without a star, given that no match begins before `from`.
     fn find_run(&self, text: &[u8], from: usize, nocase: bool) -> Option<(usize, usize)>
         requires anywhere { self.now.anchored ≡ false }
         requires one_run { behind_star self.now.elements ≡ None }
@@ -139,7 +144,7 @@ impl Glob {
         )
     }
 
-    /// Whether a match that begins anywhere can't end behind a place.
+    /// Returns true only if no match has to end after index `place`.
     fn has_none_behind(&self, text: &[u8], place: usize, nocase: bool) -> bool
         ensures { result ≡ true → (self.now.anchored ≡ false) × (0 < place) × (place < length text.now) × CouldEndBefore self.now.elements nocase text.now place }
     {

@@ -1,8 +1,8 @@
-//! What stands before and behind a place.
+//! Parts of a slice before and after an index.
 
 ghost use Rattle.std.specs.Prelude.{◌≡◌, ◌≤◌, drop, take, length};
 
-/// The items from a place on.
+/// Returns the items from an index on.
 pub(crate) fn after<T>(items: &[T], at: usize) -> &[T]
     requires { at ≤ length items.now }
     ensures { result.now ≡ drop at items.now }
@@ -10,7 +10,7 @@ pub(crate) fn after<T>(items: &[T], at: usize) -> &[T]
     items.split_at(at).1
 }
 
-/// The items before a place: all of them where the place is behind the last.
+/// Returns the items before an index, or all items if it is past the end.
 pub(crate) fn before(items: &[u8], at: usize) -> &[u8]
     ensures { result.now ≡ take at items.now }
 {

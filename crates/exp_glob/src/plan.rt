@@ -1,4 +1,4 @@
-//! A pattern's elements with the literals by which its runs are sought.
+//! The elements of a pattern, with the literals that a search looks for.
 
 ghost use Rattle.std.specs.Prelude.{◌≡◌, ◌≤◌, ◌+◌, ◌∷◌, ℕ, List, drop, length, IfOk};
 ghost use Rattle.exp_glob.specs.Endings.{IsEnding, IsSoughtBy};
@@ -13,13 +13,13 @@ use crate::runs::{is_star, star_end};
 use std::alloc::{AllocError, Global};
 use std::marker::Model;
 
-/// Elements, read once, and what they are sought by. A contract sees the elements.
+/// Elements with their literals. A contract sees the elements.
 #[derive(Drop)]
 pub struct Plan {
     elements: Elements,
-    /// Literals of a search with case.
+    /// The literals of a search with case.
     cased: Literals,
-    /// Literals of a search without case.
+    /// The literals of a search without case.
     caseless: Literals,
 }
 
@@ -36,7 +36,7 @@ impl Model for Plan {
 }
 
 impl Plan {
-    /// The plan of these elements. It takes memory only where there are some.
+    /// Computes the literals of these elements. It allocates only if there are elements.
     pub(crate) fn new(alloc: Global, elements: Elements) -> Result<Plan, AllocError>
         ensures { IfOk result (λ p. p ≡ elements) }
     {
@@ -49,14 +49,14 @@ impl Plan {
         })
     }
 
-    /// The elements, in order.
+    /// Returns the elements, in order.
     pub fn as_slice(&self) -> &[Element]
         ensures { result.now ≡ self.now }
     {
         self.elements.as_slice()
     }
 
-    /// The literals of a search.
+    /// Returns the literals of a search.
     pub(crate) fn literals(&self, nocase: bool) -> &Literals
         ensures runs { AreLiterals nocase self.now result.now.runs.items }
         ensures ending { IsEnding nocase self.now result.now.ending.back result.now.ending.bytes.items }
@@ -65,7 +65,7 @@ impl Plan {
     }
 }
 
-/// The byte that is taken, where there is only one.
+/// Returns the only byte that the element matches. `None` if there are several.
 fn only_byte(single: &Single, nocase: bool) -> Option<u8>
     ensures { result ≡ only_byte_of nocase single.now }
 {
@@ -82,7 +82,8 @@ fn only_byte(single: &Single, nocase: bool) -> Option<u8>
     }
 }
 
-/// The byte with which each match of a run begins that begins with an element.
+/// Returns the only byte that a match of this element can begin with. `None` if there are several,
+/// or no byte.
 fn first_byte(element: &Element, nocase: bool) -> Option<u8>
     ensures { (es : List ElementOf) → result ≡ byte_at nocase (element.now ∷ es) 0 }
 {
@@ -93,7 +94,7 @@ fn first_byte(element: &Element, nocase: bool) -> Option<u8>
     }
 }
 
-/// The place in the first run where the longest literal begins.
+/// Returns the index in the first run at which its longest literal begins.
 fn longest_literal(elements: &[Element], nocase: bool) -> usize
     ensures within { result ≤ length elements.now }
     ensures onwards { (j : ℕ) → byte_at nocase elements.now (result + j) ≡ byte_at nocase (drop result elements.now) j }
@@ -115,7 +116,7 @@ fn longest_literal(elements: &[Element], nocase: bool) -> usize
     best
 }
 
-/// The bytes with which each match of the first run begins.
+/// Returns the bytes that each match of the first run begins with.
 fn front_bytes(alloc: Global, elements: &[Element], nocase: bool) -> Result<Vec<u8>, AllocError>
     ensures { IfOk result (λ bytes. IsLiteral nocase elements.now 0 bytes.items) }
 {
@@ -129,7 +130,7 @@ fn front_bytes(alloc: Global, elements: &[Element], nocase: bool) -> Result<Vec<
     Ok(bytes)
 }
 
-/// The longest literal of the first run.
+/// Returns the longest literal of the first run.
 pub(crate) fn literal(
     alloc: Global,
     elements: &[Element],
@@ -142,7 +143,7 @@ pub(crate) fn literal(
     Ok(Literal { offset, bytes })
 }
 
-/// A literal of each run. It takes memory only where there are elements.
+/// Returns one literal per run. It allocates only if there are elements.
 fn run_literals(
     alloc: Global,
     elements: &[Element],
@@ -162,7 +163,7 @@ fn run_literals(
     Ok(made)
 }
 
-/// The run with the longest literal, or 0 where nothing is sought before that run anyway.
+/// Returns the run with the longest literal, or 0 if no earlier search would be saved.
 fn sought_ahead(elements: &[Element], literals: &[Literal]) -> usize {
     let mut longest = 0;
     let mut most = 0;
@@ -178,7 +179,7 @@ fn sought_ahead(elements: &[Element], literals: &[Literal]) -> usize {
     longest
 }
 
-/// How many runs at the front have no elements: each of them ends with a star.
+/// Returns the number of leading runs without elements. Each of them ends with a star.
 fn empty_runs(elements: &[Element]) -> usize {
     match elements.iter().position(|element| !is_star(element)) {
         Some(n) => n,
@@ -186,7 +187,7 @@ fn empty_runs(elements: &[Element]) -> usize {
     }
 }
 
-/// The literals of a search.
+/// Returns the literals of a search.
 fn literals(alloc: Global, elements: &[Element], nocase: bool) -> Result<Literals, AllocError>
     ensures { IfOk result (λ l. IsSoughtBy nocase elements.now l) }
 {

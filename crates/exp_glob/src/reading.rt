@@ -1,4 +1,4 @@
-//! Reading a pattern's elements.
+//! Parses the elements of a pattern.
 
 ghost use Rattle.std.specs.Prelude.{◌≡◌, ◌≤◌, ◌+◌, ◌<◌, ◌≢◌, ℕ, ◌==◌, false, None, length, slice_index, position, IfOk};
 ghost use Rattle.exp_glob.specs.Elements.{element_at as element_of, class_or_bracket, escaped as escaped_of, dollar as dollar_of, elements_of};
@@ -7,7 +7,7 @@ use crate::element::{Element, Elements, Members, Single};
 use crate::places::after;
 use std::alloc::{AllocError, Global};
 
-/// The place behind the last `]`, or 0.
+/// Returns the index after the last `]`, or 0.
 fn behind_last_close(bytes: &[u8]) -> usize
     ensures within { result ≤ length bytes.now }
     ensures none_behind { (k : ℕ) → result ≤ k → k < length bytes.now → slice_index bytes.now k ≢ 93 }
@@ -19,14 +19,14 @@ fn behind_last_close(bytes: &[u8]) -> usize
     end
 }
 
-/// The place of the first `]`.
+/// Returns the index of the first `]`.
 fn close_place(rest: &[u8]) -> Option<usize>
     ensures { result ≡ position (λ c. c == 93) rest.now }
 {
     rest.iter().position(|c| *c == b']')
 }
 
-/// What a `[` is, with the bytes behind it, and how many of them belong to it.
+/// Returns the element that a `[` begins, and the number of later bytes that belong to it.
 fn class(alloc: Global, rest: &[u8], closes: bool) -> Result<(Element, usize), AllocError>
     requires { closes ≡ false → position (λ c. c == 93) rest.now ≡ None }
     ensures value { IfOk result (λ e. e ≡ class_or_bracket rest.now (position (λ c. c == 93) rest.now)) }
@@ -44,7 +44,7 @@ fn class(alloc: Global, rest: &[u8], closes: bool) -> Result<(Element, usize), A
     }
 }
 
-/// What a backslash is.
+/// Returns the element that a backslash begins, and the number of later bytes that belong to it.
 fn escaped(rest: &[u8]) -> (Element, usize)
     ensures value { result ≡ escaped_of rest.now }
     ensures within { result.1 ≤ length rest.now }
@@ -55,7 +55,7 @@ fn escaped(rest: &[u8]) -> (Element, usize)
     }
 }
 
-/// What a `$` is.
+/// Returns the element of a `$`.
 fn dollar(rest: &[u8]) -> Element
     ensures { (result, 0) ≡ dollar_of rest.now }
 {
@@ -65,9 +65,10 @@ fn dollar(rest: &[u8]) -> Element
     }
 }
 
-/// The element that begins with a byte, and how many bytes behind it belong to it.
+/// Returns the element that a byte begins, and the number of later bytes that belong to it.
 ///
-/// `closes` may be false only where no `]` is behind, so that a pattern of many `[` is read in linear time.
+/// Pass `closes` as false only if `rest` contains no `]`. A pattern with many `[` is then read in
+/// linear time.
 #[tactic(auto, unfolding(crate::specs::Elements::element_at))]
 fn element_at(
     alloc: Global,
@@ -89,7 +90,7 @@ fn element_at(
     }
 }
 
-/// The elements of a pattern, without a `^` at its start.
+/// Parses the elements of a pattern without a `^` at its start.
 pub(crate) fn elements(alloc: Global, bytes: &[u8]) -> Result<Elements, AllocError>
     ensures { IfOk result (λ es. es ≡ elements_of bytes.now) }
 {

@@ -1,4 +1,5 @@
-//! Runs: the elements between stars. All but the last run are sought at their least place, the last one at its greatest, each by its literal.
+//! Runs: the elements between stars. The search looks for the least start of each run but the last,
+//! and for the greatest start of the last one. It looks for the literals of the runs.
 
 ghost use Rattle.std.specs.Prelude.{◌≡◌, ◌≤◌, ◌+◌, ◌<◌, ℕ, ◌==◌, None, Some, drop, length, MatchOption};
 ghost use Rattle.exp_glob.specs.Literals.{IsLiteral, AreLiterals};
@@ -21,7 +22,7 @@ pub(crate) fn is_star(element: &Element) -> bool
     }
 }
 
-/// The place behind the first star.
+/// Returns the index after the first star.
 pub(crate) fn star_end(elements: &[Element]) -> Option<usize>
     ensures { MatchOption result (behind_star elements.now ≡ None) (λ n. (n ≤ length elements.now) × (behind_star elements.now ≡ Some (drop n elements.now)) × (0 < n)) }
 {
@@ -33,14 +34,14 @@ pub(crate) fn star_end(elements: &[Element]) -> Option<usize>
     None
 }
 
-/// Whether the byte at a place is there and is taken.
+/// Returns whether there is a byte at an index and the element matches it.
 fn takes_at(single: &Single, text: &[u8], at: usize, nocase: bool) -> bool
     ensures { result ≡ takes_at_of nocase single.now text.now at }
 {
     at < text.len() && takes(single, text[at], nocase)
 }
 
-/// The end of the run with which the elements begin, where it matches from a place on.
+/// Returns the end of the first run if it matches at `from`. `None` otherwise.
 pub(crate) fn run_end(elements: &[Element], text: &[u8], from: usize, nocase: bool) -> Option<usize>
     ensures { result ≡ run_end_of nocase elements.now text.now from }
 {
@@ -64,7 +65,8 @@ pub(crate) fn run_end(elements: &[Element], text: &[u8], from: usize, nocase: bo
     Some(at)
 }
 
-/// The least place from `from` on where the first run can begin, by the place of its literal.
+/// Returns the least index from `from` on at which the first run can begin, by the positions of its
+/// literal.
 fn next_start(
     elements: &[Element],
     literal: &Finder<'_>,
@@ -92,7 +94,8 @@ fn next_start(
     }
 }
 
-/// The least place from `from` on and below `bound` where the first run matches, sought by a literal, and the run's end.
+/// Finds the least start from `from` on and below `bound` of a match of the first run, and the
+/// run's end. Looks for the literal.
 fn least_run_by(
     elements: &[Element],
     literal: &Finder<'_>,
@@ -116,7 +119,8 @@ fn least_run_by(
     None
 }
 
-/// The least place from `from` on and below `bound` where the first run matches, and the run's end.
+/// Finds the least start from `from` on and below `bound` of a match of the first run, and the
+/// run's end.
 pub(crate) fn least_run(
     elements: &[Element],
     literals: &[Literal],
@@ -143,7 +147,8 @@ pub(crate) fn least_run(
     least_run_by(elements, &finder, offset, text, from + 1, bound, nocase)
 }
 
-/// A bound of the places below `bound` where the first run can begin, by the place of its literal.
+/// Returns a lower bound: the first run can begin below `bound` only before it. Looks for the
+/// literal.
 fn last_start(
     elements: &[Element],
     literal: &FinderRev<'_>,
@@ -174,7 +179,7 @@ fn last_start(
     }
 }
 
-/// The end of the first run at the greatest place from `from` on where it matches, sought by a literal.
+/// Finds the end of the first run at its greatest start from `from` on. Looks for the literal.
 fn greatest_run_by(
     elements: &[Element],
     literal: &FinderRev<'_>,
@@ -197,7 +202,7 @@ fn greatest_run_by(
     None
 }
 
-/// The end of the first run at the greatest place from `from` on where it matches.
+/// Finds the end of the first run at its greatest start from `from` on.
 fn greatest_run(
     elements: &[Element],
     literals: &[Literal],
@@ -213,9 +218,9 @@ fn greatest_run(
     greatest_run_by(elements, &finder, offset, text, from, nocase)
 }
 
-/// The greatest end of a match of a star and the elements behind it, from a place on.
+/// Finds the greatest end of a match of a star and the later elements, from `from` on.
 ///
-/// Time is the number of elements times the length of the text.
+/// Time is at most the number of elements times the length of the text.
 pub(crate) fn longest(
     elements: &[Element],
     literals: &[Literal],

@@ -1,21 +1,23 @@
--- How many bytes decide whether a match of a regular pattern begins at a place, where that has a bound and nothing in front of the place matters.
+-- The number of bytes that decide whether a match of a regular pattern begins at an index. It exists if there is a
+-- bound and the bytes before the index don't matter.
 use Rattle.std.specs.Prelude.{◌≡◌, ℕ, ◌+◌, Bool, true, false, ◌&&◌, ◌||◌, if◌then◌else◌, max, length, Option, Some, None, IfSome, IsSomeAnd, chars}
 use Rattle.regex.specs.Patterns.{Re, empty, literal, byte_in, char_in, look, cat, alt, group, plus, Look, End, SameCaptures}
 use Rattle.regex_syntax.specs.Grammar.{read}
 use Rattle.exp_match.specs.Written.{Written, config_of}
 use Rattle.exp_match.specs.declared.reach.Extent.{Extent}
 
--- of two numbers, where both are there
+-- Combines two numbers if both are present.
 abbrev pub of_both : (ℕ → ℕ → ℕ) → Option ℕ → Option ℕ → Option ℕ
 of_both f (Some m) (Some n) = Some (f m n)
 of_both f _ _ = None
 
--- Whether the bytes end here depends on nothing in front. With all other assertions it may.
+-- The reach of an assertion. Only the end of the bytes doesn't depend on earlier bytes.
 abbrev pub look_reach : Look → Option ℕ
 look_reach End = Some 0
 look_reach _ = None
 
--- The most bytes that a match takes, a character being at most four. There is no reach under a loop, nor where what stands in front may matter.
+-- The most bytes that a match takes. A character is at most four bytes. A loop has no reach, and neither has a part
+-- that may depend on earlier bytes.
 abbrev pub reach : Re → Option ℕ
 reach empty = Some 0
 reach (literal bytes) = Some (length bytes)
@@ -27,7 +29,7 @@ reach (alt a b) = of_both max (reach a) (reach b)
 reach (group n a) = reach a
 reach (plus greedy a) = None
 
--- it matches the empty text at every place
+-- The pattern matches the empty text at every index.
 abbrev pub is_nullable : Re → Bool
 is_nullable empty = true
 is_nullable (cat a b) = is_nullable a && is_nullable b
@@ -36,8 +38,8 @@ is_nullable (group n a) = is_nullable a
 is_nullable (plus greedy a) = is_nullable a
 is_nullable re = false
 
--- A pattern of which a match begins at the same places, and which is over sooner: an end that may be empty is left out, and a loop at the end
--- has one round.
+-- A pattern whose matches begin at the same indices and end sooner. An end that may be empty is left out, and a loop at
+-- the end runs once.
 abbrev pub beginning : Re → Re
 beginning (cat a b) = if is_nullable b then beginning a else cat a (beginning b)
 beginning (alt a b) = alt (beginning a) (beginning b)
@@ -45,24 +47,24 @@ beginning (group n a) = beginning a
 beginning (plus greedy a) = beginning a
 beginning re = re
 
--- what is known of a pattern's reach: the number, or nothing
+-- The known reach of a pattern, or `None`.
 abbrev pub IsReach : Option ℕ → Re → Type 0
 IsReach known re = IfSome known (λ m. reach re ≡ Some m)
 
--- what is known of a pattern
+-- What is known of a pattern.
 pub record IsExtent (e : Extent) (re : Re) : Type 0 where
   pub nullable : e.is_nullable ≡ is_nullable re
   pub whole : IsReach e.reach re
   pub begins : IsReach e.opening (beginning re)
 
--- the pattern finds the same as one whose beginning reaches m bytes
+-- The pattern finds the same matches as one whose beginning reaches m bytes.
 abbrev pub HasOpening : ℕ → Re → Type 0
 HasOpening m a = (re : Re) × SameCaptures re a × (reach (beginning re) ≡ Some m)
 
--- of what the grammar reads in the text m bytes decide whether a match begins
+-- m bytes decide whether a match of the pattern with this text begins.
 abbrev pub Opens : Written → ℕ → Type 0
 Opens w m = IsSomeAnd (read (config_of w.nocase) (chars w.source)) (λ p. HasOpening m p.0.value)
 
--- some number of bytes decides it
+-- Some number of bytes decides it.
 abbrev pub IsBounded : Written → Type 0
 IsBounded w = (m : ℕ) × Opens w m

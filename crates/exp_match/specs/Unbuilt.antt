@@ -1,4 +1,4 @@
--- A pattern of the grammar of which `regex` builds no program, and not for want of memory.
+-- Patterns of the grammar that `regex` doesn't compile, for a reason other than memory.
 use Rattle.std.specs.Prelude.{◌≡◌, ◌≢◌, ◌⊎◌, ℕ, Bool, true, List, IsSomeAnd}
 use Rattle.std.specs.List.{slice_get}
 use Rattle.regex.specs.Failures.{IsPattern}
@@ -14,32 +14,32 @@ use Rattle.exp_match.specs.declared.faults.PatternFault.TheVariants as fault
 use Rattle.exp_match.specs.declared.faults.Refusal.{Refusal}
 use Rattle.exp_match.specs.declared.faults.Refusal.TheVariants as refusal
 
--- the program would be too big, or the text is none that `regex` reads
+-- The program would be too big, or `regex` doesn't accept the text.
 abbrev pub IsUnbuilt : List ℕ → Type 0
 IsUnbuilt text =
     (is_pattern text ≡ true)
     × (nocase : Bool) × (IsPattern (config_of nocase) text ⊎ ((kind : ErrorKind) × (kind ≢ OutOfMemory) × Refuses (config_of nocase) text kind))
 
--- what an error of a build counts as; `regex` is proved not to fail within
+-- The meaning of a compile error. `regex` is proved not to return `Internal`.
 abbrev pub refusal_of : Error → Refusal
 refusal_of (error.Syntax e) = refusal.Refused
 refusal_of error.CompiledTooBig = refusal.Refused
 refusal_of error.Internal = refusal.Memory
 refusal_of error.OutOfMemory = refusal.Memory
 
--- what a build tells of its text
+-- What a compile error says of the pattern's text.
 abbrev pub IsOfText : List ℕ → Refusal → Type 0
 IsOfText text refusal.Refused = IsUnbuilt text
 IsOfText text refusal.Memory = Unit {0}
 
--- what a word's fault tells of it
+-- What an error says of one argument.
 abbrev pub IsOfWord : List ℕ → PatternFault → Type 0
 IsOfWord word (fault.BadFlag at) = Unit {0}
 IsOfWord word (fault.BadRegex at) = Unit {0}
 IsOfWord word fault.Refused = IsUnbuilt word
 IsOfWord word fault.Memory = Unit {0}
 
--- what a fault tells of the arguments: where a build was refused, it was that of one of them
+-- What an error says of the arguments. If compilation was refused, one of the arguments is the reason.
 abbrev pub IsOfOne : List (List ℕ) → PatternFault → Type 0
 IsOfOne args (fault.BadFlag at) = Unit {0}
 IsOfOne args (fault.BadRegex at) = Unit {0}

@@ -1,4 +1,4 @@
-//! The arguments of `expect`.
+//! Reads the arguments of `expect`.
 
 ghost use Rattle.std.specs.Prelude.{◌≡◌, ◌≢◌, Ok, IfErr};
 ghost use Rattle.std.specs.Str.{bytes_eq};
@@ -22,7 +22,7 @@ fn is(word: &[u8], name: &[u8]) -> bool
     word == name
 }
 
-/// Whether a word begins with `-`.
+/// Returns whether a word begins with `-`.
 fn is_dash(word: &[u8]) -> bool
     ensures { result ≡ is_dash_of word.now }
 {
@@ -32,7 +32,7 @@ fn is_dash(word: &[u8]) -> bool
     }
 }
 
-/// What a word is that is no flag with a meaning.
+/// Returns the role of a word that is no known flag.
 fn plain_role(word: &[u8]) -> Role
     ensures { result ≡ plain_role_of word.now }
 {
@@ -51,7 +51,7 @@ fn plain_role(word: &[u8]) -> Role
     }
 }
 
-/// What a word is that is no flag for the next pattern, for a process or a time.
+/// Returns the role of a word that is no mark, no `-i` and no `-timeout`.
 fn way_role(word: &[u8]) -> Role
     ensures { result ≡ way_role_of word.now }
 {
@@ -66,7 +66,7 @@ fn way_role(word: &[u8]) -> Role
     }
 }
 
-/// What a word is, where a pattern may stand.
+/// Returns the role of a word in the place of a pattern.
 #[tactic(auto, unfolding(crate::specs::Arguments::role_of))]
 fn role_of(word: &[u8]) -> Role
     ensures { result ≡ role_of_word word.now }
@@ -115,7 +115,8 @@ fn with_mark(marks: Marks, mark: Mark) -> Marks
     }
 }
 
-/// A regular pattern, which the word at a place has to be.
+/// Compiles a regular pattern, or takes it from the cache. `at` is the argument's index for the
+/// error.
 fn regular(
     alloc: Global,
     compiled: &mut Compiled,
@@ -139,7 +140,7 @@ fn regular(
     }
 }
 
-/// The pattern that the word at a place is.
+/// Builds the pattern that the word at index `at` writes.
 fn want_of(
     alloc: Global,
     compiled: &mut Compiled,
@@ -164,7 +165,7 @@ fn want_of(
     }
 }
 
-/// The list with a pattern or keyword and its action behind the others.
+/// Appends a pattern or keyword with its action.
 fn with_entry(
     alloc: Global,
     list: PatternList,
@@ -187,7 +188,7 @@ fn with_entry(
     Ok(list)
 }
 
-/// The reader behind the pattern at a place.
+/// Returns the reader after the pattern at index `at`.
 fn pattern(
     alloc: Global,
     compiled: &mut Compiled,
@@ -208,7 +209,7 @@ fn pattern(
     })
 }
 
-/// The reader behind a word where a pattern may stand.
+/// Returns the reader after a word in the place of a pattern.
 fn by_role(
     alloc: Global,
     compiled: &mut Compiled,
@@ -252,7 +253,7 @@ fn by_role(
     }
 }
 
-/// The list with a process behind the others.
+/// Appends a spawn id.
 fn with_id(alloc: Global, list: PatternList, word: &[u8]) -> Result<PatternList, PatternFault>
     ensures given { Gives result (Ok (with_id_of list word.now)) }
     ensures refused { IfErr result (λ f. f ≡ PatternFault.Memory) }
@@ -262,7 +263,7 @@ fn with_id(alloc: Global, list: PatternList, word: &[u8]) -> Result<PatternList,
     Ok(list)
 }
 
-/// The list with a time in the place of its own.
+/// Sets the timeout.
 fn with_timeout(alloc: Global, list: PatternList, word: &[u8]) -> Result<PatternList, PatternFault>
     ensures given { Gives result (Ok (with_timeout_of list word.now)) }
     ensures refused { IfErr result (λ f. f ≡ PatternFault.Memory) }
@@ -272,7 +273,7 @@ fn with_timeout(alloc: Global, list: PatternList, word: &[u8]) -> Result<Pattern
     Ok(list)
 }
 
-/// The reader behind the word at a place.
+/// Returns the reader after the word at index `at`.
 fn taken(
     alloc: Global,
     compiled: &mut Compiled,
@@ -310,7 +311,7 @@ fn taken(
     }
 }
 
-/// The list, where the arguments may end here.
+/// Returns the list, if the arguments may end here.
 fn ended(alloc: Global, reader: Reader) -> Result<PatternList, PatternFault>
     ensures given { Gives result (ended_of reader.list reader.marks reader.pending) }
     ensures refused { IfErr result (λ f. f ≢ PatternFault.Refused) }
@@ -330,7 +331,7 @@ fn ended(alloc: Global, reader: Reader) -> Result<PatternList, PatternFault>
     }
 }
 
-/// Where the reading begins.
+/// Returns the reader before the first argument.
 fn nothing(alloc: Global) -> Reader
     ensures { result ≡ nothing_read }
 {
@@ -345,7 +346,7 @@ fn nothing(alloc: Global) -> Reader
     }
 }
 
-/// The list that arguments write.
+/// Reads the list that arguments write.
 #[tactic(auto, unfolding(crate::specs::Arguments::patterns_of))]
 pub(crate) fn read(
     alloc: Global,

@@ -1,4 +1,4 @@
-//! Tests of bytes against the listed patterns.
+//! Tests bytes against the listed patterns.
 
 ghost use Rattle.std.specs.Prelude.{◌≡◌, ◌<◌, true, IfOk, None, take, length, option_map};
 ghost use Rattle.std.specs.Bool.{then_some};
@@ -13,7 +13,7 @@ use crate::matcher::Spans;
 use crate::matchers::Matchers;
 use std::alloc::{AllocError, Global};
 
-/// Whether an entry belongs to one of the groups.
+/// Returns whether an entry belongs to one of the groups.
 pub(crate) fn in_groups(groups: &[usize], entry: &Entry) -> bool
     ensures { result ≡ in_groups_of groups.now entry.now }
 {
@@ -21,7 +21,7 @@ pub(crate) fn in_groups(groups: &[usize], entry: &Entry) -> bool
     groups.iter().any(|g| *g == group)
 }
 
-/// Whether there is a match without groups; where there is, its spans are written.
+/// Returns whether there is a match without groups, and writes its spans.
 fn alone(span: Option<(usize, usize)>, spans: &mut Spans) -> bool
     ensures { then_some result spans.new ≡ option_map alone_of span }
 {
@@ -45,10 +45,12 @@ fn alone(span: Option<(usize, usize)>, spans: &mut Spans) -> bool
     }
 }
 
-/// Whether an entry finds anything; where it does, the spans of its first match are written. Where it found nothing in so many bytes of the
-/// front, a match is sought from where it may still end behind them, or where these bytes don't decide whether a regular pattern's match begins;
-/// unless it is a glob that begins with `^` or a regular pattern without a bound of its opening. A regular pattern takes memory for its matcher,
-/// where it has none yet, the others none.
+/// Returns whether an entry matches, and writes the spans of its first match. `bytes[..sought]`
+/// must hold no match, or `sought` must be 0.
+///
+/// Bytes before `sought` are read again only as far as a match may still begin there. Globs that
+/// begin with `^` and regular patterns without a bound of their opening read all bytes. Only a
+/// regular pattern that has no matcher yet allocates.
 fn first_match<'l>(
     alloc: Global,
     matchers: &mut Matchers<'l>,
@@ -72,7 +74,8 @@ fn first_match<'l>(
     }
 }
 
-/// Whether an entry belongs to one of the groups and finds anything; where it does, the spans of its first match are written.
+/// Returns whether an entry belongs to one of the groups and matches. Writes the spans of its first
+/// match.
 fn match_in<'l>(
     alloc: Global,
     matchers: &mut Matchers<'l>,
@@ -93,9 +96,11 @@ fn match_in<'l>(
 }
 
 impl PatternList {
-    /// Tests bytes against the patterns of these groups in listed order: the first that matches; else full, where `full_buffer` is listed in the groups and at least `max` bytes are there; else none.
+    /// Tests bytes against the patterns of these groups, in listed order. Returns the first pattern
+    /// that matches.
     ///
-    /// Memory is taken for each regular pattern that is met, and for nothing else.
+    /// Otherwise returns `Full` if the groups have a `full_buffer` and there are at least `max`
+    /// bytes, and else `None`. It allocates only for the regular patterns that are tested.
     pub fn choose<'l>(
         &'l self,
         alloc: Global,
@@ -113,10 +118,12 @@ impl PatternList {
         Ok(picked.with_spans(&spans))
     }
 
-    /// The same, with the spans written where a pattern matches, and with matchers that are kept from a test to the next: a regular pattern
-    /// takes memory at its first test alone. In so many bytes of the front nothing was found before, or none were tested: an exact pattern, a
-    /// glob that doesn't begin with `^`, and a regular pattern of which few bytes decide whether a match begins and that looks at nothing in front
-    /// of it, look at few of them again.
+    /// Like `choose`, but writes the spans of a match to `spans` and keeps the matchers for the
+    /// next test. A regular pattern allocates only at its first test.
+    ///
+    /// `bytes[..sought]` must hold no match, as an earlier test found. Pass 0 if unknown. Most
+    /// patterns then read only a few of these bytes again. Globs that begin with `^` and regular
+    /// patterns without a bound of their opening read all of them.
     pub fn choose_with<'l>(
         &'l self,
         alloc: Global,

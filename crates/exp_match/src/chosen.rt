@@ -1,35 +1,35 @@
-//! What a test of the kept bytes gives.
+//! The result of a test of the buffer's bytes.
 
 ghost use Rattle.std.specs.Prelude.{◌≡◌};
 ghost use Rattle.exp_match.specs.Choice.{with_spans as with_its_spans};
 
 use crate::matcher::Spans;
 
-/// What a test of the kept bytes against patterns gives.
+/// The result of a test of bytes against patterns, with spans.
 #[derive(Clone, Copy)]
 pub enum Chosen {
-    /// The pattern with this number matches, with the spans of its groups 0 to 9.
+    /// The pattern with this number matches. The spans are those of its groups 0 to 9.
     Pattern(usize, Spans),
-    /// No pattern matches and as many bytes are kept as may be.
+    /// No pattern matches, and the buffer is full.
     Full,
-    /// Neither.
+    /// Neither of these.
     None,
 }
 
-/// What a test of the kept bytes picks. It is small, since each test hands it on and few find anything: the spans of a match are written where
-/// the caller keeps them.
+/// The result of a test of bytes against patterns, without spans. It is small, because it is
+/// returned for each test and few tests match. The caller keeps the spans.
 #[derive(Clone, Copy)]
 pub enum Picked {
     /// The pattern with this number matches.
     Pattern(usize),
-    /// No pattern matches and as many bytes are kept as may be.
+    /// No pattern matches, and the buffer is full.
     Full,
-    /// Neither.
+    /// Neither of these.
     None,
 }
 
 impl Picked {
-    /// The same with the spans, where a pattern matches.
+    /// Adds the spans, if a pattern matches.
     pub fn with_spans(self, spans: &Spans) -> Chosen
         ensures { result ≡ with_its_spans self spans.now }
     {

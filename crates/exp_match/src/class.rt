@@ -5,7 +5,7 @@ ghost use Rattle.exp_match.specs.Scan.{is_special as special, quoted as quoted_o
 
 use crate::places::{after, char_at, is_at};
 
-/// Whether a character has a meaning of its own outside classes.
+/// Returns whether a character is special outside classes.
 pub(crate) fn is_special(c: char) -> bool
     ensures { result ≡ special c }
 {
@@ -15,7 +15,7 @@ pub(crate) fn is_special(c: char) -> bool
     )
 }
 
-/// What a character behind a backslash stands for.
+/// Returns the character that an escape stands for. `None` if the escape is unknown.
 pub(crate) fn quoted(c: char) -> Option<char>
     ensures { result ≡ quoted_of c }
 {
@@ -33,21 +33,21 @@ pub(crate) fn quoted(c: char) -> Option<char>
     }
 }
 
-/// Whether a character behind a backslash stands for a set of characters.
+/// Returns whether an escape stands for a set of characters.
 pub(crate) fn is_set(c: char) -> bool
     ensures { result ≡ set c }
 {
     matches!(c, 'd' | 's' | 'w' | 'D' | 'S' | 'W')
 }
 
-/// Whether a character stands for itself in a class.
+/// Returns whether a character stands for itself in a class.
 fn is_class_char(c: char) -> bool
     ensures { result ≡ class_char c }
 {
     !matches!(c, '\\' | '[' | ']' | '^' | '&' | '~' | '-')
 }
 
-/// The item behind a backslash.
+/// Returns the character of an escaped item, and its length with the backslash.
 fn quoted_item(chars: &[char]) -> Option<(char, usize)>
     ensures value { result ≡ quoted_item_of chars.now }
     ensures within { IfSome result (λ p. p.1 ≤ length chars.now + 1) }
@@ -61,7 +61,7 @@ fn quoted_item(chars: &[char]) -> Option<(char, usize)>
     }
 }
 
-/// The character that the item at the front stands for, and how many characters write it.
+/// Returns the character of the first item, and the number of characters that write it.
 fn item(chars: &[char]) -> Option<(char, usize)>
     ensures value { result ≡ item_of chars.now }
     ensures some { IfSome result (λ p. 0 < p.1) }
@@ -81,7 +81,7 @@ fn item(chars: &[char]) -> Option<(char, usize)>
     }
 }
 
-/// Whether a `-` stands here that the class doesn't end behind.
+/// Returns whether the characters begin with a `-` that isn't followed by the end of the class.
 fn makes_range(chars: &[char]) -> bool
     ensures value { result ≡ makes_range_of chars.now }
     ensures some { IsTrue result → 0 < length chars.now }
@@ -89,7 +89,7 @@ fn makes_range(chars: &[char]) -> bool
     is_at(chars, 0, '-') && !is_at(chars, 1, ']')
 }
 
-/// Whether a set stands here.
+/// Returns whether the characters begin with a set.
 fn begins_set(chars: &[char]) -> bool
     ensures value { result ≡ begins_set_of chars.now }
     ensures some { IsTrue result → 1 < length chars.now }
@@ -100,7 +100,7 @@ fn begins_set(chars: &[char]) -> bool
     }
 }
 
-/// How many characters the member at the front has.
+/// Returns the number of characters in the first member.
 #[tactic(auto, unfolding(crate::specs::Scan::member))]
 fn member(chars: &[char]) -> Option<usize>
     ensures value { result ≡ member_of chars.now }
@@ -118,14 +118,15 @@ fn member(chars: &[char]) -> Option<usize>
     if low <= high { Some(n + 1 + m) } else { None }
 }
 
-/// Whether a class may end with this character.
+/// Returns whether a class may end with this character.
 fn may_end(c: char) -> bool
     ensures { result ≡ may_end_of c }
 {
     c == ']' || c == '-'
 }
 
-/// How many characters end a class here. `first` says that a `-` stands first in it, `some` that a member stands before.
+/// Returns the number of characters that end a class here. `first` means that the first member is a
+/// `-`, `some` that there is a member before.
 fn ending(c: char, rest: &[char], first: bool, some: bool) -> Option<usize>
     ensures value { result ≡ ending_of first some c rest.now }
     ensures within { IfSome result (λ n. n ≤ length rest.now + 1) }
@@ -143,7 +144,8 @@ fn ending(c: char, rest: &[char], first: bool, some: bool) -> Option<usize>
     }
 }
 
-/// How many characters members have, with the `]` behind them. `first` says that a `-` stands before them.
+/// Returns the number of characters in the members of a class, with its `]`. `first` means that a
+/// `-` precedes them.
 fn members(chars: &[char], first: bool) -> Option<usize>
     ensures value { result ≡ members_of first chars.now false }
     ensures within { IfSome result (λ n. n ≤ length chars.now) }
@@ -167,7 +169,7 @@ fn members(chars: &[char], first: bool) -> Option<usize>
     None
 }
 
-/// How many characters a class has behind its `[` or `[^`, with its `]`.
+/// Returns the number of characters in a class after its `[` or `[^`, with its `]`.
 fn plain_class(chars: &[char]) -> Option<usize>
     ensures value { result ≡ plain_class_of chars.now }
     ensures within { IfSome result (λ n. n ≤ length chars.now) }
@@ -179,7 +181,7 @@ fn plain_class(chars: &[char]) -> Option<usize>
     members(chars, false)
 }
 
-/// How many characters a class has behind its `[`, with its `]`.
+/// Returns the number of characters in a class after its `[`, with its `]`.
 #[tactic(auto, unfolding(crate::specs::Scan::class))]
 pub(crate) fn class(chars: &[char]) -> Option<usize>
     ensures value { result ≡ class_of chars.now }

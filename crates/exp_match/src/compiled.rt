@@ -1,4 +1,4 @@
-//! Patterns that were compiled and may come again.
+//! A cache of compiled patterns.
 
 ghost use Rattle.std.specs.Prelude.{◌≡◌, true, IfErr, IfOk, IfSome};
 ghost use Rattle.exp_match.specs.Scan.{is_pattern};
@@ -9,12 +9,12 @@ use crate::regular::Regular;
 use std::alloc::Global;
 use std::marker::Model;
 
-/// How many patterns are kept.
+/// The most patterns in the cache.
 const ROOM: usize = 32;
 
-/// Regular patterns that were compiled, so that one that comes again isn't compiled anew.
+/// A cache of compiled regular patterns.
 ///
-/// A contract sees nothing of them: what is built with them is what is built without.
+/// A contract sees nothing of it: results are the same with and without it.
 #[derive(Drop)]
 pub struct Compiled {
     /// At most `ROOM` patterns, the oldest first.
@@ -30,14 +30,14 @@ impl Model for Compiled {
 }
 
 impl Compiled {
-    /// No patterns. It allocates nothing.
+    /// Creates an empty cache without allocating.
     pub fn new(alloc: Global) -> Compiled {
         Compiled {
             list: Vec::new(alloc),
         }
     }
 
-    /// The pattern of this text and case, where it is kept.
+    /// Returns the pattern with this text and case, if it is in the cache.
     pub(crate) fn find(&self, text: &[u8], nocase: bool) -> Option<&Regular>
         ensures { IfSome result (λ r. (is_pattern text.now ≡ true) × (r.now ≡ record { source = text.now; nocase = nocase })) }
     {
@@ -49,7 +49,7 @@ impl Compiled {
         None
     }
 
-    /// Keeps a pattern where there is memory for that. The oldest one makes room.
+    /// Adds a pattern to the cache, if memory allows. The oldest pattern makes room.
     fn keep(&mut self, regular: Regular) {
         if ROOM <= self.list.len() {
             drop(self.list.remove(0));
@@ -57,7 +57,7 @@ impl Compiled {
         drop(self.list.push(regular));
     }
 
-    /// The pattern that a text of the grammar is. It is compiled, and kept where there is memory for that.
+    /// Compiles a text of the grammar, and adds the pattern to the cache if memory allows.
     pub(crate) fn compile(
         &mut self,
         alloc: Global,

@@ -5,7 +5,7 @@ ghost use Rattle.exp_match.specs.Scan.{is_digit as is_digit_of, three_digits as 
 
 use crate::places::{after, char_at, is_at};
 
-/// Whether a character is a decimal digit of ASCII.
+/// Returns whether a character is an ASCII digit.
 fn is_digit(c: char) -> bool
     ensures value { result ≡ is_digit_of c }
     ensures range { IsTrue result → (48 ≤ c) × (c ≤ 57) }
@@ -13,7 +13,7 @@ fn is_digit(c: char) -> bool
     '0' <= c && c <= '9'
 }
 
-/// What a digit stands for.
+/// Returns the value of a digit.
 fn value(c: char) -> usize
     requires { (48 ≤ c) × (c ≤ 57) }
     ensures value { result + 48 ≡ c }
@@ -22,7 +22,7 @@ fn value(c: char) -> usize
     c as usize - 48
 }
 
-/// A number of three digits, where it is within bounds.
+/// Returns a number of three digits and its length. `None` above 255.
 fn three_digits(n: usize) -> Option<(usize, usize)>
     ensures value { result ≡ three_digits_of n }
     ensures digits { IfSome result (λ p. p.1 ≡ 3) }
@@ -30,7 +30,7 @@ fn three_digits(n: usize) -> Option<(usize, usize)>
     if n <= 255 { Some((n, 3)) } else { None }
 }
 
-/// The number at the front, and how many digits it has. A 0 stands alone.
+/// Returns the number at the front, and its number of digits. A `0` is not followed by digits.
 #[tactic(auto, unfolding(crate::specs::Scan::number))]
 fn number(chars: &[char]) -> Option<(usize, usize)>
     ensures value { result ≡ number_of chars.now }
@@ -54,7 +54,8 @@ fn number(chars: &[char]) -> Option<(usize, usize)>
     three_digits(100 * value(a) + 10 * value(b) + value(c))
 }
 
-/// Behind `{m,`: how many characters up to the `}`, with it, where a number has been read.
+/// Returns the number of characters after `{m,` up to and including the `}`, given the second
+/// number.
 fn count_to(low: usize, chars: &[char], high: Option<(usize, usize)>) -> Option<usize>
     ensures value { result ≡ count_to_of low chars.now high }
     ensures within { IfSome result (λ n. n ≤ length chars.now) }
@@ -71,7 +72,7 @@ fn count_to(low: usize, chars: &[char], high: Option<(usize, usize)>) -> Option<
     }
 }
 
-/// Behind `{m,`: how many characters up to the `}`, with it.
+/// Returns the number of characters after `{m,` up to and including the `}`.
 fn count_on(low: usize, chars: &[char]) -> Option<usize>
     ensures value { result ≡ count_on_of low chars.now }
     ensures within { IfSome result (λ n. n ≤ length chars.now) }
@@ -82,7 +83,7 @@ fn count_on(low: usize, chars: &[char]) -> Option<usize>
     count_to(low, chars, number(chars))
 }
 
-/// How many characters a count has behind its `{`, with its `}`, where its first number has been read.
+/// Returns the number of characters in a count after its `{`, with its `}`, given its first number.
 fn count_from(chars: &[char], low: Option<(usize, usize)>) -> Option<usize>
     ensures value { result ≡ count_from_of chars.now low }
     ensures within { IfSome result (λ n. n ≤ length chars.now) }
@@ -102,7 +103,7 @@ fn count_from(chars: &[char], low: Option<(usize, usize)>) -> Option<usize>
     }
 }
 
-/// How many characters a count has behind its `{`, with its `}`.
+/// Returns the number of characters in a count after its `{`, with its `}`.
 #[tactic(auto, unfolding(crate::specs::Scan::count))]
 pub(crate) fn count(chars: &[char]) -> Option<usize>
     ensures value { result ≡ count_of chars.now }

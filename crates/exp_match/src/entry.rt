@@ -11,36 +11,36 @@ use tcl_words::Text;
 /// A keyword in the place of a pattern.
 #[derive(Clone, Copy)]
 pub enum Keyword {
-    /// `eof`: the process's output ended.
+    /// `eof`: the output of the process has ended.
     Eof,
-    /// `timeout`: the time is over.
+    /// `timeout`: the time has run out.
     Timeout,
     /// `default`: either of the two.
     Default,
-    /// `full_buffer`: as many bytes are kept as may be.
+    /// `full_buffer`: the buffer is full.
     FullBuffer,
 }
 
 /// What an entry waits for.
 #[derive(Drop)]
 pub enum Want {
-    /// These very bytes.
+    /// Exactly these bytes.
     Exact {
         /// The bytes.
         text: Text,
-        /// Whether letters of ASCII match in either case.
+        /// Whether ASCII letters match in either case.
         nocase: bool,
     },
-    /// A glob pattern's match.
+    /// A match of a glob pattern.
     Glob {
         /// The pattern.
         glob: Glob,
-        /// Whether letters of ASCII match in either case.
+        /// Whether ASCII letters match in either case.
         nocase: bool,
     },
-    /// A regular pattern's match.
+    /// A match of a regular pattern.
     Regular(Regular),
-    /// What a keyword stands for.
+    /// The condition of a keyword.
     Keyword(Keyword),
 }
 
@@ -49,17 +49,17 @@ pub enum Want {
 pub struct Entry {
     /// What it waits for.
     pub want: Want,
-    /// `-indices`: the places of a match are wanted too.
+    /// `-indices`: the indices of a match are set too.
     pub indices: bool,
-    /// `-notransfer`: what matched stays in the buffer.
+    /// `-notransfer`: the matched bytes stay in the buffer.
     pub notransfer: bool,
-    /// The script to run, maybe empty.
+    /// The script to run. It may be empty.
     pub action: Text,
-    /// 0 before the first `-i`, and the number of those before it otherwise.
+    /// The number of `-i` flags before it: 0 before the first one.
     pub group: usize,
 }
 
-/// Entries in the order of the arguments. A contract sees a list.
+/// A list of entries, in the order of the arguments. A contract sees a list.
 #[derive(Drop)]
 pub struct Entries {
     /// The entries, in order.
@@ -76,7 +76,7 @@ impl Model for Entries {
 }
 
 impl Entries {
-    /// No entries. It allocates nothing.
+    /// Creates an empty list without allocating.
     pub fn new(alloc: Global) -> Entries
         ensures { result ≡ [] }
     {
@@ -85,7 +85,7 @@ impl Entries {
         }
     }
 
-    /// Puts an entry behind the others. A refused one leaves the list as it was.
+    /// Appends an entry. On `AllocError` the list is unchanged.
     pub fn push(&mut self, entry: Entry) -> Result<(), AllocError>
         ensures pushed { OnOk result (self.new ≡ self.old ++ entry ∷ []) }
         ensures kept { OnErr result (self.new ≡ self.old) }
@@ -94,7 +94,7 @@ impl Entries {
         Ok(())
     }
 
-    /// The entries, in order.
+    /// Returns the entries, in order.
     pub fn as_slice(&self) -> &[Entry]
         ensures { result.now ≡ self.now }
     {

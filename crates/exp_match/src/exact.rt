@@ -7,13 +7,14 @@ use crate::places::after;
 use memchr::arch::all::packedpair::{DefaultFrequencyRank, HeuristicFrequencyRank};
 use memchr::{memchr, memchr2, memmem};
 
-/// How many bytes of a text are compared for the rarest one.
+/// The most bytes of a text that are compared to find the rarest one.
 const RANKED: usize = 32;
 
-/// The least place where a text stands, with its end. Under `nocase` letters of ASCII are compared without case.
+/// Finds the least index of a text. Returns the index and the end. Under `nocase`, ASCII letters
+/// are compared without case.
 ///
-/// It takes no memory. With case it is one linear search, made where the text's last byte is there; without case it looks at the text at each
-/// place where its rarest byte stands. Only time depends on which one is taken for that.
+/// It does not allocate. With case it is one linear search, which begins only if the last byte of
+/// the text occurs. Without case it compares the text at each occurrence of its rarest byte.
 pub(crate) fn find_exact(text: &[u8], nocase: bool, bytes: &[u8]) -> Option<(usize, usize)>
     ensures stands { FindsExact nocase text.now bytes.now result }
     ensures value { result ≡ find_text nocase text.now bytes.now }
@@ -25,7 +26,8 @@ pub(crate) fn find_exact(text: &[u8], nocase: bool, bytes: &[u8]) -> Option<(usi
     }
 }
 
-/// The same, where the text stands nowhere in so many bytes of the front, or none were sought. It looks at no more of them than its length.
+/// Like `find_exact`, given that `bytes[..sought]` doesn't contain the text. Pass 0 if unknown. It
+/// reads at most `text.len()` of these bytes again.
 pub(crate) fn find_exact_on(
     text: &[u8],
     nocase: bool,
@@ -46,8 +48,8 @@ pub(crate) fn find_exact_on(
     }
 }
 
-/// Whether the last byte of a text isn't among the bytes, so that the text stands nowhere. It is mostly a rare one, and sought at once, where the
-/// search for a text has to be made ready first.
+/// Returns true only if the last byte of the text doesn't occur, so that the text doesn't either.
+/// This test is cheap and mostly decides, while a search for a text needs preparation.
 fn lacks_last(text: &[u8], bytes: &[u8]) -> bool
     ensures { IsTrue result → FindsExact false text.now bytes.now None }
 {
@@ -61,7 +63,7 @@ fn lacks_last(text: &[u8], bytes: &[u8]) -> bool
     }
 }
 
-/// The least place of a text, with case.
+/// Finds the least index of a text, with case.
 fn find_same(text: &[u8], bytes: &[u8]) -> Option<(usize, usize)>
     ensures { FindsExact false text.now bytes.now result }
 {
@@ -74,7 +76,7 @@ fn find_same(text: &[u8], bytes: &[u8]) -> Option<(usize, usize)>
     }
 }
 
-/// The least place of a text, without case.
+/// Finds the least index of a text, without case.
 fn find_folded(text: &[u8], bytes: &[u8]) -> Option<(usize, usize)>
     ensures { FindsExact true text.now bytes.now result }
 {
@@ -84,14 +86,15 @@ fn find_folded(text: &[u8], bytes: &[u8]) -> Option<(usize, usize)>
     }
 }
 
-/// How common a byte is in text, in either case: a higher number is more common.
+/// Returns the rank of a byte in typical text, the more common one of its two cases. A higher rank
+/// is more common.
 fn commonness(byte: u8) -> u8 {
     let ranks = DefaultFrequencyRank;
     let lower = ranks.rank(byte.to_ascii_lowercase());
     lower.max(ranks.rank(byte.to_ascii_uppercase()))
 }
 
-/// Where the byte stands that is least common in text, among the first ones.
+/// Returns the index of the byte that is least common in typical text, among the first ones.
 fn rarest(text: &[u8]) -> usize
     requires { 0 < length text.now }
     ensures { result < length text.now }
@@ -108,7 +111,8 @@ fn rarest(text: &[u8]) -> usize
     rarest
 }
 
-/// The least place of a text, without case: it is looked at where this one of its bytes stands.
+/// Finds the least index of a text, without case. It compares the text at each occurrence of the
+/// byte at index `rare`.
 fn find_by(text: &[u8], rare: usize, bytes: &[u8]) -> Option<(usize, usize)>
     requires { rare < length text.now }
     ensures { FindsExact true text.now bytes.now result }
@@ -129,7 +133,7 @@ fn find_by(text: &[u8], rare: usize, bytes: &[u8]) -> Option<(usize, usize)>
     None
 }
 
-/// Whether a text stands at a place, without case.
+/// Returns whether a text occurs at index `at`, without case.
 fn stands_folded(text: &[u8], bytes: &[u8], at: usize) -> bool
     requires { at ≤ length bytes.now }
     ensures { IsTrue result ↔ StandsAt true text.now bytes.now at }

@@ -1,4 +1,4 @@
-//! Why a list of patterns isn't built.
+//! The errors of a list of patterns.
 
 ghost use Rattle.std.specs.Prelude.{◌≡◌};
 
@@ -7,9 +7,9 @@ use std::alloc::AllocError;
 /// Why a pattern of the grammar isn't compiled.
 #[derive(Clone, Copy)]
 pub enum Refusal {
-    /// Its program would be too big.
+    /// `regex` refuses it: its program would be too big.
     Refused,
-    /// Memory ran out.
+    /// Memory was refused.
     Memory,
 }
 
@@ -26,13 +26,14 @@ impl From<AllocError> for Refusal {
 /// Why a list of patterns isn't built.
 #[derive(Clone, Copy)]
 pub enum PatternFault {
-    /// The argument at this index is no flag or pattern that may stand there, or it is a flag with nothing behind it.
+    /// The argument at this index is no flag or pattern that may stand there, or a flag without its
+    /// argument.
     BadFlag(usize),
     /// The argument at this index is no regular pattern.
     BadRegex(usize),
-    /// A regular pattern that the grammar has was not compiled, as its program would be too big.
+    /// A regular pattern of the grammar was not compiled: its program would be too big.
     Refused,
-    /// Memory ran out.
+    /// Memory was refused.
     Memory,
 }
 

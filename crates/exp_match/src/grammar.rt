@@ -1,4 +1,4 @@
-//! Whether a text is a regular pattern.
+//! Decides whether a text is a regular pattern.
 
 ghost use Rattle.std.specs.Prelude.{◌≡◌, ◌↔◌, ◌+◌, ◌^◌, ◌<◌, ◌≤◌, List, ℕ, true, false, IfOk, IfSome, MatchOption, length, option_map, chars};
 ghost use Rattle.exp_match.specs.Scan.{opening as opening_of, escape as escape_of, token_at as token_of, behind as behind_of, accepts as accepts_of, outermost, is_pattern};
@@ -11,7 +11,7 @@ use crate::token::{Nesting, Token};
 use std::alloc::{AllocError, Global};
 use std::str::from_utf8;
 
-/// A group opens. A `?` stands behind its `(` in `(?:` alone.
+/// Reads the start of a group after its `(`. A `?` may follow only in `(?:`.
 fn opening(rest: &[char]) -> Option<(Token, usize)>
     ensures value { result ≡ opening_of rest.now }
     ensures within { IfSome result (λ t. t.1 ≤ length rest.now) }
@@ -26,7 +26,7 @@ fn opening(rest: &[char]) -> Option<(Token, usize)>
     }
 }
 
-/// What a backslash and the character behind it are.
+/// Returns the token of a backslash and the next character.
 fn escape(rest: &[char]) -> Option<(Token, usize)>
     ensures value { result ≡ escape_of rest.now }
     ensures within { IfSome result (λ t. t.1 ≤ length rest.now) }
@@ -45,7 +45,7 @@ fn escape(rest: &[char]) -> Option<(Token, usize)>
     }
 }
 
-/// What begins with a character, and how many characters behind it belong to it.
+/// Returns the token that a character begins, and the number of later characters that belong to it.
 #[tactic(auto, unfolding(crate::specs::Scan::token_at))]
 fn token_at(c: char, rest: &[char]) -> Option<(Token, usize)>
     ensures value { result ≡ token_of c rest.now }
@@ -64,7 +64,7 @@ fn token_at(c: char, rest: &[char]) -> Option<(Token, usize)>
     }
 }
 
-/// A token of so many characters behind its first.
+/// Returns a token with the number of characters after its first.
 fn with_token(token: Token, count: Option<usize>) -> Option<(Token, usize)>
     ensures { result ≡ option_map (λ n. (token, n)) count }
 {
@@ -74,7 +74,7 @@ fn with_token(token: Token, count: Option<usize>) -> Option<(Token, usize)>
     }
 }
 
-/// The nesting behind a token, where the token may stand.
+/// Returns the nesting after a token. `None` if the token may not stand there.
 fn behind(nesting: Nesting, token: Token) -> Option<Nesting>
     requires { nesting.opened + nesting.left < 2 ^ 63 }
     ensures value { result ≡ behind_of nesting token }
@@ -120,7 +120,7 @@ fn behind(nesting: Nesting, token: Token) -> Option<Nesting>
     }
 }
 
-/// Whether the characters are a pattern.
+/// Returns whether the characters are a pattern.
 fn accepts(chars: &[char]) -> bool
     ensures { result ≡ accepts_of chars.now outermost }
 {
@@ -143,9 +143,10 @@ fn accepts(chars: &[char]) -> bool
     nesting.opened == 0
 }
 
-/// A text in UTF-8, where it is a regular pattern: of at most 4,096 bytes, with groups nested at most 50 deep.
+/// Returns the text as UTF-8 if it is a regular pattern: at most 4,096 bytes, with groups nested at
+/// most 50 deep.
 ///
-/// It takes memory for the text's characters.
+/// It allocates the characters of the text.
 #[tactic(auto, unfolding(crate::specs::Scan::is_pattern))]
 pub(crate) fn pattern_text(alloc: Global, text: &[u8]) -> Result<Option<&str>, AllocError>
     ensures { IfOk result (λ found. MatchOption found (is_pattern text.now ≡ false) (λ s. (is_pattern text.now ≡ true) × (s.now ≡ text.now))) }
@@ -164,14 +165,15 @@ pub(crate) fn pattern_text(alloc: Global, text: &[u8]) -> Result<Option<&str>, A
     }
 }
 
-/// The characters of a text.
+/// Returns the characters of a text.
 fn characters(alloc: Global, text: &str) -> Result<Vec<char>, AllocError>
     ensures { IfOk result (λ v. v.items ≡ chars text.now) }
 {
     text.chars().collect(alloc)
 }
 
-/// The law of the grammar: what `PatternList::build` takes for a regular pattern is what the rules derive.
+/// States the law of the grammar: `PatternList::build` accepts exactly the regular patterns that
+/// the rules derive.
 pub fn pattern_rules()
     ensures { (text : List ℕ) → (is_pattern text ≡ true) ↔ RePattern text }
 {}

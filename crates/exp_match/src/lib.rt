@@ -1,6 +1,8 @@
-//! The patterns of an `expect` command: how its arguments write them, and which of them matches bytes first, as expect(1) has it.
+//! The patterns of an `expect` command: how its arguments write them, and which one matches first,
+//! as in expect(1).
 //!
-//! `specs/Arguments.antt` says how arguments are read, `specs/Grammar.antt` which texts are regular patterns, and `specs/Choice.antt` which pattern is chosen.
+//! `specs/Arguments.antt` defines how arguments are read. `specs/Grammar.antt` defines which texts
+//! are regular patterns. `specs/Choice.antt` defines which pattern is chosen.
 #![tactic(auto)]
 
 mod arguments;

@@ -1,4 +1,4 @@
-//! What searches for a regular pattern.
+//! Searches for a regular pattern.
 
 ghost use Rattle.std.specs.Prelude.{◌≡◌, ℕ, ◌<◌, Some, None, IsTrue, IfOk, IfSome, length, option_map, take};
 ghost use Rattle.std.specs.Bool.{then_some};
@@ -14,19 +14,19 @@ use regex::bytes::{Captures, Match, Matcher, Regex};
 use std::alloc::{AllocError, Global};
 use std::marker::Model;
 
-/// The spans of a match and of its groups 1 to 9: start and exclusive end, or none.
+/// The spans of a match and of its groups 1 to 9: start and exclusive end, or `None`.
 pub type Spans = [Option<(usize, usize)>; 10];
 
-/// What a search for a pattern writes to, and what the next one goes on with. A contract sees the pattern.
+/// The state of a search for a pattern, which later searches reuse. A contract sees the pattern.
 #[derive(Drop)]
 pub(crate) struct RegularMatcher<'r> {
     /// The compiled pattern.
     regex: &'r Regex,
     /// Whether letters match in either case.
     nocase: bool,
-    /// How many bytes decide whether a match begins at a place, where that is known.
+    /// The number of bytes that decide whether a match begins at an index, if it is known.
     opening: Option<usize>,
-    /// What searches for it.
+    /// The matcher of `regex`.
     matcher: Matcher<'r>,
 }
 
@@ -44,7 +44,7 @@ impl<'r> Model for RegularMatcher<'r> {
 }
 
 impl<'r> RegularMatcher<'r> {
-    /// One that searches for this pattern.
+    /// Creates a matcher for this pattern.
     pub(crate) fn new(alloc: Global, regular: &'r Regular) -> Result<RegularMatcher<'r>, AllocError>
         ensures { IfOk result (λ m. m ≡ regular.now) }
     {
@@ -57,15 +57,18 @@ impl<'r> RegularMatcher<'r> {
         })
     }
 
-    /// Whether it searches for this pattern.
+    /// Returns true only if this is a matcher for the pattern.
     pub(crate) fn is_for(&self, regular: &Regular) -> bool
         ensures { IsTrue result → self.now ≡ regular.now }
     {
         self.nocase == regular.nocase() && self.regex.as_str() == regular.regex().as_str()
     }
 
-    /// Whether there is a match in these bytes; where there is, the spans of the first one, leftmost-first, are written. A pattern of a known
-    /// opening found nothing in so many bytes of the front, or none were sought: it looks at no more of them than its opening has.
+    /// Returns whether there is a match in these bytes, and writes the spans of the first one,
+    /// leftmost-first.
+    ///
+    /// A pattern with a bounded opening must have no match in `bytes[..sought]`. Pass 0 if unknown.
+    /// It reads no more of these bytes again than its opening has.
     pub(crate) fn find(&mut self, bytes: &[u8], sought: usize, spans: &mut Spans) -> bool
         requires { 0 < sought → IsBounded self.old → FindsAsWritten self.old (take sought bytes.now) None }
         ensures written { FindsAsWritten self.old bytes.now (then_some result spans.new) }
@@ -77,7 +80,8 @@ impl<'r> RegularMatcher<'r> {
     }
 }
 
-/// Whether a match begins at a place or behind it; where one does, the spans of the first one, leftmost-first, are written.
+/// Returns whether a match begins at or after index `start`, and writes the spans of the first one,
+/// leftmost-first.
 fn first_match(matcher: &mut Matcher, bytes: &[u8], start: usize, spans: &mut Spans) -> bool
     ensures shows { Shows (option_map seen_of (find (matcher_pattern matcher.old) bytes.now start)) (then_some result spans.new) }
     ensures ten { IfSome (then_some result spans.new) (λ s. length s ≡ 10) }
@@ -92,7 +96,7 @@ fn first_match(matcher: &mut Matcher, bytes: &[u8], start: usize, spans: &mut Sp
     }
 }
 
-/// The spans of the groups 0 to 9.
+/// Returns the spans of the groups 0 to 9.
 fn spans_of(captures: &Captures) -> Spans
     ensures ten { length result ≡ 10 }
     ensures are { (n : ℕ) → n < 10 → slice_get result n ≡ Some (captures_span captures.now n) }
@@ -104,7 +108,7 @@ fn spans_of(captures: &Captures) -> Spans
     spans
 }
 
-/// Where a match starts and ends.
+/// Returns the start and the end of a match.
 fn span_of(found: Option<Match>) -> Option<(usize, usize)>
     ensures { result ≡ option_map match_span found.entry }
 {

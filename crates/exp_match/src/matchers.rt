@@ -1,4 +1,4 @@
-//! What searches for the regular patterns of a list, from a test to the next.
+//! The matchers of the regular patterns in a list, kept from one test to the next.
 
 ghost use Rattle.std.specs.Prelude.{◌≡◌, ◌<◌, Some, None, IfOk, IfSome, length, take};
 ghost use Rattle.std.specs.Bool.{then_some};
@@ -11,12 +11,12 @@ use crate::regular::Regular;
 use std::alloc::{AllocError, Global};
 use std::marker::Model;
 
-/// Matchers of regular patterns, each made at the first search for its pattern and kept for the next ones.
+/// Matchers of regular patterns. Each is made at the first search for its pattern and then kept.
 ///
-/// A contract sees nothing of them: what is found with them is what is found without.
+/// A contract sees nothing of them: results are the same with and without them.
 #[derive(Drop)]
 pub struct Matchers<'l> {
-    /// One for each pattern that was searched for.
+    /// One matcher per pattern that was searched for.
     list: Vec<RegularMatcher<'l>>,
 }
 
@@ -28,7 +28,7 @@ impl<'l> Model for Matchers<'l> {
     ghost view = { λ _. tt };
 }
 
-/// Where the matcher of a pattern stands.
+/// Returns the index of the matcher for a pattern.
 fn position(matchers: &[RegularMatcher], regular: &Regular) -> Option<usize>
     ensures { IfSome result (λ n. (n < length matchers.now) × (slice_get matchers.now n ≡ Some regular.now)) }
 {
@@ -41,18 +41,18 @@ fn position(matchers: &[RegularMatcher], regular: &Regular) -> Option<usize>
 }
 
 impl<'l> Matchers<'l> {
-    /// No matchers. It allocates nothing.
+    /// Creates an empty list without allocating.
     pub fn new(alloc: Global) -> Matchers<'l> {
         Matchers {
             list: Vec::new(alloc),
         }
     }
 
-    /// Whether a pattern matches in these bytes; where it does, the spans of its first match are written. A pattern of a known opening found
-    /// nothing in so many bytes of the front, or none were sought.
+    /// Returns whether a pattern matches in these bytes, and writes the spans of its first match. A
+    /// pattern with a bounded opening must have no match in `bytes[..sought]`. Pass 0 if unknown.
     ///
-    /// It isn't inlined, nor is `find_newly`: a function pays at entry for the size of its locals, which are large here, and a test of other
-    /// patterns has none of them.
+    /// Neither this function nor `find_newly` is inlined. A function pays at entry for the size of
+    /// its locals, which are large here, and tests of other patterns don't need them.
     #[inline(never)]
     pub(crate) fn find(
         &mut self,
@@ -72,7 +72,7 @@ impl<'l> Matchers<'l> {
         }
     }
 
-    /// The same for a pattern that was not searched for yet.
+    /// Like `find`, for a pattern without a matcher yet.
     #[inline(never)]
     fn find_newly(
         &mut self,

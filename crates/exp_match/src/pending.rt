@@ -1,4 +1,4 @@
-//! What stands behind the arguments that are read.
+//! The state between two arguments of `expect`.
 
 use crate::entry::{Keyword, Want};
 use crate::list::PatternList;
@@ -14,29 +14,29 @@ pub enum Mark {
     Notransfer,
 }
 
-/// The flags for the next pattern.
+/// The flags before the next pattern.
 #[derive(Clone, Copy)]
 pub struct Marks {
-    /// `-nocase` stands before it.
+    /// `-nocase` was given.
     pub nocase: bool,
-    /// `-indices` stands before it.
+    /// `-indices` was given.
     pub indices: bool,
-    /// `-notransfer` stands before it.
+    /// `-notransfer` was given.
     pub notransfer: bool,
 }
 
 /// How a pattern is written.
 #[derive(Clone, Copy)]
 pub enum Way {
-    /// Behind `-ex` or `-exact`.
+    /// After `-ex` or `-exact`.
     Exact,
-    /// Behind `-gl` or `-glob`, or with no flag.
+    /// After `-gl` or `-glob`, or without a flag.
     Glob,
-    /// Behind `-re` or `-regexp`.
+    /// After `-re` or `-regexp`.
     Regular,
 }
 
-/// What an argument is, where a pattern may stand.
+/// The role of an argument in the place of a pattern.
 #[derive(Clone, Copy)]
 pub enum Role {
     /// A flag for the next pattern.
@@ -45,28 +45,28 @@ pub enum Role {
     Id,
     /// `-timeout`
     Timeout,
-    /// A flag that says how the next argument is written.
+    /// A flag that tells how the next argument is written.
     Written(Way),
     /// A keyword.
     Keyword(Keyword),
     /// A glob pattern.
     Glob,
-    /// Nothing that may stand here.
+    /// An argument that may not stand here.
     Bad,
 }
 
-/// What may stand next. A flag is named by its place.
+/// What may come next. The numbers are the indices of flags.
 #[derive(Drop)]
 pub enum Pending {
-    /// A flag, a pattern or a keyword, or the end.
+    /// A flag, a pattern, a keyword, or the end.
     Front,
-    /// The same, but for the end: this flag stands last.
+    /// A flag, a pattern or a keyword, but not the end, because this flag came last.
     More(usize),
-    /// The process behind this `-i`.
+    /// The spawn id after this `-i`.
     Id(usize),
-    /// The time behind this `-timeout`.
+    /// The time after this `-timeout`.
     Timeout(usize),
-    /// The pattern behind this flag.
+    /// The pattern after this flag.
     Pattern(Way, usize),
     /// The action of a pattern or keyword, or the end.
     Action(Want),
@@ -77,8 +77,8 @@ pub enum Pending {
 pub struct Reader {
     /// The entries with their actions.
     pub list: PatternList,
-    /// The flags for the next pattern.
+    /// The flags before the next pattern.
     pub marks: Marks,
-    /// What may stand next.
+    /// What may come next.
     pub pending: Pending,
 }

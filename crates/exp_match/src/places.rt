@@ -1,8 +1,8 @@
-//! What stands at a place and behind it.
+//! Parts of a slice at and after an index.
 
 ghost use Rattle.std.specs.Prelude.{◌≡◌, ◌≤◌, ◌<◌, ◌≢◌, ◌==◌, IsTrue, drop, length, slice_index};
 
-/// The items from a place on.
+/// Returns the items from an index on.
 pub(crate) fn after<T>(items: &[T], at: usize) -> &[T]
     requires { at ≤ length items.now }
     ensures { result.now ≡ drop at items.now }
@@ -10,7 +10,7 @@ pub(crate) fn after<T>(items: &[T], at: usize) -> &[T]
     items.split_at(at).1
 }
 
-/// The character at a place, or NUL past the end.
+/// Returns the character at an index, or NUL past the end.
 pub(crate) fn char_at(chars: &[char], at: usize) -> char
     ensures value { result ≡ slice_index chars.now at }
     ensures within { result ≢ 0 → at < length chars.now }
@@ -21,7 +21,7 @@ pub(crate) fn char_at(chars: &[char], at: usize) -> char
     }
 }
 
-/// Whether a character that isn't NUL stands at a place.
+/// Returns whether the character at an index is c, which isn't NUL.
 pub(crate) fn is_at(chars: &[char], at: usize, c: char) -> bool
     requires { c ≢ 0 }
     ensures value { result ≡ (slice_index chars.now at == c) }

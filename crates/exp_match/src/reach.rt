@@ -1,4 +1,4 @@
-//! How many bytes decide whether a match of a regular pattern begins at a place.
+//! Computes how many bytes decide whether a match of a regular pattern begins at an index.
 
 ghost use Rattle.std.specs.Prelude.{◌≡◌, ℕ, ◌-◌, Bool, false, map, Option, IfSome, MatchOption};
 ghost use Rattle.regex.specs.Patterns.{Re, empty, cat, alt, repeat, cat_all, alt_all};
@@ -10,9 +10,11 @@ use regex_hir::{Hir, Look};
 use regex_syntax::{Config, Flags, parse};
 use std::alloc::Global;
 
-/// How many bytes decide whether a match of a pattern begins at a place, where what stands in front of it doesn't matter.
+/// Returns how many bytes decide whether a match of a pattern begins at an index, if earlier bytes
+/// don't matter. `None` if this isn't known.
 ///
-/// The text is read once more, since a compiled pattern doesn't tell. Where there is no memory for that nothing is known.
+/// It parses the text once more, because a compiled pattern doesn't contain this. Without memory
+/// for that, the result is `None`.
 pub(crate) fn opening_of_text(alloc: Global, source: &str, nocase: bool) -> Option<usize>
     ensures { IfSome result (Opens (record { source = source.now; nocase = nocase })) }
 {
@@ -22,7 +24,7 @@ pub(crate) fn opening_of_text(alloc: Global, source: &str, nocase: bool) -> Opti
     known.opening
 }
 
-/// How `Regular` has its text read.
+/// Returns the settings with which `Regular` parses its text.
 fn config(nocase: bool) -> Config
     ensures { result ≡ config_of nocase }
 {
@@ -38,7 +40,7 @@ fn config(nocase: bool) -> Config
     }
 }
 
-/// Where a search begins, by the pattern's opening, behind so many bytes in which nothing was found.
+/// Returns the index from which a search starts if the first `sought` bytes hold no match.
 pub(crate) fn start_behind(opening: Option<usize>, sought: usize) -> usize
     ensures { MatchOption opening (result ≡ 0) (λ m. result ≡ sought - (m - 1)) }
 {
@@ -51,17 +53,19 @@ pub(crate) fn start_behind(opening: Option<usize>, sought: usize) -> usize
 /// What is known of a pattern.
 #[derive(Clone, Copy)]
 struct Extent {
-    /// It matches the empty text at every place.
+    /// It matches the empty text at every index.
     is_nullable: bool,
-    /// The most bytes that a match takes. None where it isn't known: there is no such number, it is too great, or a part without one is repeated no
-    /// time.
+    /// The most bytes that a match takes. `None` if this isn't known: there is no such number, it
+    /// is too great, or a part without one is repeated zero times.
     reach: Option<usize>,
-    /// How many bytes decide whether a match begins: the reach of its beginning. None where it isn't known.
+    /// The number of bytes that decide whether a match begins: the reach of its beginning. `None`
+    /// if this isn't known.
     opening: Option<usize>,
 }
 
 impl Extent {
-    /// Of a pattern that is its own beginning and that not every place matches.
+    /// Returns the extent of a pattern that is its own beginning and doesn't match the empty text
+    /// everywhere.
     fn of(reach: Option<usize>) -> Extent
         ensures { (a : Re) → IsReach reach a → is_nullable a ≡ false → beginning a ≡ a → IsExtent result a }
     {
@@ -72,7 +76,7 @@ impl Extent {
         }
     }
 
-    /// Of the empty pattern.
+    /// Returns the extent of the empty pattern.
     fn empty() -> Extent
         ensures { IsExtent result empty }
     {
@@ -83,7 +87,7 @@ impl Extent {
         }
     }
 
-    /// Of a pattern and one behind it.
+    /// Returns the extent of a sequence of two patterns.
     fn followed_by(self, next: Extent) -> Extent
         ensures { (a b : Re) → IsExtent self a → IsExtent next b → IsExtent result (cat a b) }
     {
@@ -94,7 +98,7 @@ impl Extent {
         }
     }
 
-    /// The opening of a pattern and one behind it.
+    /// Returns the opening of a sequence of two patterns.
     fn opening_before(self, next: Extent) -> Option<usize>
         ensures { (a b : Re) → IsExtent self a → IsExtent next b → IsReach result (beginning (cat a b)) }
     {
@@ -105,7 +109,7 @@ impl Extent {
         }
     }
 
-    /// Of a pattern or another one.
+    /// Returns the extent of two alternatives.
     fn or(self, other: Extent) -> Extent
         ensures { (a b : Re) → IsExtent self a → IsExtent other b → IsExtent result (alt a b) }
     {
@@ -116,7 +120,7 @@ impl Extent {
         }
     }
 
-    /// Of a pattern under a repetition.
+    /// Returns the extent of a repetition.
     fn repeated(self, min: u32, max: Option<u32>) -> Extent
         ensures { (greedy : Bool) (a : Re) → IsExtent self a → IsExtent result (repeat min max greedy a) }
     {
@@ -127,7 +131,7 @@ impl Extent {
         }
     }
 
-    /// Whether a pattern under a repetition matches the empty text at every place.
+    /// Returns whether a repetition matches the empty text at every index.
     fn is_nullable_repeated(self, min: u32) -> bool
         ensures { (max : Option ℕ) (greedy : Bool) (a : Re) → IsExtent self a → result ≡ is_nullable (repeat min max greedy a) }
     {
@@ -137,7 +141,8 @@ impl Extent {
         self.is_nullable
     }
 
-    /// The opening of a pattern under a repetition, where it takes any byte: all but the last of the least rounds are whole.
+    /// Returns the opening of a repetition whose pattern takes at least one byte. All required
+    /// rounds but the last are complete.
     fn opening_repeated(self, min: u32) -> Option<usize>
         ensures { (max : Option ℕ) (greedy : Bool) (a : Re) → IsExtent self a → IsReach result (beginning (repeat min max greedy a)) }
     {
@@ -149,7 +154,7 @@ impl Extent {
     }
 }
 
-/// What is known of a pattern.
+/// Returns what is known of a pattern.
 #[cycle(extent_of)]
 fn extent_of(hir: &Hir) -> Extent
     ensures { IsExtent result (meaning hir.now) }
@@ -167,7 +172,7 @@ fn extent_of(hir: &Hir) -> Extent
     }
 }
 
-/// The reach of an assertion: none but for the end of the bytes.
+/// Returns the reach of an assertion. Only the end of the bytes has one.
 fn reach_of_look(look: Look) -> Option<usize>
     ensures { result ≡ look_reach look }
 {
@@ -177,7 +182,8 @@ fn reach_of_look(look: Look) -> Option<usize>
     }
 }
 
-/// What is known of patterns one after another. The loop goes from the last one back, as `cat_all` is built.
+/// Returns the extent of a sequence. The loop runs from the last pattern to the first, as `cat_all`
+/// is built.
 #[cycle(extent_of)]
 fn extent_of_all(subs: &[Hir]) -> Extent
     ensures { IsExtent result (cat_all (map meaning subs.now)) }
@@ -189,7 +195,8 @@ fn extent_of_all(subs: &[Hir]) -> Extent
     rest
 }
 
-/// What is known of a choice of patterns. The loop goes from the last one back, as `alt_all` is built, whose end is a class without members.
+/// Returns the extent of a choice. The loop runs from the last pattern to the first, as `alt_all`
+/// is built, which ends with an empty class.
 #[cycle(extent_of)]
 fn extent_of_any(subs: &[Hir]) -> Extent
     ensures { IsExtent result (alt_all (map meaning subs.now)) }
@@ -201,21 +208,21 @@ fn extent_of_any(subs: &[Hir]) -> Extent
     others
 }
 
-/// The reach of a pattern and one behind it.
+/// Returns the reach of a sequence of two patterns.
 fn sum(first: Option<usize>, second: Option<usize>) -> Option<usize>
     ensures { (a b : Re) → IsReach first a → IsReach second b → IsReach result (cat a b) }
 {
     first?.checked_add(second?)
 }
 
-/// The reach of a pattern or another one.
+/// Returns the reach of two alternatives.
 fn greater(first: Option<usize>, second: Option<usize>) -> Option<usize>
     ensures { (a b : Re) → IsReach first a → IsReach second b → IsReach result (alt a b) }
 {
     Some(first?.max(second?))
 }
 
-/// The reach of a pattern under a repetition.
+/// Returns the reach of a repetition.
 fn repeated(once: Option<usize>, min: u32, max: Option<u32>) -> Option<usize>
     ensures { (greedy : Bool) (a : Re) → IsReach once a → IsReach result (repeat min max greedy a) }
 {
@@ -223,7 +230,7 @@ fn repeated(once: Option<usize>, min: u32, max: Option<u32>) -> Option<usize>
     once?.checked_mul(rounds as usize)
 }
 
-/// The reach of so many copies of a pattern and one behind them.
+/// Returns the reach of a number of copies of a pattern, followed by another pattern.
 fn behind_rounds(once: Option<usize>, rounds: u32, last: Option<usize>) -> Option<usize>
     ensures { (a b : Re) → IsReach once a → IsReach last b → IsReach result (copies rounds a b) }
 {

@@ -1,4 +1,4 @@
-//! What a list of patterns says, without taking memory.
+//! Queries a list of patterns without allocating.
 
 ghost use Rattle.std.specs.Prelude.{◌≡◌, ◌+◌, ◌<◌, ◌≤◌, Some, IfErr, IfSome, position, length, option_map};
 ghost use Rattle.std.specs.List.{slice_get};
@@ -15,7 +15,7 @@ use crate::list::PatternList;
 use std::alloc::Global;
 use tcl_values::Value;
 
-/// Whether an entry serves when the output has ended.
+/// Returns whether an entry applies at the end of output.
 fn waits_for_end(want: &Want) -> bool
     ensures { result ≡ waits_for_end_of want.now }
 {
@@ -26,7 +26,7 @@ fn waits_for_end(want: &Want) -> bool
     }
 }
 
-/// Whether an entry serves when the time is over.
+/// Returns whether an entry applies when the time has run out.
 fn waits_for_time(want: &Want) -> bool
     ensures { result ≡ waits_for_time_of want.now }
 {
@@ -37,7 +37,7 @@ fn waits_for_time(want: &Want) -> bool
     }
 }
 
-/// Whether an entry serves when the buffer is full.
+/// Returns whether an entry applies when the buffer is full.
 fn waits_for_full(want: &Want) -> bool
     ensures { result ≡ waits_for_full_of want.now }
 {
@@ -47,7 +47,7 @@ fn waits_for_full(want: &Want) -> bool
     }
 }
 
-/// Whether an entry is `timeout`.
+/// Returns whether an entry is `timeout`.
 fn waits_for_time_alone(want: &Want) -> bool
     ensures { result ≡ waits_for_time_alone_of want.now }
 {
@@ -58,9 +58,10 @@ fn waits_for_time_alone(want: &Want) -> bool
 }
 
 impl PatternList {
-    /// The list that the arguments of `expect` write.
+    /// Reads the list that the arguments of `expect` write.
     ///
-    /// The first bad argument decides, with its place. `Refused` tells that one of them is a pattern of which `regex` builds no program.
+    /// An error is that of the first bad argument, with its index. `Refused` means that `regex`
+    /// doesn't compile one of the patterns.
     pub fn build(alloc: Global, args: &[Value]) -> Result<PatternList, PatternFault>
         ensures given { Gives result (patterns_of args.now) }
         ensures refused { IfErr result (IsOfOne args.now) }
@@ -68,7 +69,7 @@ impl PatternList {
         PatternList::build_with(alloc, &mut Compiled::new(alloc), args)
     }
 
-    /// The same, where patterns that come again are taken from those that were compiled, and new ones are kept there.
+    /// Like `build`, but takes patterns from a cache of compiled ones and adds new ones to it.
     pub fn build_with(
         alloc: Global,
         compiled: &mut Compiled,
@@ -80,7 +81,7 @@ impl PatternList {
         read(alloc, compiled, args)
     }
 
-    /// The script of an entry, maybe empty.
+    /// Returns the script of an entry. It may be empty.
     pub fn action(&self, index: usize) -> &[u8]
         requires { index < length self.now.entries }
         ensures { option_map (λ e. e.action) (slice_get self.now.entries index) ≡ Some result.now }
@@ -88,7 +89,7 @@ impl PatternList {
         self.entries.as_slice()[index].action.as_slice()
     }
 
-    /// Whether `-indices` and `-notransfer` stand before an entry's pattern.
+    /// Returns whether `-indices` and `-notransfer` precede an entry's pattern.
     pub fn marks(&self, index: usize) -> (bool, bool)
         requires { index < length self.now.entries }
         ensures { option_map (λ e. (e.indices, e.notransfer)) (slice_get self.now.entries index) ≡ Some result }
@@ -97,7 +98,7 @@ impl PatternList {
         (entry.indices, entry.notransfer)
     }
 
-    /// The first listed `eof` or `default` of these groups.
+    /// Returns the index of the first `eof` or `default` in these groups.
     pub fn at_end(&self, groups: &[usize]) -> Option<usize>
         ensures first { result ≡ first_in waits_for_end_of groups.now self.now.entries }
         ensures within { IfSome result (λ n. n < length self.now.entries) }
@@ -108,7 +109,7 @@ impl PatternList {
             .position(|e| in_groups(groups, e) && waits_for_end(&e.want))
     }
 
-    /// The first listed `full_buffer` of these groups.
+    /// Returns the index of the first `full_buffer` in these groups.
     pub fn at_full(&self, groups: &[usize]) -> Option<usize>
         ensures first { result ≡ first_in waits_for_full_of groups.now self.now.entries }
         ensures within { IfSome result (λ n. n < length self.now.entries) }
@@ -119,7 +120,7 @@ impl PatternList {
             .position(|e| in_groups(groups, e) && waits_for_full(&e.want))
     }
 
-    /// The first listed `timeout` or `default` of any group.
+    /// Returns the index of the first `timeout` or `default` in any group.
     pub fn at_timeout(&self) -> Option<usize>
         ensures first { result ≡ position (λ e. waits_for_time_of e.want) self.now.entries }
         ensures within { IfSome result (λ n. n < length self.now.entries) }
@@ -130,14 +131,14 @@ impl PatternList {
             .position(|e| waits_for_time(&e.want))
     }
 
-    /// How many groups there are: one more than `-i` stands there.
+    /// Returns the number of groups: one more than the number of `-i` flags.
     pub fn groups(&self) -> usize
         ensures { result ≡ length self.now.ids + 1 }
     {
         self.ids.as_slice().len() + 1
     }
 
-    /// Whether a pattern, or a keyword other than `timeout`, stands in a group.
+    /// Returns whether a group has an entry other than `timeout`.
     pub fn serves(&self, group: usize) -> bool
         requires { group ≤ length self.now.ids }
         ensures { result ≡ serves_of group self.now.entries }

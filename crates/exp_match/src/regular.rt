@@ -1,4 +1,4 @@
-//! Regular patterns, compiled.
+//! Compiled regular patterns.
 
 ghost use Rattle.std.specs.Prelude.{◌≡◌, true, IsTrue, IfErr, IfOk, IfSome};
 ghost use Rattle.regex.specs.Bytes.{IsReadFromSource, regex_config, regex_source};
@@ -15,14 +15,15 @@ use std::alloc::{AllocError, Global};
 use std::marker::Model;
 use std::rc::Rc;
 
-/// A regular pattern, compiled once and maybe with several owners. A contract sees its text and whether case counts.
+/// A compiled regular pattern, possibly with several owners. A contract sees its text and whether
+/// case is ignored.
 #[derive(Drop)]
 pub struct Regular {
     /// The compiled pattern.
     regex: Rc<Regex>,
     /// Whether letters match in either case.
     nocase: bool,
-    /// How many bytes decide whether a match begins at a place, where that is known.
+    /// The number of bytes that decide whether a match begins at an index, if it is known.
     opening: Option<usize>,
 }
 
@@ -40,7 +41,7 @@ impl Model for Regular {
     ghost invariant = { λ r. (regex_config r.regex.value ≡ config_of r.nocase) × IsReadFromSource r.regex.value × (is_pattern (regex_source r.regex.value) ≡ true) × IfSome r.opening (Opens (record { source = regex_source r.regex.value; nocase = r.nocase })) };
 }
 
-/// What an error of a build counts as.
+/// Returns the meaning of a compile error.
 fn refusal_for(error: &Error) -> Refusal
     ensures { result ≡ refusal_of error.now }
 {
@@ -51,9 +52,10 @@ fn refusal_for(error: &Error) -> Refusal
 }
 
 impl Regular {
-    /// The pattern that a text of the grammar is. `.` takes a newline too.
+    /// Compiles a text of the grammar. `.` matches a newline too.
     ///
-    /// `Refused` where `regex` builds no program of it, as for one that is too big.
+    /// `Refused` means that `regex` doesn't compile it, for example because its program would be
+    /// too big.
     pub(crate) fn build(alloc: Global, source: &str, nocase: bool) -> Result<Regular, Refusal>
         requires { is_pattern source.now ≡ true }
         ensures built { IfOk result (λ r. r ≡ record { source = source.now; nocase = nocase }) }
@@ -71,7 +73,7 @@ impl Regular {
         }
     }
 
-    /// A compiled pattern as its first owner has it.
+    /// Wraps a compiled pattern for its first owner.
     fn owned(
         alloc: Global,
         regex: Regex,
@@ -91,7 +93,7 @@ impl Regular {
         })
     }
 
-    /// The same pattern for a further owner. It copies nothing.
+    /// Returns the same pattern for another owner, without copying it.
     pub(crate) fn shared(&self) -> Result<Regular, AllocError>
         ensures { IfOk result (λ r. r ≡ self.now) }
     {
@@ -102,21 +104,22 @@ impl Regular {
         })
     }
 
-    /// Its text.
+    /// Returns the text of the pattern.
     pub fn source(&self) -> &[u8]
         ensures { result.now ≡ self.now.source }
     {
         self.regex.as_str().as_bytes()
     }
 
-    /// Whether it has this text and case. Such a text is one of the grammar.
+    /// Returns true only if the pattern has this text and case. The text is then one of the
+    /// grammar.
     pub(crate) fn is(&self, text: &[u8], nocase: bool) -> bool
         ensures { IsTrue result → (is_pattern text.now ≡ true) × (self.now ≡ record { source = text.now; nocase = nocase }) }
     {
         self.nocase == nocase && self.source() == text
     }
 
-    /// The compiled pattern.
+    /// Returns the compiled pattern.
     pub(crate) fn regex(&self) -> &Regex
         ensures source { regex_source result.now ≡ self.now.source }
         ensures config { regex_config result.now ≡ config_of self.now.nocase }
@@ -125,14 +128,15 @@ impl Regular {
         &self.regex
     }
 
-    /// Whether letters match in either case.
+    /// Returns whether letters match in either case.
     pub fn nocase(&self) -> bool
         ensures { result ≡ self.now.nocase }
     {
         self.nocase
     }
 
-    /// How many bytes decide whether a match begins at a place, where that is known and what stands in front of it doesn't matter.
+    /// Returns how many bytes decide whether a match begins at an index, if earlier bytes don't
+    /// matter. `None` if this isn't known.
     pub(crate) fn opening(&self) -> Option<usize>
         ensures { IfSome result (Opens self.now) }
     {

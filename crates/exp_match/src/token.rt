@@ -1,9 +1,9 @@
-//! What a regular pattern is made of.
+//! The tokens of a regular pattern.
 
-/// What stands at a place of a regular pattern.
+/// A token of a regular pattern.
 #[derive(Clone, Copy)]
 pub enum Token {
-    /// `|`, `^` or `$`: nothing that can be repeated.
+    /// `|`, `^` or `$`: it can't be repeated.
     Bound,
     /// `*`, `+`, `?` or a count.
     Repeat,
@@ -15,13 +15,13 @@ pub enum Token {
     Atom,
 }
 
-/// What stands before a place of a regular pattern, as far as it matters behind it.
+/// The state between two tokens of a regular pattern.
 #[derive(Clone, Copy)]
 pub struct Nesting {
-    /// How many groups are open.
+    /// The number of open groups.
     pub opened: usize,
-    /// How many more may open in one another.
+    /// How many more groups may open inside them.
     pub left: usize,
-    /// An atom or a group ended here, so it may be repeated.
+    /// An atom or a group ended here, so a repetition may follow.
     pub repeatable: bool,
 }

@@ -15,9 +15,9 @@ use Rattle.expect_core.proofs.Hushes.{unmarked_quiet}
 use Rattle.expect_core.proofs.Vain.{sought_at_first}
 
 -- nothing is known of so many children
-module _ (n : ℕ) (k : Known) (quiet : k.quiet ≡ unmarked n) (sought : k.sought ≡ nothing_sought) where
+module _ (n : ℕ) (k : Known) (quiet : k.quiet ≡ unmarked n) (sought : k.sought ≡ nothing_sought n) where
   pub knows_nothing : (p : Plan) (o : Own) → Knows p k o
-  knows_nothing p o = (unmarked_quiet p n k.quiet o quiet, sought_at_first p k.sought o sought)
+  knows_nothing p o = (unmarked_quiet p n k.quiet o quiet, sought_at_first p n k.sought o sought)
 
   pub nothing_of : (w : Want) (o : Own) → KnowsOf w k o
   nothing_of (want.Output p) o = knows_nothing p o

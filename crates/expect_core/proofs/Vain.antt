@@ -123,8 +123,8 @@ module _ (p : Plan) where
   none_counted (suc m) zero = refl
   none_counted (suc m) (suc k) = none_counted m k
 
-  pub sought_at_first : (counts : List ℕ) (o : Own) → counts ≡ nothing_sought → AreSought p counts o
-  sought_at_first counts o is = λ k lt. unsought (side p k) (slice_index counts k) o (ap (λ (cs : List ℕ). slice_index cs k) is ∙ none_counted 16 k)
+  pub sought_at_first : (n : ℕ) (counts : List ℕ) (o : Own) → counts ≡ nothing_sought n → AreSought p counts o
+  sought_at_first n counts o is = λ k lt. unsought (side p k) (slice_index counts k) o (ap (λ (cs : List ℕ). slice_index cs k) is ∙ none_counted n k)
 
   -- a piece was taken
   pub sought_behind : (counts : List ℕ) (i : ℕ) (piece : List ℕ) (o new : Own) → new ≡ received i piece o → AreSought p counts o → AreSought p counts new

@@ -1,4 +1,4 @@
--- How an action goes back to its expect.
+-- `exp_continue`: an action goes back to its `expect` (expect(1)).
 use Rattle.std.specs.Prelude.{ℕ, List, [], if◌then◌else◌, Ok}
 use Rattle.command_table.specs.declared.commands.ExpectCommand.TheVariants as command
 use Rattle.tcl_commands.specs.declared.code.Code.{Code}

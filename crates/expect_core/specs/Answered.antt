@@ -1,4 +1,4 @@
--- What a call comes to, and the answers to its requests.
+-- The outcome of a call, and the answers to its requests.
 use Rattle.std.specs.Prelude.{ℕ, List, [], ◌∷◌, if◌then◌else◌, Option, Some, None}
 use Rattle.child_events.specs.declared.event.Answer.{Answer}
 use Rattle.child_events.specs.declared.event.Answer.TheVariants as answer
@@ -11,26 +11,26 @@ use Rattle.expect_core.specs.declared.own.Own.{Own}
 use Rattle.expect_core.specs.declared.dialogue.Dialogue.{Dialogue}
 use Rattle.expect_core.specs.Heard.{at_most}
 
--- the step that a call comes to, and the variables and the dialogue behind it
+-- The step of a call, and the variables and the dialogue after it.
 abbrev pub Outcome : Type 0
 Outcome = HostStep × Variables × Dialogue
 
--- nothing is under way
+-- No call waits.
 abbrev pub idle : Dialogue → Dialogue
 idle st = record st { phase = phase.Idle }
 
--- what commands changed
+-- The dialogue with another state of the commands.
 abbrev pub owning : Own → Dialogue → Dialogue
 owning o st = record st { own = o }
 
--- why a request failed; an answer to another kind of request counts as a failure
+-- Why a request failed, or `None` if it didn't. The answer to another kind of request counts as a failure.
 abbrev pub failure : Answer → Option Cause
 failure answer.Ok = None
 failure (answer.Fail c) = Some c
 failure (answer.Exit n) = Some cause.Other
 failure answer.Killed = Some cause.Other
 
--- the first answer, if it came in time, and those that are left
+-- The first answer if it came in time, and the remaining answers.
 abbrev pub first_answer : Option ℕ → List (ℕ × Answer) → Option (ℕ × Answer) × List (ℕ × Answer)
 first_answer limit [] = (None, [])
 first_answer limit (a ∷ rest) = if at_most a.0 limit then (Some a, rest) else (None, a ∷ rest)

@@ -1,4 +1,4 @@
--- The children of a script are kept apart: a call leaves each child alone but those that it speaks to, and an event each but its own.
+-- The children of a script are kept apart. A call changes only the children that it is for, an event only its own.
 use Rattle.std.specs.Prelude.{◌≡◌, ◌≢◌, ℕ, ◌+◌, ◌<◌, ◌==◌, List, [], ◌∷◌, length, if◌then◌else◌, Option, Some, None, Ok, Err}
 use Rattle.std.specs.List.{filter}
 use Rattle.child_events.specs.declared.event.Event.{Event}
@@ -31,22 +31,22 @@ use Rattle.expect_core.specs.Expecting.{patterns_by}
 use Rattle.expect_core.specs.Calls.{outcome, fresh}
 use Rattle.expect_core.specs.Laws.{behind_call}
 
--- what was asked of the child at a place
+-- The requests to the child at a place.
 abbrev pub asked_of : ℕ → List Request → List Request
 asked_of j requests = filter (λ r. r.child == j + 1) requests
 
--- What there is of the child at a place is the same: what came from it, what the script has of it, and what was asked of it.
+-- Nothing about the child at a place has changed: what came from it, its state, and the requests to it.
 abbrev pub Untouched : ℕ → Dialogue → Dialogue → Type 0
 Untouched j old new =
     (lane_of j new.lanes ≡ lane_of j old.lanes) × (child_of j new.own ≡ child_of j old.own) × (asked_of j new.own.requests ≡ asked_of j old.own.requests)
 
--- The children that a call speaks to, at their places; an error stands for none. A command speaks to the child with the id behind its `-i`
--- or, without it, to the one that was spawned last; an expect to each that takes part in it.
+-- The places of the children that a call is for. On an error there are none. A command is for the child whose spawn id
+-- follows `-i`, or else for that of the variable `spawn_id`. An `expect` is for each child that takes part in it.
 
 abbrev pub by_id : ExpectCommand → List ℕ → List (List ℕ) → Variables → Own → Said ℕ
 by_id c word args vars o = arguments c word args >>= λ f. spoken_to f.0.id vars o
 
--- with `-d` to none
+-- With `-d` there is none.
 abbrev pub by_option : ExpectCommand → List ℕ → List (List ℕ) → Variables → Own → Said ℕ
 by_option c word args vars o = arguments c word args >>= λ f. if f.0.on then Err [] else spoken_to f.0.id vars o
 
@@ -70,7 +70,8 @@ named_by (Some command.MatchMax) word args vars o = one (by_option command.Match
 named_by (Some command.RemoveNulls) word args vars o = one (by_option command.RemoveNulls word args vars o)
 named_by other word args vars o = []
 
--- Those that what is under way is about. At the end of one child's output its expect may go on with the others behind its action.
+-- The children that a waiting call is for. After the action for one child's end, its `expect` may go on with the
+-- others.
 
 abbrev pub wanted_of : Want → List ℕ
 wanted_of (Answer i why) = i ∷ []
@@ -81,7 +82,7 @@ abbrev pub under_way : Phase → List ℕ
 under_way Idle = []
 under_way (At n w) = wanted_of w
 
--- behind an action `exp_continue` goes back to the children of its expect
+-- After an action, `exp_continue` goes back to the children of its `expect`.
 abbrev pub on_top : Code → List Plan → List ℕ
 on_top code.Again (p ∷ ps) = places_of p.sides
 on_top code.AgainLater (p ∷ ps) = places_of p.sides
@@ -95,39 +96,40 @@ speaks_to (AfterWords words vars) st = each (by_patterns words vars st.own)
 speaks_to (AfterBody c value vars) st = on_top c st.own.plans
 speaks_to (Knows word) st = []
 
--- A wait is for children that take part: an expect awaits the answer of one of its own children.
+-- The child that an `expect` closes takes part in it.
 abbrev pub IsOfOwn : Phase → Type 0
 IsOfOwn (At n (End i p)) = IsWatched i p.sides
 IsOfOwn other = Unit {0}
 
--- none of these expects is of the child at a place
+-- The child at a place takes part in none of these expects.
 abbrev pub NoneIsOf : ℕ → List Plan → Type 0
 NoneIsOf j [] = Unit {0}
 NoneIsOf j (p ∷ ps) = (¬ IsWatched j p.sides) × NoneIsOf j ps
 
--- nothing that is under way is about the child at a place: no call that waits, and no expect whose action is evaluated
+-- The child at a place takes part in no waiting call, and in no `expect` whose action is evaluated.
 abbrev pub IsAside : ℕ → Dialogue → Type 0
 IsAside j st = (¬ IsAmong j (under_way st.phase)) × NoneIsOf j st.own.plans
 
--- A call leaves each child alone that was there before it, but those that it speaks to, and nothing of it comes to be about another one.
+-- A call changes no child that was there before and that it isn't for. No wait and no action comes to be about such a
+-- child.
 abbrev pub CallsOwn : Type 0
 CallsOwn =
     (call : Call) (st : Dialogue) → IsOfOwn st.phase → (j : ℕ) → ¬ IsAmong j (speaks_to call st) → j < length st.own.children →
     let new = behind_call (outcome call st) in
     Untouched j st new × (j < length new.own.children) × (IsAside j st → IsAside j new)
 
--- Each wait is for children that take part: at the start, with an event more, and behind each call.
+-- The child that an `expect` closes takes part in it: at the start, after each event, and after each call.
 pub record StaysOfOwn : Type 0 where
   pub begins : (limit : Option ℕ) → IsOfOwn (fresh limit).phase
   pub offered : (e : Event) (st : Dialogue) → IsOfOwn st.phase → IsOfOwn (offered e st).phase
   pub called : (call : Call) (st : Dialogue) → IsOfOwn st.phase → IsOfOwn (behind_call (outcome call st)).phase
 
--- the place of the child that an event comes from
+-- The place of the child that an event comes from.
 abbrev pub comes_from : Event → Option ℕ
 comes_from (event.Child c m w) = Some (place c)
 comes_from (event.Tick m) = None
 
--- An event leaves each child alone but its own, and of that it changes what came from it.
+-- An event changes no child but its own, and of that child only what came from it.
 abbrev pub EventsOne : Type 0
 EventsOne =
     (e : Event) (st : Dialogue) → ((offered e st).own ≡ st.own) × ((offered e st).phase ≡ st.phase)

@@ -1,4 +1,4 @@
--- What each call of a dialogue comes to.
+-- The outcome of each call of a dialogue.
 use Rattle.std.specs.Prelude.{◌≡◌, ℕ, List, [], ◌∷◌, Bool, true, false, IsTrue, is_some, Option, Some, None}
 use Rattle.child_events.specs.declared.event.Event.{Event}
 use Rattle.command_table.specs.declared.commands.ExpectCommand.{ExpectCommand}
@@ -27,11 +27,11 @@ use Rattle.expect_core.specs.Transcript.{put_of, to_user, writing, logging}
 use Rattle.expect_core.specs.Options.{sizing, removing}
 use Rattle.expect_core.specs.Running.{run, turns, resuming}
 
--- a word names a command of Expect
+-- Whether a word names a command of Expect.
 abbrev pub knows : List ℕ → Bool
 knows word = is_some (expect_command word)
 
--- what a command does
+-- What a command does.
 abbrev pub named : ExpectCommand → List ℕ → List (List ℕ) → Variables → Own → Said Deed
 named command.Spawn word args vars o = spawning word args vars o
 named command.Send word args vars o = sending word args vars o
@@ -45,7 +45,7 @@ named command.RemoveNulls word args vars o = removing word args vars o
 named command.LogUser word args vars o = logging word args o
 named command.Puts word args vars o = writing (put_of word args)
 
--- an argument of `expect` that is a list of all others has its words filled first
+-- If the only argument of `expect` is a list of all arguments, its words are filled first.
 abbrev pub filling : ExpectCommand → List (List ℕ) → Option (List ℕ)
 filling command.Expect args = listed args
 filling other args = None
@@ -65,18 +65,18 @@ begun (word ∷ args) vars st = began (expect_command word) word args vars st
 abbrev pub resumed : Variables → Dialogue → Outcome
 resumed vars st = resuming st.phase vars (idle st)
 
--- the expects around the innermost one
+-- The expects around the innermost one.
 abbrev pub outer : List Plan → List Plan
 outer [] = []
 outer (p ∷ ps) = ps
 
--- an action was evaluated: its expect isn't kept any more
+-- After an action, its `expect` is no longer kept.
 abbrev pub ended_body : Code → List ℕ → Variables → Dialogue → Outcome
 ended_body c value vars st =
     let o = record st.own { plans = outer st.own.plans } in
     run turns (behind c value st.own.plans o) vars (owning o st)
 
--- The reply to `Knows` is no step, and is told by `IsReply` alone: that line here is never read.
+-- The reply to `Knows` is no step. `IsReply` defines it, and its line here is never read.
 abbrev pub outcome : Call → Dialogue → Outcome
 outcome (Begin words vars) st = begun words vars (idle st)
 outcome (Resume vars) st = resumed vars st
@@ -84,7 +84,7 @@ outcome (AfterWords words vars) st = run turns (doing (expecting words vars st.o
 outcome (AfterBody c value vars) st = ended_body c value vars (idle st)
 outcome (Knows word) st = (Fail [], record { globals = []; locals = [] }, st)
 
--- What a call that came to this comes to with an event more: a call that waited goes on.
+-- The outcome of a call after one more event. A call that waited goes on.
 abbrev pub onward : Event → Outcome → Outcome
 onward e (Wait, vars, st) = resumed vars (offered e st)
 onward e (Done c v, vars, st) = (Done c v, vars, offered e st)
@@ -95,13 +95,13 @@ onward e (Stop n, vars, st) = (Stop n, vars, offered e st)
 onward e (Unknown, vars, st) = (Unknown, vars, offered e st)
 onward e (Memory, vars, st) = (Memory, vars, offered e st)
 
--- A call came to this step, these variables and this dialogue. Where memory was refused, then or before, the step says so, and nothing else
--- is said.
+-- The step, the variables and the dialogue after a call. If memory was ever refused, the step is `Memory`, and nothing
+-- else is claimed.
 abbrev pub Comes : Dialogue → Call → HostStep → Variables → Dialogue → Type 0
 Comes old call step vars new =
     (IsTrue new.lives → IsTrue old.lives × (outcome call old ≡ (step, vars, new))) × (new.lives ≡ false → step ≡ Memory)
 
--- the reply to a call, and the dialogue behind it
+-- The reply to a call, and the dialogue after it.
 abbrev pub IsReply : Dialogue → Call → Reply → Dialogue → Type 0
 IsReply old (Begin words w) (Stepped step vars) new = Comes old (Begin words w) step vars new
 IsReply old (Resume w) (Stepped step vars) new = Comes old (Resume w) step vars new
@@ -114,7 +114,7 @@ IsReply old (Resume w) (Known b) new = ⊥
 IsReply old (AfterWords words w) (Known b) new = ⊥
 IsReply old (AfterBody c value w) (Known b) new = ⊥
 
--- nothing has come and nothing was done
+-- No event has come, and no command has been evaluated.
 abbrev pub fresh : Option ℕ → Dialogue
 fresh limit = record {
   limit = limit;

@@ -1,4 +1,4 @@
--- What effects change: those of a turn on the child that it is about, and on what all children share.
+-- What the effects of a turn change: the child that it is about, or what all children share.
 use Rattle.std.specs.Prelude.{ℕ, ◌+◌, nat_lt, min, List, [], ◌∷◌, ◌++◌, length, drop, Bool, true, if◌then◌else◌, Option, Some, None}
 use Rattle.circular_buffer.specs.Buffer.{keep_last}
 use Rattle.tty.specs.declared.modes.Modes.{Modes}
@@ -21,7 +21,7 @@ altered (Take n) child = record child { kept = record child.kept { bytes = drop 
 altered (Size n) child = record child { kept = record { bytes = keep_last n child.kept.bytes; size = n } }
 altered (Removal on) child = record child { remove_nulls = on }
 
--- with no child it is children to come of which so many bytes are kept, and NUL bytes removed
+-- Without a child, a change sets the buffer size and the removal of NUL bytes of later children.
 
 abbrev pub size_by : Change → ℕ → ℕ
 size_by (Size n) size = n
@@ -34,7 +34,7 @@ removal_by other remove = remove
 abbrev pub to_come : Change → Own → Own
 to_come x o = record o { size = size_by x o.size; remove_nulls = removal_by x o.remove_nulls }
 
--- with one child more, where there are fewer than 16
+-- Adds a child if there are fewer than 16.
 abbrev pub added : Modes → Own → Own
 added modes o =
     let i = length o.children in
@@ -51,7 +51,7 @@ changed None (Ask act) o = o
 changed (Some i) (Alter x) o = with_child i (altered x (child_of i o)) o
 changed None (Alter x) o = to_come x o
 
--- the variables that an effect leaves, or the text of the first that can't be set
+-- The variables after an effect, or the error for the first that can't be set.
 abbrev pub stored : Effect → Variables → Variables × Unset
 stored (Store pairs) vars = set_all pairs vars
 stored other vars = (vars, None)
@@ -63,7 +63,7 @@ abbrev pub unless : Variables × Unset → Own → (Variables → Performed) →
 unless (vars, None) o more = more vars
 unless (vars, Some text) o more = (Some text, vars, o)
 
--- One after another. The first that can't be ends them.
+-- Effects are performed in order, up to the first that fails.
 abbrev pub performed : Option ℕ → List Effect → Variables → Own → Performed
 performed at [] vars o = (None, vars, o)
 performed at (x ∷ xs) vars o = unless (stored x vars) o (λ vars. performed at xs vars (changed at x o))

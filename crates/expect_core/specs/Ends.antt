@@ -1,4 +1,4 @@
--- A child is let go, and its end is asked for.
+-- `close` and `wait` (expect(1)).
 use Rattle.std.specs.Prelude.{ℕ, ◌+◌, List, [], ◌∷◌, ◌++◌, codes, if◌then◌else◌, Option, Some, None, Ok, Err}
 use Rattle.std.specs.Fmt.{decimal}
 use Rattle.tcl_words.specs.Bytes as ascii
@@ -25,7 +25,7 @@ use Rattle.expect_core.specs.Ids.{open_to, spoken_to}
 use Rattle.expect_core.specs.Texts.{with_cause, waited_for, number_of_cause}
 use Rattle.expect_core.specs.Turns.{react, done, well, badly}
 
--- close ?-i id?, wait ?-i id?
+-- close ?-i spawn_id?, wait ?-i spawn_id?
 
 abbrev pub close_of : List ℕ → List (List ℕ) → Variables → Own → Said ℕ
 close_of name args vars o = arguments command.Close name args >>= λ f. open_to f.0.id vars o
@@ -33,16 +33,16 @@ close_of name args vars o = arguments command.Close name args >>= λ f. open_to 
 abbrev pub closing : List ℕ → List (List ℕ) → Variables → Own → Said Deed
 closing name args vars o = close_of name args vars o >>= λ i. Ok (To i (react (Ask act.Close ∷ []) (Await purpose.Close)))
 
--- it was let go, even if that failed
+-- The child is closed even if the request failed.
 abbrev pub closed : Option Cause → Reaction
 closed None = well (Alter (Stand standing.Closed) ∷ [])
 closed (Some c) = badly (Alter (Stand standing.Closed) ∷ []) (with_cause (codes "close failed") c)
 
--- reading its output failed, and it was let go
+-- Reading its output failed, and the child is closed.
 abbrev pub broken : Cause → Reaction
 broken c = badly (Alter (Stand standing.Closed) ∷ []) (with_cause (codes "read failed") c)
 
--- each child is waited for once
+-- A child can be waited for once.
 abbrev pub if_unwaited : ℕ → Own → Said ℕ
 if_unwaited i o = if (child_of i o).waited then Err (waited_for (child_of i o).id) else Ok i
 
@@ -55,13 +55,13 @@ waiting name args vars o = wait_of name args vars o >>= λ i. Ok (To i (react (A
 abbrev pub failed_by : Cause → List ℕ
 failed_by c = codes "-1 " ++ decimal (number_of_cause c)
 
--- how a child ended
+-- How a child ended.
 abbrev pub end_text : Answer → List ℕ
 end_text (answer.Exit n) = codes "0 " ++ decimal n
 end_text answer.Killed = codes "0 -1 CHILDKILLED unknown unknown"
 end_text (answer.Fail c) = failed_by c
 end_text answer.Ok = failed_by cause.Other
 
--- its number, its id and how it ended
+-- The child's number, its spawn id and how it ended.
 abbrev pub waited : ℕ → Answer → Own → Reaction
 waited i a o = react [] (Finish (done (decimal (i + 1) ++ ascii.space ∷ (child_of i o).id ++ ascii.space ∷ end_text a)))

@@ -1,4 +1,4 @@
--- expect: the arguments, a wait for its patterns, and what follows it (expect(1)).
+-- `expect`: its arguments, its wait for patterns, and what follows (expect(1)).
 use Rattle.std.specs.Prelude.{ℕ, zero, suc, ◌+◌, ◌-◌, ◌==◌, List, [], ◌∷◌, ◌++◌, length, take, drop, codes, Bool, true, false, slice_index_or, position, if◌then◌else◌, Option, Some, None, Result, Ok, Err}
 use Rattle.std.specs.Fmt.{decimal}
 use Rattle.child_events.specs.declared.event.Cause.{Cause}
@@ -40,14 +40,14 @@ use Rattle.expect_core.specs.Heard.{span_of, deadline_from, groups_at}
 use Rattle.expect_core.specs.Sides.{asked_by, sides_of, still_open}
 use Rattle.expect_core.specs.Turns.{react, done, turn, over, at, doing}
 
--- the arguments
+-- The arguments.
 
--- an argument with a newline before the first byte that is no white space
+-- A newline comes before the first byte that is not white space.
 abbrev pub is_list : List ℕ → Bool
 is_list [] = false
 is_list (b ∷ bs) = if b == ascii.newline then true else if is_white b then is_list bs else false
 
--- the argument that is the list of all others, where it stands alone
+-- The only argument, if it is a list of all arguments.
 abbrev pub listed : List (List ℕ) → Option (List ℕ)
 listed [] = None
 listed (text ∷ []) = if is_list text then Some text else None
@@ -63,12 +63,12 @@ patterns_by args (Err fault.Memory) = Err []
 abbrev pub span_by : List ℕ → Said Span
 span_by text = as_number text >>= λ z. Ok (span_of z)
 
--- ten seconds, where nothing says how many
+-- The timeout is ten seconds if nothing sets it.
 abbrev pub span_or_ten : Option (List ℕ) → Said Span
 span_or_ten None = Ok (Seconds 10)
 span_or_ten (Some text) = span_by text
 
--- how long it waits: what `-timeout` says, else the variable `timeout`
+-- The timeout: that of `-timeout`, or else of the variable `timeout`.
 abbrev pub span_in : Option (List ℕ) → Variables → Said Span
 span_in (Some text) vars = span_by text
 span_in None vars = optional (codes "timeout") vars >>= span_or_ten
@@ -80,19 +80,19 @@ abbrev pub plan_by : PatternList → Variables → Own → Said Plan
 plan_by list vars o =
     asked_by list vars o >>= λ is. span_in list.timeout vars >>= λ span. Ok (plan_at is list span o.clock)
 
--- what an expect with these arguments waits for
+-- What an `expect` with these arguments waits for.
 abbrev pub plan_of : List (List ℕ) → Variables → Own → Said Plan
 plan_of args vars o = patterns_by args (patterns_of args) >>= λ list. plan_by list vars o
 
 abbrev pub expecting : List (List ℕ) → Variables → Own → Said Deed
 expecting args vars o = plan_of args vars o >>= λ p. Ok (Expect p)
 
--- what is stored
+-- The variables that are set.
 
 abbrev pub with_index : List ℕ → List ℕ
 with_index index = codes "expect_out(" ++ index ++ codes ")"
 
--- the place before an exclusive end
+-- The index before an exclusive end.
 abbrev pub before : ℕ → List ℕ
 before zero = codes "-1"
 before (suc n) = decimal n
@@ -107,7 +107,7 @@ abbrev pub places_if : Bool → ℕ → ℕ × ℕ → Pairs
 places_if true x s = places x s
 places_if false x s = []
 
--- the bytes of a group
+-- The bytes of a group.
 abbrev pub text_pair : List ℕ → ℕ → ℕ × ℕ → List ℕ × List ℕ
 text_pair bytes x s = (with_index (decimal x ++ codes ",string"), take (s.1 - s.0) (drop s.0 bytes))
 
@@ -115,16 +115,16 @@ abbrev pub group_pairs : Bool → List ℕ → ℕ → Option (ℕ × ℕ) → P
 group_pairs indices bytes x None = []
 group_pairs indices bytes x (Some s) = places_if indices x s ++ text_pair bytes x s ∷ []
 
--- of each group that took part, from group x on
+-- The elements for each group that took part in the match, from group x on.
 abbrev pub groups_from : Bool → List ℕ → ℕ → Found → Pairs
 groups_from indices bytes x [] = []
 groups_from indices bytes x (s ∷ ss) = group_pairs indices bytes x s ++ groups_from indices bytes (x + 1) ss
 
--- the id, and the bytes that were met
+-- The spawn id, and the bytes up to the end of the match.
 abbrev pub met_pairs : List ℕ → List ℕ → Pairs
 met_pairs id bytes = (with_index (codes "spawn_id"), id) ∷ (with_index (codes "buffer"), bytes) ∷ []
 
--- what follows
+-- What follows.
 
 abbrev pub no_entry : Entry
 no_entry = record { want = want.Keyword keyword.Eof; indices = false; notransfer = false; action = []; group = 0 }
@@ -132,11 +132,11 @@ no_entry = record { want = want.Keyword keyword.Eof; indices = false; notransfer
 abbrev pub entry_of : ℕ → Plan → Entry
 entry_of n p = slice_index_or p.list.entries n no_entry
 
--- the action of what was met is evaluated
+-- The action of the entry that was met is evaluated.
 abbrev pub acting : Plan → ℕ → Option ℕ → Stage
 acting p n at = Act p (record { entry = n; child = at })
 
--- the action of `timeout`, if it is listed
+-- The action of `timeout` or `default`, if one is listed.
 abbrev pub late_at : Plan → Option ℕ → Turn
 late_at p None = over (done [])
 late_at p (Some n) = turn None [] (acting p n None)
@@ -144,7 +144,7 @@ late_at p (Some n) = turn None [] (acting p n None)
 abbrev pub late : Plan → Turn
 late p = late_at p (position (λ e. waits_for_time e.want) p.list.entries)
 
--- so many of the child's bytes leave the buffer, behind what is stored of them
+-- The variables are set, and this many bytes leave the child's match buffer.
 abbrev pub meeting : Plan → ℕ → ℕ → Pairs → ℕ → Turn
 meeting p i n pairs count = turn (Some i) (Store pairs ∷ Alter (Take count) ∷ []) (acting p n (Some i))
 
@@ -152,11 +152,11 @@ abbrev pub end_in : Option (ℕ × ℕ) → ℕ
 end_in None = 0
 end_in (Some s) = s.1
 
--- where a match ends
+-- The end of a match.
 abbrev pub end_of : Found → ℕ
 end_of spans = end_in (slice_index_or spans 0 None)
 
--- a pattern matches the bytes of the child at place i
+-- A pattern matches the bytes of the child at place i.
 abbrev pub matched : Plan → ℕ → ℕ → Found → Own → Turn
 matched p i n spans o =
     let bytes = bytes_of i o in
@@ -164,7 +164,7 @@ matched p i n spans o =
     meeting p i n (groups_from entry.indices bytes 0 spans ++ met_pairs (child_of i o).id (take (end_of spans) bytes))
     (if entry.notransfer then 0 else end_of spans)
 
--- all kept bytes of the child at place i are met by a keyword, if it is listed
+-- A keyword meets all bytes in the match buffer of the child at place i, if it is listed.
 abbrev pub all_met : Plan → ℕ → Option ℕ → Own → Turn
 all_met p i None o = over (done [])
 all_met p i (Some n) o = meeting p i n (met_pairs (child_of i o).id (bytes_of i o)) (length (bytes_of i o))
@@ -172,15 +172,15 @@ all_met p i (Some n) o = meeting p i n (met_pairs (child_of i o).id (bytes_of i 
 abbrev pub full : Plan → ℕ → Own → Turn
 full p i o = all_met p i (first_in waits_for_full (groups_at i p.sides) p.list.entries) o
 
--- at the end of a child's output it is let go
+-- At the end of a child's output, the child is closed.
 abbrev pub ending : Plan → ℕ → Turn
 ending p i = turn (Some i) (Ask act.Close ∷ []) (Wait (End i p))
 
--- so it is where reading it failed
+-- The same after a failed read.
 abbrev pub failing : ℕ → Cause → Turn
 failing i c = at i (react (Ask act.Close ∷ []) (Await (purpose.Fail c)))
 
--- it was let go, and behind that its `eof` is met
+-- The child is closed, and then its `eof` or `default` is met.
 abbrev pub shut : ℕ → Turn → Turn
 shut i t = turn (Some i) (Alter (Stand standing.Closed) ∷ t.effects) t.stage
 
@@ -188,11 +188,11 @@ abbrev pub ended : Plan → ℕ → Option Cause → Own → Turn
 ended p i None o = shut i (all_met p i (first_in waits_for_end (groups_at i p.sides) p.list.entries) o)
 ended p i (Some c) o = shut i (over (Fail (with_cause (codes "close failed") c)))
 
--- an expect once more, with this deadline, where all that take part are still open
+-- The `expect` goes on with this deadline, if all its children are still open.
 abbrev pub again : Plan → Option ℕ → Own → Turn
 again p deadline o = doing (still_open p.order o >>= λ all. Ok (Expect (record p { deadline = deadline })))
 
--- Behind an action: `exp_continue` goes back to the expect, with a new deadline or with the old one.
+-- After an action, `exp_continue` goes back to the `expect`, with a new deadline or with the old one.
 abbrev pub behind : Code → List ℕ → List Plan → Own → Turn
 behind c value [] o = over (Done c value)
 behind code.Again value (p ∷ ps) o = again p (deadline_from o.clock p.span) o

@@ -1,4 +1,4 @@
--- Flags that were read, and the place of the words behind them.
+-- Flags that were read, and the index of the first word after them.
 use Rattle.std.specs.Prelude.{◌≡◌, ◌≢◌, ◌≤◌, ℕ, List, length, drop, Result, Ok, Err}
 use Rattle.tcl_commands.specs.declared.complaint.Complaint.{Complaint}
 use Rattle.tcl_commands.specs.declared.complaint.Complaint.TheVariants.{Memory}
@@ -6,7 +6,7 @@ use Rattle.tcl_commands.specs.Says.{text_of}
 use Rattle.expect_core.specs.declared.flags.Flags.{Flags}
 use Rattle.expect_core.specs.Flags.{Flagged}
 
--- what was read is what is meant; want of memory says nothing
+-- The flags are those that the definition gives. If memory is refused, nothing is claimed.
 abbrev pub ReadsFlags : Result (Flags × ℕ) Complaint → List (List ℕ) → Flagged → Type 0
 ReadsFlags (Ok (f, at)) words meant = (meant ≡ Ok (f, drop at words)) × (at ≤ length words)
 ReadsFlags (Err c) words meant = c ≢ Memory → meant ≡ Err (text_of c)

@@ -1,4 +1,4 @@
--- What follows a stage or an answer, whatever follows that.
+-- What follows a stage or an answer, given what follows that.
 use Rattle.std.specs.Prelude.{ℕ, Option, Some, None}
 use Rattle.child_events.specs.declared.event.Answer.{Answer}
 use Rattle.tcl_subst.specs.Variables.{Variables}
@@ -17,7 +17,7 @@ goes (went.Turn t) k vars st = k t vars st
 goes (went.Over step) k vars st = (step, vars, st)
 goes (went.Listens known) k vars st = (Wait, vars, st)
 
--- behind an answer that was taken, or without one
+-- What follows an answer, or a wait for it.
 abbrev pub after : To → ℕ → Want → (Answer → Own → Turn) → Option Answer → Variables → Dialogue → Outcome
 after k n w made None vars st = on_answer k n w made None vars st
 after k n w made (Some a) vars st = k (made a st.own) vars st

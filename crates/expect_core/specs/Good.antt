@@ -1,4 +1,4 @@
--- What always holds of a dialogue: nothing in it is later than its greatest moment.
+-- An invariant of a dialogue: nothing in it is later than its greatest moment.
 use Rattle.std.specs.Prelude.{ℕ, ◌≤◌, List, [], ◌∷◌}
 use Rattle.child_events.specs.declared.event.Answer.{Answer}
 use Rattle.child_events.specs.Queue.{Queued}

@@ -11,7 +11,7 @@ use Rattle.expect_core.specs.declared.own.Own.{Own}
 use Rattle.expect_core.specs.Lanes.{lane_of, with_items}
 use Rattle.expect_core.specs.Heard.{in_time, watched, lapse, Listened, heads, taken, on_next, item_count}
 
--- a wait that ended, or goes on
+-- A wait ends, or goes on.
 abbrev pub goes : Option Heard → List Lane → Own → (Own → Listened) → Listened
 goes None lanes o k = k o
 goes (Some h) lanes o k = (h, lanes, o)
@@ -20,32 +20,32 @@ abbrev pub turns : Option Heard → List Lane → Own → (List Lane → Own →
 turns None lanes o k = k lanes o
 turns (Some h) lanes o k = (h, lanes, o)
 
--- there is no first item, or it is not in time
+-- There is no first item, or it is not in time.
 abbrev pub NoneInTime : Times → Option ℕ → List Queued → Type 0
 NoneInTime times d [] = Unit {0}
 NoneInTime times d (q ∷ qs) = in_time times.limit d q.moment ≡ false
 
--- the first item was taken where it is in time
+-- The first item is taken if it is in time.
 abbrev pub Takes : Times → Option ℕ → List Queued → Option (ℕ × Item) → List Queued → Type 0
 Takes times d old None new = (new ≡ old) × NoneInTime times d old
 Takes times d old (Some x) new = (q : Queued) × (old ≡ q ∷ new) × (stamped q ≡ x) × (in_time times.limit d q.moment ≡ true)
 
--- the first item of the child at a place was taken, where it is in time
+-- The first item of the child at a place is taken if it is in time.
 abbrev pub TakesFrom : Times → Option ℕ → ℕ → List Lane → Option (ℕ × Item) → List Lane → Type 0
 TakesFrom times d i old None new = (new ≡ old) × NoneInTime times d (lane_of i old).items
 TakesFrom times d i old (Some x) new =
     (q : Queued) × (qs : List Queued) × ((lane_of i old).items ≡ q ∷ qs) × (new ≡ with_items i qs old) × (stamped q ≡ x) × (in_time times.limit d q.moment ≡ true)
 
--- one turn of a wait, whatever follows it
+-- One turn of a wait, given what follows it.
 abbrev pub turned : Times → Plan → List Lane → Own → (List Lane → Own → Listened) → Listened
 turned times p lanes o k = on_next times.limit times.horizon p (next_of (heads (watched p) lanes) times.horizon) lanes o k
 
--- a turn that goes on took an item
+-- A turn that goes on has taken an item.
 abbrev pub IsFewer : Option Heard → List Lane → List Lane → Type 0
 IsFewer None old new = item_count new < item_count old
 IsFewer (Some h) old new = Unit {0}
 
--- a turn in which the item of the child at a place is next
+-- A turn for the next item of the child at a place.
 abbrev pub at_child : Times → Plan → Option ℕ → List Lane → Own → (List Lane → Own → Listened) → Listened
 at_child times p None lanes o k = (lapse times.limit times.horizon p.deadline, lanes, o)
 at_child times p (Some i) lanes o k = taken times.limit times.horizon p i (lane_of i lanes).items lanes o k

@@ -1,7 +1,7 @@
--- Bytes that no expect has taken.
+-- The match buffer of a child.
 use Rattle.std.specs.Prelude.{ℕ, List}
 
--- the bytes, and how many of them stay where a test finds nothing
+-- Its bytes, and the number of last bytes that stay after a test without a match.
 pub record Held : Type 0 where
   pub bytes : List ℕ
   pub size : ℕ

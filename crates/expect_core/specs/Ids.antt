@@ -1,4 +1,4 @@
--- The child that a command speaks to.
+-- The child that a command is for.
 use Rattle.std.specs.Prelude.{ℕ, List, codes, Bool, true, false, ◌&&◌, Option, Some, None, position, if◌then◌else◌, Ok, Err}
 use Rattle.std.specs.Str.{bytes_eq}
 use Rattle.tcl_subst.specs.Variables.{Variables}
@@ -28,11 +28,11 @@ abbrev pub or_no_such : List ℕ → Option ℕ → Said ℕ
 or_no_such id None = Err (no_such_id id)
 or_no_such id (Some i) = Ok i
 
--- the child that has an id
+-- The child with a spawn id.
 abbrev pub known : List ℕ → Own → Said ℕ
 known id o = or_no_such id (position (has_id id) o.children)
 
--- the id behind `-i` or, without it, that of the child that was spawned last
+-- The spawn id after `-i`, or else the value of the variable `spawn_id`.
 abbrev pub id_of : Option (List ℕ) → Variables → Said (List ℕ)
 id_of (Some id) vars = Ok id
 id_of None vars = needed (codes "spawn_id") vars
@@ -43,6 +43,6 @@ spoken_to id vars o = id_of id vars >>= λ name. known name o
 abbrev pub if_open : ℕ → Own → Said ℕ
 if_open i o = if is_open (child_of i o).standing then Ok i else Err (not_open (child_of i o).id)
 
--- the child, which has to be open
+-- The child, or an error if it isn't open.
 abbrev pub open_to : Option (List ℕ) → Variables → Own → Said ℕ
 open_to id vars o = spoken_to id vars o >>= λ i. if_open i o

@@ -12,11 +12,11 @@ use Rattle.expect_core.specs.declared.dialogue.Dialogue.{Dialogue}
 use Rattle.expect_core.specs.Quiet.{AreQuiet}
 use Rattle.expect_core.specs.Sought.{AreSought}
 
--- it is true of the children of an expect
+-- It is true of the children of an `expect`.
 abbrev pub Knows : Plan → Known → Own → Type 0
 Knows p k o = AreQuiet p k.quiet o × AreSought p k.sought o
 
--- where it is a wait for output that waits
+-- It is true of the children of a wait for output. Of other waits nothing is claimed.
 abbrev pub KnowsOf : Want → Known → Own → Type 0
 KnowsOf (want.Output p) k o = Knows p k o
 KnowsOf (want.Answer i why) k o = Unit {0}
@@ -26,11 +26,11 @@ abbrev pub KnowsAt : Phase → Known → Own → Type 0
 KnowsAt Idle k o = Unit {0}
 KnowsAt (At n w) k o = KnowsOf w k o
 
--- it is true of what a dialogue waits for
+-- It is true of the wait of a dialogue.
 abbrev pub KnowsIn : Known → Dialogue → Type 0
 KnowsIn k st = KnowsAt st.phase k st.own
 
--- and so is what a stage leaves known
+-- What a stage leaves known is true of the dialogue.
 abbrev pub LeavesKnown : Went → Dialogue → Type 0
 LeavesKnown (went.Listens k) st = KnowsIn k st
 LeavesKnown (went.Turn t) st = Unit {0}

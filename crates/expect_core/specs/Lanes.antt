@@ -27,11 +27,11 @@ with_items i items lanes = with_lane i (record (lane_of i lanes) { items = items
 abbrev pub with_answers : ℕ → List (ℕ × Answer) → List Lane → List Lane
 with_answers i answers lanes = with_lane i (record (lane_of i lanes) { answers = answers }) lanes
 
--- An item more. Behind an end or a read failure nothing comes.
+-- Appends an item. After the end of the output or a read failure it does nothing.
 abbrev pub with_item : ℕ → Item → Bool → Lane → Lane
 with_item m i ends lane = if lane.over then lane else record lane { items = lane.items ++ came (m, i) ∷ []; over = ends }
 
--- what an event of a child adds
+-- What an event of a child adds.
 abbrev pub lane_with : ℕ → What → Lane → Lane
 lane_with m (what.Out piece) lane = with_item m (item.Out piece) false lane
 lane_with m what.Eof lane = with_item m item.Eof true lane
@@ -41,36 +41,36 @@ lane_with m (what.Answer a) lane = record lane { answers = lane.answers ++ (m, a
 abbrev pub grown : (Lane → Lane) → ℕ → List Lane → List Lane
 grown g i lanes = with_lane i (g (lane_of i lanes)) lanes
 
--- child c, from 1, has the lane at c - 1; number 0 has none
+-- The index of the lane of child c, numbered from 1. Number 0 has no lane.
 abbrev pub place : ℕ → ℕ
 place c = if c == 0 then 16 else c - 1
 
--- how many items that came from child c were not taken yet; a child without a lane has none
+-- The number of items from child c that were not taken yet. Echoes don't count. It is 0 for a child without a lane.
 abbrev pub untaken_of : ℕ → List Lane → ℕ
 untaken_of c lanes = how_many_came (lane_of (place c) lanes).items
 
--- the lanes behind an event that came at a moment
+-- The lanes after an event that came at a moment.
 abbrev pub arrived : Event → ℕ → List Lane → List Lane
 arrived (event.Child c m w) h lanes = grown (lane_with h w) (place c) lanes
 arrived (event.Tick m) h lanes = lanes
 
--- An event more: its moment is raised to the greatest one before it.
+-- One more event. If its moment is before the greatest one so far, it is raised to that.
 abbrev pub offered : Event → Dialogue → Dialogue
 offered e st = record st {
   horizon = max st.horizon (moment_of e);
   lanes = arrived e (max st.horizon (moment_of e)) st.lanes;
 }
 
--- A tick asks for no memory, so a dialogue lives on behind it.
+-- A tick needs no memory, so it never ends the life of a dialogue.
 abbrev pub OutlivesTicks : Event → Dialogue → Dialogue → Type 0
 OutlivesTicks (event.Tick m) old new = new.lives ≡ old.lives
 OutlivesTicks (event.Child c m w) old new = Unit {0}
 
--- events more, one after another
+-- Several events, one after another.
 abbrev pub extended : List Event → Dialogue → Dialogue
 extended [] st = st
 extended (e ∷ es) st = extended es (offered e st)
 
--- children 1 to 16, from which nothing came
+-- The lanes of children 1 to 16, from which nothing came.
 unfoldable pub no_lanes : List Lane
 no_lanes = replicate 16 no_lane

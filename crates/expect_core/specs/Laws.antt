@@ -1,4 +1,4 @@
--- What holds of all calls.
+-- Laws of all calls.
 use Rattle.std.specs.Prelude.{◌≡◌, ◌↔◌, ℕ, List, [], ◌∷◌, ◌++◌, Bool, true, false, IsTrue, Option}
 use Rattle.child_events.specs.declared.event.Event.{Event}
 use Rattle.child_events.specs.declared.event.Event.TheVariants.{Tick}
@@ -18,49 +18,49 @@ use Rattle.expect_core.specs.Good.{Good}
 use Rattle.expect_core.specs.Numbered.{Numbered}
 use Rattle.expect_core.specs.Deadlines.{IsWithin, deadline_of}
 
--- the dialogue behind a call
+-- The dialogue after a call.
 abbrev pub behind_call : Outcome → Dialogue
 behind_call (step, vars, st) = st
 
--- the step that a call comes to
+-- The step of a call.
 abbrev pub step_to : Outcome → HostStep
 step_to (step, vars, st) = step
 
--- A call with an event more comes to what it came to, with the event behind it; or, where it waited, to what it comes to when it goes on.
+-- A call gives the same after one more event as before it, with the event added. If it waited, it goes on instead.
 abbrev pub GoesOn : Type 0
 GoesOn = (e : Event) (call : Call) (st : Dialogue) → Good st → outcome call (offered e st) ≡ onward e (outcome call st)
 
--- Nothing is later than the greatest moment: at the start, with an event more, and behind each call.
+-- Nothing is later than the greatest moment: at the start, after each event, and after each call.
 pub record StaysGood : Type 0 where
   pub begins : (limit : Option ℕ) → Good (fresh limit)
   pub offered : (e : Event) (st : Dialogue) → Good st → Good (offered e st)
   pub called : (call : Call) (st : Dialogue) → Good st → Good (behind_call (outcome call st))
 
--- the first list is a front of the second
+-- The second list begins with the first.
 pub record IsFront {X : Type 0} (first second : List X) : Type 0 where
   pub more : List X
   pub joined : second ≡ first ++ more
 
--- what was asked and told before is a front of what is asked and told behind it
+-- The requests and the transcript begin with the old ones.
 abbrev pub Keeps : Own → Own → Type 0
 Keeps old new = IsFront old.requests new.requests × IsFront old.transcript new.transcript
 
--- No call takes back what was asked and told.
+-- No call takes back requests or bytes of the transcript.
 abbrev pub StaysTold : Type 0
 StaysTold = (call : Call) (st : Dialogue) → Keeps st.own (behind_call (outcome call st)).own
 
--- Each request names a child from 1 to 16: at the start, with an event more, and behind each call.
+-- Each request names a child from 1 to 16: at the start, after each event, and after each call.
 pub record StaysNumbered : Type 0 where
   pub begins : (limit : Option ℕ) → Numbered (fresh limit)
   pub offered : (e : Event) (st : Dialogue) → Numbered st → Numbered (offered e st)
   pub called : (call : Call) (st : Dialogue) → Numbered st → Numbered (behind_call (outcome call st))
 
--- A call that waits goes on waiting, and nothing else changes, where time passes no further than to its deadline.
+-- While only time passes, a waiting call goes on waiting up to its deadline. Nothing else changes.
 abbrev pub WaitsOn : Type 0
 WaitsOn = (call : Call) (st : Dialogue) (vars : Variables) (new : Dialogue) → outcome call st ≡ (Wait, vars, new) →
     (m : ℕ) → IsWithin m (deadline_of new) → resumed vars (offered (Tick m) new) ≡ (Wait, vars, offered (Tick m) new)
 
--- codes 5 and 6, with which `exp_continue` ends
+-- Codes 5 and 6, with which `exp_continue` ends.
 abbrev pub goes_back : Code → Bool
 goes_back Again = true
 goes_back AgainLater = true
@@ -70,12 +70,12 @@ abbrev pub IsBegin : Call → Type 0
 IsBegin (Begin words vars) = Unit {0}
 IsBegin call = ⊥
 
--- a script may be asked for; behind one that was evaluated, only where that ended with code 5 or 6
+-- A script may be asked for. After an action this holds only for codes 5 and 6.
 abbrev pub AsksForScripts : Call → Type 0
 AsksForScripts (AfterBody c value vars) = IsTrue (goes_back c)
 AsksForScripts call = Unit {0}
 
--- The steps that a call may come to. None is for want of memory, and the time limit alone ends a script.
+-- The steps that a call may give. None is `Memory`, and only the time limit stops a script.
 abbrev pub IsAnswer : Call → HostStep → Type 0
 IsAnswer call Unknown = IsBegin call
 IsAnswer call (Words text) = IsBegin call
@@ -84,8 +84,8 @@ IsAnswer call (Stop ending) = ending ≡ TimeLimit
 IsAnswer call Memory = ⊥
 IsAnswer call step = Unit {0}
 
--- What a call is answered is what was asked. A command is unknown just where its word is; one without words is unknown too. An action that
--- ends with another code than 5 and 6 ends its expect, with that code and value. And no call ends a dialogue.
+-- A command is unknown if and only if its first word names no command of Expect, or it has no words. An action that
+-- ends with another code than 5 and 6 ends its `expect`, with that code and value. No call ends a dialogue.
 pub record AnswersAsked : Type 0 where
   pub unknown : (word : List ℕ) (args : List (List ℕ)) (vars : Variables) (st : Dialogue) → (step_to (outcome (Begin (word ∷ args) vars) st) ≡ Unknown) ↔ (knows word ≡ false)
   pub wordless : (vars : Variables) (st : Dialogue) → outcome (Begin [] vars) st ≡ (Unknown, vars, idle st)

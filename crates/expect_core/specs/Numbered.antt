@@ -1,4 +1,4 @@
--- What always holds of the numbers of children: a script has at most 16, and a request names one from 1 to 16.
+-- An invariant of the children's numbers: a script has at most 16 children, and a request names one from 1 to 16.
 use Rattle.std.specs.Prelude.{ℕ, ◌<◌, ◌≤◌, List, [], ◌∷◌, length, All}
 use Rattle.expect_core.specs.declared.request.Request.{Request}
 use Rattle.expect_core.specs.declared.plan.Plan.{Plan}
@@ -14,26 +14,26 @@ use Rattle.expect_core.specs.Heard.{Watch, IsWatched}
 abbrev pub IsPlace : ℕ → Type 0
 IsPlace i = i < 16
 
--- it names a child from 1 to 16
+-- The request names a child from 1 to 16.
 abbrev pub NamesAChild : Request → Type 0
 NamesAChild r = (1 ≤ r.child) × (r.child ≤ 16)
 
--- each of those that take part in an expect stands at a place of a child
+-- Each child that takes part in an `expect` has a place.
 abbrev pub WatchPlaces : List Watch → Type 0
 WatchPlaces ws = (i : ℕ) → IsWatched i ws → IsPlace i
 
--- each expect that is kept waits for children
+-- The children of each `expect` that is kept have places.
 abbrev pub AreOfPlaces : List Plan → Type 0
 AreOfPlaces [] = Unit {0}
 AreOfPlaces (p ∷ ps) = WatchPlaces p.sides × AreOfPlaces ps
 
--- what is awaited is of a child
+-- What is awaited is for children with places.
 abbrev pub WantsPlaces : Want → Type 0
 WantsPlaces (Answer i why) = IsPlace i
 WantsPlaces (Output p) = WatchPlaces p.sides
 WantsPlaces (End i p) = IsPlace i × WatchPlaces p.sides
 
--- what is under way is about a child
+-- The waiting call is for children with places.
 abbrev pub IsOfPlaces : Phase → Type 0
 IsOfPlaces Idle = Unit {0}
 IsOfPlaces (At n w) = WantsPlaces w

@@ -1,4 +1,4 @@
--- match_max and remove_nulls: what is told or set of one child, or of children to come.
+-- `match_max` and `remove_nulls` (expect(1)).
 use Rattle.std.specs.Prelude.{ℕ, nat_le, ◌&&◌, List, [], ◌∷◌, codes, Bool, true, false, if◌then◌else◌, Option, Some, None, Ok, Err, ℤ, pos, negsuc, slice_get}
 use Rattle.std.specs.Str.{bytes_eq}
 use Rattle.std.specs.Fmt.{decimal}
@@ -18,15 +18,15 @@ use Rattle.expect_core.specs.Ids.{open_to}
 use Rattle.expect_core.specs.Texts.{bad_size, bad_removal, bit}
 use Rattle.expect_core.specs.Turns.{done, over_at}
 
--- whose option is meant: that of the child at a place, or with `-d` that of children to come
+-- Whose option is meant: that of the child at a place, or with `-d` that of later children.
 abbrev pub whose : Flags → Variables → Own → Said (Option ℕ)
 whose f vars o = if f.on then Ok None else (open_to f.id vars o >>= λ i. Ok (Some i))
 
--- and the text of what is set, if it is set
+-- Whose option is meant, and the new value if there is one.
 abbrev pub option_of : ExpectCommand → List ℕ → List (List ℕ) → Variables → Own → Said (Option ℕ × Option (List ℕ))
 option_of c name args vars o = arguments c name args >>= λ f. whose f.0 vars o >>= λ at. Ok (at, slice_get f.1 0)
 
--- match_max ?-d? ?-i id? ?size?
+-- match_max ?-d? ?-i spawn_id? ?size?
 
 abbrev pub size_by : List ℕ → Option ℤ → Said ℕ
 size_by text (Some (pos n)) = if nat_le 1 n && nat_le n 1000000 then Ok n else Err (bad_size text)
@@ -43,7 +43,7 @@ sizing_at at (Some text) o = size_of text >>= λ n. Ok (over_at at (Alter (Size 
 abbrev pub sizing : List ℕ → List (List ℕ) → Variables → Own → Said Deed
 sizing name args vars o = option_of command.MatchMax name args vars o >>= λ s. sizing_at s.0 s.1 o
 
--- remove_nulls ?-d? ?-i id? ?value?
+-- remove_nulls ?-d? ?-i spawn_id? ?value?
 
 abbrev pub removal_of : List ℕ → Said Bool
 removal_of text =

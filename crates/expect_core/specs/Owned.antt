@@ -1,4 +1,4 @@
--- What commands change.
+-- The state that commands change.
 use Rattle.std.specs.Prelude.{ℕ, ◌+◌, max, List, [], ◌∷◌, ◌++◌, Bool, true, false, Option, Some, None, slice_set, slice_index_or, if◌then◌else◌}
 use Rattle.circular_buffer.specs.Buffer.{keep_last}
 use Rattle.tty.specs.declared.modes.Modes.{Modes}
@@ -11,7 +11,7 @@ use Rattle.expect_core.specs.declared.child.Child.{Child}
 use Rattle.expect_core.specs.declared.own.Own.{Own}
 use Rattle.expect_core.specs.Held.{Held}
 
--- a child that is asked for, by its id, its terminal's modes, how many bytes are kept of its output, and whether NUL bytes are removed
+-- A child that is requested: its spawn id, terminal modes, buffer size, and whether NUL bytes are removed.
 abbrev pub child_as : List ℕ → Modes → ℕ → Bool → Child
 child_as id modes size remove = record {
   id = id;
@@ -23,7 +23,7 @@ child_as id modes size remove = record {
   sent = 0;
 }
 
--- what stands where there is no child
+-- The value in place of a missing child.
 abbrev pub nobody : Child
 nobody = child_as [] sane 0 true
 
@@ -48,11 +48,11 @@ bytes_of i o = (child_of i o).kept.bytes
 abbrev pub with_bytes : ℕ → List ℕ → Own → Own
 with_bytes i bytes o = with_held i (record (child_of i o).kept { bytes = bytes }) o
 
--- the last bytes alone, as many as are kept
+-- The match buffer is trimmed to its size.
 abbrev pub trimmed : ℕ → Own → Own
 trimmed i o = with_bytes i (keep_last (child_of i o).kept.size (bytes_of i o)) o
 
--- How many bytes are kept, and whether NUL bytes are removed: of the child at a place, or of children to come.
+-- The buffer size and the removal of NUL bytes: of the child at a place, or of later children.
 
 abbrev pub size_at : Option ℕ → Own → ℕ
 size_at None o = o.size
@@ -62,25 +62,25 @@ abbrev pub removes_at : Option ℕ → Own → Bool
 removes_at None o = o.remove_nulls
 removes_at (Some i) o = (child_of i o).remove_nulls
 
--- the clock goes to a moment, and never back
+-- The clock moves to a moment, but never back.
 abbrev pub at_moment : ℕ → Own → Own
 at_moment m o = record o { clock = max o.clock m }
 
 abbrev pub told : List ℕ → Own → Own
 told text o = record o { transcript = o.transcript ++ text }
 
--- while output is logged
+-- The text is written while `log_user` is on.
 abbrev pub logged : List ℕ → Own → Own
 logged text o = if o.log_user then told text o else o
 
--- a request to the child at a place, whose number is one more
+-- A request to the child at a place. Its number is one more.
 abbrev pub asked : ℕ → Act → Own → Own
 asked i act o = record o { requests = o.requests ++ record { child = i + 1; act = act } ∷ [] }
 
--- what is seen of an item of a child
+-- A piece of a child's output as it is seen: after its terminal and the removal of NUL bytes.
 abbrev pub seen : ℕ → List ℕ → Own → List ℕ
 seen i piece o = convert (child_of i o).remove_nulls (child_of i o).line.modes piece
 
--- a piece was taken
+-- A piece of output is taken.
 abbrev pub received : ℕ → List ℕ → Own → Own
 received i piece o = with_bytes i (bytes_of i o ++ seen i piece o) (logged (seen i piece o) o)

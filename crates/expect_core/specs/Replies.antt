@@ -6,12 +6,13 @@ use Rattle.expect_core.specs.declared.run.Paused.{Paused}
 use Rattle.expect_core.specs.declared.dialogue.Dialogue.{Dialogue}
 use Rattle.expect_core.specs.Known.{KnowsIn}
 
--- a dialogue that lives stays, and the step stands; behind a refusal it doesn't live on
+-- Without a refusal, a living dialogue stays as it was, and the step is that of the call. After a refusal it doesn't
+-- live.
 abbrev pub OrMemory : {E : Type 0} → Dialogue → Result Paused E → HostStep → Dialogue → Type 0
 OrMemory old (Ok p) step new = (new.lives ≡ old.lives) × (IsTrue new.lives → (step ≡ p.step) × (new ≡ old))
 OrMemory old (Err e) step new = new.lives ≡ false
 
--- what is remembered is true of the dialogue, if it was when the call paused
+-- What is remembered is true of the dialogue, if it was when the call paused.
 abbrev pub StillKnows : {E : Type 0} → Dialogue → Result Paused E → Known → Dialogue → Type 0
 StillKnows old (Ok p) k new = KnowsIn p.known old → KnowsIn k new
 StillKnows old (Err e) k new = KnowsIn k new

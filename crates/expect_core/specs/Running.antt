@@ -1,4 +1,4 @@
--- How a call runs: turn by turn, up to its end or to where it waits.
+-- How a call runs: turn by turn, until it ends or waits.
 use Rattle.std.specs.Prelude.{ℕ, zero, suc, [], ◌∷◌, if◌then◌else◌, Option, Some, None}
 use Rattle.child_events.specs.declared.event.Answer.{Answer}
 use Rattle.tty.specs.Sends.{handed_by}
@@ -35,7 +35,7 @@ use Rattle.expect_core.specs.Sending.{typed, handing, handed}
 use Rattle.expect_core.specs.Ends.{closed, waited, broken}
 use Rattle.expect_core.specs.Expecting.{entry_of, matched, full, late, ending, failing, ended}
 
--- what follows a turn
+-- What follows a turn.
 abbrev pub To : Type 0
 To = Turn → Variables → Dialogue → Outcome
 
@@ -43,19 +43,19 @@ abbrev pub step_of : Reply → HostStep
 step_of (Done c value) = step.Done c value
 step_of (Fail text) = step.Fail text
 
--- an ending in place of what is awaited
+-- The time limit ends the script.
 abbrev pub over_limit : Variables → Dialogue → Outcome
 over_limit vars st = (step.Stop TimeLimit, vars, st)
 
--- a call waits, with so many turns left
+-- A call waits, and n more turns may follow.
 abbrev pub waits : ℕ → Want → Variables → Dialogue → Outcome
 waits n w vars st = (step.Wait, vars, record st { phase = At n w })
 
--- the action of what was met is evaluated, and the expect kept meanwhile
+-- The action of an entry is evaluated, and the `expect` is kept meanwhile.
 abbrev pub acts : Plan → Met → Variables → Dialogue → Outcome
 acts p m vars st = (step.Body (entry_of m.entry p).action, vars, owning (record st.own { plans = record p { met = Some m } ∷ st.own.plans }) st)
 
--- what the answer to a request comes to
+-- What follows the answer to a request.
 abbrev pub answered : Purpose → ℕ → Answer → Own → Reaction
 answered (purpose.Spawn words) i a o = spawned i words (failure a)
 answered (purpose.Send x rest) i a o = handed x rest (failure a)
@@ -63,7 +63,7 @@ answered purpose.Close i a o = closed (failure a)
 answered purpose.Wait i a o = waited i a o
 answered (purpose.Fail c) i a o = broken c
 
--- a wait for a pattern ends, or goes on
+-- A wait for a pattern ends, or goes on.
 abbrev pub by_heard : To → ℕ → Plan → Heard → Variables → Dialogue → Outcome
 by_heard k n p NotYet vars st = waits n (want.Output p) vars st
 by_heard k n p OverLimit vars st = over_limit vars st
@@ -76,12 +76,13 @@ by_heard k n p (Failed i c) vars st = k (failing i c) vars st
 abbrev pub concluded : To → ℕ → Plan → Listened → Variables → Dialogue → Outcome
 concluded k n p (h, lanes, o) vars st = by_heard k n p h vars (record st { lanes = lanes; own = o })
 
--- the turn behind an answer, at the moment of which it is taken; without one the call waits, unless the last moment has passed
+-- The turn after an answer, which moves the clock to the answer's moment. Without an answer the call waits, unless the
+-- script's last moment has passed.
 abbrev pub on_answer : To → ℕ → Want → (Answer → Own → Turn) → Option (ℕ × Answer) → Variables → Dialogue → Outcome
 on_answer k n w made None vars st = if at_most st.horizon st.limit then waits n w vars st else over_limit vars st
 on_answer k n w made (Some (m, a)) vars st = k (made a (at_moment m st.own)) vars (owning (at_moment m st.own) st)
 
--- the next answer of the child at place i
+-- The next answer of the child at place i.
 abbrev pub awaited : To → ℕ → Want → ℕ → (Answer → Own → Turn) → Variables → Dialogue → Outcome
 awaited k n w i made vars st =
     let first = first_answer st.limit (lane_of i st.lanes).answers in
@@ -92,7 +93,7 @@ waited_for k n (want.Answer i why) vars st = awaited k n (want.Answer i why) i (
 waited_for k n (want.End i p) vars st = awaited k n (want.End i p) i (λ a o. ended p i (failure a) o) vars st
 waited_for k n (want.Output p) vars st = concluded k n p (listen st.limit st.horizon p st.lanes st.own) vars st
 
--- what a stage comes to, where n turns may follow
+-- The outcome of a stage that n turns may follow.
 abbrev pub staged : To → ℕ → Stage → Variables → Dialogue → Outcome
 staged k n (Over reply) vars st = (step_of reply, vars, st)
 staged k n (Act p m) vars st = acts p m vars st
@@ -100,21 +101,21 @@ staged k n (Look p) vars st = concluded k n p (look st.limit st.horizon p st.lan
 staged k n (SendText i text) vars st = k (at i (handing (handed_by (child_of i st.own).line text).actions)) vars (typed i text st)
 staged k n (Wait w) vars st = waited_for k n w vars st
 
--- an effect that can't be is an error
+-- An effect that fails is an error.
 abbrev pub turned : To → ℕ → Stage → Performed → Dialogue → Outcome
 turned k n s (None, vars, o) st = staged k n s vars (owning o st)
 turned k n s (Some text, vars, o) st = (step.Fail text, vars, owning o st)
 
--- A turn, and those that follow it: n at most.
+-- A turn and those that follow it, at most n.
 abbrev pub run : ℕ → To
 run zero t vars st = over_limit vars st
 run (suc n) t vars st = turned (run n) n t.stage (performed t.child t.effects vars st.own) st
 
--- how many turns a call may take
+-- The most turns of a call.
 unfoldable pub turns : ℕ
 turns = 18446744073709551615
 
--- Only a call that waits is resumed, and that leaves another phase than `Idle`: its line is never read, and is there so that there is one.
+-- Only a call that waits is resumed, and its phase is not `Idle`. So the line for `Idle` is never read.
 abbrev pub resuming : Phase → Variables → Dialogue → Outcome
 resuming Idle vars st = (step.Fail [], vars, st)
 resuming (At n w) vars st = waited_for (run n) n w vars st

@@ -1,4 +1,4 @@
--- send ?-i id? ?--? text
+-- send ?-i spawn_id? ?--? text
 use Rattle.std.specs.Prelude.{ℕ, List, [], ◌∷◌, ◌++◌, length, codes, Option, Some, None, Ok}
 use Rattle.child_events.specs.declared.event.Cause.{Cause}
 use Rattle.child_events.specs.Queue.{with_echo}
@@ -29,18 +29,18 @@ use Rattle.expect_core.specs.Texts.{with_cause}
 use Rattle.expect_core.specs.Turns.{react, well, badly}
 use Rattle.expect_core.specs.Answered.{owning}
 
--- the child and the text
+-- The child and the text.
 abbrev pub send_of : List ℕ → List (List ℕ) → Variables → Own → Said (ℕ × List ℕ)
 send_of name args vars o = arguments command.Send name args >>= λ f. open_to f.0.id vars o >>= λ i. Ok (i, arg 0 f.1)
 
 abbrev pub sending : List ℕ → List (List ℕ) → Variables → Own → Said Deed
 sending name args vars o = send_of name args vars o >>= λ s. Ok (To s.0 (react [] (SendText s.1)))
 
--- what the terminal echoes stands among the child's output, at the clock's moment
+-- The echo is added to the child's items at the clock's moment.
 abbrev pub echoed : ℕ → List ℕ → Dialogue → Dialogue
 echoed i bytes st = record st { lanes = with_items i (with_echo st.own.clock bytes (lane_of i st.lanes).items) st.lanes }
 
--- a child's terminal took a text
+-- The child's terminal takes a text.
 abbrev pub typed : ℕ → List ℕ → Dialogue → Dialogue
 typed i text st =
     let line = (child_of i st.own).line in
@@ -50,7 +50,7 @@ abbrev pub act_of : Action → Act
 act_of (Write text) = act.Write text
 act_of End = act.End
 
--- What a terminal hands over goes out piece by piece, each when the one before it was taken.
+-- What a terminal hands over goes out in pieces. Each follows the answer to the one before.
 abbrev pub handing : List Action → Reaction
 handing [] = well []
 handing (a ∷ rest) = react (Ask (act_of a) ∷ []) (Await (purpose.Send a rest))
@@ -63,7 +63,7 @@ abbrev pub refused : Action → Cause → List ℕ
 refused (Write text) c = with_cause (codes "write failed") c
 refused End c = with_cause (codes "end failed") c
 
--- one piece was taken, and the next goes out; the first refusal ends it
+-- After an accepted piece the next goes out. The first failure is an error.
 abbrev pub handed : Action → List Action → Option Cause → Reaction
 handed a rest None = react (counting a ++ (handing rest).effects) (handing rest).next
 handed a rest (Some c) = badly [] (refused a c)

@@ -33,7 +33,7 @@ abbrev pub modes_by : Option (List ℕ) → Said Modes
 modes_by None = Ok sane
 modes_by (Some text) = list_of text >>= λ words. modes_in words (read_modes words)
 
--- the modes of a child's terminal: those that the variable `stty_init` lists, if it is there
+-- The modes of a child's terminal, which the variable `stty_init` may set.
 abbrev pub modes_of : Variables → Said Modes
 modes_of vars = optional (codes "stty_init") vars >>= modes_by
 
@@ -43,12 +43,12 @@ order_by quiet words vars = modes_of vars >>= λ modes. Ok (record { quiet = qui
 abbrev pub order_of : List ℕ → List (List ℕ) → Variables → Said Order
 order_of name args vars = arguments command.Spawn name args >>= λ f. order_by f.0.on f.1 vars
 
--- what it writes to the transcript
+-- The line for the transcript.
 abbrev pub announcing : Bool → List (List ℕ) → List Effect
 announcing true words = []
 announcing false words = Log (spawn_line words) ∷ []
 
--- a child more, which is asked to be started
+-- Adds a child and requests its start.
 abbrev pub ordering : Order → List Effect
 ordering order = Add order.modes ∷ (announcing order.quiet order.words ++ Ask (act.Spawn order.words) ∷ [])
 
@@ -60,7 +60,7 @@ spawning_as order o =
 abbrev pub spawning : List ℕ → List (List ℕ) → Variables → Own → Said Deed
 spawning name args vars o = order_of name args vars >>= λ order. spawning_as order o
 
--- it was started, and is the child that is spoken of from now on; or it wasn't
+-- The child was started and becomes that of the variable `spawn_id`, or it was not started.
 abbrev pub spawned : ℕ → List (List ℕ) → Option Cause → Reaction
 spawned i words None = react (Alter (Stand standing.Open) ∷ Store ((codes "spawn_id", id_at i) ∷ []) ∷ []) (Finish (done (decimal (i + 1))))
 spawned i words (Some c) = badly [] (not_executed words c)

@@ -1,4 +1,4 @@
--- Texts of errors, ids and what a spawn writes.
+-- The texts of errors, spawn ids and the line of a `spawn`.
 use Rattle.std.specs.Prelude.{ℕ, ◌+◌, List, [], ◌∷◌, ◌++◌, codes, Bool, if◌then◌else◌}
 use Rattle.std.specs.List.{flat_map}
 use Rattle.std.specs.Fmt.{decimal}
@@ -8,15 +8,15 @@ use Rattle.child_events.specs.declared.event.Cause.TheVariants as cause
 use Rattle.child_events.specs.Log.{cause_text}
 use Rattle.tcl_commands.specs.Texts.{quoted}
 
--- the id of the child at a place
+-- The spawn id of the child at a place.
 abbrev pub id_at : ℕ → List ℕ
 id_at i = codes "exp" ++ decimal (i + 1)
 
--- what a spawn writes to the transcript
+-- The line that a `spawn` writes to the transcript.
 abbrev pub spawn_line : List (List ℕ) → List ℕ
 spawn_line words = codes "spawn" ++ flat_map (λ w. ascii.space ∷ w) words ++ ascii.carriage_return ∷ ascii.newline ∷ []
 
--- a text with a cause behind it
+-- A text followed by a cause.
 abbrev pub with_cause : List ℕ → Cause → List ℕ
 with_cause front c = front ++ codes ": " ++ cause_text c
 
@@ -48,7 +48,7 @@ bad_size text = quoted (codes "bad match_max size ") text
 abbrev pub bad_removal : List ℕ → List ℕ
 bad_removal text = quoted (codes "bad remove_nulls value ") text
 
--- how it is told whether something holds
+-- The text of a truth value.
 abbrev pub bit : Bool → List ℕ
 bit on = if on then codes "1" else codes "0"
 
@@ -58,7 +58,7 @@ bad_expect_flag word = quoted (codes "bad expect flag ") word
 abbrev pub bad_regular : List ℕ → List ℕ
 bad_regular pattern = quoted (codes "bad regular expression ") pattern
 
--- how POSIX numbers a cause: ENOENT, EACCES, EPIPE, ENOMEM and EIO
+-- The error number of a cause: that of ENOENT, EACCES, EPIPE, ENOMEM or EIO on Linux.
 abbrev pub number_of_cause : Cause → ℕ
 number_of_cause cause.NotFound = 2
 number_of_cause cause.Denied = 13

@@ -1,4 +1,4 @@
--- The commands that write to the transcript, and the one that says whether children's output is seen there.
+-- `puts`, `send_user` and `log_user` (expect(1)).
 use Rattle.std.specs.Prelude.{ℕ, List, [], ◌∷◌, ◌++◌, codes, Bool, true, false, if◌then◌else◌, Option, Some, None, Ok, Err}
 use Rattle.std.specs.Str.{bytes_eq}
 use Rattle.tcl_words.specs.Bytes as ascii
@@ -18,7 +18,7 @@ use Rattle.expect_core.specs.Turns.{done}
 
 -- puts ?-nonewline? ?stdout? text
 
--- a text with a newline behind it, or without
+-- A text, with a newline if `line`.
 abbrev pub ended : Bool → List ℕ → List ℕ
 ended line text = if line then text ++ ascii.newline ∷ [] else text
 
@@ -28,18 +28,18 @@ no_channel w = if begins_with_minus w then bad_flag w else bad_option w
 abbrev pub puts_to : Bool → List ℕ → List ℕ → Said (List ℕ)
 puts_to line w text = if bytes_eq w (codes "stdout") then Ok (ended line text) else Err (no_channel w)
 
--- by a text, or a channel and a text
+-- What is written, given a text, or a channel and a text.
 abbrev pub put_to : List ℕ → Bool → List (List ℕ) → Said (List ℕ)
 put_to name line (text ∷ []) = Ok (ended line text)
 put_to name line (channel ∷ text ∷ []) = puts_to line channel text
 put_to name line other = Err (wrong_args name)
 
--- a word behind which others stand may be `-nonewline`
+-- The first word may be `-nonewline` if others follow.
 abbrev pub put_words : List ℕ → List (List ℕ) → Said (List ℕ)
 put_words name (w ∷ next ∷ more) = if bytes_eq w (codes "-nonewline") then put_to name false (next ∷ more) else put_to name true (w ∷ next ∷ more)
 put_words name args = put_to name true args
 
--- what is written
+-- What is written.
 abbrev pub put_of : List ℕ → List (List ℕ) → Said (List ℕ)
 put_of name args = arguments command.Puts name args >>= λ f. put_words name f.1
 
@@ -53,7 +53,7 @@ to_user name args = arguments command.SendUser name args >>= λ f. Ok (arg 0 f.1
 
 -- log_user 0, 1 or -info
 
--- whether output is seen from now on, or none where that is asked
+-- Whether output goes to the transcript from now on, or `None` for `-info`.
 abbrev pub log_word : List ℕ → Said (Option Bool)
 log_word w =
     if bytes_eq w (codes "0") then Ok (Some false)

@@ -1,4 +1,4 @@
--- Turns: what a call does at a child, and what it does next.
+-- Turns: what a call does to a child, and what it does next.
 use Rattle.std.specs.Prelude.{ℕ, List, [], Option, Some, None, Ok, Err}
 use Rattle.tcl_commands.specs.declared.code.Code.TheVariants as code
 use Rattle.tcl_commands.specs.Said.{Said}
@@ -18,7 +18,7 @@ use Rattle.expect_core.specs.declared.turn.Turn.{Turn}
 abbrev pub react : List Effect → Next → Reaction
 react effects next = record { effects = effects; next = next }
 
--- a call is done with a value, or is an error with a text
+-- A call ends with a value, or is an error with a text.
 
 abbrev pub done : List ℕ → Reply
 done value = Done code.Ok value
@@ -29,12 +29,12 @@ well effects = react effects (next.Finish (done []))
 abbrev pub badly : List Effect → List ℕ → Reaction
 badly effects text = react effects (next.Finish (Fail text))
 
--- what a command does to a child, or with none to what all children share, where it is over at once
+-- A command that ends at once. It changes a child, or without one what all children share.
 abbrev pub over_at : Option ℕ → List Effect → Reply → Deed
 over_at None effects reply = Alone effects reply
 over_at (Some i) effects reply = To i (react effects (next.Finish reply))
 
--- as turns
+-- The same as turns.
 
 abbrev pub turn : Option ℕ → List Effect → Stage → Turn
 turn at effects stage = record { child = at; effects = effects; stage = stage }

@@ -1,4 +1,4 @@
--- A dialogue to which events came holds the world that they make, as long as it has taken nothing.
+-- Until a dialogue takes something, it holds the world that its events make.
 use Rattle.std.specs.Prelude.{◌≡◌, ℕ, List, map, Option}
 use Rattle.child_events.specs.declared.event.Event.{Event}
 use Rattle.child_events.specs.World.{Lane as Known}
@@ -10,7 +10,7 @@ use Rattle.expect_core.specs.declared.dialogue.Dialogue.{Dialogue}
 use Rattle.expect_core.specs.Lanes.{extended}
 use Rattle.expect_core.specs.Calls.{fresh}
 
--- what is known of a child, none of it taken
+-- What is known of a child, none of it taken.
 abbrev pub untaken : Known → Lane
 untaken k = record { items = map came k.items; answers = k.answers; over = k.over }
 

@@ -1,4 +1,4 @@
-//! `exp_continue`, by which an action goes back to its expect.
+//! `exp_continue`: an action goes back to its `expect` (expect(1)).
 
 ghost use Rattle.std.specs.Prelude.{◌≡◌};
 ghost use Rattle.tcl_commands.specs.Says.{Says};
@@ -12,7 +12,7 @@ use std::alloc::Global;
 use tcl_commands::{Code, Complaint};
 use tcl_values::Value;
 
-/// The code of an `exp_continue`.
+/// Returns the code with which `exp_continue` ends.
 fn continued(alloc: Global, name: &[u8], args: &[Value]) -> Result<Code, Complaint>
     ensures { Says result (continued_of name.now args.now) }
 {
@@ -20,7 +20,7 @@ fn continued(alloc: Global, name: &[u8], args: &[Value]) -> Result<Code, Complai
     Ok(code_of(&flags))
 }
 
-/// The code by which an action goes back to its expect.
+/// Returns the code that keeps the timeout running with `-continue_timer`, or else restarts it.
 fn code_of(flags: &Flags) -> Code
     ensures { result ≡ again_code flags.now }
 {
@@ -31,7 +31,7 @@ fn code_of(flags: &Flags) -> Code
     }
 }
 
-/// `exp_continue ?-continue_timer?`.
+/// Returns what `exp_continue ?-continue_timer?` does.
 pub(crate) fn exp_continue(alloc: Global, name: &[u8], args: &[Value]) -> Result<Deed, Complaint>
     ensures { Says result (continuing name.now args.now) }
 {

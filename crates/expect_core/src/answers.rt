@@ -1,4 +1,4 @@
-//! What a child's requests came to.
+//! The answers to the requests to a child.
 
 ghost use Rattle.std.specs.Prelude.{◌≡◌, ◌++◌, ◌∷◌, [], OnOk, OnErr};
 ghost use Rattle.expect_core.specs.Answered.{first_answer};
@@ -9,7 +9,7 @@ use std::alloc::{AllocError, Global};
 use std::collections::VecDeque;
 use std::marker::Model;
 
-/// Answers that wait to be taken, each with its moment. A contract sees a list.
+/// Answers that no call has taken yet, each with its moment. A contract sees a list.
 #[derive(Drop)]
 pub struct Answers {
     list: VecDeque<(u64, Answer)>,
@@ -25,7 +25,7 @@ impl Model for Answers {
 }
 
 impl Answers {
-    /// No answers. It allocates nothing.
+    /// Creates an empty list without allocating.
     pub(crate) fn new(alloc: Global) -> Answers
         ensures { result ≡ [] }
     {
@@ -34,7 +34,7 @@ impl Answers {
         }
     }
 
-    /// Puts one behind the others. A refused one leaves them as they were.
+    /// Appends an answer. On `AllocError` the list is unchanged.
     pub(crate) fn push(&mut self, moment: u64, answer: Answer) -> Result<(), AllocError>
         ensures pushed { OnOk result (self.new ≡ self.old ++ (moment, answer) ∷ []) }
         ensures kept { OnErr result (self.new ≡ self.old) }
@@ -43,7 +43,7 @@ impl Answers {
         Ok(())
     }
 
-    /// Takes the first one, where it came in time.
+    /// Takes the first answer, if its moment is no later than `limit`.
     pub(crate) fn take(&mut self, limit: Option<u64>) -> Option<(u64, Answer)>
         ensures { first_answer limit self.old ≡ (result, self.new) }
     {
@@ -55,7 +55,7 @@ impl Answers {
     }
 }
 
-/// Whether a moment is no later than another one, if that is there.
+/// Returns whether a moment is no later than `limit`. `None` is no limit.
 pub(crate) fn is_within(moment: u64, limit: Option<u64>) -> bool
     ensures { result ≡ at_most moment limit }
 {

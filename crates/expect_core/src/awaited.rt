@@ -1,4 +1,4 @@
-//! What a call that waits is waiting for, as a reader sees it.
+//! What a waiting call waits for.
 
 ghost use Rattle.std.specs.Prelude.{◌≡◌, ◌∷◌, [], List, Some, None, MatchOption, IfOk};
 ghost use Rattle.expect_core.specs.declared.plan.Plan.{Plan as PlanOf};
@@ -14,7 +14,8 @@ use std::alloc::{AllocError, Global};
 use tcl_words::Text;
 
 impl Plan {
-    /// The last moment in milliseconds at which an item is in time, where there is one.
+    /// Returns the last moment in milliseconds at which an item is in time. `None` if the `expect`
+    /// never times out.
     pub fn last_moment(&self) -> Option<u64>
         ensures { result ≡ as_moment_of self.now.deadline }
     {
@@ -23,7 +24,8 @@ impl Plan {
 }
 
 impl Dialogue {
-    /// The number of the child, from 1, whose answer a call awaits.
+    /// Returns the number of the child, from 1, whose answer a call awaits. `None` if no call
+    /// awaits one.
     pub fn answering(&self) -> Option<u8>
         ensures { result ≡ answering_of self.now.phase }
     {
@@ -35,26 +37,28 @@ impl Dialogue {
         }
     }
 
-    /// The expect that waits for an item of one of its children.
+    /// Returns the `expect` that waits for output. `None` if none does.
     pub fn expecting(&self) -> Option<&Plan>
         ensures { MatchOption result (expecting_of self.now.phase ≡ None) (λ p. expecting_of self.now.phase ≡ Some p.now) }
     {
         match &self.phase {
-            Phase::At(_, Want::Output(plan)) => Some(plan),
+            Phase::At(_, Want::Output(plan)) => Some(plan.get()),
             Phase::At(_, Want::Answer(_, _)) => None,
             Phase::At(_, Want::End(_, _)) => None,
             Phase::Idle => None,
         }
     }
 
-    /// The expect whose action is evaluated, the innermost where one is in the action of another.
+    /// Returns the innermost `expect` whose action is being evaluated. `None` if there is none.
     pub fn acting(&self) -> Option<&Plan>
         ensures { MatchOption result (self.now.own.plans ≡ []) (λ p. (outer : List PlanOf) × (self.now.own.plans ≡ p.now ∷ outer)) }
     {
         self.own.plans.top()
     }
 
-    /// A copy of the bytes of a child that no expect has taken, on which its patterns are tried; none where there is no such child.
+    /// Returns a copy of a child's match buffer: the bytes that no `expect` has taken.
+    ///
+    /// The child is numbered from 1. The copy is empty if there is no such child.
     pub fn buffer_copied(&self, alloc: Global, child: u8) -> Result<Text, AllocError>
         ensures { IfOk result (λ t. t ≡ buffer_of child self.now.own.children) }
     {

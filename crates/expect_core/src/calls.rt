@@ -1,4 +1,4 @@
-//! What each call of a script does.
+//! The calls of a script to its host.
 
 ghost use Rattle.std.specs.Prelude.{◌≡◌, IfOk};
 ghost use Rattle.command_table.specs.Commands.{expect_command};
@@ -34,14 +34,14 @@ use tcl_host::HostStep;
 use tcl_subst::Vars;
 use tcl_values::Value;
 
-/// Whether a word names one of the commands.
+/// Returns whether a word names a command of Expect.
 pub(crate) fn knows(word: &[u8]) -> bool
     ensures { result ≡ knows_of word.now }
 {
     expect_command(word).is_some()
 }
 
-/// What a command does.
+/// Returns what a command does.
 fn deed(
     alloc: Global,
     command: ExpectCommand,
@@ -68,7 +68,8 @@ fn deed(
     }
 }
 
-/// The words that are filled before a command begins: those of an `expect` whose one argument is a list of all others.
+/// Returns the only argument of an `expect`, if it is a list of all arguments. Its words are filled
+/// before the command begins.
 fn filling(
     alloc: Global,
     command: ExpectCommand,
@@ -83,7 +84,7 @@ fn filling(
 }
 
 impl Dialogue {
-    /// Does what a command says, or tells its error.
+    /// Runs what a command does, or gives its error.
     fn doing(
         &mut self,
         alloc: Global,
@@ -137,7 +138,7 @@ impl Dialogue {
         }
     }
 
-    /// Begins a command, by its words.
+    /// Begins a command, given its words.
     pub(crate) fn begin_words(
         &mut self,
         vars: &mut Vars,
@@ -154,7 +155,7 @@ impl Dialogue {
         }
     }
 
-    /// Goes on with what a call that waits was doing.
+    /// Continues a call that waited.
     pub(crate) fn resumed(&mut self, vars: &mut Vars, known: Known) -> Result<Paused, AllocError>
         requires { KnowsIn known self.old }
         ensures comes { IfOk result (λ p. resumed vars.old self.old ≡ (p.step, vars.new, self.new)) }
@@ -165,7 +166,7 @@ impl Dialogue {
         self.go_on(alloc, vars, phase, known)
     }
 
-    /// Begins an expect whose list of arguments was filled.
+    /// Begins an `expect` whose list of arguments was filled.
     pub(crate) fn expect_words(
         &mut self,
         vars: &mut Vars,
@@ -180,7 +181,7 @@ impl Dialogue {
         self.doing(alloc, vars, said)
     }
 
-    /// Goes on behind an action.
+    /// Continues a call after its action.
     pub(crate) fn go_behind(
         &mut self,
         vars: &mut Vars,

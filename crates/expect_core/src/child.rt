@@ -1,4 +1,4 @@
-//! The children that a script asked for.
+//! The children of a script.
 
 ghost use Rattle.std.specs.Prelude.{◌≡◌, ◌<◌, ◌≤◌, ◌+◌, ◌-◌, ◌++◌, ◌∷◌, [], min, nat_le, length, take, drop, position, true, slice_set, IfOk, IfSome, OnOk};
 ghost use Rattle.circular_buffer.specs.Buffer.{keep_last};
@@ -21,19 +21,19 @@ use tcl_values::Value;
 use tcl_words::Text;
 use tty::{Actions, Line, Modes, Seen, convert_behind};
 
-/// Whether a child has an id, and whether commands can still speak to it.
+/// Whether a child has a spawn id, and whether it is still open.
 #[derive(Clone, Copy, PartialEq, Eq)]
 pub enum Standing {
-    /// It was asked for, but not started: it has no id.
+    /// It was requested, but has not started. It has no spawn id.
     Unborn,
-    /// It was started.
+    /// It has started.
     Open,
-    /// It was let go.
+    /// It was closed: by `close`, at the end of its output, or after a failed read.
     Closed,
 }
 
 impl Standing {
-    /// Whether the child has an id.
+    /// Returns whether the child has a spawn id.
     fn is_born(self) -> bool
         ensures { result ≡ is_born self }
     {
@@ -44,7 +44,7 @@ impl Standing {
         }
     }
 
-    /// Whether commands can speak to the child.
+    /// Returns whether the child is open.
     pub(crate) fn is_open(self) -> bool
         ensures { result ≡ is_open_of self }
     {
@@ -56,51 +56,51 @@ impl Standing {
     }
 }
 
-/// What may change of a child.
+/// A change of a child.
 #[derive(Clone, Copy)]
 pub enum Change {
-    /// It was started, or let go.
+    /// It has started, or was closed.
     Stand(Standing),
-    /// Its end was asked for.
+    /// A `wait` has asked for its end.
     Waited,
-    /// So many bytes more of its writes were accepted.
+    /// This many more bytes that were sent to it were accepted.
     Sent(u64),
-    /// So many of its first bytes, or all, leave its buffer.
+    /// This many first bytes leave its match buffer, or all if there are fewer.
     Take(usize),
-    /// Another number of bytes is kept of its output.
+    /// The size of its match buffer becomes this many bytes.
     Size(usize),
-    /// NUL bytes of its items are removed, or kept.
+    /// NUL bytes in its output are removed from now on, or kept.
     Removal(bool),
 }
 
-/// A child that was asked for.
+/// A child that was requested.
 #[derive(Drop)]
 pub struct Child {
-    /// Its id.
+    /// Its spawn id.
     pub id: Text,
-    /// Whether it was started, or let go.
+    /// Whether it has started, or was closed.
     pub standing: Standing,
-    /// A `wait` has asked for its end.
+    /// Whether a `wait` has asked for its end.
     pub waited: bool,
-    /// Its terminal's input.
+    /// The input side of its terminal.
     pub line: Line,
-    /// Its output that no expect has taken.
+    /// Its match buffer.
     pub kept: Kept,
-    /// Whether NUL bytes of its items are removed when they are taken.
+    /// Whether NUL bytes are removed from its output when it is taken.
     pub remove_nulls: bool,
-    /// How many bytes of its writes were accepted. It counts to 18,446,744,073,709,551,615 and no further.
+    /// The number of bytes sent to it that were accepted. It stops at 18,446,744,073,709,551,615.
     pub sent: u64,
 }
 
 impl Child {
-    /// Whether it has this id.
+    /// Returns whether the child has this spawn id.
     fn has_id(&self, id: &[u8]) -> bool
         ensures { result ≡ has_id id.now self.now }
     {
         self.standing.is_born() && self.id.as_slice() == id
     }
 
-    /// Changes it.
+    /// Changes the child.
     fn alter(&mut self, change: Change) -> Result<(), AllocError>
         ensures { OnOk result (self.new ≡ altered change self.old) }
     {
@@ -130,7 +130,7 @@ impl Child {
     }
 }
 
-/// The children in the order in which they were asked for. A contract sees a list.
+/// A script's children, in the order in which they were requested. A contract sees a list.
 #[derive(Drop)]
 pub struct Children {
     pub(crate) list: Vec<Child>,
@@ -150,7 +150,7 @@ impl Model for Children {
 }
 
 impl Children {
-    /// No children. It allocates nothing.
+    /// Creates an empty list without allocating.
     pub(crate) fn new(alloc: Global) -> Children
         ensures { result ≡ [] }
     {
@@ -159,14 +159,17 @@ impl Children {
         }
     }
 
-    /// How many there are.
+    /// Returns the number of children.
     pub(crate) fn len(&self) -> usize
         ensures { result ≡ length self.now }
     {
         self.list.len()
     }
 
-    /// A child more, where there are fewer than 16, with this id, these modes of its terminal, so many bytes kept of its output, and NUL bytes removed, or not.
+    /// Adds a child that has not started. Requires fewer than 16 children.
+    ///
+    /// Its match buffer has `size` bytes. `remove` says whether NUL bytes are removed from its
+    /// output.
     pub(crate) fn push(
         &mut self,
         alloc: Global,
@@ -190,7 +193,7 @@ impl Children {
         Ok(())
     }
 
-    /// Where the first child with this id stands.
+    /// Returns the index of the child with this spawn id, or `None`.
     fn position(&self, id: &[u8]) -> Option<usize>
         ensures found { result ≡ position (has_id id.now) self.now }
         ensures within { IfSome result (λ n. n < length self.now) }
@@ -198,7 +201,7 @@ impl Children {
         self.list.iter().position(|child| child.has_id(id))
     }
 
-    /// How many there are, which is no more than 16.
+    /// Returns the number of children, at most 16.
     fn count(&self) -> usize
         ensures value { result ≡ length self.now }
         ensures few { result ≤ 16 }
@@ -206,7 +209,7 @@ impl Children {
         self.list.len()
     }
 
-    /// The place of the child that has an id.
+    /// Returns the place of the child with this spawn id, or `None`.
     pub(crate) fn find(&self, id: &[u8]) -> Option<Place>
         ensures { result ≡ position (has_id id.now) self.now }
     {
@@ -217,7 +220,8 @@ impl Children {
         }
     }
 
-    /// A copy of the bytes of a child, by its number from 1, that no expect has taken; none where there is no such child.
+    /// Returns a copy of a child's match buffer. The child is numbered from 1. The copy is empty if
+    /// there is no such child.
     pub(crate) fn buffer_copied(&self, alloc: Global, child: u8) -> Result<Text, AllocError>
         ensures { IfOk result (λ t. t ≡ buffer_of child self.now) }
     {
@@ -228,7 +232,7 @@ impl Children {
         Ok(Text::new(alloc))
     }
 
-    /// Whether a child was started, or let go.
+    /// Returns whether a child has started, or was closed.
     pub(crate) fn standing(&self, i: Place) -> Standing
         ensures { result ≡ (child_in i self.now).standing }
     {
@@ -252,7 +256,7 @@ impl Children {
         Ok(())
     }
 
-    /// A child's id.
+    /// Returns a child's spawn id.
     pub(crate) fn id(&self, i: Place) -> &[u8]
         ensures { result.now ≡ (child_in i self.now).id }
     {
@@ -264,7 +268,7 @@ impl Children {
         }
     }
 
-    /// Whether a `wait` has asked for the child's end.
+    /// Returns whether a `wait` has asked for the child's end.
     pub(crate) fn is_waited(&self, i: Place) -> bool
         ensures { result ≡ (child_in i self.now).waited }
     {
@@ -276,7 +280,7 @@ impl Children {
         }
     }
 
-    /// Sends bytes to a child's terminal: what it echoes, and what it hands over.
+    /// Sends bytes to a child's terminal. Returns what it echoes, and what it hands over.
     pub(crate) fn send(
         &mut self,
         alloc: Global,
@@ -294,7 +298,7 @@ impl Children {
         Line::new(alloc, Modes::sane()).send(bytes)
     }
 
-    /// The modes of a child's terminal.
+    /// Returns the modes of a child's terminal.
     fn modes(&self, i: Place) -> Modes
         ensures { result ≡ (child_in i self.now).line.modes }
     {
@@ -306,7 +310,7 @@ impl Children {
         }
     }
 
-    /// Whether NUL bytes of a child's items are removed.
+    /// Returns whether NUL bytes are removed from a child's output.
     pub(crate) fn removes_nulls(&self, i: Place) -> bool
         ensures { result ≡ (child_in i self.now).remove_nulls }
     {
@@ -318,14 +322,15 @@ impl Children {
         }
     }
 
-    /// What is seen of an item of a child.
+    /// Returns a piece of a child's output as it is seen: after its terminal and the removal of NUL
+    /// bytes.
     pub(crate) fn seen<'a>(&self, i: Place, piece: &'a [u8]) -> Seen<'a>
         ensures { result ≡ convert (child_in i self.now).remove_nulls (child_in i self.now).line.modes piece.now }
     {
         Seen::new(self.removes_nulls(i), self.modes(i), piece)
     }
 
-    /// A text with what is seen of an item of a child behind it.
+    /// Appends a piece of a child's output to a text, as it is seen.
     pub(crate) fn seen_behind(&self, text: Text, i: Place, piece: &[u8]) -> Result<Text, AllocError>
         ensures { IfOk result (λ t. t ≡ text ++ convert (child_in i self.now).remove_nulls (child_in i self.now).line.modes piece.now) }
     {
@@ -334,7 +339,7 @@ impl Children {
 }
 
 impl Children {
-    /// How many bytes are kept of a child's output.
+    /// Returns the size of a child's match buffer, in bytes.
     pub(crate) fn size(&self, i: Place) -> usize
         ensures { result ≡ (child_in i self.now).kept.size }
     {
@@ -346,7 +351,7 @@ impl Children {
         }
     }
 
-    /// How many bytes of a child are kept now.
+    /// Returns the number of bytes in a child's match buffer.
     pub(crate) fn count_kept(&self, i: Place) -> usize
         ensures { result ≡ length (child_in i self.now).kept.bytes }
     {
@@ -358,7 +363,7 @@ impl Children {
         }
     }
 
-    /// Puts bytes behind those that are kept of a child.
+    /// Appends bytes to a child's match buffer. It may exceed its size until `trim`.
     pub(crate) fn keep(&mut self, i: Place, bytes: &[u8]) -> Result<(), AllocError>
         ensures { OnOk result (self.new ≡ slice_set self.old i (record (child_in i self.old) { kept = record (child_in i self.old).kept { bytes = (child_in i self.old).kept.bytes ++ bytes.now } })) }
     {
@@ -370,7 +375,7 @@ impl Children {
         Ok(())
     }
 
-    /// Puts output behind the bytes that are kept of a child, as it is seen.
+    /// Appends output to a child's match buffer, as it is seen.
     pub(crate) fn keep_seen(&mut self, i: Place, seen: Seen<'_>) -> Result<(), AllocError>
         ensures { OnOk result (self.new ≡ slice_set self.old i (record (child_in i self.old) { kept = record (child_in i self.old).kept { bytes = (child_in i self.old).kept.bytes ++ seen.entry } })) }
     {
@@ -382,7 +387,7 @@ impl Children {
         Ok(())
     }
 
-    /// Whether no more of a child's bytes are there than are kept.
+    /// Returns whether a child's match buffer doesn't exceed its size.
     pub(crate) fn fits(&self, i: Place) -> bool
         ensures { result ≡ nat_le (length (child_in i self.now).kept.bytes) (child_in i self.now).kept.size }
     {
@@ -393,7 +398,7 @@ impl Children {
         true
     }
 
-    /// Keeps the last bytes of a child alone.
+    /// Drops all but the last bytes of a child's match buffer, as many as its size.
     pub(crate) fn trim(&mut self, i: Place)
         ensures { self.new ≡ slice_set self.old i (record (child_in i self.old) { kept = record (child_in i self.old).kept { bytes = keep_last (child_in i self.old).kept.size (child_in i self.old).kept.bytes } }) }
     {
@@ -404,8 +409,10 @@ impl Children {
         }
     }
 
-    /// Tests a child's bytes against the patterns of some groups, of which nothing was found in so many of the first ones, or none were tested.
-    /// Where a pattern matches, its spans are written.
+    /// Tests a child's match buffer against the patterns of these groups. Writes the spans of a
+    /// match to `spans`.
+    ///
+    /// The first `sought` bytes must hold no match, as an earlier test found. Pass 0 if unknown.
     pub(crate) fn choose<'l>(
         &mut self,
         alloc: Global,
@@ -431,7 +438,8 @@ impl Children {
         list.choose_with(alloc, matchers, groups, &[], 0, 0, spans)
     }
 
-    /// A child's bytes from a place to another one, as far as they are there.
+    /// Returns the bytes from `from` to before `to` of a child's match buffer, as far as they
+    /// exist.
     pub(crate) fn part(
         &mut self,
         alloc: Global,

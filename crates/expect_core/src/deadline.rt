@@ -1,4 +1,4 @@
-//! How long a dialogue that waits goes on waiting.
+//! How long a waiting dialogue goes on waiting.
 
 ghost use Rattle.std.specs.Prelude.{◌≡◌};
 ghost use Rattle.expect_core.specs.Deadlines.{sooner as sooner_of, as_moment as as_moment_of, soonest as soonest_of, deadline_under as under, deadline_of};
@@ -11,10 +11,10 @@ use crate::place::Place;
 use crate::plan::Groups;
 use crate::turn::Want;
 
-/// The last moment of 64 bits.
+/// The greatest moment of 64 bits.
 const LAST_MOMENT: u128 = 18_446_744_073_709_551_615;
 
-/// A deadline as a moment; behind the last moment of 64 bits it counts as that.
+/// Returns a deadline as a moment. A greater deadline becomes the greatest moment of 64 bits.
 pub(crate) fn as_moment(deadline: Option<u128>) -> Option<u64>
     ensures { result ≡ as_moment_of deadline }
 {
@@ -24,7 +24,7 @@ pub(crate) fn as_moment(deadline: Option<u128>) -> Option<u64>
     }
 }
 
-/// The lesser of two moments in milliseconds, where one that isn't there is later than every other.
+/// Returns the lesser of two moments in milliseconds. `None` counts as later than every moment.
 pub fn sooner(first: Option<u64>, second: Option<u64>) -> Option<u64>
     ensures { result ≡ sooner_of first second }
 {
@@ -35,7 +35,7 @@ pub fn sooner(first: Option<u64>, second: Option<u64>) -> Option<u64>
     }
 }
 
-/// The soonest of a moment and those of the next items of children.
+/// Returns the least of a moment and the moments of the children's next items.
 fn soonest(first: Option<u64>, sides: &[(Place, Groups)], lanes: &Lanes) -> Option<u64>
     ensures { result ≡ soonest_of first (heads sides.now lanes.now) }
 {
@@ -46,12 +46,15 @@ fn soonest(first: Option<u64>, sides: &[(Place, Groups)], lanes: &Lanes) -> Opti
     last
 }
 
-/// The deadline of what is under way: an expect has its own and the moment of each item that it hasn't taken yet, and a wait for an answer none.
+/// Returns the deadline of the call that waits. A wait for an answer has none.
+///
+/// An `expect` has its own deadline, and the moments of its children's next items.
 fn deadline_under(phase: &Phase, lanes: &Lanes) -> Option<u64>
     ensures { result ≡ under phase.now lanes.now }
 {
     match phase {
         Phase::At(_, Want::Output(plan)) => {
+            let plan = plan.get();
             soonest(as_moment(plan.deadline), plan.sides.list.as_slice(), lanes)
         }
         Phase::At(_, Want::Answer(_, _)) => None,
@@ -61,9 +64,12 @@ fn deadline_under(phase: &Phase, lanes: &Lanes) -> Option<u64>
 }
 
 impl Dialogue {
-    /// The last moment in milliseconds to which a call that waits goes on waiting where only time passes: the least of the deadline of the
-    /// expect that waits, the moment of an item that it takes as soon as no other child can have an earlier one, and the last moment of the
-    /// settings. None where none is there.
+    /// Returns the last moment, in milliseconds, up to which a waiting call goes on waiting if only
+    /// time passes. `None` if there is no such moment.
+    ///
+    /// It is the least of the deadline of the waiting `expect`, the moments of its children's next
+    /// items, and the script's last moment. The `expect` takes a next item as soon as no other
+    /// child can have an earlier one.
     pub fn deadline(&self) -> Option<u64>
         ensures { result ≡ deadline_of self.now }
     {

@@ -21,21 +21,22 @@ use tcl_words::Text;
 /// The host of a script: its children, and what came from them and was not taken yet.
 #[derive(Drop)]
 pub struct Dialogue {
-    /// The last moment, where there is one.
+    /// The script's last moment in milliseconds, or `None` without a time limit.
     pub(crate) limit: Option<u64>,
-    /// The greatest moment so far.
+    /// The greatest moment of the events so far.
     pub(crate) horizon: u64,
-    /// What came, and was not taken yet.
+    /// What came from each child and was not taken yet.
     pub(crate) lanes: Lanes,
-    /// What the commands change.
+    /// The state that commands change.
     pub(crate) own: Own,
-    /// What a call that waits was doing.
+    /// What a waiting call was doing.
     pub(crate) phase: Phase,
-    /// No memory was refused.
+    /// Whether memory was never refused.
     pub(crate) lives: bool,
 }
 
-/// Why a request failed. An answer to another kind of request counts as a failure.
+/// Returns why a request failed, or `None` if it didn't. The answer to another kind of request
+/// counts as a failure.
 pub(crate) fn failure(answer: Answer) -> Option<Cause>
     ensures { result ≡ failure_of answer }
 {
@@ -48,7 +49,7 @@ pub(crate) fn failure(answer: Answer) -> Option<Cause>
 }
 
 impl Dialogue {
-    /// One to which nothing has come.
+    /// Creates a dialogue to which no event has come.
     pub fn new(alloc: Global, settings: &Settings) -> Result<Dialogue, AllocError>
         ensures { IfOk result (λ d. d ≡ fresh settings.now.limit_ms) }
     {
@@ -71,9 +72,9 @@ impl Dialogue {
         })
     }
 
-    /// Puts what came behind what is there. Its moment is raised to the greatest one before it.
+    /// Adds an event. If its moment is before the greatest one so far, it is raised to that.
     ///
-    /// Where memory is refused, the dialogue doesn't live on, and nothing is said of it any more. A tick asks for none.
+    /// If memory is refused, `lives` becomes false and stays false. A tick allocates nothing.
     pub fn offer(&mut self, event: Event)
         ensures lived { IsTrue self.new.lives → IsTrue self.old.lives }
         ensures ticks { OutlivesTicks event self.old self.new }
@@ -107,36 +108,40 @@ impl Dialogue {
         Ok(())
     }
 
-    /// How many items that came from a child no command has taken yet: pieces of its output, its end, a failure to read it. The echo of what
-    /// was sent to it is none of them. A child that isn't there has none. It costs the same however many there are.
+    /// Returns the number of items from a child that no command has taken yet. 0 if there is no
+    /// such child.
+    ///
+    /// An item is a piece of output, the end of the output, or a read failure. Echoes don't count.
+    /// The child is numbered from 1. The cost is constant.
     pub fn untaken(&self, child: u8) -> usize
         ensures { result ≡ untaken_of child self.now.lanes }
     {
         self.lanes.untaken(child)
     }
 
-    /// What the script wrote, and the output that it took.
+    /// Returns the transcript: what the script wrote, and the output that it took while `log_user`
+    /// was on.
     pub fn transcript(&self) -> &[u8]
         ensures { result.now ≡ self.now.own.transcript }
     {
         self.own.transcript.as_slice()
     }
 
-    /// What the script asked of its children, in order.
+    /// Returns the script's requests to its children, in order.
     pub fn requests(&self) -> &[Request]
         ensures { result.now ≡ self.now.own.requests }
     {
         self.own.requests.as_slice()
     }
 
-    /// Copies of what the script asked of its children, in order.
+    /// Returns copies of the script's requests to its children, in order.
     pub fn requests_copied(&self, alloc: Global) -> Result<Requests, AllocError>
         ensures { IfOk result (λ r. r ≡ self.now.own.requests) }
     {
         self.own.requests.copied(alloc)
     }
 
-    /// What the script wrote, with the output that it took, and what it asked of its children, in order. Both are given up.
+    /// Takes the transcript and the requests out of the dialogue, and leaves both empty.
     pub fn give_told(&mut self) -> (Text, Requests)
         ensures told { result ≡ (self.old.own.transcript, self.old.own.requests) }
         ensures left { self.new ≡ record self.old { own = record self.old.own { transcript = []; requests = [] } } }
@@ -147,7 +152,8 @@ impl Dialogue {
         (transcript, requests)
     }
 
-    /// For each child that was asked for, how many bytes of its writes were accepted.
+    /// Returns, for each child that was requested, the number of bytes sent to it that were
+    /// accepted.
     pub fn sent(&self, alloc: Global) -> Result<Vec<u64>, AllocError>
         ensures { IfOk result (λ v. v.items ≡ map (λ child. child.sent) self.now.own.children) }
     {
@@ -158,7 +164,7 @@ impl Dialogue {
         Ok(counts)
     }
 
-    /// Whether no memory was refused to it.
+    /// Returns whether memory was never refused.
     pub fn lives(&self) -> bool
         ensures { result ≡ self.now.lives }
     {
@@ -166,12 +172,12 @@ impl Dialogue {
         *lives
     }
 
-    /// Where memory comes from.
+    /// Returns the allocator.
     pub(crate) fn alloc(&self) -> Global {
         *self.lanes.list.allocator()
     }
 
-    /// Says what is under way from now on.
+    /// Sets what the call is doing.
     pub(crate) fn set_phase(&mut self, phase: Phase)
         ensures { self.new ≡ record self.old { phase = phase } }
     {

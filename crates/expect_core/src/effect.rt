@@ -1,4 +1,4 @@
-//! What a call does to a child, or to what all children share.
+//! What a call changes.
 
 ghost use Rattle.std.specs.Prelude.{◌≡◌, ◌++◌, ◌∷◌, [], IfOk, OnOk};
 ghost use Rattle.expect_core.specs.Effects.{added, changed, performed, stored as stored_of, to_come};
@@ -17,26 +17,26 @@ use tcl_values::Value;
 use tcl_words::Text;
 use tty::Modes;
 
-/// Something that a call does to the child of its turn, or to what all children share.
+/// A change to the child of a turn, or to what all children share.
 #[derive(Drop)]
 pub enum Effect {
-    /// It writes to the transcript.
+    /// Appends to the transcript.
     Tell(Text),
-    /// It writes to the transcript while output is logged.
+    /// Appends to the transcript if `log_user` is on.
     Log(Text),
-    /// Output goes to the transcript from now on, or doesn't.
+    /// Sets whether output goes to the transcript.
     LogUser(bool),
-    /// It adds a child with these modes of its terminal.
+    /// Adds a child with these terminal modes.
     Add(Modes),
-    /// It sets variables.
+    /// Sets variables.
     Store(Stores),
-    /// It asks something of the child.
+    /// Appends a request to the child.
     Ask(Act),
-    /// It changes the child, or without one sets what children to come are like.
+    /// Changes the child. Without a child it changes the options of later children.
     Alter(Change),
 }
 
-/// Effects, one after another. A contract sees a list.
+/// A list of effects, in order. A contract sees a list.
 #[derive(Drop)]
 pub struct Effects {
     list: Vec<Effect>,
@@ -52,7 +52,7 @@ impl Model for Effects {
 }
 
 impl Effects {
-    /// None. It allocates nothing.
+    /// Creates an empty list without allocating.
     pub(crate) fn new(alloc: Global) -> Effects
         ensures { result ≡ [] }
     {
@@ -61,14 +61,14 @@ impl Effects {
         }
     }
 
-    /// One.
+    /// Creates a list of one effect.
     pub(crate) fn one(alloc: Global, effect: Effect) -> Result<Effects, AllocError>
         ensures { IfOk result (λ e. e ≡ effect ∷ []) }
     {
         Effects::new(alloc).with(effect)
     }
 
-    /// Behind another one.
+    /// Inserts an effect before the others.
     pub(crate) fn behind(mut self, effect: Effect) -> Result<Effects, AllocError>
         ensures { IfOk result (λ e. e ≡ effect ∷ self) }
     {
@@ -76,7 +76,7 @@ impl Effects {
         Ok(self)
     }
 
-    /// With one more.
+    /// Appends an effect.
     pub(crate) fn with(mut self, effect: Effect) -> Result<Effects, AllocError>
         ensures { IfOk result (λ e. e ≡ self ++ effect ∷ []) }
     {
@@ -86,7 +86,7 @@ impl Effects {
 }
 
 impl Own {
-    /// A child more, where there are fewer than 16.
+    /// Adds a child that has not started, if there are fewer than 16.
     fn add(&mut self, alloc: Global, modes: Modes) -> Result<(), AllocError>
         ensures { OnOk result (self.new ≡ added modes self.old) }
     {
@@ -98,7 +98,7 @@ impl Own {
             .push(alloc, id, modes, self.size, self.remove_nulls)
     }
 
-    /// Sets what children to come are like.
+    /// Changes the options of later children.
     fn alter_new(&mut self, change: Change)
         ensures { self.new ≡ to_come change self.old }
     {
@@ -112,7 +112,7 @@ impl Own {
         }
     }
 
-    /// Performs an effect on a child, or on none: the text of the error, where a variable can't be set.
+    /// Performs an effect. Returns the error if a variable can't be set.
     fn perform(
         &mut self,
         alloc: Global,
@@ -161,7 +161,7 @@ impl Own {
         }
     }
 
-    /// Performs effects one after another. The first that can't be ends them: the text of that error.
+    /// Performs effects in order, up to the first that fails. Returns its error.
     pub(crate) fn perform_all(
         &mut self,
         alloc: Global,

@@ -1,4 +1,4 @@
-//! `close` and `wait`: a child is let go, and its end is asked for.
+//! `close` and `wait` (expect(1)).
 
 ghost use Rattle.std.specs.Prelude.{◌≡◌, ◌+◌, ◌++◌, ◌∷◌, IfOk};
 ghost use Rattle.std.specs.Fmt.{decimal as decimal_of};
@@ -23,7 +23,7 @@ use tcl_subst::Vars;
 use tcl_values::Value;
 use tcl_words::Text;
 
-/// The child, where no `wait` has asked for its end.
+/// Returns the child, or an error if a `wait` has already asked for its end.
 fn unwaited(alloc: Global, i: Place, own: &Own) -> Result<Place, Complaint>
     ensures { Says result (if_unwaited i own.now) }
 {
@@ -33,7 +33,7 @@ fn unwaited(alloc: Global, i: Place, own: &Own) -> Result<Place, Complaint>
     Ok(i)
 }
 
-/// `close ?-i id?`.
+/// Returns what `close ?-i spawn_id?` does.
 pub(crate) fn close(
     alloc: Global,
     name: &[u8],
@@ -50,7 +50,7 @@ pub(crate) fn close(
     Ok(Deed::To(i, Reaction { effects, next }))
 }
 
-/// `wait ?-i id?`.
+/// Returns what `wait ?-i spawn_id?` does.
 pub(crate) fn wait(
     alloc: Global,
     name: &[u8],
@@ -67,7 +67,7 @@ pub(crate) fn wait(
     Ok(Deed::To(i, Reaction { effects, next }))
 }
 
-/// A child was let go by a `close`, or not.
+/// Returns what follows the answer to a `close`. The child is closed even if the request failed.
 pub(crate) fn closed(alloc: Global, cause: Option<Cause>) -> Result<Reaction, AllocError>
     ensures { IfOk result (λ r. r ≡ closed_of cause) }
 {
@@ -81,7 +81,7 @@ pub(crate) fn closed(alloc: Global, cause: Option<Cause>) -> Result<Reaction, Al
     }
 }
 
-/// Reading failed, and the child was let go, or not.
+/// Returns the error after a failed read. The child is closed.
 pub(crate) fn broken(alloc: Global, cause: Cause) -> Result<Reaction, AllocError>
     ensures { IfOk result (λ r. r ≡ broken_of cause) }
 {
@@ -90,7 +90,7 @@ pub(crate) fn broken(alloc: Global, cause: Cause) -> Result<Reaction, AllocError
     Reaction::badly(alloc, effects, text)
 }
 
-/// A wait failed for this cause.
+/// Returns the text for a `wait` that failed: -1 and an error number.
 fn failed_text(alloc: Global, cause: Cause) -> Result<Text, AllocError>
     ensures { IfOk result (λ t. t ≡ failed_by cause) }
 {
@@ -99,7 +99,7 @@ fn failed_text(alloc: Global, cause: Cause) -> Result<Text, AllocError>
     Ok(text)
 }
 
-/// How a child ended.
+/// Returns the text that says how a child ended.
 fn end_text(alloc: Global, answer: Answer) -> Result<Text, AllocError>
     ensures { IfOk result (λ t. t ≡ end_text_of answer) }
 {
@@ -115,7 +115,7 @@ fn end_text(alloc: Global, answer: Answer) -> Result<Text, AllocError>
     }
 }
 
-/// The number, the id and the end of a child, as one text.
+/// Returns the result of a `wait`: the child's number, its spawn id, and how it ended.
 fn waited_text(alloc: Global, i: Place, answer: Answer, own: &Own) -> Result<Text, AllocError>
     ensures { IfOk result (λ t. t ≡ decimal_of (i + 1) ++ 32 ∷ (child_of i own.now).id ++ 32 ∷ end_text_of answer) }
 {
@@ -127,7 +127,7 @@ fn waited_text(alloc: Global, i: Place, answer: Answer, own: &Own) -> Result<Tex
     Ok(text)
 }
 
-/// How a child ended is told.
+/// Returns what follows the answer to a `wait`.
 pub(crate) fn waited(
     alloc: Global,
     i: Place,

@@ -1,9 +1,11 @@
-//! `expect`.
+//! `expect` (expect(1)).
 
 ghost use Rattle.std.specs.Prelude.{◌≡◌, ◌<◌, ◌++◌, ◌∷◌, [], List, IfOk, OnOk, take};
+ghost use Rattle.exp_match.specs.Choice.{first_in, waits_for_end, waits_for_full};
 ghost use Rattle.tcl_commands.specs.Says.{Says};
 ghost use Rattle.expect_core.specs.declared.plan.Plan.{Plan as PlanOf};
 ghost use Rattle.expect_core.specs.Calls.{outer};
+ghost use Rattle.expect_core.specs.Heard.{groups_at};
 ghost use Rattle.expect_core.specs.Owned.{bytes_of, child_of};
 ghost use Rattle.expect_core.specs.Turns.{done as done_of, over as over_of};
 ghost use Rattle.expect_core.specs.Expecting.{again as again_of, all_met, before as before_of, behind as behind_of, ended as ended_of, ending as ending_of, end_of as end_told, entry_of, expecting, failing as failing_of, full as full_of, group_pairs as group_pairs_of, groups_from, late as late_of, matched as matched_of, meeting, met_pairs as met_pairs_of, places, shut as shut_of, text_pair};
@@ -13,7 +15,7 @@ use crate::effect::{Effect, Effects};
 use crate::ids::all_open;
 use crate::own::{Own, deadline_from};
 use crate::place::Place;
-use crate::plan::{Met, Plan};
+use crate::plan::{Met, Plan, PlanBox};
 use crate::planning::plan_of;
 use crate::request::Act;
 use crate::stored::{BUFFER, ID, Stores, end_name, start_name, string_name};
@@ -28,7 +30,7 @@ use tcl_values::Value;
 use tcl_words::Text;
 
 impl Plan {
-    /// The action of an entry.
+    /// Returns the action of an entry.
     pub(crate) fn action(&self, index: usize) -> &[u8]
         ensures { result.now ≡ (entry_of index self.now).action }
     {
@@ -40,7 +42,21 @@ impl Plan {
         }
     }
 
-    /// Whether `-indices` and `-notransfer` stand before an entry's pattern.
+    /// Returns the entry that a full match buffer of the child at a place meets.
+    fn full_entry(&self, i: Place) -> Option<usize>
+        ensures { result ≡ first_in waits_for_full (groups_at i self.now.sides) self.now.list.entries }
+    {
+        self.list.at_full(self.sides.groups(i))
+    }
+
+    /// Returns the entry that the end of the output of the child at a place meets.
+    fn end_entry(&self, i: Place) -> Option<usize>
+        ensures { result ≡ first_in waits_for_end (groups_at i self.now.sides) self.now.list.entries }
+    {
+        self.list.at_end(self.sides.groups(i))
+    }
+
+    /// Returns whether an entry has `-indices`, and whether it has `-notransfer`.
     fn marks(&self, index: usize) -> (bool, bool)
         ensures { result ≡ ((entry_of index self.now).indices, (entry_of index self.now).notransfer) }
     {
@@ -53,7 +69,7 @@ impl Plan {
     }
 }
 
-/// The place before an exclusive end.
+/// Returns the index before an exclusive end, in decimal digits.
 fn before(alloc: Global, end: usize) -> Result<Text, AllocError>
     ensures { IfOk result (λ t. t ≡ before_of end) }
 {
@@ -64,7 +80,7 @@ fn before(alloc: Global, end: usize) -> Result<Text, AllocError>
     }
 }
 
-/// Where a group starts and ends.
+/// Appends the indices of a group's first and last byte.
 fn push_places(
     alloc: Global,
     stores: &mut Stores,
@@ -83,7 +99,7 @@ fn push_places(
 }
 
 impl Own {
-    /// The bytes of a group that took part.
+    /// Appends the bytes of a group that took part in the match.
     fn push_text(
         &mut self,
         alloc: Global,
@@ -100,7 +116,7 @@ impl Own {
         stores.push(string_name(group), text)
     }
 
-    /// The places and the bytes of a group that took part.
+    /// Appends the indices and the bytes of a group that took part in the match.
     fn push_whole(
         &mut self,
         alloc: Global,
@@ -118,7 +134,7 @@ impl Own {
         Ok(())
     }
 
-    /// What is stored of a group, where it took part.
+    /// Appends the elements for a group, if it took part in the match.
     fn push_group(
         &mut self,
         alloc: Global,
@@ -144,7 +160,7 @@ impl Own {
         }
     }
 
-    /// What is stored of the groups that took part.
+    /// Appends the elements for the groups that took part in the match.
     fn push_groups(
         &mut self,
         alloc: Global,
@@ -162,7 +178,7 @@ impl Own {
         Ok(())
     }
 
-    /// The id, and so many of the bytes, are stored.
+    /// Appends the spawn id, and the first `count` bytes of the match buffer.
     fn push_met(
         &mut self,
         alloc: Global,
@@ -181,7 +197,7 @@ impl Own {
     }
 }
 
-/// Where a match ends.
+/// Returns the end of a match.
 fn end_of(spans: &Spans) -> usize
     ensures { result ≡ end_told spans.now }
 {
@@ -191,7 +207,7 @@ fn end_of(spans: &Spans) -> usize
     }
 }
 
-/// `expect` with these arguments.
+/// Returns what `expect` does with these arguments.
 pub(crate) fn expect(
     alloc: Global,
     args: &[Value],
@@ -202,30 +218,31 @@ pub(crate) fn expect(
     ensures said { Says result (expecting args.now vars.now own.old) }
 {
     let plan = plan_of(alloc, args, vars, own)?;
-    Ok(Deed::Expect(plan))
+    Ok(Deed::Expect(PlanBox::new(alloc, plan)?))
 }
 
-/// The call is done, with no value.
+/// Returns the turn that ends a call without a value.
 fn nothing(alloc: Global) -> Turn
     ensures { result ≡ over_of (done_of []) }
 {
     Turn::over(alloc, done(Value::new(alloc)))
 }
 
-/// The deadline has passed.
-pub(crate) fn late(alloc: Global, plan: Plan) -> Turn
+/// Returns the turn after a timeout.
+pub(crate) fn late(alloc: Global, plan: PlanBox) -> Turn
     ensures { result ≡ late_of plan }
 {
-    match plan.list.at_timeout() {
+    match plan.get().list.at_timeout() {
         Some(entry) => Turn::only(alloc, Stage::Act(plan, Met { entry, child: None })),
         None => nothing(alloc),
     }
 }
 
-/// Bytes that are met are stored, and so many of them leave the buffer.
+/// Returns the turn that sets the variables, takes the first `count` bytes and evaluates the
+/// action.
 fn meet(
     alloc: Global,
-    plan: Plan,
+    plan: PlanBox,
     i: Place,
     entry: usize,
     stores: Stores,
@@ -245,10 +262,10 @@ fn meet(
     })
 }
 
-/// A pattern matches.
+/// Returns the turn after a match.
 pub(crate) fn matched(
     alloc: Global,
-    plan: Plan,
+    plan: PlanBox,
     i: Place,
     entry: usize,
     spans: &Spans,
@@ -257,7 +274,7 @@ pub(crate) fn matched(
     ensures same { own.new ≡ own.old }
     ensures turn { IfOk result (λ t. t ≡ matched_of plan i entry spans.now own.old) }
 {
-    let (indices, notransfer) = plan.marks(entry);
+    let (indices, notransfer) = plan.get().marks(entry);
     let end = end_of(spans);
     let mut stores = Stores::new(alloc);
     own.push_groups(alloc, &mut stores, i, indices, spans)?;
@@ -266,10 +283,10 @@ pub(crate) fn matched(
     meet(alloc, plan, i, entry, stores, taken)
 }
 
-/// All kept bytes are met by a keyword, if it is listed.
+/// Returns the turn after a keyword that meets all bytes in the match buffer, if it is listed.
 fn meet_all(
     alloc: Global,
-    plan: Plan,
+    plan: PlanBox,
     i: Place,
     entry: Option<usize>,
     own: &mut Own,
@@ -286,17 +303,22 @@ fn meet_all(
     meet(alloc, plan, i, entry, stores, count)
 }
 
-/// As many bytes are kept as may be.
-pub(crate) fn full(alloc: Global, plan: Plan, i: Place, own: &mut Own) -> Result<Turn, AllocError>
+/// Returns the turn after the match buffer is full.
+pub(crate) fn full(
+    alloc: Global,
+    plan: PlanBox,
+    i: Place,
+    own: &mut Own,
+) -> Result<Turn, AllocError>
     ensures same { own.new ≡ own.old }
     ensures turn { IfOk result (λ t. t ≡ full_of plan i own.old) }
 {
-    let entry = plan.list.at_full(plan.sides.groups(i));
+    let entry = plan.get().full_entry(i);
     meet_all(alloc, plan, i, entry, own)
 }
 
-/// The output of a child ended: it is let go.
-pub(crate) fn ending(alloc: Global, plan: Plan, i: Place) -> Result<Turn, AllocError>
+/// Returns the turn after the end of a child's output. It requests to close the child.
+pub(crate) fn ending(alloc: Global, plan: PlanBox, i: Place) -> Result<Turn, AllocError>
     ensures { IfOk result (λ t. t ≡ ending_of plan i) }
 {
     Ok(Turn {
@@ -306,7 +328,7 @@ pub(crate) fn ending(alloc: Global, plan: Plan, i: Place) -> Result<Turn, AllocE
     })
 }
 
-/// Reading the output of a child failed: it is let go.
+/// Returns the turn after a failed read. It requests to close the child.
 pub(crate) fn failing(alloc: Global, i: Place, cause: Cause) -> Result<Turn, AllocError>
     ensures { IfOk result (λ t. t ≡ failing_of i cause) }
 {
@@ -315,7 +337,7 @@ pub(crate) fn failing(alloc: Global, i: Place, cause: Cause) -> Result<Turn, All
     Ok(Reaction { effects, next }.at(i))
 }
 
-/// A child was let go before a turn.
+/// Marks a child as closed, as the first effect of a turn.
 fn shut(i: Place, turn: Turn) -> Result<Turn, AllocError>
     ensures { IfOk result (λ t. t ≡ shut_of i turn) }
 {
@@ -328,10 +350,11 @@ fn shut(i: Place, turn: Turn) -> Result<Turn, AllocError>
     })
 }
 
-/// A child was let go at the end of its output, or not.
+/// Returns the turn after the answer to that request, at the end of a child's output. If the
+/// request failed, it is an error.
 pub(crate) fn ended(
     alloc: Global,
-    plan: Plan,
+    plan: PlanBox,
     i: Place,
     cause: Option<Cause>,
     own: &mut Own,
@@ -341,7 +364,7 @@ pub(crate) fn ended(
 {
     match cause {
         None => {
-            let entry = plan.list.at_end(plan.sides.groups(i));
+            let entry = plan.get().end_entry(i);
             let turn = meet_all(alloc, plan, i, entry, own)?;
             shut(i, turn)
         }
@@ -353,41 +376,42 @@ pub(crate) fn ended(
     }
 }
 
-/// An expect once more, behind its action.
+/// Returns the turn that continues an `expect` with this deadline. It is an error if a child isn't
+/// open.
 fn again(
     alloc: Global,
-    mut plan: Plan,
+    mut plan: PlanBox,
     deadline: Option<u128>,
     own: &Own,
 ) -> Result<Turn, AllocError>
     ensures { IfOk result (λ t. t ≡ again_of plan deadline own.now) }
 {
-    match said(alloc, all_open(alloc, &plan.order, own))? {
+    match said(alloc, all_open(alloc, &plan.get().order, own))? {
         Ok(()) => {
-            plan.deadline = deadline;
+            plan.wait_until(deadline);
             Ok(Turn::only(alloc, Stage::Look(plan)))
         }
         Err(text) => Ok(Turn::over(alloc, Reply::Fail(text))),
     }
 }
 
-/// Goes on behind an action, which ended with this code and value.
+/// Continues an `expect` after its action. The action ended with this code and value.
 fn behind(
     alloc: Global,
     code: Code,
     value: &Value,
-    plan: Plan,
+    plan: PlanBox,
     own: &Own,
 ) -> Result<Turn, AllocError>
     ensures { (outer : List PlanOf) → IfOk result (λ t. t ≡ behind_of code value.now (plan ∷ outer) own.now) }
 {
     match code {
         Code::Again => {
-            let deadline = deadline_from(own.clock, plan.span);
+            let deadline = deadline_from(own.clock, plan.get().span);
             again(alloc, plan, deadline, own)
         }
         Code::AgainLater => {
-            let deadline = plan.deadline;
+            let deadline = plan.get().deadline;
             again(alloc, plan, deadline, own)
         }
         _ => Ok(Turn::over(alloc, Reply::Done(code, value.shared(alloc)?))),
@@ -395,7 +419,8 @@ fn behind(
 }
 
 impl Own {
-    /// Takes the innermost expect, whose action ended with this code and value, and goes on.
+    /// Removes the innermost `expect`, whose action ended with this code and value. Returns the
+    /// turn that follows.
     pub(crate) fn end_body(
         &mut self,
         alloc: Global,

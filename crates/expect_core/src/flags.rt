@@ -1,4 +1,4 @@
-//! The arguments of a command, as its row of the table has them: flags, and then as many words as it allows.
+//! The arguments of a command: its flags, followed by as many words as its row of the table allows.
 
 ghost use Rattle.std.specs.Prelude.{◌≡◌, IfOk, slice_get};
 ghost use Rattle.tcl_commands.specs.Given.{arg};
@@ -11,16 +11,16 @@ use tcl_commands::{Complaint, quoted, wrong_args};
 use tcl_values::Value;
 use tcl_words::Text;
 
-/// What the flags of a command say.
+/// The flags of a command.
 #[derive(Drop)]
 pub struct Flags {
-    /// The id behind the last `-i`.
+    /// The spawn id after the last `-i`.
     pub id: Option<Value>,
-    /// The command's own flag stands there.
+    /// Whether the command's own flag is among them.
     pub on: bool,
 }
 
-/// No flags.
+/// Returns the flags of a command that has none.
 fn no_flags() -> Flags
     ensures { result ≡ no_flags }
 {
@@ -30,14 +30,15 @@ fn no_flags() -> Flags
     }
 }
 
-/// A command has no such flag.
+/// Returns the error for an unknown flag.
 pub(crate) fn bad_flag(alloc: Global, word: &[u8]) -> Result<Text, AllocError>
     ensures { IfOk result (λ t. t ≡ bad_flag_text word.now) }
 {
     quoted(alloc, b"bad flag ", word)
 }
 
-/// The flags of a command of this name, and at which of its words the others begin.
+/// Reads the flags of a command with this name. Returns them and the index of the first word after
+/// them.
 fn flags_of(
     alloc: Global,
     name: &[u8],
@@ -69,7 +70,7 @@ fn flags_of(
     Ok((flags, words.len()))
 }
 
-/// The flags of a command that may have some.
+/// Reads the flags of a command, if it may have some.
 fn flags_if(
     alloc: Global,
     name: &[u8],
@@ -84,7 +85,8 @@ fn flags_if(
     }
 }
 
-/// The flags of a command, and at which of its words its arguments begin: as many as its row allows.
+/// Reads the flags of a command. Returns them and the index of its first argument. It is an error
+/// if the row doesn't allow this number of arguments.
 pub(crate) fn arguments(
     alloc: Global,
     command: ExpectCommand,
@@ -101,7 +103,7 @@ pub(crate) fn arguments(
     Ok((flags, at))
 }
 
-/// The first argument, if there is one.
+/// Returns the first argument, or `None`.
 pub(crate) fn first(alloc: Global, args: &[Value]) -> Result<Option<Value>, AllocError>
     ensures { IfOk result (λ r. r ≡ slice_get args.now 0) }
 {
@@ -111,7 +113,7 @@ pub(crate) fn first(alloc: Global, args: &[Value]) -> Result<Option<Value>, Allo
     }
 }
 
-/// The first argument, or no bytes.
+/// Returns the first argument, or no bytes if there is none.
 pub(crate) fn text(alloc: Global, args: &[Value]) -> Result<Value, AllocError>
     ensures { IfOk result (λ v. v ≡ arg 0 args.now) }
 {

@@ -23,9 +23,9 @@ use tcl_subst::Vars;
 use tcl_values::Value;
 use tcl_words::Text;
 
-/// The host of a script: its dialogue, and what the wait that is under way remembers.
+/// The host of a script: its dialogue, and what the current wait remembers.
 ///
-/// A contract sees the dialogue alone: what is remembered saves work, and changes nothing.
+/// A contract sees only the dialogue. What is remembered saves work and changes no result.
 #[derive(Drop)]
 pub struct DialogueHost {
     dialogue: Dialogue,
@@ -43,7 +43,8 @@ impl Model for DialogueHost {
     ghost invariant = { λ h. KnowsIn h.known h.dialogue };
 }
 
-/// The step that a call comes to, or the end where memory was refused: the dialogue doesn't live on, and the step says so.
+/// Returns the step of a call, and keeps what its wait knows. If memory was refused, `lives`
+/// becomes false and the step is `Memory`.
 fn settle(dialogue: &mut Dialogue, known: &mut Known, came: Result<Paused, AllocError>) -> HostStep
     ensures step { OrMemory dialogue.old came result dialogue.new }
     ensures refused { dialogue.new.lives ≡ false → result ≡ HostStep.Memory }
@@ -62,7 +63,7 @@ fn settle(dialogue: &mut Dialogue, known: &mut Known, came: Result<Paused, Alloc
 }
 
 impl DialogueHost {
-    /// One to which nothing has come.
+    /// Creates a host to which no event has come.
     pub fn new(alloc: Global, settings: &Settings) -> Result<DialogueHost, AllocError>
         ensures { IfOk result (λ d. d ≡ fresh settings.now.limit_ms) }
     {
@@ -72,16 +73,16 @@ impl DialogueHost {
         })
     }
 
-    /// The state of the dialogue.
+    /// Returns the dialogue.
     pub fn state(&self) -> &Dialogue
         ensures { result.now ≡ self.now }
     {
         &self.dialogue
     }
 
-    /// Puts what came behind what is there. Its moment is raised to the greatest one before it.
+    /// Adds an event. If its moment is before the greatest one so far, it is raised to that.
     ///
-    /// Where memory is refused, the dialogue doesn't live on, and nothing is said of it any more. A tick asks for none.
+    /// If memory is refused, `lives` becomes false and stays false. A tick allocates nothing.
     pub fn offer(&mut self, event: Event)
         ensures lived { IsTrue self.new.lives → IsTrue self.old.lives }
         ensures ticks { OutlivesTicks event self.old self.new }
@@ -90,7 +91,7 @@ impl DialogueHost {
         self.dialogue.offer(event);
     }
 
-    /// What the script wrote, with the output that it took, and what it asked of its children, in order. Both are given up.
+    /// Takes the transcript and the requests out of the dialogue, and leaves both empty.
     pub fn give_told(&mut self) -> (Text, Requests)
         ensures told { result ≡ (self.old.own.transcript, self.old.own.requests) }
         ensures left { self.new ≡ record self.old { own = record self.old.own { transcript = []; requests = [] } } }

@@ -1,4 +1,4 @@
-//! The child that a command speaks to.
+//! The child that a command is for.
 
 ghost use Rattle.tcl_commands.specs.Says.{Says};
 ghost use Rattle.expect_core.specs.Sides.{still_open};
@@ -14,7 +14,7 @@ use tcl_commands::Complaint;
 use tcl_subst::Vars;
 use tcl_values::Value;
 
-/// The child that has an id.
+/// Returns the child with this spawn id, or an error.
 fn known(alloc: Global, id: &[u8], own: &Own) -> Result<Place, Complaint>
     ensures { Says result (known_of id.now own.now) }
 {
@@ -24,7 +24,7 @@ fn known(alloc: Global, id: &[u8], own: &Own) -> Result<Place, Complaint>
     }
 }
 
-/// The id behind `-i` or, without it, that of the child that was spawned last.
+/// Returns the spawn id after `-i`, or else the value of the variable `spawn_id`.
 fn id_of(alloc: Global, id: &Option<Value>, vars: &Vars) -> Result<Value, Complaint>
     ensures { Says result (id_named id.now vars.now) }
 {
@@ -34,7 +34,7 @@ fn id_of(alloc: Global, id: &Option<Value>, vars: &Vars) -> Result<Value, Compla
     }
 }
 
-/// The child that a command speaks to.
+/// Returns the child that a command is for, open or not.
 pub(crate) fn spoken_to(
     alloc: Global,
     id: &Option<Value>,
@@ -47,7 +47,7 @@ pub(crate) fn spoken_to(
     known(alloc, name.as_slice(), own)
 }
 
-/// The child, where it is open.
+/// Returns the child, or an error if it isn't open.
 pub(crate) fn if_open(alloc: Global, i: Place, own: &Own) -> Result<Place, Complaint>
     ensures { Says result (if_open_of i own.now) }
 {
@@ -58,7 +58,7 @@ pub(crate) fn if_open(alloc: Global, i: Place, own: &Own) -> Result<Place, Compl
     }
 }
 
-/// The child that a command speaks to, which has to be open.
+/// Returns the child that a command is for, or an error if it isn't open.
 pub(crate) fn open_to(
     alloc: Global,
     id: &Option<Value>,
@@ -71,7 +71,7 @@ pub(crate) fn open_to(
     if_open(alloc, i, own)
 }
 
-/// Whether all of these children are open; if not, the first that isn't is told.
+/// Returns the error for the first of these children that isn't open, if there is one.
 pub(crate) fn all_open(alloc: Global, places: &Places, own: &Own) -> Result<(), Complaint>
     ensures { Says result (still_open places.now own.now) }
 {

@@ -1,4 +1,4 @@
-//! The bytes of a child that no expect has taken.
+//! The match buffer of a child.
 
 ghost use Rattle.std.specs.Prelude.{◌≡◌, ◌<◌, ◌-◌, ◌++◌, [], length, drop, take, nat_le, IfOk, OnOk};
 ghost use Rattle.circular_buffer.specs.Buffer.{keep_last};
@@ -13,7 +13,8 @@ use tcl_values::Value;
 use tcl_words::Text;
 use tty::Seen;
 
-/// Bytes that no expect has taken, and how many of them are kept.
+/// The bytes of a child that no `expect` has taken, and the size: the number of last bytes that
+/// `trim` keeps.
 #[derive(Drop)]
 pub struct Kept {
     buffer: Buffer,
@@ -27,7 +28,7 @@ impl Model for Kept {
     ghost view = { λ k. record { bytes = k.buffer.ring.items; size = k.buffer.size } };
 }
 
-/// At most so many bytes of a text's front.
+/// Returns the first `most` bytes, or all if there are fewer.
 pub(crate) fn front(bytes: &[u8], most: usize) -> &[u8]
     ensures { result.now ≡ take most bytes.now }
 {
@@ -38,7 +39,7 @@ pub(crate) fn front(bytes: &[u8], most: usize) -> &[u8]
     }
 }
 
-/// A text without so many bytes of its front.
+/// Returns the bytes from index `count` on.
 pub(crate) fn behind(bytes: &[u8], count: usize) -> &[u8]
     ensures { result.now ≡ drop count bytes.now }
 {
@@ -50,7 +51,7 @@ pub(crate) fn behind(bytes: &[u8], count: usize) -> &[u8]
 }
 
 impl Kept {
-    /// No bytes, of which so many are kept.
+    /// Creates an empty buffer with this size in bytes.
     pub(crate) fn new(alloc: Global, size: usize) -> Result<Kept, AllocError>
         ensures { IfOk result (λ k. k ≡ record { bytes = []; size = size }) }
     {
@@ -59,21 +60,21 @@ impl Kept {
         })
     }
 
-    /// How many bytes are kept.
+    /// Returns the size in bytes.
     pub(crate) fn size(&self) -> usize
         ensures { result ≡ self.now.size }
     {
         self.buffer.size
     }
 
-    /// How many bytes there are.
+    /// Returns the number of bytes in the buffer.
     pub(crate) fn len(&self) -> usize
         ensures { result ≡ length self.now.bytes }
     {
         self.buffer.ring().len()
     }
 
-    /// A copy of the bytes.
+    /// Returns a copy of the bytes.
     pub(crate) fn copied(&self, alloc: Global) -> Result<Text, AllocError>
         ensures { IfOk result (λ t. t ≡ self.now.bytes) }
     {
@@ -83,21 +84,21 @@ impl Kept {
         Ok(text)
     }
 
-    /// Whether no more bytes are there than are kept.
+    /// Returns whether the bytes don't exceed the size.
     pub(crate) fn fits(&self) -> bool
         ensures { result ≡ nat_le (length self.now.bytes) self.now.size }
     {
         self.len() <= self.size()
     }
 
-    /// Puts bytes behind the others.
+    /// Appends bytes. The buffer may exceed its size until `trim`.
     pub(crate) fn add(&mut self, bytes: &[u8]) -> Result<(), AllocError>
         ensures { OnOk result (self.new ≡ record self.old { bytes = self.old.bytes ++ bytes.now }) }
     {
         self.buffer.add(bytes)
     }
 
-    /// Puts output behind the bytes as it is seen.
+    /// Appends output as it is seen.
     pub(crate) fn add_seen(&mut self, seen: Seen<'_>) -> Result<(), AllocError>
         ensures { OnOk result (self.new ≡ record self.old { bytes = self.old.bytes ++ seen.entry }) }
     {
@@ -108,21 +109,21 @@ impl Kept {
         Ok(())
     }
 
-    /// Keeps the last bytes alone.
+    /// Drops all but the last bytes, as many as the size.
     pub(crate) fn trim(&mut self)
         ensures { self.new ≡ record self.old { bytes = keep_last self.old.size self.old.bytes } }
     {
         self.buffer.trim();
     }
 
-    /// Keeps another number of bytes from now on.
+    /// Sets the size, and drops all but the last bytes.
     pub(crate) fn resize(&mut self, size: usize) -> Result<(), AllocError>
         ensures { OnOk result (self.new ≡ record { bytes = keep_last size self.old.bytes; size = size }) }
     {
         self.buffer.resize(size)
     }
 
-    /// Drops so many bytes of the front, or all.
+    /// Drops the first `count` bytes, or all if there are fewer.
     pub(crate) fn take(&mut self, count: usize)
         ensures { self.new ≡ record self.old { bytes = drop count self.old.bytes } }
     {
@@ -130,8 +131,10 @@ impl Kept {
         self.buffer.take(count);
     }
 
-    /// Tests the bytes against the patterns of some groups, of which nothing was found in so many of the first ones, or none were tested. Where a
-    /// pattern matches, its spans are written.
+    /// Tests the bytes against the patterns of these groups. Writes the spans of a match to
+    /// `spans`.
+    ///
+    /// The first `sought` bytes must hold no match, as an earlier test found. Pass 0 if unknown.
     pub(crate) fn choose<'l>(
         &mut self,
         alloc: Global,
@@ -158,7 +161,7 @@ impl Kept {
         )
     }
 
-    /// The bytes from a place to another one, as far as they are there.
+    /// Returns the bytes from `from` to before `to`, as far as they exist.
     pub(crate) fn part(
         &mut self,
         alloc: Global,

@@ -13,17 +13,18 @@ use crate::quiet::Quiet;
 use crate::sought::Sought;
 use std::alloc::{AllocError, Global};
 
-/// What a wait for patterns has found out about its children's bytes, so that it looks at none of them twice.
+/// What a wait for patterns has found out about its children's bytes, so that it doesn't test them
+/// twice.
 #[derive(Drop)]
 pub struct Known {
-    /// Children that needn't be tested again.
+    /// The children that needn't be tested again.
     pub(crate) quiet: Quiet,
-    /// How many bytes were searched in vain.
+    /// The numbers of bytes that were searched without a match.
     pub(crate) sought: Sought,
 }
 
 impl Known {
-    /// Nothing, which is true of every wait. It allocates nothing.
+    /// Returns the value that knows nothing, without allocating. It is true of every wait.
     pub(crate) fn nothing(alloc: Global) -> Known
         ensures plan { (p : PlanOf) (o : OwnOf) → Knows p result o }
         ensures wait { (w : WantOf) (o : OwnOf) → KnowsOf w result o }
@@ -31,17 +32,17 @@ impl Known {
     {
         Known {
             quiet: Quiet::none(alloc),
-            sought: Sought::new(),
+            sought: Sought::none(alloc),
         }
     }
 
-    /// Nothing yet, with room for what is found out about so many children.
+    /// Returns the value that knows nothing, with room for this many children.
     pub(crate) fn new(alloc: Global, sides: usize) -> Result<Known, AllocError>
-        ensures { IfOk result (λ k. k ≡ record { quiet = unmarked sides; sought = nothing_sought }) }
+        ensures { IfOk result (λ k. k ≡ record { quiet = unmarked sides; sought = nothing_sought sides }) }
     {
         Ok(Known {
             quiet: Quiet::new(alloc, sides)?,
-            sought: Sought::new(),
+            sought: Sought::new(alloc, sides)?,
         })
     }
 }

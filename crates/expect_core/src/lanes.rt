@@ -1,4 +1,4 @@
-//! What came to a script from its children, and was not taken yet.
+//! What came to a script from its children and was not taken yet.
 
 ghost use Rattle.std.specs.Prelude.{◌≡◌, [], IfOk, OnOk};
 ghost use Rattle.child_events.specs.Queue.{with_echo};
@@ -15,19 +15,19 @@ use child_events::{Answer, Item, Queue, What};
 use std::alloc::{AllocError, Global};
 use std::marker::Model;
 
-/// What came from one child, and was not taken yet.
+/// What came from one child and was not taken yet.
 #[derive(Drop)]
 pub struct Lane {
-    /// Its output, its end, and the echo of what was sent to it.
+    /// Its output, the end of it or a read failure, and the echo of what was sent to it.
     pub items: Queue,
-    /// What requests to it came to.
+    /// The answers to requests to it.
     pub answers: Answers,
-    /// Its output ended, or reading it failed: nothing comes behind.
+    /// Whether its output ended or reading it failed. Later items are dropped.
     pub over: bool,
 }
 
 impl Lane {
-    /// A child from which nothing came. It allocates nothing.
+    /// Creates an empty lane without allocating.
     fn new(alloc: Global) -> Lane
         ensures { result ≡ no_lane }
     {
@@ -38,7 +38,7 @@ impl Lane {
         }
     }
 
-    /// Puts an item behind the others, and says whether it is the last.
+    /// Appends an item. `ends` says whether it is the last. After the last item it does nothing.
     #[tactic(auto, using(crate::proofs::Pushing::pushed_behind))]
     fn push(&mut self, moment: u64, item: Item, ends: bool) -> Result<(), AllocError>
         ensures { ItemsBy moment self.old.items → OnOk result (self.new ≡ with_item moment item ends self.old) }
@@ -51,7 +51,7 @@ impl Lane {
         Ok(())
     }
 
-    /// Adds what an event brings, at a moment that is no earlier than any before.
+    /// Adds what an event brings. The moment must not be before an earlier one.
     fn add(&mut self, moment: u64, what: What) -> Result<(), AllocError>
         ensures { ItemsBy moment self.old.items → OnOk result (self.new ≡ lane_with moment what self.old) }
     {
@@ -79,7 +79,7 @@ impl Model for Lanes {
     ghost view = { λ t. t.list.items };
 }
 
-/// The place of a child with this number, which counts from 1.
+/// Returns the index of a child's lane. The child is numbered from 1. Number 0 has no lane.
 pub(crate) fn place(child: u8) -> usize
     ensures { result ≡ place_of child }
 {
@@ -91,7 +91,7 @@ pub(crate) fn place(child: u8) -> usize
 }
 
 impl Lanes {
-    /// Children from which nothing came.
+    /// Creates 16 empty lanes.
     #[tactic(auto, unfolding(crate::specs::Lanes::no_lanes))]
     pub(crate) fn new(alloc: Global) -> Result<Lanes, AllocError>
         ensures { IfOk result (λ l. l ≡ no_lanes) }
@@ -103,7 +103,7 @@ impl Lanes {
         Ok(Lanes { list })
     }
 
-    /// Adds what an event of a child brings, at a moment that is no earlier than any before.
+    /// Adds what an event of a child brings. The moment must not be before an earlier one.
     #[tactic(auto, using(crate::proofs::Moments::items_by))]
     pub(crate) fn add(&mut self, child: u8, moment: u64, what: What) -> Result<(), AllocError>
         ensures { LanesBy moment self.old → OnOk result (self.new ≡ grown (lane_with moment what) (place_of child) self.old) }
@@ -116,7 +116,7 @@ impl Lanes {
         Ok(())
     }
 
-    /// How many items that came from a child were not taken yet.
+    /// Returns the number of items from a child that were not taken yet. Echoes don't count.
     pub(crate) fn untaken(&self, child: u8) -> usize
         ensures { result ≡ untaken_of child self.now }
     {
@@ -127,7 +127,7 @@ impl Lanes {
         0
     }
 
-    /// Takes the first answer of the child at a place, where it came in time.
+    /// Takes the first answer of a child, if its moment is no later than `limit`.
     pub(crate) fn take_answer(&mut self, i: Place, limit: Option<u64>) -> Option<(u64, Answer)>
         ensures taken { result ≡ (first_answer limit (lane_of i self.old).answers).0 }
         ensures left { self.new ≡ with_answers i (first_answer limit (lane_of i self.old).answers).1 self.old }
@@ -140,7 +140,7 @@ impl Lanes {
         None
     }
 
-    /// The moment of the first item of the child at a place.
+    /// Returns the moment of a child's first item, or `None`.
     pub(crate) fn head(&self, i: Place) -> Option<u64>
         ensures { result ≡ head_of (lane_of i self.now).items }
     {
@@ -152,7 +152,7 @@ impl Lanes {
         None
     }
 
-    /// Takes the first item of the child at a place, where it came in time.
+    /// Takes the first item of a child, if it is in time.
     pub(crate) fn take_item(
         &mut self,
         i: Place,
@@ -169,7 +169,7 @@ impl Lanes {
         None
     }
 
-    /// Puts the echo of what was sent to the child at a place among its items.
+    /// Adds the echo of what was sent to a child to its items.
     pub(crate) fn echo(&mut self, i: Place, moment: u64, bytes: &[u8]) -> Result<(), AllocError>
         ensures { OnOk result (self.new ≡ with_items i (with_echo moment bytes.now (lane_of i self.old).items) self.old) }
     {

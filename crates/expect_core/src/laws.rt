@@ -1,4 +1,4 @@
-//! What holds of all calls of a dialogue.
+//! Laws of all calls of a dialogue.
 
 ghost use Rattle.expect_core.specs.Apart.{CallsOwn, StaysOfOwn, EventsOne};
 ghost use Rattle.expect_core.specs.Heard.{TakesEach};
@@ -6,11 +6,16 @@ ghost use Rattle.expect_core.specs.Laws.{AnswersAsked, GoesOn, StaysGood, StaysN
 ghost use Rattle.expect_core.specs.Waits.{TakesInOrder};
 ghost use Rattle.expect_core.specs.Worlds.{HoldsWorlds};
 
-/// A call sees all that has come, and it makes no difference whether that came before the call or while it waits. What was asked and told
-/// stays, and each request names a child from 1 to 16. What came and was not taken is what the events say of each child. A call that waits
-/// goes on waiting where time passes no further than to its deadline. A command is unknown just where its word is no command's; words to be
-/// filled are asked for at a command's begin alone; behind an action one more script is asked for at codes 5 and 6 alone; no call is answered
-/// by want of memory, and none ends a dialogue. It does nothing when it runs.
+/// States laws of all calls. It does nothing at run time.
+///
+/// An event has the same effect before a call and while the call waits. Nothing in a dialogue is
+/// later than its greatest moment. No call takes back requests or bytes of the transcript. Each
+/// request names a child from 1 to 16. Before the first call the lanes hold what the events say of
+/// each child. A waiting call goes on waiting while only time passes, up to its deadline.
+///
+/// A command is unknown if and only if its first word names no command of Expect. Only the start of
+/// a command asks for words. After an action, only codes 5 and 6 ask for another script. No call is
+/// defined to give `Memory`, and none ends a dialogue.
 pub fn dialogue_laws()
     ensures goes_on { GoesOn }
     ensures stays_good { StaysGood }
@@ -21,17 +26,23 @@ pub fn dialogue_laws()
     ensures answers_asked { AnswersAsked }
 {}
 
-/// The children of a script are kept apart. A call leaves each child alone but those that it speaks to: what came from it and was not
-/// taken yet, its terminal's input, the bytes that are kept of its output, and what was asked of it stay the same, and nothing that is
-/// under way comes to be about it. An event changes what came from its own child alone. It does nothing when it runs.
+/// States that a script's children are kept apart. It does nothing at run time.
+///
+/// A call doesn't change a child that it isn't for. What came from such a child, its terminal, its
+/// match buffer and its requests stay the same. No wait and no action comes to be about it. The
+/// child that an `expect` closes takes part in it. An event changes only what came from its own
+/// child.
 pub fn children_apart()
     ensures calls { CallsOwn }
     ensures waits { StaysOfOwn }
     ensures events { EventsOne }
 {}
 
-/// What a wait for patterns takes: the first items in time, one after another, up to the first after which the test of a child's bytes chooses.
-/// The bound on its turns never ends it. It does nothing when it runs.
+/// States what a wait for patterns takes. It does nothing at run time.
+///
+/// A wait takes the first items in time, one after another. It stops at the first item that ends a
+/// child's output or after which a test chooses, or if no item is in time. The bound on its turns
+/// never stops it.
 pub fn waits_to_the_end()
     ensures in_order { TakesInOrder }
     ensures each { TakesEach }

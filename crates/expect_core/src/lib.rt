@@ -1,4 +1,5 @@
-//! The commands of Expect, as the host of a script: its children, and what came from them and was not taken yet.
+//! The commands of Expect, as the host of a script: its children, and what came from them and was
+//! not taken yet.
 #![tactic(auto)]
 
 mod again;

@@ -22,16 +22,16 @@ use child_events::{Cause, Item, Queue, pick};
 use exp_match::{Matchers, Picked, Spans};
 use std::alloc::{AllocError, Global};
 
-/// How long a script waits: its last moment, and the greatest moment so far.
+/// The time of a script, in milliseconds.
 #[derive(Clone, Copy)]
 pub struct Times {
-    /// The last moment, where there is one.
+    /// The last moment, or `None` without a time limit.
     pub limit: Option<u64>,
-    /// The greatest moment so far.
+    /// The greatest moment of the events so far.
     pub horizon: u64,
 }
 
-/// Whether a moment is no later than a deadline, if that is there.
+/// Returns whether a moment is no later than a deadline. `None` is no deadline.
 fn is_before(moment: u64, deadline: Option<u128>) -> bool
     ensures { result ≡ is_at_most moment deadline }
 {
@@ -41,7 +41,8 @@ fn is_before(moment: u64, deadline: Option<u128>) -> bool
     }
 }
 
-/// What the greatest moment says where nothing came in time.
+/// Returns the result if no item is in time: a timeout, the end of the script's time, or neither
+/// yet.
 fn lapsed(times: Times, deadline: Option<u128>) -> Heard
     ensures { result ≡ lapse times.limit times.horizon deadline }
 {
@@ -63,14 +64,15 @@ fn lapsed(times: Times, deadline: Option<u128>) -> Heard
     }
 }
 
-/// What ends a wait lies in a box: so it costs little to hand on whether anything ends it, as each item asks.
+/// Moves the end of a wait to the heap. An optional box costs little to return, and each item
+/// returns one.
 fn boxed(alloc: Global, heard: Heard) -> Result<Box<Heard>, AllocError>
     ensures { IfOk result (λ b. b.value ≡ heard) }
 {
     Ok(Box::new(alloc, heard)?)
 }
 
-/// A pattern matches.
+/// Returns the result for a match.
 fn matched(
     alloc: Global,
     child: Place,
@@ -82,35 +84,35 @@ fn matched(
     boxed(alloc, Heard::Match(child, index, *spans))
 }
 
-/// As many bytes are kept as may be.
+/// Returns the result for a full match buffer.
 fn filled(alloc: Global, child: Place) -> Result<Box<Heard>, AllocError>
     ensures { IfOk result (λ b. b.value ≡ Heard.Full child) }
 {
     boxed(alloc, Heard::Full(child))
 }
 
-/// The output ended.
+/// Returns the result for the end of a child's output.
 fn ended(alloc: Global, child: Place) -> Result<Box<Heard>, AllocError>
     ensures { IfOk result (λ b. b.value ≡ Heard.Ended child) }
 {
     boxed(alloc, Heard::Ended(child))
 }
 
-/// Reading the output failed.
+/// Returns the result for a failed read.
 fn unread(alloc: Global, child: Place, cause: Cause) -> Result<Box<Heard>, AllocError>
     ensures { IfOk result (λ b. b.value ≡ Heard.Failed child cause) }
 {
     boxed(alloc, Heard::Failed(child, cause))
 }
 
-/// Nothing came in time.
+/// Returns the result if no item is in time.
 fn too_late(alloc: Global, times: Times, deadline: Option<u128>) -> Result<Box<Heard>, AllocError>
     ensures { IfOk result (λ b. b.value ≡ lapse times.limit times.horizon deadline) }
 {
     boxed(alloc, lapsed(times, deadline))
 }
 
-/// Takes the first item, where it came in time.
+/// Takes the first item, if it is in time.
 pub(crate) fn take_item(
     items: &mut Queue,
     times: Times,
@@ -126,7 +128,7 @@ pub(crate) fn take_item(
     }
 }
 
-/// The moments of the next items of those that take part.
+/// Returns the moments of the next items of the children that take part.
 fn heads(
     alloc: Global,
     sides: &[(Place, Groups)],
@@ -141,8 +143,8 @@ fn heads(
     Ok(list)
 }
 
-/// Tests the kept bytes of one child, of which so many of the first ones were tested in vain; where nothing is chosen, the last ones alone are
-/// kept.
+/// Tests a child's match buffer, whose first `sought` bytes hold no match. If nothing is chosen,
+/// trims the buffer to its size.
 fn test_one<'l>(
     alloc: Global,
     plan: &'l Plan,
@@ -172,7 +174,7 @@ fn test_one<'l>(
     }
 }
 
-/// Tests the kept bytes of the child at an index among those that take part, unless it is quiet.
+/// Tests the match buffer of the child at an index, unless it is quiet.
 fn test_side<'l>(
     alloc: Global,
     plan: &'l Plan,
@@ -202,8 +204,8 @@ fn test_side<'l>(
     Ok(heard)
 }
 
-/// Tests the kept bytes of one child after the other, each against its own patterns; those that are quiet needn't be tested, unless the bytes
-/// of this one have changed.
+/// Tests the match buffers one after the other, each against its own patterns. Skips quiet
+/// children, unless their bytes have changed.
 fn test<'l>(
     alloc: Global,
     plan: &'l Plan,
@@ -228,7 +230,8 @@ fn test<'l>(
     Ok(None)
 }
 
-/// An item was taken: the bytes are tested, or the child has ended.
+/// Handles an item that was taken. After output it tests the match buffers. The end of the output
+/// or a failed read ends the wait.
 fn hear<'l>(
     alloc: Global,
     plan: &'l Plan,
@@ -255,7 +258,7 @@ fn hear<'l>(
     }
 }
 
-/// The child whose item is taken next. One that takes part alone waits for no other, and takes no memory.
+/// Returns the child whose item is next. A single child needs no comparison, and allocates nothing.
 fn next_child(
     alloc: Global,
     times: Times,
@@ -277,7 +280,7 @@ fn next_child(
     Ok(Some(*child))
 }
 
-/// Takes the next item, where there is one and it came in time, and tests the bytes.
+/// Takes the next item, if one is in time, and tests the match buffers.
 fn turn<'l>(
     alloc: Global,
     times: Times,
@@ -316,7 +319,7 @@ fn turn<'l>(
     Ok(Some(decided))
 }
 
-/// Takes items until the patterns decide, or none is there in time. Each test goes on with the matchers of those before it.
+/// Takes items until one ends the wait, or none is in time. All tests share the matchers.
 fn hear_all<'l>(
     alloc: Global,
     times: Times,
@@ -338,7 +341,8 @@ fn hear_all<'l>(
     }
 }
 
-/// Takes items until the patterns decide, or none is there in time. It goes on with what is known of the bytes, and leaves what is known then.
+/// Takes items until one ends the wait, or none is in time. Uses and updates what is known of the
+/// bytes.
 pub(crate) fn listen<'l>(
     alloc: Global,
     times: Times,
@@ -355,7 +359,8 @@ pub(crate) fn listen<'l>(
     hear_all(alloc, times, plan, &mut matchers, known, lanes, own)
 }
 
-/// Tests the kept bytes first, of which nothing is known. It gives what is known of them then.
+/// Tests the match buffers, and then takes items as `listen` does. Returns what it knows of the
+/// bytes, too.
 pub(crate) fn look<'l>(
     alloc: Global,
     times: Times,

@@ -1,4 +1,4 @@
-//! `match_max` and `remove_nulls`: what is told or set of one child, or of children to come.
+//! `match_max` and `remove_nulls` (expect(1)).
 
 ghost use Rattle.tcl_commands.specs.Says.{Says};
 ghost use Rattle.expect_core.specs.Options.{option_of, removal_of, removing, removing_at, size_by, size_of, sizing, sizing_at, whose};
@@ -18,7 +18,7 @@ use tcl_expr::read_number;
 use tcl_subst::Vars;
 use tcl_values::Value;
 
-/// Whose option is meant: that of a child, or with `-d` that of children to come.
+/// Returns the child whose option is meant, or `None` with `-d`, which means later children.
 fn whose(alloc: Global, flags: &Flags, vars: &Vars, own: &Own) -> Result<Option<Place>, Complaint>
     ensures { Says result (whose flags.now vars.now own.now) }
 {
@@ -28,7 +28,7 @@ fn whose(alloc: Global, flags: &Flags, vars: &Vars, own: &Own) -> Result<Option<
     Ok(Some(open_to(alloc, &flags.id, vars, own)?))
 }
 
-/// Whose option is meant, and the text of what is set, if it is set.
+/// Returns whose option is meant, and the new value if there is one.
 fn option_of(
     alloc: Global,
     command: ExpectCommand,
@@ -44,14 +44,14 @@ fn option_of(
     Ok((whose, first(alloc, &args[at..])?))
 }
 
-/// How many bytes a text says that are kept.
+/// Reads the size of a match buffer in bytes.
 fn size_of(alloc: Global, text: &[u8]) -> Result<usize, Complaint>
     ensures { Says result (size_of text.now) }
 {
     size_by(alloc, text, read_number(text))
 }
 
-/// A number of bytes from 1 to 1,000,000.
+/// Returns a number as a size, or an error if it isn't from 1 to 1,000,000.
 fn size_by(alloc: Global, text: &[u8], number: Option<i64>) -> Result<usize, Complaint>
     ensures { Says result (size_by text.now number) }
 {
@@ -61,7 +61,7 @@ fn size_by(alloc: Global, text: &[u8], number: Option<i64>) -> Result<usize, Com
     }
 }
 
-/// Whether a text says that NUL bytes are removed.
+/// Reads whether NUL bytes are removed: `0` or `1`.
 fn removal_of(alloc: Global, text: &[u8]) -> Result<bool, Complaint>
     ensures { Says result (removal_of text.now) }
 {
@@ -74,7 +74,7 @@ fn removal_of(alloc: Global, text: &[u8]) -> Result<bool, Complaint>
     Err(Complaint::Said(bad_removal(alloc, text)?))
 }
 
-/// How many bytes are kept is told, or set.
+/// Sets the size of a match buffer, or returns it if there is no new value.
 fn size(
     alloc: Global,
     at: Option<Place>,
@@ -92,7 +92,7 @@ fn size(
     Ok(Deed::over_at(at, effects, done(Value::new(alloc))))
 }
 
-/// `match_max ?-d? ?-i id? ?size?`.
+/// Returns what `match_max ?-d? ?-i spawn_id? ?size?` does.
 pub(crate) fn match_max(
     alloc: Global,
     name: &[u8],
@@ -106,7 +106,7 @@ pub(crate) fn match_max(
     size(alloc, at, &text, own)
 }
 
-/// Whether NUL bytes are removed is told, or set.
+/// Sets whether NUL bytes are removed, or returns it if there is no new value.
 fn removal(
     alloc: Global,
     at: &Option<Place>,
@@ -124,7 +124,7 @@ fn removal(
     Ok(Deed::over_at(*at, effects, done(Value::new(alloc))))
 }
 
-/// `remove_nulls ?-d? ?-i id? ?value?`.
+/// Returns what `remove_nulls ?-d? ?-i spawn_id? ?value?` does.
 pub(crate) fn remove_nulls(
     alloc: Global,
     name: &[u8],

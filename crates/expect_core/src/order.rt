@@ -1,4 +1,4 @@
-//! What a spawn is to start.
+//! The arguments of a `spawn`.
 
 ghost use Rattle.std.specs.Prelude.{◌≡◌, [], slice_index_or};
 ghost use Rattle.tty.specs.Modes.{read as read_modes};
@@ -16,10 +16,10 @@ use tcl_values::Value;
 use tcl_words::{Text, Texts};
 use tty::Modes;
 
-/// What a spawn is to start.
+/// What a `spawn` is to start.
 #[derive(Drop)]
 pub struct Order {
-    /// Nothing is written to the transcript.
+    /// Whether nothing is written to the transcript.
     pub quiet: bool,
     /// The program and its arguments.
     pub words: Texts,
@@ -27,7 +27,7 @@ pub struct Order {
     pub modes: Modes,
 }
 
-/// The text at an index.
+/// Returns the text at an index, or no bytes if there is none.
 fn text_at(texts: &[Text], at: usize) -> &[u8]
     ensures { result.now ≡ slice_index_or texts.now at [] }
 {
@@ -38,7 +38,7 @@ fn text_at(texts: &[Text], at: usize) -> &[u8]
     }
 }
 
-/// The modes that words of stty(1) leave.
+/// Returns the modes that words of stty(1) set, or an error for an unknown word.
 fn modes_in(alloc: Global, words: &[Text]) -> Result<Modes, Complaint>
     ensures { Says result (modes_in words.now (read_modes words.now)) }
 {
@@ -48,7 +48,7 @@ fn modes_in(alloc: Global, words: &[Text]) -> Result<Modes, Complaint>
     }
 }
 
-/// The modes that a list of words leaves.
+/// Returns the modes that a list of words sets. Without a list they are `Modes::sane()`.
 fn modes_by(alloc: Global, list: Option<Value>) -> Result<Modes, Complaint>
     ensures { Says result (modes_by_of list) }
 {
@@ -62,14 +62,14 @@ fn modes_by(alloc: Global, list: Option<Value>) -> Result<Modes, Complaint>
     }
 }
 
-/// The modes of a child's terminal: those that the variable `stty_init` lists, if it is there.
+/// Returns the modes of a child's terminal, which the variable `stty_init` may set.
 fn modes_of(alloc: Global, vars: &Vars) -> Result<Modes, Complaint>
     ensures { Says result (modes_named vars.now) }
 {
     modes_by(alloc, optional(alloc, vars, b"stty_init")?)
 }
 
-/// What is started, by its words.
+/// Returns what a `spawn` with these words is to start.
 fn started(alloc: Global, quiet: bool, words: &[Value], vars: &Vars) -> Result<Order, Complaint>
     ensures { Says result (order_by quiet words.now vars.now) }
 {
@@ -81,7 +81,7 @@ fn started(alloc: Global, quiet: bool, words: &[Value], vars: &Vars) -> Result<O
     })
 }
 
-/// What the arguments of a spawn say.
+/// Reads the arguments of a `spawn`.
 pub(crate) fn order_of(
     alloc: Global,
     name: &[u8],

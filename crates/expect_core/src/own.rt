@@ -1,4 +1,4 @@
-//! What the commands of a script change.
+//! The state that a script's commands change.
 
 ghost use Rattle.std.specs.Prelude.{◌≡◌, ◌++◌, OnOk};
 ghost use Rattle.expect_core.specs.Heard.{deadline_from as deadline_of};
@@ -14,28 +14,29 @@ use std::alloc::{AllocError, Global};
 use std::mem;
 use tcl_words::Text;
 
-/// What the commands of a script change.
+/// The state that a script's commands change.
 #[derive(Drop)]
 pub struct Own {
-    /// The moment of the last item, answer or timeout that was taken.
+    /// The moment in milliseconds of the last item, answer or timeout that was taken.
     pub clock: u64,
-    /// What the script wrote, and the output that it took.
+    /// What the script wrote, and the output that it took while `log_user` was on.
     pub transcript: Text,
-    /// What it asked of its children.
+    /// Its requests to its children.
     pub requests: Requests,
-    /// The children that it asked for.
+    /// The children that it requested.
     pub children: Children,
     /// Whether output goes to the transcript.
     pub log_user: bool,
-    /// How many bytes are kept of children that are spawned from now on.
+    /// The size in bytes of the match buffers of later children.
     pub size: usize,
-    /// Whether NUL bytes are removed of children that are spawned from now on.
+    /// Whether NUL bytes are removed from the output of later children.
     pub remove_nulls: bool,
-    /// The expects whose actions are evaluated, the innermost first.
+    /// The expects whose actions are being evaluated, the innermost first.
     pub plans: Plans,
 }
 
-/// The last moment that is in time, of a wait that begins at a moment.
+/// Returns the last moment in time for a wait that begins at `clock`, or `None` if it never times
+/// out.
 pub(crate) fn deadline_from(clock: u64, span: Span) -> Option<u128>
     ensures { result ≡ deadline_of clock span }
 {
@@ -46,21 +47,21 @@ pub(crate) fn deadline_from(clock: u64, span: Span) -> Option<u128>
 }
 
 impl Own {
-    /// The clock goes to a moment, and never back.
+    /// Moves the clock to a moment, but never back.
     pub(crate) fn advance(&mut self, moment: u64)
         ensures { self.new ≡ at_moment moment self.old }
     {
         self.clock = self.clock.max(moment);
     }
 
-    /// Writes to the transcript.
+    /// Appends to the transcript.
     pub(crate) fn tell(&mut self, text: &[u8]) -> Result<(), AllocError>
         ensures { OnOk result (self.new ≡ told text.now self.old) }
     {
         self.transcript.extend(text)
     }
 
-    /// Writes to the transcript while output is logged.
+    /// Appends to the transcript if `log_user` is on.
     pub(crate) fn log(&mut self, text: &[u8]) -> Result<(), AllocError>
         ensures { OnOk result (self.new ≡ logged text.now self.old) }
     {
@@ -71,7 +72,7 @@ impl Own {
         }
     }
 
-    /// Asks something of the child at a place.
+    /// Appends a request to the child at a place.
     pub(crate) fn ask(&mut self, i: Place, act: Act) -> Result<(), AllocError>
         ensures { OnOk result (self.new ≡ asked i act self.old) }
     {
@@ -81,7 +82,8 @@ impl Own {
         })
     }
 
-    /// What is seen of a piece of a child's output stands behind the transcript, and is kept from there.
+    /// Appends a piece of a child's output to the transcript and to the match buffer, as it is
+    /// seen.
     #[tactic(auto, using(crate::proofs::Receiving::put_behind))]
     fn receive_told(&mut self, alloc: Global, i: Place, piece: &[u8]) -> Result<(), AllocError>
         ensures { OnOk result (self.new ≡ with_bytes i (bytes_of i self.old ++ seen i piece.now self.old) (told (seen i piece.now self.old) self.old)) }
@@ -93,7 +95,7 @@ impl Own {
             .keep(i, behind(self.transcript.as_slice(), before))
     }
 
-    /// What is seen of a piece of a child's output is kept.
+    /// Appends a piece of a child's output to the match buffer, as it is seen.
     fn receive_untold(&mut self, i: Place, piece: &[u8]) -> Result<(), AllocError>
         ensures { OnOk result (self.new ≡ with_bytes i (bytes_of i self.old ++ seen i piece.now self.old) self.old) }
     {
@@ -101,7 +103,8 @@ impl Own {
         self.children.keep_seen(i, seen)
     }
 
-    /// A piece of a child's output was taken.
+    /// Appends a piece of a child's output to the match buffer, and to the transcript if `log_user`
+    /// is on.
     pub(crate) fn receive(
         &mut self,
         alloc: Global,
@@ -117,7 +120,7 @@ impl Own {
         }
     }
 
-    /// How many bytes are kept of a child, or of children to come.
+    /// Returns the size in bytes of a child's match buffer, or that of later children.
     pub(crate) fn size_at(&self, at: Option<Place>) -> usize
         ensures { result ≡ size_at at self.now }
     {
@@ -127,7 +130,7 @@ impl Own {
         }
     }
 
-    /// Whether NUL bytes are removed of a child, or of children to come.
+    /// Returns whether NUL bytes are removed from the output of a child, or of later children.
     pub(crate) fn removes_at(&self, at: Option<Place>) -> bool
         ensures { result ≡ removes_at at self.now }
     {

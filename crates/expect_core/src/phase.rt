@@ -1,29 +1,29 @@
-//! What a call that waits was doing.
+//! What a waiting call was doing.
 
 use crate::place::Place;
 use crate::turn::Want;
 use child_events::Cause;
 use exp_match::Spans;
 
-/// What a call that waits was doing.
+/// What a waiting call was doing.
 #[derive(Drop)]
 pub enum Phase {
-    /// Nothing.
+    /// Nothing: no call waits.
     Idle,
-    /// It waits for this, and may take so many turns behind it.
+    /// It waits for this. The number is the most turns that may follow.
     At(u64, Want),
 }
 
-/// What came of a wait for patterns, and at which place the child stands that it is about.
+/// The result of a wait for patterns.
 #[derive(Clone, Copy)]
 pub enum Heard {
-    /// Of this child, the pattern with this number matches, with these spans.
+    /// The pattern with this number matches the bytes of this child, with these spans.
     Match(Place, usize, Spans),
-    /// As many bytes of this child are kept as may be.
+    /// The match buffer of this child is full.
     Full(Place),
-    /// The deadline has passed.
+    /// This deadline has passed.
     TimedOut(u64),
-    /// The last moment of the settings has passed.
+    /// The script's last moment has passed.
     OverLimit,
     /// Nothing yet.
     NotYet,

@@ -4,10 +4,10 @@ ghost use Rattle.std.specs.Prelude.{◌≡◌, ◌+◌, ◌<◌, Some, None, nat
 
 use std::marker::Model;
 
-/// How many children a script can have.
+/// The most children of a script.
 pub(crate) const MOST_CHILDREN: usize = 16;
 
-/// The place of a child among those of a script, from 0 to 15. A contract sees a number.
+/// The place of a child among those of its script, from 0 to 15. A contract sees a number.
 #[derive(Clone, Copy)]
 pub struct Place {
     at: u8,
@@ -26,7 +26,7 @@ impl Model for Place {
 }
 
 impl Place {
-    /// This place, where a child can have it.
+    /// Returns the place with this index, or `None` from 16 on.
     pub(crate) fn new(at: usize) -> Option<Place>
         ensures { result ≡ (if nat_lt at 16 then Some at else None) }
     {
@@ -37,14 +37,14 @@ impl Place {
         }
     }
 
-    /// The place as an index.
+    /// Returns the index of the place.
     pub(crate) fn index(self) -> usize
         ensures { result ≡ self }
     {
         usize::from(self.at)
     }
 
-    /// The number of the child there, from 1 to 16.
+    /// Returns the number of the child at the place, from 1 to 16.
     pub fn number(self) -> u8
         ensures { result ≡ self + 1 }
     {

@@ -1,6 +1,6 @@
-//! What an expect waits for.
+//! What an `expect` waits for.
 
-ghost use Rattle.std.specs.Prelude.{◌≡◌, ◌∷◌, [], ◌++◌, IfOk, OnOk};
+ghost use Rattle.std.specs.Prelude.{◌≡◌, ◌∷◌, [], ◌++◌, Some, IfOk, OnOk};
 ghost use Rattle.expect_core.specs.Heard.{groups_at};
 ghost use Rattle.expect_core.specs.Sides.{rank_of, with_group};
 
@@ -9,12 +9,12 @@ use exp_match::PatternList;
 use std::alloc::{AllocError, Global};
 use std::marker::Model;
 
-/// How long an expect waits.
+/// The timeout of an `expect`.
 #[derive(Clone, Copy, PartialEq, Eq)]
 pub enum Span {
-    /// For ever.
+    /// It never times out.
     Never,
-    /// So many seconds.
+    /// This many seconds.
     Seconds(u64),
 }
 
@@ -33,7 +33,7 @@ impl Model for Groups {
 }
 
 impl Groups {
-    /// One group.
+    /// Creates a list of one group.
     fn one(alloc: Global, group: usize) -> Result<Groups, AllocError>
         ensures { IfOk result (λ g. g ≡ group ∷ []) }
     {
@@ -42,7 +42,7 @@ impl Groups {
         Ok(Groups { list })
     }
 
-    /// Their numbers: 0 is that before the first `-i`.
+    /// Returns the numbers of the groups. The patterns before the first `-i` are group 0.
     pub fn as_slice(&self) -> &[usize]
         ensures { result.now ≡ self.now }
     {
@@ -65,7 +65,7 @@ impl Model for Places {
 }
 
 impl Places {
-    /// None. It allocates nothing.
+    /// Creates an empty list without allocating.
     pub(crate) fn new(alloc: Global) -> Places
         ensures { result ≡ [] }
     {
@@ -74,7 +74,7 @@ impl Places {
         }
     }
 
-    /// Puts one behind the others.
+    /// Appends a place.
     pub(crate) fn push(&mut self, i: Place) -> Result<(), AllocError>
         ensures { OnOk result (self.new ≡ self.old ++ i ∷ []) }
     {
@@ -83,8 +83,8 @@ impl Places {
     }
 }
 
-/// The children that take part in an expect, in order of their places, each with the groups of patterns that are its own. A contract sees a
-/// list.
+/// The children that take part in an `expect`, in order of places, each with its groups of
+/// patterns. A contract sees a list.
 #[derive(Drop)]
 pub struct Sides {
     pub(crate) list: Vec<(Place, Groups)>,
@@ -99,7 +99,7 @@ impl Model for Sides {
 }
 
 impl Sides {
-    /// None. It allocates nothing.
+    /// Creates an empty list without allocating.
     pub(crate) fn new(alloc: Global) -> Sides
         ensures { result ≡ [] }
     {
@@ -108,14 +108,14 @@ impl Sides {
         }
     }
 
-    /// Each child with its groups, in order of their places.
+    /// Returns each child with its groups, in order of places.
     pub fn as_slice(&self) -> &[(Place, Groups)]
         ensures { result.now ≡ self.now }
     {
         self.list.as_slice()
     }
 
-    /// The groups of the child at a place.
+    /// Returns the groups of the child at a place.
     pub(crate) fn groups(&self, i: Place) -> &[usize]
         ensures { result.now ≡ groups_at i self.now }
     {
@@ -127,7 +127,7 @@ impl Sides {
         &[]
     }
 
-    /// How many children stand at places before this one.
+    /// Returns the number of children at places before this one.
     fn rank(&self, i: Place) -> usize
         ensures { result ≡ rank_of i self.now }
     {
@@ -139,7 +139,7 @@ impl Sides {
         self.list.len()
     }
 
-    /// One more group is that of the child at a place.
+    /// Adds a group to the child at a place. The child is added if it doesn't take part yet.
     pub(crate) fn add(&mut self, alloc: Global, i: Place, group: usize) -> Result<(), AllocError>
         ensures { OnOk result (self.new ≡ with_group i group self.old) }
     {
@@ -158,28 +158,76 @@ impl Sides {
     }
 }
 
-/// What ended the wait of an expect.
+/// What ended the wait of an `expect`.
 #[derive(Clone, Copy)]
 pub struct Met {
-    /// The number of the pattern or keyword in its list, from 0.
+    /// The index of the pattern or keyword in its list.
     pub entry: usize,
-    /// The child whose bytes were met; none where time passed.
+    /// The child whose bytes were tested, or `None` after a timeout.
     pub child: Option<Place>,
 }
 
-/// What an expect waits for.
+/// What an `expect` waits for.
 #[derive(Drop)]
 pub struct Plan {
     /// The children that take part.
     pub sides: Sides,
-    /// Their places in the order of the arguments, as they were named.
+    /// Their places in the order of the arguments.
     pub order: Places,
     /// Its patterns and keywords with their actions.
     pub list: PatternList,
-    /// How long it waits from its start, and from each `exp_continue`.
+    /// The timeout. It begins at the start, and again at each `exp_continue` without
+    /// `-continue_timer`.
     pub span: Span,
-    /// The last moment at which an item is in time, where there is one.
+    /// The last moment in milliseconds at which an item is in time, or `None` if it never times
+    /// out.
     pub deadline: Option<u128>,
-    /// What was met last, where something was: while its action is evaluated, that is the action of this entry.
+    /// What was met last, or `None` if nothing was. Its entry has the action that is evaluated.
     pub met: Option<Met>,
+}
+
+/// A `Plan` on the heap, so that a turn that holds one is cheap to move. A contract sees the plan.
+#[derive(Drop)]
+pub struct PlanBox {
+    plan: Box<Plan>,
+}
+
+impl Model for PlanBox {
+    ghost use Rattle.expect_core.specs.declared.plan.Plan.{Plan};
+
+    ghost Value = { Plan };
+
+    ghost view = { λ b. b.plan.value };
+}
+
+impl PlanBox {
+    /// Moves a plan to the heap.
+    pub(crate) fn new(alloc: Global, plan: Plan) -> Result<PlanBox, AllocError>
+        ensures { IfOk result (λ b. b ≡ plan) }
+    {
+        Ok(PlanBox {
+            plan: Box::new(alloc, plan)?,
+        })
+    }
+
+    /// Returns the plan.
+    pub(crate) fn get(&self) -> &Plan
+        ensures { result.now ≡ self.now }
+    {
+        &self.plan
+    }
+
+    /// Sets what was met last.
+    pub(crate) fn meet(&mut self, met: Met)
+        ensures { self.new ≡ record self.old { met = Some met } }
+    {
+        self.plan.met = Some(met);
+    }
+
+    /// Sets the deadline.
+    pub(crate) fn wait_until(&mut self, deadline: Option<u128>)
+        ensures { self.new ≡ record self.old { deadline = deadline } }
+    {
+        self.plan.deadline = deadline;
+    }
 }

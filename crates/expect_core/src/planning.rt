@@ -1,4 +1,4 @@
-//! The arguments of an expect.
+//! The arguments of an `expect` (expect(1)).
 
 ghost use Rattle.std.specs.Prelude.{◌≡◌, ◌<◌, ◌+◌, ◌^◌, [], slice_index_or, if◌then◌else◌, IfOk};
 ghost use Rattle.tcl_commands.specs.Says.{Says};
@@ -20,7 +20,7 @@ use tcl_subst::Vars;
 use tcl_values::Value;
 use tcl_words::{Text, is_white};
 
-/// Whether a newline stands before the first byte that is no white space.
+/// Returns whether a newline comes before the first byte that is not white space.
 fn is_list(text: &[u8]) -> bool
     ensures { result ≡ is_list_of text.now }
 {
@@ -35,7 +35,7 @@ fn is_list(text: &[u8]) -> bool
     false
 }
 
-/// The argument that is the list of all others, where it stands alone.
+/// Returns the only argument, if it is a list of all arguments.
 pub(crate) fn listed(alloc: Global, args: &[Value]) -> Result<Option<Value>, AllocError>
     ensures { IfOk result (λ r. r ≡ listed_of args.now) }
 {
@@ -45,7 +45,7 @@ pub(crate) fn listed(alloc: Global, args: &[Value]) -> Result<Option<Value>, All
     }
 }
 
-/// The argument at an index.
+/// Returns the argument at an index, or no bytes if there is none.
 fn arg_at(args: &[Value], at: usize) -> &[u8]
     ensures { result.now ≡ slice_index_or args.now at [] }
 {
@@ -56,7 +56,7 @@ fn arg_at(args: &[Value], at: usize) -> &[u8]
     }
 }
 
-/// The patterns and keywords that arguments list.
+/// Reads the patterns and keywords in arguments.
 fn patterns_of(alloc: Global, plans: &mut Plans, args: &[Value]) -> Result<PatternList, Complaint>
     ensures same { plans.new ≡ plans.old }
     ensures said { Says result (patterns_by args.now (patterns_meant args.now)) }
@@ -75,7 +75,7 @@ fn patterns_of(alloc: Global, plans: &mut Plans, args: &[Value]) -> Result<Patte
     }
 }
 
-/// Whether the child that was spawned last takes part.
+/// Returns whether the child of the variable `spawn_id` takes part.
 fn takes_current(list: &PatternList) -> bool
     ensures { result ≡ takes_current_of list.now }
 {
@@ -85,7 +85,7 @@ fn takes_current(list: &PatternList) -> bool
     list.serves(0)
 }
 
-/// The children with these ids, behind those before them, each of which has to be open.
+/// Appends the places of the children with these spawn ids. Each must be open.
 fn opened(
     alloc: Global,
     mut places: Places,
@@ -103,7 +103,7 @@ fn opened(
     Ok(places)
 }
 
-/// The places of the children that take part, in the order of the arguments.
+/// Returns the places of the children that take part, in the order of the arguments.
 fn asked_by(alloc: Global, list: &PatternList, vars: &Vars, own: &Own) -> Result<Places, Complaint>
     ensures { Says result (asked_meant list.now vars.now own.now) }
 {
@@ -116,8 +116,8 @@ fn asked_by(alloc: Global, list: &PatternList, vars: &Vars, own: &Own) -> Result
     opened(alloc, places, list.ids.as_slice(), vars, own)
 }
 
-/// The group of the child at an index among those that take part, in the order of the arguments. The first of them has group 0 where it is that of
-/// the patterns before the first `-i`, else group 1.
+/// Returns the group of the child at an index, in the order of the arguments. `first` says whether
+/// the first child has group 0, and not 1.
 fn group_at(first: bool, at: usize) -> usize
     requires { at + 1 < 2 ^ 64 }
     ensures { result ≡ (if first then at else at + 1) }
@@ -125,7 +125,7 @@ fn group_at(first: bool, at: usize) -> usize
     if first { at } else { at + 1 }
 }
 
-/// The children that take part, by place, each with its groups.
+/// Returns the children that take part, in order of places, each with its groups.
 fn grouped(alloc: Global, first: bool, places: &Places) -> Result<Sides, AllocError>
     ensures { IfOk result (λ t. t ≡ with_groups (if first then 0 else 1) places.now []) }
 {
@@ -137,7 +137,8 @@ fn grouped(alloc: Global, first: bool, places: &Places) -> Result<Sides, AllocEr
     Ok(sides)
 }
 
-/// What so many seconds mean.
+/// Returns the timeout of a number of seconds. It never comes if the number is negative or above
+/// 9,000,000,000,000.
 fn span_of(seconds: i64) -> Span
     ensures { result ≡ span_told seconds }
 {
@@ -148,14 +149,14 @@ fn span_of(seconds: i64) -> Span
     }
 }
 
-/// How long an expect waits, by its number of seconds.
+/// Reads a timeout in seconds.
 fn span_by(alloc: Global, text: &[u8]) -> Result<Span, Complaint>
     ensures { Says result (span_by_of text.now) }
 {
     Ok(span_of(as_number(alloc, text)?))
 }
 
-/// Ten seconds, where nothing says how many.
+/// Reads a timeout in seconds. Without a text it is ten seconds.
 fn span_or_ten(alloc: Global, text: Option<Value>) -> Result<Span, Complaint>
     ensures { Says result (span_or_ten_of text) }
 {
@@ -165,7 +166,7 @@ fn span_or_ten(alloc: Global, text: Option<Value>) -> Result<Span, Complaint>
     }
 }
 
-/// How long an expect waits: what `-timeout` says, else the variable `timeout`.
+/// Returns the timeout of an `expect`: that of `-timeout`, or else of the variable `timeout`.
 fn span_in(alloc: Global, timeout: &Option<Text>, vars: &Vars) -> Result<Span, Complaint>
     ensures { Says result (span_meant timeout.now vars.now) }
 {
@@ -175,7 +176,7 @@ fn span_in(alloc: Global, timeout: &Option<Text>, vars: &Vars) -> Result<Span, C
     }
 }
 
-/// The wait of an expect for these patterns, which begins at a moment.
+/// Returns the wait of an `expect` for these patterns that begins at `clock`.
 fn plan_at(
     alloc: Global,
     order: Places,
@@ -195,7 +196,7 @@ fn plan_at(
     })
 }
 
-/// What an expect for these patterns waits for.
+/// Returns what an `expect` for these patterns waits for.
 fn plan_by(alloc: Global, list: PatternList, vars: &Vars, own: &Own) -> Result<Plan, Complaint>
     ensures { Says result (plan_by_of list vars.now own.now) }
 {
@@ -205,7 +206,7 @@ fn plan_by(alloc: Global, list: PatternList, vars: &Vars, own: &Own) -> Result<P
     Ok(plan)
 }
 
-/// What an expect with these arguments waits for.
+/// Returns what an `expect` with these arguments waits for.
 pub(crate) fn plan_of(
     alloc: Global,
     args: &[Value],

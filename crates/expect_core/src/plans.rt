@@ -1,22 +1,22 @@
-//! The expects whose actions are evaluated.
+//! The expects whose actions are being evaluated.
 
 ghost use Rattle.std.specs.Prelude.{◌≡◌, ◌∷◌, [], List, MatchOption, OnOk};
 ghost use Rattle.exp_match.specs.Arguments.{Gives, patterns_of};
 ghost use Rattle.expect_core.specs.declared.plan.Plan.{Plan as PlanOf};
 
-use crate::plan::Plan;
+use crate::plan::{Plan, PlanBox};
 use exp_match::{Compiled, PatternFault, PatternList};
 use std::alloc::{AllocError, Global};
 use std::marker::Model;
 use tcl_host::Pile;
 use tcl_values::Value;
 
-/// The expects whose actions are evaluated, the innermost first. A contract sees a list of them.
+/// The expects whose actions are being evaluated, the innermost first. A contract sees a list.
 ///
-/// Beside them stand the patterns that were compiled for any expect: one that is evaluated again takes its patterns from there.
+/// It also has the cache of compiled patterns, which all expects of the script share.
 #[derive(Drop)]
 pub struct Plans {
-    pile: Pile<Plan>,
+    pile: Pile<PlanBox>,
     compiled: Compiled,
 }
 
@@ -30,7 +30,7 @@ impl Model for Plans {
 }
 
 impl Plans {
-    /// None. It allocates nothing.
+    /// Creates an empty list without allocating.
     pub(crate) fn new(alloc: Global) -> Plans
         ensures { result ≡ [] }
     {
@@ -40,28 +40,31 @@ impl Plans {
         }
     }
 
-    /// Keeps an expect while its action is evaluated.
-    pub(crate) fn push(&mut self, plan: Plan) -> Result<(), AllocError>
+    /// Adds an `expect`, which becomes the innermost.
+    pub(crate) fn push(&mut self, plan: PlanBox) -> Result<(), AllocError>
         ensures { OnOk result (self.new ≡ plan ∷ self.old) }
     {
         self.pile.push(plan)
     }
 
-    /// The innermost expect.
+    /// Returns the innermost `expect`, or `None`.
     pub(crate) fn top(&self) -> Option<&Plan>
         ensures { MatchOption result (self.now ≡ []) (λ plan. (outer : List PlanOf) × (self.now ≡ plan.now ∷ outer)) }
     {
-        self.pile.top()
+        match self.pile.top() {
+            Some(plan) => Some(plan.get()),
+            None => None,
+        }
     }
 
-    /// Takes the innermost expect.
-    pub(crate) fn pop(&mut self) -> Option<Plan>
+    /// Removes and returns the innermost `expect`, or `None`.
+    pub(crate) fn pop(&mut self) -> Option<PlanBox>
         ensures { MatchOption result ((self.old ≡ []) × (self.new ≡ [])) (λ plan. self.old ≡ plan ∷ self.new) }
     {
         self.pile.pop()
     }
 
-    /// The patterns and keywords that the arguments of an expect list.
+    /// Reads the patterns and keywords in the arguments of an `expect`.
     pub(crate) fn patterns(
         &mut self,
         alloc: Global,

@@ -7,7 +7,8 @@ use crate::place::Place;
 use std::alloc::{AllocError, Global};
 use std::marker::Model;
 
-/// Marks at those that take part in a wait: a test of their bytes chose nothing, and they are still the same. A contract sees a list.
+/// A mark for each child that takes part: a test of its bytes chose nothing, and they haven't
+/// changed. A contract sees a list.
 #[derive(Drop)]
 pub struct Quiet {
     marks: Vec<bool>,
@@ -22,7 +23,7 @@ impl Model for Quiet {
 }
 
 impl Quiet {
-    /// No mark, and no room for one. It allocates nothing.
+    /// Creates a list without marks and without room for any. It doesn't allocate.
     pub(crate) fn none(alloc: Global) -> Quiet
         ensures { result ≡ [] }
     {
@@ -31,7 +32,8 @@ impl Quiet {
         }
     }
 
-    /// No mark at any of so many. Of one child alone nothing is remembered, and no memory is taken.
+    /// Creates a list with room for this many marks, all off. For fewer than two children it has no
+    /// room and doesn't allocate.
     pub(crate) fn new(alloc: Global, sides: usize) -> Result<Quiet, AllocError>
         ensures { IfOk result (λ q. q ≡ unmarked sides) }
     {
@@ -45,7 +47,7 @@ impl Quiet {
         Ok(Quiet { marks })
     }
 
-    /// Whether a mark stands at an index.
+    /// Returns whether there is a mark at an index.
     pub(crate) fn has(&self, at: usize) -> bool
         ensures { result ≡ marked at self.now }
     {
@@ -56,7 +58,8 @@ impl Quiet {
         }
     }
 
-    /// Whether the one at an index, the child at a place, needn't be tested: a mark stands at it, and it isn't the child whose bytes have changed.
+    /// Returns whether the child at an index needn't be tested: it has a mark, and isn't the one
+    /// that changed. `child` is its place.
     pub(crate) fn spares(&self, at: usize, child: Place, changed: &Option<Place>) -> bool
         ensures { result ≡ spared at child changed.now self.now }
     {
@@ -72,7 +75,7 @@ impl Quiet {
         }
     }
 
-    /// Puts a mark at an index, or takes it away.
+    /// Sets or removes the mark at an index.
     pub(crate) fn set(&mut self, at: usize, mark: bool)
         ensures { self.new ≡ slice_set self.old at mark }
     {

@@ -1,4 +1,4 @@
-//! What a script asks of its children.
+//! The requests of a script to its children.
 
 ghost use Rattle.std.specs.Prelude.{◌≡◌, ◌++◌, ◌∷◌, ◌↔◌, [], length, IfOk, IsTrue, OnErr, OnOk};
 
@@ -6,23 +6,23 @@ use std::alloc::{AllocError, Global};
 use std::marker::Model;
 use tcl_words::{Text, Texts};
 
-/// What is asked of a child.
+/// What a child is asked to do.
 #[derive(Drop)]
 pub enum Act {
-    /// To be started: the program and its arguments.
+    /// Start, as this program with its arguments.
     Spawn(Texts),
-    /// To take these bytes as input.
+    /// Take these bytes as input.
     Write(Text),
-    /// To see the end of its input.
+    /// See the end of its input.
     End,
-    /// To be let go.
+    /// Be closed.
     Close,
-    /// To be waited for.
+    /// Be waited for.
     Wait,
 }
 
 impl Act {
-    /// Whether another one asks for the same.
+    /// Returns whether two acts are equal.
     pub fn is_same(&self, other: &Act) -> bool
         ensures { IsTrue result ↔ (self.now ≡ other.now) }
     {
@@ -36,7 +36,7 @@ impl Act {
         }
     }
 
-    /// The same once more.
+    /// Returns a copy.
     pub fn copied(&self, alloc: Global) -> Result<Act, AllocError>
         ensures { IfOk result (λ a. a ≡ self.now) }
     {
@@ -50,24 +50,24 @@ impl Act {
     }
 }
 
-/// A request to a child, which has a number from 1 to 16.
+/// A request to a child.
 #[derive(Drop)]
 pub struct Request {
-    /// The child's number.
+    /// The number of the child, from 1 to 16.
     pub child: u8,
-    /// What is asked of it.
+    /// What it is asked to do.
     pub act: Act,
 }
 
 impl Request {
-    /// Whether another one asks the same of the same child.
+    /// Returns whether two requests are equal.
     pub fn is_same(&self, other: &Request) -> bool
         ensures { IsTrue result ↔ (self.now ≡ other.now) }
     {
         self.child == other.child && self.act.is_same(&other.act)
     }
 
-    /// The same once more.
+    /// Returns a copy.
     pub fn copied(&self, alloc: Global) -> Result<Request, AllocError>
         ensures { IfOk result (λ r. r ≡ self.now) }
     {
@@ -78,10 +78,10 @@ impl Request {
     }
 }
 
-/// Requests in order, seen as a list.
+/// A list of requests, in order. A contract sees a list.
 #[derive(Drop)]
 pub struct Requests {
-    /// The requests, the first one first.
+    /// The requests, in order.
     pub list: Vec<Request>,
 }
 
@@ -95,7 +95,7 @@ impl Model for Requests {
 }
 
 impl Requests {
-    /// No requests. It allocates nothing.
+    /// Creates an empty list without allocating.
     pub fn new(alloc: Global) -> Requests
         ensures { result ≡ [] }
     {
@@ -104,21 +104,21 @@ impl Requests {
         }
     }
 
-    /// All of them, the first one first.
+    /// Returns the requests, in order.
     pub fn as_slice(&self) -> &[Request]
         ensures { result.now ≡ self.now }
     {
         self.list.as_slice()
     }
 
-    /// How many there are.
+    /// Returns the number of requests.
     pub fn len(&self) -> usize
         ensures { result ≡ length self.now }
     {
         self.list.len()
     }
 
-    /// Puts one behind the others. Where memory is refused, the list stays as it was.
+    /// Appends a request. On `AllocError` the list is unchanged.
     pub fn push(&mut self, request: Request) -> Result<(), AllocError>
         ensures pushed { OnOk result (self.new ≡ self.old ++ request ∷ []) }
         ensures kept { OnErr result (self.new ≡ self.old) }
@@ -127,7 +127,7 @@ impl Requests {
         Ok(())
     }
 
-    /// The same once more.
+    /// Returns a copy.
     pub fn copied(&self, alloc: Global) -> Result<Requests, AllocError>
         ensures { IfOk result (λ r. r ≡ self.now) }
     {

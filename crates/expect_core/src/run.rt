@@ -1,4 +1,4 @@
-//! How a call runs: turn by turn, up to its end or to where it waits.
+//! How a call runs: turn by turn, until it ends or waits.
 
 ghost use Rattle.std.specs.Prelude.{◌≡◌, ℕ, None, IfOk, OnOk};
 ghost use Rattle.child_events.specs.declared.event.Answer.{Answer as AnswerOf};
@@ -24,7 +24,7 @@ use crate::listen::{Times, listen, look};
 use crate::own::Own;
 use crate::phase::{Heard, Phase};
 use crate::place::Place;
-use crate::plan::{Met, Plan};
+use crate::plan::{Met, PlanBox};
 use crate::send::{hand, handed};
 use crate::spawn::spawned;
 use crate::turn::{Purpose, Reaction, Reply, Stage, Turn, Want};
@@ -38,25 +38,25 @@ use tty::Actions;
 /// What follows a stage.
 #[derive(Drop)]
 pub enum Went {
-    /// A turn.
+    /// Another turn.
     Turn(Turn),
-    /// Nothing: the call comes to this step.
+    /// The end of the call, or a wait, as this step.
     Over(HostStep),
-    /// Nothing: the call waits for output, of which this is known.
+    /// A wait for output, of which this is known.
     Listens(Known),
 }
 
-/// A call that is over, or waits.
+/// A call that has ended or waits.
 #[derive(Drop)]
 pub struct Paused {
-    /// What it comes to.
+    /// The step of the call.
     pub(crate) step: HostStep,
     /// What is known of the output that it waits for.
     pub(crate) known: Known,
 }
 
 impl Paused {
-    /// A call of which no output is known.
+    /// Creates a result with this step, without knowledge of output.
     pub(crate) fn at(alloc: Global, step: HostStep) -> Paused
         ensures step { result.step ≡ step }
         ensures knows { (st : DialogueOf) → KnowsIn result.known st }
@@ -67,7 +67,7 @@ impl Paused {
         }
     }
 
-    /// A call that waits for output, of which this is known.
+    /// Creates a result that waits for output, with what is known of it.
     fn listening(known: Known) -> Paused
         ensures step { result.step ≡ HostStep.Wait }
         ensures known { result.known ≡ known }
@@ -79,7 +79,7 @@ impl Paused {
     }
 }
 
-/// How many turns a call may take.
+/// Returns the most turns of a call.
 #[tactic(auto, unfolding(crate::specs::Running::turns))]
 fn all_turns() -> u64
     ensures { result ≡ turns }
@@ -87,7 +87,7 @@ fn all_turns() -> u64
     18_446_744_073_709_551_615
 }
 
-/// A reply as a step.
+/// Returns a reply as a step.
 fn step(reply: Reply) -> HostStep
     ensures { result ≡ step_of reply }
 {
@@ -97,7 +97,7 @@ fn step(reply: Reply) -> HostStep
     }
 }
 
-/// What the answer to a request comes to.
+/// Returns what follows the answer to a request.
 fn answered(
     alloc: Global,
     why: Purpose,
@@ -117,7 +117,7 @@ fn answered(
 }
 
 impl Dialogue {
-    /// How long a call waits.
+    /// Returns the time of the script.
     fn times(&self) -> Times
         ensures { result ≡ record { limit = self.now.limit; horizon = self.now.horizon } }
     {
@@ -127,23 +127,23 @@ impl Dialogue {
         }
     }
 
-    /// An action is evaluated, and the expect kept meanwhile.
-    fn act(&mut self, alloc: Global, mut plan: Plan, met: Met) -> Result<Went, AllocError>
+    /// Keeps an `expect`, and asks for the evaluation of an action.
+    fn act(&mut self, alloc: Global, mut plan: PlanBox, met: Met) -> Result<Went, AllocError>
         ensures goes { IfOk result (λ r. (k : To) (vars : Variables) → acts plan met vars self.old ≡ goes r k vars self.new) }
         ensures knows { IfOk result (λ r. LeavesKnown r self.new) }
     {
-        let action = Value::from_slice(alloc, plan.action(met.entry))?;
-        plan.met = Some(met);
+        let action = Value::from_slice(alloc, plan.get().action(met.entry))?;
+        plan.meet(met);
         self.own.plans.push(plan)?;
         Ok(Went::Over(HostStep::Body(action)))
     }
 
-    /// A wait for a pattern ends, or goes on.
+    /// Returns what follows the result of a wait for patterns.
     fn conclude(
         &mut self,
         alloc: Global,
         left: u64,
-        plan: Plan,
+        plan: PlanBox,
         heard: &Heard,
         known: Known,
     ) -> Result<Went, AllocError>
@@ -180,22 +180,22 @@ impl Dialogue {
         }
     }
 
-    /// Begins a wait for a pattern.
-    fn looking(&mut self, alloc: Global, left: u64, plan: Plan) -> Result<Went, AllocError>
+    /// Begins a wait for patterns.
+    fn looking(&mut self, alloc: Global, left: u64, plan: PlanBox) -> Result<Went, AllocError>
         ensures goes { IfOk result (λ r. (k : To) (vars : Variables) → staged_of k left (Stage.Look plan) vars self.old ≡ goes r k vars self.new) }
         ensures knows { IfOk result (λ r. LeavesKnown r self.new) }
     {
         let times = self.times();
-        let (heard, known) = look(alloc, times, &plan, &mut self.lanes, &mut self.own)?;
+        let (heard, known) = look(alloc, times, plan.get(), &mut self.lanes, &mut self.own)?;
         self.conclude(alloc, left, plan, &heard, known)
     }
 
-    /// Goes on with a wait for a pattern.
+    /// Continues a wait for patterns.
     fn listening(
         &mut self,
         alloc: Global,
         left: u64,
-        plan: Plan,
+        plan: PlanBox,
         known: Known,
     ) -> Result<Went, AllocError>
         requires { Knows plan known self.old.own }
@@ -207,7 +207,7 @@ impl Dialogue {
         let heard = listen(
             alloc,
             times,
-            &plan,
+            plan.get(),
             &mut known,
             &mut self.lanes,
             &mut self.own,
@@ -215,7 +215,7 @@ impl Dialogue {
         self.conclude(alloc, left, plan, &heard, known)
     }
 
-    /// The next answer of the child at a place, to whose moment the clock goes.
+    /// Takes the next answer of a child, if it is in time. Moves the clock to its moment.
     fn next_answer(&mut self, i: Place) -> Option<Answer>
         ensures { (k : To) (n : ℕ) (w : WantOf) (made : AnswerOf → OwnOf → TurnOf) (vars : Variables) → awaited k n w i made vars self.old ≡ after k n w made result vars self.new }
     {
@@ -228,7 +228,8 @@ impl Dialogue {
         }
     }
 
-    /// There is no answer yet: the call waits, unless the last moment has passed.
+    /// Returns the step of a call that has no answer yet. It waits, unless the script's last moment
+    /// has passed.
     fn wait_for(&mut self, left: u64, want: Want) -> HostStep
         ensures { (k : To) (made : AnswerOf → OwnOf → TurnOf) (vars : Variables) → on_answer k left want made None vars self.old ≡ (result, vars, self.new) }
     {
@@ -240,7 +241,7 @@ impl Dialogue {
         }
     }
 
-    /// Awaits the answer to a request.
+    /// Waits for the answer to a request.
     fn await_answer(
         &mut self,
         alloc: Global,
@@ -260,13 +261,13 @@ impl Dialogue {
         }
     }
 
-    /// Awaits that a child is let go at the end of its output.
+    /// Waits for the answer to the request that closes a child at the end of its output.
     fn await_end(
         &mut self,
         alloc: Global,
         left: u64,
         i: Place,
-        plan: Plan,
+        plan: PlanBox,
     ) -> Result<Went, AllocError>
         ensures goes { IfOk result (λ r. (k : To) (vars : Variables) → waited_for k left (Want.End i plan) vars self.old ≡ goes r k vars self.new) }
         ensures knows { IfOk result (λ r. LeavesKnown r self.new) }
@@ -280,7 +281,7 @@ impl Dialogue {
         }
     }
 
-    /// Waits. What is known is of the output that is awaited.
+    /// Waits. `known` is about the output that is awaited.
     fn wait(
         &mut self,
         alloc: Global,
@@ -299,7 +300,8 @@ impl Dialogue {
         }
     }
 
-    /// The terminal of a child takes a text: its echo stands among the output, and the rest is handed over.
+    /// Sends a text to a child's terminal. Adds its echo to the child's items, and returns what it
+    /// hands over.
     fn take_text(&mut self, alloc: Global, i: Place, text: &[u8]) -> Result<Actions, AllocError>
         ensures typed { OnOk result (self.new ≡ typed i text.now self.old) }
         ensures handed { IfOk result (λ a. a ≡ (handed_by (child_of i self.old.own).line text.now).actions) }
@@ -309,7 +311,7 @@ impl Dialogue {
         Ok(actions)
     }
 
-    /// What a stage comes to.
+    /// Runs a stage.
     fn staged(&mut self, alloc: Global, left: u64, stage: Stage) -> Result<Went, AllocError>
         ensures goes { IfOk result (λ r. (k : To) (vars : Variables) → staged_of k left stage vars self.old ≡ goes r k vars self.new) }
         ensures knows { IfOk result (λ r. LeavesKnown r self.new) }
@@ -327,7 +329,7 @@ impl Dialogue {
         }
     }
 
-    /// A turn's effects, and what its stage comes to.
+    /// Performs a turn's effects, and runs its stage.
     fn turned(
         &mut self,
         alloc: Global,
@@ -349,7 +351,8 @@ impl Dialogue {
         }
     }
 
-    /// A turn, and those that follow it: so many at most.
+    /// Runs a turn and those that follow it, at most `most`. After that many, the script's time is
+    /// over.
     fn run_for(
         &mut self,
         alloc: Global,
@@ -375,7 +378,7 @@ impl Dialogue {
         }
     }
 
-    /// A turn, and those that follow it.
+    /// Runs a turn and those that follow it.
     pub(crate) fn run(
         &mut self,
         alloc: Global,
@@ -388,7 +391,7 @@ impl Dialogue {
         self.run_for(alloc, vars, all_turns(), first)
     }
 
-    /// Goes on with what a call that waits was doing.
+    /// Continues a call that waited.
     pub(crate) fn go_on(
         &mut self,
         alloc: Global,

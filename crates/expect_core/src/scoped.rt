@@ -1,4 +1,5 @@
-//! Variables of commands of Expect: they are read in the current scope and else in the outermost one, and set in the current one.
+//! Variables as commands of Expect use them (expect(1)). A command reads the current scope, or else
+//! the outermost one. It sets the current scope.
 
 ghost use Rattle.std.specs.Prelude.{◌≡◌, IfOk};
 ghost use Rattle.tcl_commands.specs.Says.{Says};
@@ -11,7 +12,7 @@ use tcl_commands::{Complaint, not_read, not_set};
 use tcl_subst::{SubstFault, Vars};
 use tcl_values::Value;
 
-/// The value of a variable.
+/// Returns the value of a variable.
 fn scoped(vars: &Vars, name: &[u8]) -> Result<Value, SubstFault>
     ensures { Gives result (scoped_of name.now vars.now) }
 {
@@ -21,7 +22,7 @@ fn scoped(vars: &Vars, name: &[u8]) -> Result<Value, SubstFault>
     }
 }
 
-/// The value of a variable that may be missing.
+/// Returns the value of a variable, or `None` if there is no such variable.
 pub(crate) fn optional(alloc: Global, vars: &Vars, name: &[u8]) -> Result<Option<Value>, Complaint>
     ensures { Says result (optional_of name.now vars.now) }
 {
@@ -32,7 +33,7 @@ pub(crate) fn optional(alloc: Global, vars: &Vars, name: &[u8]) -> Result<Option
     }
 }
 
-/// The value of a variable that has to be there.
+/// Returns the value of a variable, or an error if it can't be read.
 pub(crate) fn needed(alloc: Global, vars: &Vars, name: &[u8]) -> Result<Value, Complaint>
     ensures { Says result (needed_of name.now vars.now) }
 {
@@ -42,7 +43,8 @@ pub(crate) fn needed(alloc: Global, vars: &Vars, name: &[u8]) -> Result<Value, C
     }
 }
 
-/// Gives names their values, one after another. The first that can't be set ends it: the text of that error.
+/// Sets variables in order, up to the first that can't be set. Returns the text of that error, or
+/// `None`.
 pub(crate) fn set_all(
     alloc: Global,
     vars: &mut Vars,

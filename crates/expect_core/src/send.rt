@@ -1,4 +1,4 @@
-//! `send`.
+//! `send` (expect(1)).
 
 ghost use Rattle.std.specs.Prelude.{◌≡◌, ◌++◌, IfOk};
 ghost use Rattle.tcl_commands.specs.Says.{Says};
@@ -23,7 +23,7 @@ use tcl_values::Value;
 use tcl_words::Text;
 use tty::{Action, Actions};
 
-/// `send ?-i id? ?--? text`.
+/// Returns what `send ?-i spawn_id? ?--? text` does.
 pub(crate) fn send(
     alloc: Global,
     name: &[u8],
@@ -41,7 +41,7 @@ pub(crate) fn send(
     Ok(Deed::To(i, Reaction { effects, next }))
 }
 
-/// The request that hands over what the terminal gives.
+/// Returns the request for what the terminal hands over.
 fn act_of(alloc: Global, action: &Action) -> Result<Act, AllocError>
     ensures { IfOk result (λ a. a ≡ act_meant action.now) }
 {
@@ -51,7 +51,7 @@ fn act_of(alloc: Global, action: &Action) -> Result<Act, AllocError>
     }
 }
 
-/// What the terminal gives was not handed over.
+/// Returns the error if such a request fails.
 fn refused(alloc: Global, action: &Action, cause: Cause) -> Result<Text, AllocError>
     ensures { IfOk result (λ t. t ≡ refused_text action.now cause) }
 {
@@ -61,7 +61,7 @@ fn refused(alloc: Global, action: &Action, cause: Cause) -> Result<Text, AllocEr
     }
 }
 
-/// Actions, the first on top.
+/// Returns the actions as a pile, the first on top.
 fn piled(alloc: Global, mut actions: Actions) -> Result<Pile<Action>, AllocError>
     ensures { IfOk result (λ p. p ≡ actions) }
 {
@@ -72,7 +72,7 @@ fn piled(alloc: Global, mut actions: Actions) -> Result<Pile<Action>, AllocError
     Ok(pile)
 }
 
-/// Hands over the first of what a terminal gives, behind other effects.
+/// Adds the request for the first of the remaining actions to other effects.
 fn hand_behind(
     alloc: Global,
     effects: Effects,
@@ -88,7 +88,8 @@ fn hand_behind(
     Ok(Reaction { effects, next })
 }
 
-/// Hands over what a terminal gives, piece by piece, each when the one before it was taken.
+/// Returns the requests for what the terminal hands over. Each follows the answer to the one
+/// before.
 pub(crate) fn hand(alloc: Global, actions: Actions) -> Result<Reaction, AllocError>
     ensures { IfOk result (λ r. r ≡ handing actions) }
 {
@@ -96,7 +97,7 @@ pub(crate) fn hand(alloc: Global, actions: Actions) -> Result<Reaction, AllocErr
     hand_behind(alloc, Effects::new(alloc), rest)
 }
 
-/// What was handed over counts.
+/// Returns the effect that counts the accepted bytes.
 fn count(alloc: Global, action: &Action) -> Result<Effects, AllocError>
     ensures { IfOk result (λ e. e ≡ counting action.now) }
 {
@@ -106,7 +107,7 @@ fn count(alloc: Global, action: &Action) -> Result<Effects, AllocError>
     }
 }
 
-/// A piece was handed over, or not.
+/// Returns what follows the answer to such a request: the next request, or an error.
 pub(crate) fn handed(
     alloc: Global,
     action: &Action,

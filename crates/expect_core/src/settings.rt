@@ -1,4 +1,4 @@
-//! What a script is run with.
+//! The settings of a script.
 
 ghost use Rattle.std.specs.Prelude.{◌≡◌, ◌++◌, ◌∷◌, [], IfOk, OnOk, OnErr};
 
@@ -6,10 +6,10 @@ use std::alloc::{AllocError, Global};
 use std::marker::Model;
 use tcl_words::Text;
 
-/// Names with their values, in order, seen as a list of pairs of byte lists.
+/// Names with their values, in order. A contract sees a list of pairs of byte lists.
 #[derive(Drop)]
 pub struct Pairs {
-    /// The pairs, the first one first.
+    /// The pairs, in order.
     pub list: Vec<(Text, Text)>,
 }
 
@@ -22,7 +22,7 @@ impl Model for Pairs {
 }
 
 impl Pairs {
-    /// No pairs. It allocates nothing.
+    /// Creates an empty list without allocating.
     pub fn new(alloc: Global) -> Pairs
         ensures { result ≡ [] }
     {
@@ -31,14 +31,14 @@ impl Pairs {
         }
     }
 
-    /// All of them, the first one first.
+    /// Returns the pairs, in order.
     pub fn as_slice(&self) -> &[(Text, Text)]
         ensures { result.now ≡ self.now }
     {
         self.list.as_slice()
     }
 
-    /// Puts a name with its value behind the others. A refused pair leaves the list as it was.
+    /// Appends a name with its value. On `AllocError` the list is unchanged.
     pub fn push(&mut self, name: Text, value: Text) -> Result<(), AllocError>
         ensures pushed { OnOk result (self.new ≡ self.old ++ (name, value) ∷ []) }
         ensures kept { OnErr result (self.new ≡ self.old) }
@@ -47,7 +47,7 @@ impl Pairs {
         Ok(())
     }
 
-    /// The same once more.
+    /// Returns a copy.
     pub fn copied(&self, alloc: Global) -> Result<Pairs, AllocError>
         ensures { IfOk result (λ p. p ≡ self.now) }
     {
@@ -59,21 +59,21 @@ impl Pairs {
     }
 }
 
-/// The bounds and the environment of a script.
+/// The limits and the environment of a script.
 #[derive(Drop)]
 pub struct Settings {
-    /// How many steps may be begun: from 1 to 1,000,000,000,000. A greater number counts as that.
+    /// The most steps, from 1 to 1,000,000,000,000. A greater number counts as that.
     pub steps: u64,
-    /// The last moment, in milliseconds from 1 to 9,000,000,000,000; without one there is none.
+    /// The last moment in milliseconds, from 1 to 9,000,000,000,000. `None` is no time limit.
     pub limit_ms: Option<u64>,
-    /// The elements of the array `env`; of two with one name the last counts.
+    /// The elements of the array `env`. If a name occurs twice, the last value counts.
     pub env: Pairs,
-    /// Whether the script's report tells its variables. Where it doesn't, none of them is copied for it.
+    /// Whether the script's report lists its variables. If not, none of them is copied for it.
     pub tells_vars: bool,
 }
 
 impl Settings {
-    /// The same once more.
+    /// Returns a copy.
     pub fn copied(&self, alloc: Global) -> Result<Settings, AllocError>
         ensures { IfOk result (λ s. s ≡ self.now) }
     {

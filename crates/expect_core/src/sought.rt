@@ -1,18 +1,19 @@
-//! How far the bytes of those that take part in a wait were searched in vain.
+//! The numbers of bytes that a wait has searched without a match.
 
-ghost use Rattle.std.specs.Prelude.{◌≡◌, length, slice_index, slice_set};
+ghost use Rattle.std.specs.Prelude.{◌≡◌, length, slice_index, slice_set, IfOk};
 ghost use Rattle.expect_core.specs.Heard.{watched};
 ghost use Rattle.expect_core.specs.Sought.{Forgets, nothing_sought};
 
-use crate::place::{MOST_CHILDREN, Place};
+use crate::place::Place;
 use crate::plan::Plan;
+use std::alloc::{AllocError, Global};
 use std::marker::Model;
 
-/// For each of those that take part in a wait, by its index, how many bytes at the front of its child's were tested, where nothing was found.
-/// A contract sees a list.
+/// For each child that takes part in a wait, the number of first bytes in its match buffer that
+/// were searched without a match. A contract sees a list.
 #[derive(Drop)]
 pub struct Sought {
-    counts: [usize; MOST_CHILDREN],
+    counts: Vec<usize>,
 }
 
 impl Model for Sought {
@@ -20,20 +21,31 @@ impl Model for Sought {
 
     ghost Value = { List ℕ };
 
-    ghost view = { λ s. s.counts };
+    ghost view = { λ s. s.counts.items };
 }
 
 impl Sought {
-    /// Nothing is known. It takes no memory.
-    pub(crate) fn new() -> Sought
-        ensures { result ≡ nothing_sought }
+    /// Creates a list for no children, without allocating.
+    pub(crate) fn none(alloc: Global) -> Sought
+        ensures { result ≡ nothing_sought 0 }
     {
         Sought {
-            counts: [0; MOST_CHILDREN],
+            counts: Vec::new(alloc),
         }
     }
 
-    /// How many bytes of the one at an index.
+    /// Creates a list for this many children, of which nothing is known.
+    pub(crate) fn new(alloc: Global, sides: usize) -> Result<Sought, AllocError>
+        ensures { IfOk result (λ s. s ≡ nothing_sought sides) }
+    {
+        let mut counts = Vec::with_capacity(alloc, sides)?;
+        for _ in 0..sides {
+            counts.push(0)?;
+        }
+        Ok(Sought { counts })
+    }
+
+    /// Returns the number of searched bytes of the child at an index.
     pub(crate) fn at(&self, at: usize) -> usize
         ensures { result ≡ slice_index self.now at }
     {
@@ -43,16 +55,16 @@ impl Sought {
         }
     }
 
-    /// So many bytes of the one at an index.
+    /// Sets the number of searched bytes of the child at an index.
     pub(crate) fn set(&mut self, at: usize, count: usize)
         ensures { self.new ≡ slice_set self.old at count }
     {
-        if at < MOST_CHILDREN {
+        if at < self.counts.len() {
             self.counts[at] = count;
         }
     }
 
-    /// Nothing is known any more of those that are this child: its first bytes may be gone.
+    /// Sets the number of searched bytes of a child to 0, as its first bytes may be gone.
     pub(crate) fn forget(&mut self, plan: &Plan, child: &Place)
         ensures { Forgets child.now plan.now (length (watched plan.now)) self.old self.new }
     {

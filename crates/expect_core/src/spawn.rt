@@ -1,4 +1,4 @@
-//! `spawn`.
+//! `spawn` (expect(1)).
 
 ghost use Rattle.std.specs.Prelude.{◌≡◌, ◌++◌, ◌∷◌, [], codes, IfOk};
 ghost use Rattle.tcl_commands.specs.Says.{Says};
@@ -21,7 +21,7 @@ use tcl_subst::Vars;
 use tcl_values::Value;
 use tcl_words::{Text, Texts};
 
-/// Writes what is spawned to the transcript, behind other effects.
+/// Adds the line for the transcript to other effects, unless `quiet`.
 fn announce(
     effects: Effects,
     alloc: Global,
@@ -36,7 +36,7 @@ fn announce(
     effects.with(Effect::Log(spawn_line(alloc, words.as_slice())?))
 }
 
-/// A child more, which is asked to be started.
+/// Returns the effects that add a child and request its start.
 fn order(alloc: Global, order: &Order) -> Result<Effects, AllocError>
     ensures { IfOk result (λ e. e ≡ ordering order.now) }
 {
@@ -45,7 +45,7 @@ fn order(alloc: Global, order: &Order) -> Result<Effects, AllocError>
     effects.with(Effect::Ask(Act::Spawn(order.words.copied(alloc)?)))
 }
 
-/// A child more, where there are fewer than 16.
+/// Returns what a `spawn` does, or an error if there are 16 children.
 fn spawn_as(alloc: Global, ordered: Order, own: &Own) -> Result<Deed, Complaint>
     ensures { Says result (spawning_as ordered own.now) }
 {
@@ -58,7 +58,7 @@ fn spawn_as(alloc: Global, ordered: Order, own: &Own) -> Result<Deed, Complaint>
     Ok(Deed::To(i, Reaction { effects, next }))
 }
 
-/// `spawn ?-noecho? ?--? program arg ..`.
+/// Returns what `spawn ?-noecho? ?--? program arg ..` does.
 pub(crate) fn spawn(
     alloc: Global,
     name: &[u8],
@@ -72,7 +72,7 @@ pub(crate) fn spawn(
     spawn_as(alloc, order, own)
 }
 
-/// The child at a place is the one that is spoken of from now on.
+/// Returns the variable `spawn_id` with the spawn id of the child at a place.
 fn current(alloc: Global, i: Place) -> Result<Stores, AllocError>
     ensures { IfOk result (λ s. s ≡ (codes "spawn_id", id_of i) ∷ []) }
 {
@@ -81,7 +81,7 @@ fn current(alloc: Global, i: Place) -> Result<Stores, AllocError>
     Ok(stores)
 }
 
-/// A child was started, or not.
+/// Returns what follows the answer to a `spawn`: the child's number, or an error.
 pub(crate) fn spawned(
     alloc: Global,
     i: Place,

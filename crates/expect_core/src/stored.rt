@@ -1,4 +1,4 @@
-//! What commands of Expect store in variables, whose names are written here.
+//! The variables that commands of Expect set (expect(1)).
 
 ghost use Rattle.std.specs.Prelude.{◌≡◌, ◌<◌, ◌++◌, ◌∷◌, [], codes, OnOk};
 ghost use Rattle.std.specs.Fmt.{decimal};
@@ -8,13 +8,13 @@ use std::alloc::{AllocError, Global};
 use std::marker::Model;
 use tcl_values::Value;
 
-/// The element of `expect_out` that has the id of the child that was met.
+/// The element of `expect_out` for the spawn id of the child that matched.
 pub(crate) const ID: &[u8] = b"expect_out(spawn_id)";
 
-/// The element of `expect_out` that has the bytes that were met.
+/// The element of `expect_out` for the bytes up to the end of the match.
 pub(crate) const BUFFER: &[u8] = b"expect_out(buffer)";
 
-/// The element of `expect_out` that has the place at which a group starts.
+/// Returns the element of `expect_out` for the index of a group's first byte.
 pub(crate) fn start_name(group: usize) -> &'static [u8]
     requires { group < 10 }
     ensures { result.now ≡ with_index (decimal group ++ codes ",start") }
@@ -33,7 +33,7 @@ pub(crate) fn start_name(group: usize) -> &'static [u8]
     }
 }
 
-/// The element of `expect_out` that has the place of a group's last byte.
+/// Returns the element of `expect_out` for the index of a group's last byte.
 pub(crate) fn end_name(group: usize) -> &'static [u8]
     requires { group < 10 }
     ensures { result.now ≡ with_index (decimal group ++ codes ",end") }
@@ -52,7 +52,7 @@ pub(crate) fn end_name(group: usize) -> &'static [u8]
     }
 }
 
-/// The element of `expect_out` that has the bytes of a group.
+/// Returns the element of `expect_out` for the bytes of a group.
 pub(crate) fn string_name(group: usize) -> &'static [u8]
     requires { group < 10 }
     ensures { result.now ≡ with_index (decimal group ++ codes ",string") }
@@ -71,7 +71,7 @@ pub(crate) fn string_name(group: usize) -> &'static [u8]
     }
 }
 
-/// Names with their values, in the order in which they are stored. A contract sees a list of pairs.
+/// Names with their values, in the order in which they are set. A contract sees a list of pairs.
 #[derive(Drop)]
 pub(crate) struct Stores {
     pub(crate) list: Vec<(&'static [u8], Value)>,
@@ -86,7 +86,7 @@ impl Model for Stores {
 }
 
 impl Stores {
-    /// Nothing to store. It allocates nothing.
+    /// Creates an empty list without allocating.
     pub(crate) fn new(alloc: Global) -> Stores
         ensures { result ≡ [] }
     {
@@ -95,7 +95,7 @@ impl Stores {
         }
     }
 
-    /// Puts a name with its value behind the others.
+    /// Appends a name with its value.
     pub(crate) fn push(&mut self, name: &'static [u8], value: Value) -> Result<(), AllocError>
         ensures { OnOk result (self.new ≡ self.old ++ (name.now, value) ∷ []) }
     {

@@ -1,4 +1,4 @@
-//! Texts of errors, ids and what a spawn writes.
+//! The texts of errors, spawn ids and the line of a `spawn`.
 
 ghost use Rattle.std.specs.Prelude.{◌≡◌, IfOk};
 ghost use Rattle.std.specs.Fmt.{decimal};
@@ -11,7 +11,7 @@ use tcl_commands::quoted;
 use tcl_values::Value;
 use tcl_words::Text;
 
-/// A number in decimal digits. One digit is written at once.
+/// Returns a number in decimal digits. A single digit takes a faster path.
 #[tactic(auto, using(std::proofs::lemmas::Fmt::decimal_digit))]
 pub(crate) fn decimal(alloc: Global, number: usize) -> Result<Text, AllocError>
     ensures { IfOk result (λ t. t ≡ decimal number) }
@@ -26,7 +26,7 @@ pub(crate) fn decimal(alloc: Global, number: usize) -> Result<Text, AllocError>
     })
 }
 
-/// The id of the child at a place.
+/// Returns the spawn id of the child at a place.
 pub(crate) fn id_at(alloc: Global, i: Place) -> Result<Text, AllocError>
     ensures { IfOk result (λ t. t ≡ id_of i) }
 {
@@ -35,7 +35,7 @@ pub(crate) fn id_at(alloc: Global, i: Place) -> Result<Text, AllocError>
     Ok(text)
 }
 
-/// What a spawn writes to the transcript.
+/// Returns the line that a `spawn` writes to the transcript.
 pub(crate) fn spawn_line(alloc: Global, words: &[Text]) -> Result<Text, AllocError>
     ensures { IfOk result (λ t. t ≡ line_of words.now) }
 {
@@ -48,7 +48,7 @@ pub(crate) fn spawn_line(alloc: Global, words: &[Text]) -> Result<Text, AllocErr
     Ok(line)
 }
 
-/// The same text with a cause behind it.
+/// Appends a cause to a text.
 fn caused(mut text: Text, cause: Cause) -> Result<Text, AllocError>
     ensures { IfOk result (λ t. t ≡ cause_behind text cause) }
 {
@@ -57,14 +57,14 @@ fn caused(mut text: Text, cause: Cause) -> Result<Text, AllocError>
     Ok(text)
 }
 
-/// A text with a cause behind it.
+/// Returns a text followed by a cause.
 pub(crate) fn with_cause(alloc: Global, front: &[u8], cause: Cause) -> Result<Text, AllocError>
     ensures { IfOk result (λ t. t ≡ cause_behind front.now cause) }
 {
     caused(Text::from_slice(alloc, front)?, cause)
 }
 
-/// The first of the words of a spawn.
+/// Returns the first word of a `spawn`, or no bytes if there is none.
 fn program_of(words: &[Text]) -> &[u8]
     ensures { result.now ≡ program_text words.now }
 {
@@ -74,7 +74,7 @@ fn program_of(words: &[Text]) -> &[u8]
     }
 }
 
-/// A program was not started.
+/// Returns the error for a program that was not started.
 pub(crate) fn not_executed(alloc: Global, words: &[Text], cause: Cause) -> Result<Text, AllocError>
     ensures { IfOk result (λ t. t ≡ not_executed_text words.now cause) }
 {
@@ -84,21 +84,21 @@ pub(crate) fn not_executed(alloc: Global, words: &[Text], cause: Cause) -> Resul
     )
 }
 
-/// A word of `stty_init` is unknown.
+/// Returns the error for an unknown word of `stty_init`.
 pub(crate) fn bad_stty(alloc: Global, word: &[u8]) -> Result<Text, AllocError>
     ensures { IfOk result (λ t. t ≡ bad_stty_text word.now) }
 {
     quoted(alloc, b"bad stty_init word ", word)
 }
 
-/// No child has this id.
+/// Returns the error for an unknown spawn id.
 pub(crate) fn no_such_id(alloc: Global, id: &[u8]) -> Result<Text, AllocError>
     ensures { IfOk result (λ t. t ≡ no_such_id_text id.now) }
 {
     quoted(alloc, b"no such spawn id ", id)
 }
 
-/// A child was let go.
+/// Returns the error for a child that isn't open.
 pub(crate) fn not_open(alloc: Global, id: &[u8]) -> Result<Text, AllocError>
     ensures { IfOk result (λ t. t ≡ not_open_text id.now) }
 {
@@ -108,7 +108,7 @@ pub(crate) fn not_open(alloc: Global, id: &[u8]) -> Result<Text, AllocError>
     Ok(text)
 }
 
-/// A child's end was asked for before.
+/// Returns the error for a child that a `wait` has already asked for.
 pub(crate) fn waited_for(alloc: Global, id: &[u8]) -> Result<Text, AllocError>
     ensures { IfOk result (λ t. t ≡ waited_for_text id.now) }
 {
@@ -118,42 +118,42 @@ pub(crate) fn waited_for(alloc: Global, id: &[u8]) -> Result<Text, AllocError>
     Ok(text)
 }
 
-/// A text is no number of bytes that may be kept.
+/// Returns the error for a bad size of a match buffer.
 pub(crate) fn bad_size(alloc: Global, size: &[u8]) -> Result<Text, AllocError>
     ensures { IfOk result (λ t. t ≡ bad_size_text size.now) }
 {
     quoted(alloc, b"bad match_max size ", size)
 }
 
-/// A text doesn't say whether NUL bytes are removed.
+/// Returns the error for a bad value of `remove_nulls`.
 pub(crate) fn bad_removal(alloc: Global, value: &[u8]) -> Result<Text, AllocError>
     ensures { IfOk result (λ t. t ≡ bad_removal_text value.now) }
 {
     quoted(alloc, b"bad remove_nulls value ", value)
 }
 
-/// How it is told whether something holds.
+/// Returns `1` or `0`.
 pub(crate) fn bit(alloc: Global, on: bool) -> Result<Value, AllocError>
     ensures { IfOk result (λ v. v ≡ bit on) }
 {
     Value::from_slice(alloc, if on { b"1" } else { b"0" })
 }
 
-/// An argument of `expect` is no flag that may stand there.
+/// Returns the error for a bad flag of `expect`.
 pub(crate) fn bad_expect_flag(alloc: Global, word: &[u8]) -> Result<Text, AllocError>
     ensures { IfOk result (λ t. t ≡ bad_flag_text word.now) }
 {
     quoted(alloc, b"bad expect flag ", word)
 }
 
-/// An argument of `expect` is no regular pattern.
+/// Returns the error for a bad regular pattern.
 pub(crate) fn bad_regular(alloc: Global, pattern: &[u8]) -> Result<Text, AllocError>
     ensures { IfOk result (λ t. t ≡ bad_regular_text pattern.now) }
 {
     quoted(alloc, b"bad regular expression ", pattern)
 }
 
-/// How POSIX numbers a cause.
+/// Returns the error number of a cause.
 pub(crate) fn number_of_cause(cause: Cause) -> usize
     ensures { result ≡ number_of cause }
 {

@@ -1,4 +1,4 @@
-//! The commands that write to the transcript, and the one that says whether children's output is seen there.
+//! `puts`, `send_user` and `log_user` (expect(1)).
 
 ghost use Rattle.std.specs.Prelude.{◌≡◌, IfOk, ◌∷◌, []};
 ghost use Rattle.tcl_commands.specs.Says.{Says};
@@ -16,7 +16,7 @@ use tcl_commands::{Complaint, bad_option, wrong_args};
 use tcl_values::Value;
 use tcl_words::Text;
 
-/// A word that is neither a flag nor a channel of `puts`.
+/// Returns the error for a word that is neither a flag nor a channel of `puts`.
 fn no_channel(alloc: Global, word: &[u8]) -> Result<Text, AllocError>
     ensures { IfOk result (λ t. t ≡ no_channel_text word.now) }
 {
@@ -26,7 +26,7 @@ fn no_channel(alloc: Global, word: &[u8]) -> Result<Text, AllocError>
     }
 }
 
-/// A text with a newline behind it, or without.
+/// Returns a text, with a newline if `line`.
 fn ended(alloc: Global, line: bool, text: &[u8]) -> Result<Text, AllocError>
     ensures { IfOk result (λ t. t ≡ ended_of line text.now) }
 {
@@ -37,7 +37,7 @@ fn ended(alloc: Global, line: bool, text: &[u8]) -> Result<Text, AllocError>
     Ok(text)
 }
 
-/// What `puts` writes to a channel, with a newline behind it, or without.
+/// Returns what `puts` writes to a channel, with a newline if `line`.
 fn puts_to(alloc: Global, line: bool, channel: &[u8], text: &[u8]) -> Result<Text, Complaint>
     ensures { Says result (puts_to_of line channel.now text.now) }
 {
@@ -47,7 +47,7 @@ fn puts_to(alloc: Global, line: bool, channel: &[u8], text: &[u8]) -> Result<Tex
     Err(Complaint::Said(no_channel(alloc, channel)?))
 }
 
-/// What `puts` writes by a text, or a channel and a text.
+/// Returns what `puts` writes, given a text, or a channel and a text.
 fn put_to(alloc: Global, name: &[u8], line: bool, words: &[Value]) -> Result<Text, Complaint>
     ensures { Says result (put_to name.now line words.now) }
 {
@@ -58,7 +58,7 @@ fn put_to(alloc: Global, name: &[u8], line: bool, words: &[Value]) -> Result<Tex
     }
 }
 
-/// What `puts` writes by its words, of which one or more may follow `-nonewline`.
+/// Returns what `puts` writes, given its words. The first may be `-nonewline` if others follow.
 fn put_words(alloc: Global, name: &[u8], words: &[Value]) -> Result<Text, Complaint>
     ensures { Says result (put_words name.now words.now) }
 {
@@ -70,7 +70,7 @@ fn put_words(alloc: Global, name: &[u8], words: &[Value]) -> Result<Text, Compla
     }
 }
 
-/// What `puts` writes.
+/// Returns what `puts` writes.
 fn put_of(alloc: Global, name: &[u8], args: &[Value]) -> Result<Text, Complaint>
     ensures { Says result (put_meant name.now args.now) }
 {
@@ -78,7 +78,7 @@ fn put_of(alloc: Global, name: &[u8], args: &[Value]) -> Result<Text, Complaint>
     put_words(alloc, name, &args[at..])
 }
 
-/// What `send_user` writes.
+/// Returns what `send_user` writes.
 fn to_user(alloc: Global, name: &[u8], args: &[Value]) -> Result<Text, Complaint>
     ensures { Says result (user_text name.now args.now) }
 {
@@ -87,7 +87,7 @@ fn to_user(alloc: Global, name: &[u8], args: &[Value]) -> Result<Text, Complaint
     Ok(Text::from_slice(alloc, text.as_slice())?)
 }
 
-/// Writes to the transcript.
+/// Returns what a command does that writes to the transcript.
 fn write(alloc: Global, text: Text) -> Result<Deed, AllocError>
     ensures { IfOk result (λ d. d ≡ Deed.Alone (Effect.Tell text ∷ []) (done_of [])) }
 {
@@ -95,7 +95,7 @@ fn write(alloc: Global, text: Text) -> Result<Deed, AllocError>
     Ok(Deed::Alone(effects, done(Value::new(alloc))))
 }
 
-/// `puts ?-nonewline? ?stdout? text`.
+/// Returns what `puts ?-nonewline? ?stdout? text` does.
 pub(crate) fn puts(alloc: Global, name: &[u8], args: &[Value]) -> Result<Deed, Complaint>
     ensures { Says result (writing (put_meant name.now args.now)) }
 {
@@ -103,7 +103,7 @@ pub(crate) fn puts(alloc: Global, name: &[u8], args: &[Value]) -> Result<Deed, C
     Ok(write(alloc, text)?)
 }
 
-/// `send_user ?--? text`.
+/// Returns what `send_user ?--? text` does.
 pub(crate) fn send_user(alloc: Global, name: &[u8], args: &[Value]) -> Result<Deed, Complaint>
     ensures { Says result (writing (user_text name.now args.now)) }
 {
@@ -111,7 +111,7 @@ pub(crate) fn send_user(alloc: Global, name: &[u8], args: &[Value]) -> Result<De
     Ok(write(alloc, text)?)
 }
 
-/// What the word of a `log_user` says: whether output goes to the transcript from now on, or none where that is asked.
+/// Reads the argument of `log_user`: whether output goes to the transcript, or `None` for `-info`.
 fn log_word(alloc: Global, word: &[u8]) -> Result<Option<bool>, Complaint>
     ensures { Says result (log_word word.now) }
 {
@@ -127,7 +127,7 @@ fn log_word(alloc: Global, word: &[u8]) -> Result<Option<bool>, Complaint>
     Err(Complaint::Said(bad_option(alloc, word)?))
 }
 
-/// Says whether output goes to the transcript, or tells it.
+/// Sets whether output goes to the transcript, or returns it for `None`.
 fn log(alloc: Global, on: Option<bool>, own: &Own) -> Result<Deed, AllocError>
     ensures { IfOk result (λ d. d ≡ Deed.Alone (log_set on) (done_of (log_told on own.now))) }
 {
@@ -143,7 +143,7 @@ fn log(alloc: Global, on: Option<bool>, own: &Own) -> Result<Deed, AllocError>
     }
 }
 
-/// `log_user 0`, `1` or `-info`.
+/// Returns what `log_user 0`, `log_user 1` or `log_user -info` does.
 pub(crate) fn log_user(
     alloc: Global,
     name: &[u8],

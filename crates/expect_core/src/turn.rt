@@ -1,11 +1,11 @@
-//! A turn of a call: what it does, and what the call does next.
+//! A turn of a call: what it changes, and what the call does next.
 
 ghost use Rattle.std.specs.Prelude.{◌≡◌, [], None, IfOk};
 ghost use Rattle.expect_core.specs.Turns.{at as at_of, badly, over as over_of, over_at as over_at_of, turn_of, well};
 
 use crate::effect::Effects;
 use crate::place::Place;
-use crate::plan::{Met, Plan};
+use crate::plan::{Met, PlanBox};
 use child_events::Cause;
 use std::alloc::{AllocError, Global};
 use tcl_commands::Code;
@@ -14,42 +14,42 @@ use tcl_values::Value;
 use tcl_words::{Text, Texts};
 use tty::Action;
 
-/// What a call comes to.
+/// The end of a call.
 #[derive(Drop)]
 pub enum Reply {
-    /// It is done, with a code and a value.
+    /// It ends with this code and value.
     Done(Code, Value),
-    /// It is an error, with this text.
+    /// It is an error with this text.
     Fail(Value),
 }
 
 /// What an answer is awaited for.
 #[derive(Drop)]
 pub enum Purpose {
-    /// A spawn of these words.
+    /// A `spawn` of these words.
     Spawn(Texts),
-    /// A send: what was asked for, and what is to be asked for behind it.
+    /// A `send`: the action that was requested, and the remaining ones.
     Send(Action, Pile<Action>),
-    /// A close.
+    /// A `close`.
     Close,
-    /// A wait.
+    /// A `wait`.
     Wait,
-    /// The end of an expect where reading failed.
+    /// The end of an `expect` after a failed read.
     Fail(Cause),
 }
 
-/// What a call does next, at the child of its turn.
+/// What a call does next with the child of its turn.
 #[derive(Drop)]
 pub enum Next {
-    /// It is over.
+    /// It ends.
     Finish(Reply),
     /// It awaits the child's next answer.
     Await(Purpose),
-    /// The child's terminal takes a text, and hands it over.
+    /// It sends this text to the child's terminal.
     Send(Value),
 }
 
-/// What a call does to a child, and what it does next there.
+/// What a call changes for a child, and what it does next.
 #[derive(Drop)]
 pub struct Reaction {
     pub effects: Effects,
@@ -59,35 +59,36 @@ pub struct Reaction {
 /// What a command does.
 #[derive(Drop)]
 pub enum Deed {
-    /// It speaks to no child, and is over at once.
+    /// It is for no child, and ends at once.
     Alone(Effects, Reply),
-    /// It speaks to the child at this place.
+    /// It is for the child at this place.
     To(Place, Reaction),
     /// It waits for output of the children of this plan.
-    Expect(Plan),
+    Expect(PlanBox),
 }
 
-/// What a call that waits is waiting for.
+/// What a waiting call waits for.
 #[derive(Drop)]
 pub enum Want {
     /// The next answer of the child at this place.
     Answer(Place, Purpose),
-    /// An item of one of the children of an expect.
-    Output(Plan),
-    /// The answer of this child of an expect, which is let go at the end of its output.
-    End(Place, Plan),
+    /// An item of a child of this `expect`.
+    Output(PlanBox),
+    /// The answer to the request that closes this child at the end of its output, for this
+    /// `expect`.
+    End(Place, PlanBox),
 }
 
 /// What a call does next.
 #[derive(Drop)]
 pub enum Stage {
-    /// It is over.
+    /// It ends.
     Over(Reply),
-    /// The action of what an expect met is evaluated.
-    Act(Plan, Met),
-    /// The kept bytes of an expect's children are tested, and it waits for more.
-    Look(Plan),
-    /// The terminal of the child at this place takes a text, and hands it over.
+    /// It evaluates the action of the entry that was met.
+    Act(PlanBox, Met),
+    /// It tests the match buffers of an `expect`, and then waits for output.
+    Look(PlanBox),
+    /// It sends this text to the terminal of the child at this place.
     Send(Place, Value),
     /// It waits.
     Wait(Want),
@@ -101,7 +102,7 @@ pub struct Turn {
     pub stage: Stage,
 }
 
-/// A command is done with a value.
+/// Returns the end of a command with this value.
 pub(crate) fn done(value: Value) -> Reply
     ensures { result ≡ Reply.Done Code.Ok value }
 {
@@ -109,7 +110,7 @@ pub(crate) fn done(value: Value) -> Reply
 }
 
 impl Reaction {
-    /// The call is done.
+    /// Returns the end of a call, after these effects.
     pub(crate) fn well(alloc: Global, effects: Effects) -> Reaction
         ensures { result ≡ well effects }
     {
@@ -117,7 +118,7 @@ impl Reaction {
         Reaction { effects, next }
     }
 
-    /// The call is an error.
+    /// Returns the error of a call, after these effects.
     pub(crate) fn badly(alloc: Global, effects: Effects, text: Text) -> Result<Reaction, AllocError>
         ensures { IfOk result (λ r. r ≡ badly effects text) }
     {
@@ -125,7 +126,7 @@ impl Reaction {
         Ok(Reaction { effects, next })
     }
 
-    /// As a turn of the child at a place.
+    /// Returns the reaction as a turn of the child at a place.
     pub(crate) fn at(self, i: Place) -> Turn
         ensures { result ≡ at_of i self }
     {
@@ -142,7 +143,8 @@ impl Reaction {
 }
 
 impl Deed {
-    /// What a command does to a child, or with none to what all children share, where it is over at once.
+    /// Returns what a command does that ends at once. It changes a child, or without one what all
+    /// children share.
     pub(crate) fn over_at(at: Option<Place>, effects: Effects, reply: Reply) -> Deed
         ensures { result ≡ over_at_of at effects reply }
     {
@@ -158,7 +160,7 @@ impl Deed {
         }
     }
 
-    /// As a turn.
+    /// Returns the command as a turn.
     pub(crate) fn turn(self, alloc: Global) -> Turn
         ensures { result ≡ turn_of self }
     {
@@ -175,7 +177,7 @@ impl Deed {
 }
 
 impl Turn {
-    /// One that is about no child, and does nothing but this.
+    /// Returns a turn without a child and without effects.
     pub(crate) fn only(alloc: Global, stage: Stage) -> Turn
         ensures { result ≡ record { child = None; effects = []; stage = stage } }
     {
@@ -186,7 +188,7 @@ impl Turn {
         }
     }
 
-    /// The call is over.
+    /// Returns a turn that only ends the call.
     pub(crate) fn over(alloc: Global, reply: Reply) -> Turn
         ensures { result ≡ over_of reply }
     {

@@ -1,4 +1,4 @@
-//! A hall of scripts, step by step.
+//! Steps a hall of scripts.
 
 use child_events::{Answer, HallEvent, What};
 use dialogue_sched::{Hall, HallFault, HallRefusal, Script};
@@ -62,13 +62,13 @@ fn is_refused(hall: &mut Hall, event: HallEvent, why: HallRefusal) -> bool {
     hall.step(event).is_err_and(|r| r == why)
 }
 
-/// What the first script's report is so far.
+/// Returns the report of the first script so far.
 fn first_report(hall: &Hall) -> Result<Report, Fail> {
     let report = hall.report(1);
     Ok(report.ok_or("no report")?)
 }
 
-/// Whether the first script waits, having asked for its start alone.
+/// Returns whether the first script waits, after the request of its start only.
 fn waits_for_its_start(hall: &Hall) -> Result<bool, Fail> {
     let report = first_report(hall)?;
     let waits = matches!(report.ending, Ending::Waiting) && report.requests.len() == 1;
@@ -76,7 +76,8 @@ fn waits_for_its_start(hall: &Hall) -> Result<bool, Fail> {
     Ok(waits)
 }
 
-// An event of no script, of no child, too late and too long: the first reason counts, and the hall is as it was.
+// Events of no script, of no child, too late and too long are refused. The first reason counts, and
+// the hall doesn't change.
 #[test]
 fn refusals(rt: HostRuntime) -> Result<(), Fail> {
     let alloc = rt.alloc();
@@ -89,7 +90,7 @@ fn refusals(rt: HostRuntime) -> Result<(), Fail> {
     Ok(())
 }
 
-/// The reasons in turn; the piece is too long.
+/// Passes an event for each reason. `piece` is too long.
 fn refuses<R: Abort>(rt: &R, hall: &mut Hall, piece: HallEvent) {
     let late = 9_000_000_000_000_001;
     assert!(rt; is_refused(hall, answered(65, 17, 1), HallRefusal::NoSuchScript));
@@ -99,7 +100,7 @@ fn refuses<R: Abort>(rt: &R, hall: &mut Hall, piece: HallEvent) {
     assert!(rt; hall.report(2).is_none() && hall.report(0).is_none());
 }
 
-/// Whether the first script starts its first child next.
+/// Returns whether the next request of the first script starts its first child.
 fn starts_a_child(hall: &mut Hall) -> bool {
     match hall.request(1) {
         Some(request) => matches!(request.act, Act::Spawn(_)) && request.child == 1,
@@ -107,7 +108,7 @@ fn starts_a_child(hall: &mut Hall) -> bool {
     }
 }
 
-/// Whether the first script writes next.
+/// Returns whether the next request of the first script is a write.
 fn writes(hall: &mut Hall) -> bool {
     match hall.request(1) {
         Some(request) => matches!(request.act, Act::Write(_)),
@@ -115,7 +116,8 @@ fn writes(hall: &mut Hall) -> bool {
     }
 }
 
-/// Whether the first script has ended, after all that it was to show and send, and asks for nothing more.
+/// Returns whether the first script has ended with the expected transcript and writes, and has no
+/// further request.
 fn is_done(hall: &mut Hall) -> Result<bool, Fail> {
     let report = first_report(hall)?;
     let is_shown = report.transcript.as_slice() == b"spawn p\r\na\r\nbdone\n".as_slice();
@@ -125,7 +127,7 @@ fn is_done(hall: &mut Hall) -> Result<bool, Fail> {
     Ok(is_over && is_shown && is_sent && hall.request(1).is_none())
 }
 
-// Each request goes out once, as soon as the events decide it.
+// Each request is handed out once, as soon as events decide it.
 #[test]
 fn requests_once(rt: HostRuntime) -> Result<(), Fail> {
     let alloc = rt.alloc();
@@ -137,7 +139,7 @@ fn requests_once(rt: HostRuntime) -> Result<(), Fail> {
     Ok(())
 }
 
-/// Whether a dialogue is done at its end, with this output.
+/// Plays a dialogue with this output. Returns whether it is done at the end.
 fn goes_on<R: Abort>(rt: &R, hall: &mut Hall, output: HallEvent) -> Result<bool, Fail> {
     assert!(rt; starts_a_child(hall));
     assert!(rt;
@@ -151,7 +153,7 @@ fn goes_on<R: Abort>(rt: &R, hall: &mut Hall, output: HallEvent) -> Result<bool,
     is_done(hall)
 }
 
-/// A source that is longer than one may be.
+/// Creates a source that is one byte too long.
 fn long_source(alloc: Global) -> Result<Text, Fail> {
     let mut long = Text::new(alloc);
     for _ in 0..1_048_577 {
@@ -160,7 +162,7 @@ fn long_source(alloc: Global) -> Result<Text, Fail> {
     Ok(long)
 }
 
-/// So many scripts behind the others.
+/// Appends `count` scripts.
 fn push_scripts(alloc: Global, scripts: &mut Vec<Script>, count: usize) -> Result<(), Fail> {
     for _ in 0..count {
         scripts.push(script(alloc, b"puts x")?)?;
@@ -168,7 +170,8 @@ fn push_scripts(alloc: Global, scripts: &mut Vec<Script>, count: usize) -> Resul
     Ok(())
 }
 
-/// Why there is no hall of a script of this source, with so many others before it and behind it.
+/// Returns why there is no hall of this source with `before` scripts before it and `behind` after
+/// it.
 fn fault_of(
     alloc: Global,
     before: usize,
@@ -182,7 +185,8 @@ fn fault_of(
     Ok(Hall::new(alloc, scripts).err())
 }
 
-/// Whether the 65th script is one too many, which is told before a source that is too long, and that source is told otherwise.
+/// Returns whether a 65th script is an error, before a source that is too long, and whether such a
+/// source is an error otherwise.
 fn tells_faults(alloc: Global, long: &[u8]) -> Result<bool, Fail> {
     let many = fault_of(alloc, 0, long, 64)?;
     let second = fault_of(alloc, 1, long, 0)?;
@@ -199,7 +203,7 @@ fn opening(rt: HostRuntime) -> Result<(), Fail> {
     Ok(())
 }
 
-// None is a hall too.
+// A hall may have no scripts.
 #[test]
 fn no_scripts(rt: HostRuntime) -> Result<(), Fail> {
     let empty = hall(rt.alloc(), &[])?;
@@ -211,7 +215,8 @@ fn no_scripts(rt: HostRuntime) -> Result<(), Fail> {
 
 const LOOP: &[u8] = b"for {set i 0} {$i < 10000} {incr i} {append a x}; spawn p; expect zz";
 
-/// Whether a script that waits behind a long loop still waits when so many pieces of output came, one after another.
+/// Returns whether a script that waits after a long loop still waits after this many pieces of
+/// output.
 fn waits(alloc: Global, pieces: usize) -> Result<bool, Fail> {
     let mut hall = hall(alloc, &[LOOP])?;
     let waits = goes_on_waiting(alloc, &mut hall, pieces);
@@ -219,7 +224,7 @@ fn waits(alloc: Global, pieces: usize) -> Result<bool, Fail> {
     waits
 }
 
-/// The same of the first script of a hall.
+/// Returns the same for the first script of a hall.
 fn goes_on_waiting(alloc: Global, hall: &mut Hall, pieces: usize) -> Result<bool, Fail> {
     step(hall, answered(1, 1, 1))?;
     for _ in 0..pieces {
@@ -232,7 +237,7 @@ fn goes_on_waiting(alloc: Global, hall: &mut Hall, pieces: usize) -> Result<bool
     Ok(waits)
 }
 
-// tests/growths counts how often this test and the next one ask for memory.
+// tests/growths counts how often this test and the next one allocate memory.
 #[test]
 fn one_piece(rt: HostRuntime) -> Result<(), Fail> {
     assert!(rt; waits(rt.alloc(), 1)?);

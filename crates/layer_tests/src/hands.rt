@@ -34,7 +34,7 @@ impl Read for Flaky {
     }
 }
 
-/// Whether an item is the line of this child of script 3.
+/// Returns whether an item is the line of this child of script 3.
 fn is_line(item: Item<Liner>, of: u8) -> bool {
     match item {
         Item::Out {
@@ -46,7 +46,7 @@ fn is_line(item: Item<Liner>, of: u8) -> bool {
     }
 }
 
-/// Whether an item is the end of the output of this child of script 3.
+/// Returns whether an item is the end of this child's output, of script 3.
 fn is_end(item: Option<Item<Liner>>, of: u8) -> bool {
     match item {
         Some(Item::End { script, child }) => script == 3 && child == of,
@@ -91,7 +91,8 @@ fn ask(asks: &mut FeedIn<Item<Liner>>, child: u8, act: Act) -> bool {
     asks.put(Item::Ask(Request { child, act })).is_ok()
 }
 
-/// The answers to a start, a write and a wait come in this order, each with the number of its call.
+/// Checks that the answers to a start, a write and a wait come in this order, with the numbers of
+/// their calls.
 fn answers_come<R: Wait + Abort>(rt: &R, desk: &Bell, answers: &mut FeedOut<Item<Liner>>) {
     let wanted = [Answer::Ok, Answer::Fail(Cause::Broken), Answer::Exit(5)];
     for (answer, call) in wanted.into_iter().zip(1u64..) {

@@ -11,10 +11,10 @@ use std::time::Duration;
 use std::{io, thread};
 use tcl_words::{Text, Texts};
 
-/// What each child writes.
+/// The output of each child.
 pub const LINE: &[u8] = b"hi\n";
 
-/// Gives the line, or nothing for a second, and then the end.
+/// Gives the line and then the end. With `pause`, gives the end after a second, and no line.
 #[derive(Drop)]
 pub struct Line {
     pause: Option<HostRuntime>,
@@ -22,6 +22,7 @@ pub struct Line {
 }
 
 impl Line {
+    /// Creates a device, with a pause or without.
     pub fn new(pause: Option<HostRuntime>) -> Line {
         Line { pause, over: false }
     }
@@ -42,7 +43,8 @@ impl Read for Line {
     }
 }
 
-/// Starts children in name alone. They take what is written to them, or it fails, and they end with status 5.
+/// A keeper that starts no programs. Writes to its children succeed or fail, as `takes` says. They
+/// exit with status 5.
 #[derive(Drop)]
 pub struct Liner {
     pause: Option<HostRuntime>,
@@ -52,7 +54,7 @@ pub struct Liner {
     ghost fewer: { failures ≤ calls },
 }
 
-/// So many keepers whose children take what is written.
+/// Creates `count` keepers to whose children writes succeed.
 pub fn liners(alloc: Global, count: usize) -> Result<Vec<Liner>, AllocError>
     ensures { IfOk result (λ keepers. length keepers.items ≡ count) }
 {
@@ -66,7 +68,8 @@ pub fn liners(alloc: Global, count: usize) -> Result<Vec<Liner>, AllocError>
 }
 
 impl Liner {
-    /// One whose children give what a [`Line`] of this pause gives, and take what is written or not.
+    /// Creates a keeper. Its children give what a [`Line`] with this pause gives. Writes succeed if
+    /// `takes`.
     pub fn new(pause: Option<HostRuntime>, takes: bool) -> Liner
         ensures { result.calls ≡ 0 }
     {
@@ -149,20 +152,21 @@ impl Keeper for Liner {
     }
 }
 
-/// Refuses child 1 three times each, and the others always.
+/// Refuses each request to child 1 three times, and requests to other children always.
 #[derive(Drop)]
 pub struct Turnstile {
     asked: AtomicU64,
 }
 
 impl Turnstile {
+    /// Creates a gate that was never asked.
     pub fn new() -> Turnstile {
         Turnstile {
             asked: AtomicU64::new(0),
         }
     }
 
-    /// How often it was asked.
+    /// Returns the number of calls of `pass`.
     pub fn asked(&self) -> u64 {
         self.asked.load(Ordering::SeqCst)
     }

@@ -1,4 +1,5 @@
-//! Tests that cross crates. The crate has no code of its own: so no other is proved once more for its tests.
+//! Tests that cross crates. The crate has no other code, so no crate is proved once more for its
+//! tests.
 #![tactic(auto)]
 
 #[cfg(test)]

@@ -1,5 +1,6 @@
-//! Runs of which tests/refuse refuses each growth in turn. What comes of one is what should, or memory was refused: to the call, as its fault says,
-//! or to one script, as its report says, and then the others have their own.
+//! Runs in which tests/refuse refuses each growth in turn. Either the result is right, or memory
+//! was refused. Then the call returns an error, or one script's report says so and the others are
+//! right.
 
 ghost use Rattle.std.specs.Prelude.{◌<◌, ◌≤◌};
 
@@ -14,7 +15,7 @@ use std::sync::Wait;
 use std::test::Fail;
 use std::thread::Threads;
 
-/// What a test ends with that met a refusal and nothing else.
+/// The error of a test that met a refusal and nothing else.
 const REFUSED: &str = "memory was refused";
 
 const BROKEN: &[u8] = b"ok 1 1 5\nok 2 1 5\nbad 1 1 10 broken\nok 2 1 10\nout 2 1 20 68690a\n";
@@ -23,7 +24,7 @@ fn is_refused(report: &Report) -> bool {
     matches!(report.ending, Ending::Memory)
 }
 
-/// Whether it is the report of [`CAT`] whose child's input was broken.
+/// Returns whether this is the report of [`CAT`] after a failed write.
 fn is_of_broken(report: &Report) -> bool {
     matches!(report.ending, Ending::Error)
         && report.steps == 2
@@ -32,7 +33,7 @@ fn is_of_broken(report: &Report) -> bool {
         && report.fault.as_slice() == b"write failed: broken".as_slice()
 }
 
-// Two scripts, of which the first can't write.
+// Runs two scripts, of which the first can't write.
 #[test]
 fn run_of_two(rt: HostRuntime) -> Result<(), Fail> {
     let alloc = rt.alloc();
@@ -42,7 +43,8 @@ fn run_of_two(rt: HostRuntime) -> Result<(), Fail> {
     judged(reports.as_slice())
 }
 
-/// What comes of two reports, of which the first is of a script that couldn't write, unless one of them was refused memory.
+/// Checks the reports of two scripts, of which the first can't write. `REFUSED` if one was refused
+/// memory and the other is right.
 fn judged(reports: &[Report]) -> Result<(), Fail> {
     let [first, second] = reports else {
         return Err(Fail::from("not two reports"));
@@ -56,7 +58,7 @@ fn judged(reports: &[Report]) -> Result<(), Fail> {
     Err(Fail::from("another report"))
 }
 
-/// Feeds a session its events, one by one.
+/// Passes the events of script 1 to a session, one by one.
 fn feed_all(alloc: Global, session: &mut Session, events: &[HallEvent]) -> Result<(), Fail> {
     for event in events {
         if let Some(event) = own_event(alloc, 1, event)? {
@@ -66,7 +68,7 @@ fn feed_all(alloc: Global, session: &mut Session, events: &[HallEvent]) -> Resul
     Ok(())
 }
 
-/// The report of a session that is fed the events of a log.
+/// Returns the report of a session over the events of a log.
 fn report_of(alloc: Global, source: &[u8], log: &[u8]) -> Result<Report, Fail> {
     let events = read_log(alloc, log)?;
     let Script { source, settings } = script(alloc, source)?;
@@ -80,7 +82,8 @@ fn report_of(alloc: Global, source: &[u8], log: &[u8]) -> Result<Report, Fail> {
     Ok(report)
 }
 
-/// Whether a report is of a script that ended well with this transcript, unless it was refused memory.
+/// Returns whether a script ended with exit status 0 and this transcript. `REFUSED` if it was
+/// refused memory.
 fn is_well(report: &Report, transcript: &[u8]) -> Result<bool, Fail> {
     if is_refused(report) {
         return Err(Fail::from(REFUSED));
@@ -88,7 +91,8 @@ fn is_well(report: &Report, transcript: &[u8]) -> Result<bool, Fail> {
     Ok(matches!(report.ending, Ending::Exit(0)) && report.transcript.as_slice() == transcript)
 }
 
-/// Whether a session that is fed the events of a log ends well with this transcript, unless it was refused memory.
+/// Returns whether a session over a log ends with exit status 0 and this transcript. `REFUSED` if
+/// it was refused memory.
 fn ends_with(alloc: Global, source: &[u8], log: &[u8], transcript: &[u8]) -> Result<bool, Fail> {
     let report = report_of(alloc, source, log)?;
     let well = is_well(&report, transcript);
@@ -156,7 +160,8 @@ fn session_that_writes_a_list(rt: HostRuntime) -> Result<(), Fail> {
     Ok(())
 }
 
-/// Serves three scripts by so many workers, and says whether all reports are those of [`CAT`] but for one at most.
+/// Serves three scripts with this number of workers. Returns whether all reports are those of
+/// [`CAT`]. `REFUSED` if one isn't, or a part of the record is lost.
 fn serves_three<W: Threads + Wait + std::time::Clock + Copy + Send + Drop + 'static>(
     rt: W,
     alloc: Global,
@@ -175,7 +180,8 @@ fn serves_three<W: Threads + Wait + std::time::Clock + Copy + Send + Drop + 'sta
     are_of_cat(&served?)
 }
 
-/// Whether three reports are those of [`CAT`]; where one of them alone isn't, memory was refused.
+/// Returns whether three reports are those of [`CAT`], and no child is unsettled. `REFUSED` if one
+/// report isn't.
 fn are_of_cat(served: &Served) -> Result<bool, Fail> {
     let reports = served.reports.as_slice();
     let others = reports.iter().filter(|report| !is_of_cat(report)).count();

@@ -1,4 +1,4 @@
-//! What scripts ask of their children.
+//! The requests of scripts.
 
 use child_events::read_log;
 use dialogue_sched::{Reports, Script, run_all};
@@ -56,7 +56,7 @@ fn reports(alloc: Global, source: &[u8], log: &[u8]) -> Result<Reports, Fail> {
     }
 }
 
-/// A script, its log, and its requests, each with its child's number and in words.
+/// A script, its log, and its requests as text, with the numbers of their children.
 type Row = (&'static [u8], &'static [u8], &'static [u8]);
 
 static ROWS: [Row; 23] = [

@@ -1,4 +1,4 @@
-//! Scripts that are served, over keepers in memory.
+//! Scripts served over keepers in memory.
 
 ghost use Rattle.std.specs.Prelude.{◌≡◌, length, IfOk, ⊤};
 
@@ -15,12 +15,12 @@ use std::test::Fail;
 use std::thread::Threads;
 use tcl_words::Text;
 
-/// Sends a line to a child, and waits for its echo and for the child's own.
+/// A script that sends a line to a child, and waits for its echo and the child's output.
 pub const CAT: &[u8] = b"spawn cat; send \"hi\\r\"; expect \"hi\\r\\nhi\\r\\n\"";
 
 const LATE: &[u8] = b"spawn p; set timeout 1; expect x {puts got} timeout {puts late}";
 
-/// A script without a limit of time.
+/// Creates a script without a time limit.
 pub fn script(alloc: Global, source: &[u8]) -> Result<Script, AllocError> {
     Ok(Script {
         source: Text::from_slice(alloc, source)?,
@@ -33,7 +33,7 @@ pub fn script(alloc: Global, source: &[u8]) -> Result<Script, AllocError> {
     })
 }
 
-/// So many scripts of one source, each without a limit of time.
+/// Creates `count` scripts with this source and without a time limit.
 pub fn scripts(alloc: Global, source: &[u8], count: usize) -> Result<Vec<Script>, AllocError>
     ensures { IfOk result (λ scripts. length scripts.items ≡ count) }
 {
@@ -46,7 +46,7 @@ pub fn scripts(alloc: Global, source: &[u8], count: usize) -> Result<Vec<Script>
     Ok(scripts)
 }
 
-/// So many clocks that stand still.
+/// Creates `count` clocks that stand still.
 pub fn stopped(alloc: Global, count: usize) -> Result<Vec<Still>, AllocError>
     ensures { IfOk result (λ clocks. length clocks.items ≡ count) }
 {
@@ -59,13 +59,14 @@ pub fn stopped(alloc: Global, count: usize) -> Result<Vec<Still>, AllocError>
     Ok(clocks)
 }
 
-/// Whether so many scripts were served, each with the report of [`CAT`] over a child that writes the line that it was sent.
+/// Returns whether there are `count` reports, each as `is_of_cat` says.
 pub fn all_of_cat(served: &Served, count: usize) -> bool {
     let reports = served.reports.as_slice();
     reports.len() == count && reports.iter().all(is_of_cat)
 }
 
-/// Whether it is the report of [`CAT`] over a child that writes the line that it was sent.
+/// Returns whether this is the report of [`CAT`] over a child that writes the line that it was
+/// sent.
 pub fn is_of_cat(report: &Report) -> bool {
     matches!(report.ending, Ending::Exit(0))
         && report.steps == 3
@@ -87,7 +88,7 @@ impl Clock for Still {
     }
 }
 
-/// A gate that is open.
+/// A gate that refuses nothing.
 #[derive(Clone, Copy)]
 pub struct Open;
 
@@ -97,7 +98,7 @@ impl Gate for Open {
     }
 }
 
-/// A clock that gains so many milliseconds in each reading.
+/// A clock that advances by `gain` milliseconds at each reading.
 #[derive(Drop)]
 struct Gaining {
     moment: u64,
@@ -115,7 +116,7 @@ impl Clock for Gaining {
     }
 }
 
-/// A gate that always answers the same.
+/// A gate that always gives the same answer.
 #[derive(Drop)]
 struct Always {
     passes: bool,
@@ -130,12 +131,14 @@ impl Gate for Always {
 /// Keeps the record of a run.
 #[derive(Drop)]
 pub struct KeptRecord {
+    /// The events so far.
     pub events: HallEvents,
-    /// Whether memory for an event was refused.
+    /// Whether an event was refused memory.
     pub is_lost: bool,
 }
 
 impl KeptRecord {
+    /// Creates an empty record.
     pub fn new(alloc: Global) -> KeptRecord {
         KeptRecord {
             events: HallEvents::new(alloc),
@@ -158,7 +161,7 @@ impl Recorder for KeptRecord {
     }
 }
 
-/// A script that one worker serves, and its record.
+/// Serves a script with one worker. Returns the results and the record.
 fn served<W: Threads + Wait + std::time::Clock + Copy + Send + Drop + 'static>(
     rt: W,
     alloc: Global,

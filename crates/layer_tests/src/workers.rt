@@ -1,4 +1,4 @@
-//! Two workers, whose gate and clocks wait for one another.
+//! Two workers whose gate and clocks wait for one another.
 
 use crate::keeper::liners;
 use crate::served::{CAT, all_of_cat, scripts};
@@ -12,19 +12,21 @@ use std::test::Fail;
 use std::thread;
 use std::time::Duration;
 
-/// How often a wait for the other worker is tried again, a millisecond each.
+/// The most tries of a wait for the other worker, a millisecond each.
 const TURNS: u64 = 10_000;
 
 fn pause(rt: HostRuntime) {
     thread::sleep(&rt, Duration::from_millis(1));
 }
 
-/// What the workers have done: for each, how many requests came and passed, and how many readings were begun.
+/// The progress of the workers: for each, the number of requests that came and passed, and of
+/// readings begun.
 #[derive(Drop)]
 struct Course {
     came: [AtomicU64; 2],
     passed: [AtomicU64; 2],
     begun: [AtomicU64; 2],
+    /// Whether a wait ended without success.
     gave_up: AtomicBool,
 }
 
@@ -39,8 +41,8 @@ impl Course {
     }
 }
 
-/// Holds script 1's first request until script 2's second one came, so that its first was answered, and script 2's second one
-/// until script 1's first passed.
+/// Holds script 1's first request until script 2's second one came, so that script 2's first was
+/// answered. Holds script 2's second request until script 1's first passed.
 #[derive(Drop)]
 struct Crossing {
     rt: HostRuntime,
@@ -68,7 +70,7 @@ impl Gate for Crossing {
     }
 }
 
-/// Waits in its first two readings until the other worker's of that number was begun.
+/// Waits in each of its first two readings until the other worker has begun as many.
 #[derive(Drop)]
 struct Meeting {
     rt: HostRuntime,

@@ -1,6 +1,6 @@
-//! What a program said and no pattern has taken yet: bytes, and how many of them are kept at most.
+//! The output of a program that no pattern has matched yet, and the number of bytes to keep.
 //!
-//! The bytes lie in a ring, so that taking from the front moves nothing.
+//! The bytes are in a ring, so that taking bytes from the front moves no others.
 #![tactic(auto)]
 
 ghost use Rattle.std.specs.Prelude.{◌≡◌, ◌≤◌, ◌+◌, ◌++◌, [], length, drop, IfOk, OnOk, OnErr};
@@ -11,17 +11,17 @@ ghost use Rattle.match_buffer.specs.Buffer.{LendsBytes};
 use circular_buffer::HeapCircularBuffer;
 use std::alloc::{AllocError, Global};
 
-/// Bytes with a size: how many of the last ones `trim` keeps.
+/// Bytes with a size: the number of last bytes that `trim` keeps.
 #[derive(Drop)]
 pub struct Buffer {
-    /// The bytes, from the front.
+    /// The bytes, in order.
     pub ring: HeapCircularBuffer<u8>,
-    /// How many bytes `trim` keeps.
+    /// The number of bytes that `trim` keeps.
     pub size: usize,
 }
 
 impl Buffer {
-    /// A buffer without bytes, with room for `size` of them.
+    /// Creates an empty buffer with room for `size` bytes.
     pub fn new(alloc: Global, size: usize) -> Result<Buffer, AllocError>
         ensures empty { IfOk result (λ b. b.ring.items ≡ []) }
         ensures size { IfOk result (λ b. b.size ≡ size) }
@@ -30,7 +30,7 @@ impl Buffer {
         Ok(Buffer { ring, size })
     }
 
-    /// Puts bytes behind the others, also more than the size. Refused ones leave the bytes as they were.
+    /// Appends bytes. The buffer may exceed its size until `trim`. On `AllocError` it is unchanged.
     pub fn add(&mut self, piece: &[u8]) -> Result<(), AllocError>
         ensures size { self.new.size ≡ self.old.size }
         ensures added { OnOk result (self.new.ring.items ≡ self.old.ring.items ++ piece.now) }
@@ -46,8 +46,8 @@ impl Buffer {
         Ok(())
     }
 
-    /// Lays wrapped bytes anew in one run, in a block of their own, which wraps only once as many were added again. Where that is
-    /// refused, they stay wrapped.
+    /// Moves wrapped bytes into a new block without a wrap. If memory is refused, they stay
+    /// wrapped.
     fn straighten(&mut self)
         ensures size { self.new.size ≡ self.old.size }
         ensures same { self.new.ring.items ≡ self.old.ring.items }
@@ -63,7 +63,7 @@ impl Buffer {
         }
     }
 
-    /// Drops the first `count` bytes, of which there are so many.
+    /// Drops the first `count` bytes. Requires at least `count` bytes.
     pub fn take(&mut self, count: usize)
         requires { count ≤ length self.old.ring.items }
         ensures size { self.new.size ≡ self.old.size }
@@ -73,7 +73,7 @@ impl Buffer {
         self.ring.truncate_front(left);
     }
 
-    /// Keeps the last bytes, as many as the size says.
+    /// Drops all but the last `size` bytes.
     pub fn trim(&mut self)
         ensures size { self.new.size ≡ self.old.size }
         ensures trimmed { self.new.ring.items ≡ keep_last self.old.size self.old.ring.items }
@@ -81,7 +81,8 @@ impl Buffer {
         self.ring.truncate_front(self.size);
     }
 
-    /// Sets the size and keeps the last bytes, as many as it says. A refusal leaves size and bytes as they were.
+    /// Sets the size and drops all but the last `size` bytes. On `AllocError` size and bytes are
+    /// unchanged.
     pub fn resize(&mut self, size: usize) -> Result<(), AllocError>
         ensures size { OnOk result (self.new.size ≡ size) }
         ensures trimmed { OnOk result (self.new.ring.items ≡ keep_last size self.old.ring.items) }
@@ -96,7 +97,8 @@ impl Buffer {
         Ok(())
     }
 
-    /// The bytes in one run. Those that are written there are the buffer's bytes then.
+    /// Returns the bytes as one slice, through which they can be changed. Wrapped bytes are moved
+    /// first.
     pub fn bytes(&mut self) -> &mut [u8]
         ensures* lends { sem 𝓛 (LendsBytes self.entry result) }
         ensures value { result.now ≡ self.old.ring.items }
@@ -104,7 +106,7 @@ impl Buffer {
         self.ring.make_contiguous()
     }
 
-    /// The ring in which the bytes lie.
+    /// Returns the ring that contains the bytes.
     pub fn ring(&self) -> &HeapCircularBuffer<u8>
         ensures { result.now.items ≡ self.now.ring.items }
     {
@@ -112,7 +114,7 @@ impl Buffer {
     }
 }
 
-/// Bytes in one run, with so much room.
+/// Copies two slices into one block with this capacity.
 fn laid(
     alloc: Global,
     front: &[u8],

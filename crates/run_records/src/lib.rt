@@ -1,7 +1,8 @@
-//! One record of several workers' records, as they come.
+//! Merges the records of several workers into one, as they come.
 //!
-//! Each worker puts what its hall took into a ring, and from time to time that nothing earlier than a moment comes behind ([`LogItem`]). What is
-//! earlier than all that may still come from any worker is handed on, in order of moments and workers ([`Merger`]).
+//! Each worker puts what its hall took into a ring. From time to time it also puts that no later
+//! item is earlier than a moment ([`LogItem`]). A [`Merger`] passes on the events that no later
+//! item of any worker can precede, in order of moments, then of workers.
 #![tactic(auto)]
 
 mod merger;

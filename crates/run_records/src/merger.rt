@@ -1,4 +1,4 @@
-//! Several records that become one.
+//! Merges several records into one.
 
 ghost use Rattle.std.specs.Prelude.{◌≡◌, ◌≤◌, length, false, IsTrue, IfOk, OnOk};
 ghost use Rattle.run_records.specs.Merged.{IsMerging, HasMerged, HasOne, HandsOn, WasHanded, SameRings, ArePairs, AllTakeOn, AllTaken, AllMove, AllBehind, AreFresh};
@@ -11,19 +11,19 @@ use child_hands::LogItem;
 use feed_rings::FeedIn;
 use std::alloc::{AllocError, Global};
 
-/// Takes the records of workers from their rings, and hands them on as one.
+/// Takes the records of workers from their rings, and passes them to a recorder as one.
 #[derive(Drop)]
 pub struct Merger<R: Drop> {
     alloc: Global,
     reels: Vec<Reel>,
     recorder: R,
-    /// Whether the record is handed on; otherwise what is taken is dropped.
+    /// Whether the recorder gets the record. Otherwise what is taken is dropped.
     keeps: bool,
     /// Whether memory was refused, so that a part of the record is lost.
     is_lost: bool,
 }
 
-/// The greatest moment up to which the last items of all rings have come.
+/// Returns the least of the rings' last moments. No later item is earlier.
 fn least(reels: &[Reel]) -> u64
     ensures { AllBehind result reels.now }
 {
@@ -34,7 +34,7 @@ fn least(reels: &[Reel]) -> u64
     least
 }
 
-/// Takes what there is in rings, but not for ever. True where there was something.
+/// Takes items from each ring, up to a limit. Returns whether there was one.
 fn take_all(reels: &mut [Reel]) -> Result<bool, AllocError>
     ensures rings { SameRings reels.old reels.new }
     ensures takes { OnOk result (AllTakeOn reels.old reels.new) }
@@ -49,7 +49,7 @@ fn take_all(reels: &mut [Reel]) -> Result<bool, AllocError>
     Ok(busy)
 }
 
-/// Takes what there is in rings, but not for ever, and drops it. True where there was something.
+/// Takes items from each ring, up to a limit, and drops them. Returns whether there was one.
 fn drop_all(reels: &mut [Reel]) -> bool
     ensures rings { SameRings reels.old reels.new }
 {
@@ -63,7 +63,7 @@ fn drop_all(reels: &mut [Reel]) -> bool
     busy
 }
 
-/// The events that rings hold from before a moment, in order of moments and workers.
+/// Takes the held events before a moment, in order of moments, then of workers.
 fn merged_before(alloc: Global, reels: &mut [Reel], bound: u64) -> Result<HallEvents, AllocError>
     requires few { length reels.old ≤ 64 }
     ensures rings { SameRings reels.old reels.new }
@@ -79,7 +79,7 @@ fn merged_before(alloc: Global, reels: &mut [Reel], bound: u64) -> Result<HallEv
     Ok(all)
 }
 
-/// Takes what is left in rings, whose putting ends are at hand.
+/// Takes what is left in the rings. `logs` are their putting endpoints.
 fn take_rests(reels: &mut [Reel], logs: &mut [FeedIn<LogItem>]) -> Result<(), AllocError>
     requires { ArePairs logs.old reels.old }
     ensures rings { SameRings reels.old reels.new }
@@ -94,7 +94,8 @@ fn take_rests(reels: &mut [Reel], logs: &mut [FeedIn<LogItem>]) -> Result<(), Al
 }
 
 impl<R: Recorder + Drop> Merger<R> {
-    /// Takes from these rings, from which nothing was taken. The record is handed to a recorder, where `keeps` says so.
+    /// Creates a merger of new rings. If `keeps`, the recorder gets the record; otherwise what is
+    /// taken is dropped.
     pub fn new(alloc: Global, reels: Vec<Reel>, recorder: R, keeps: bool) -> Merger<R>
         requires { AreFresh reels.items }
         ensures reels { result.reels.items ≡ reels.items }
@@ -112,7 +113,7 @@ impl<R: Recorder + Drop> Merger<R> {
         }
     }
 
-    /// The recorder, as it is; no more is handed to it.
+    /// Returns the recorder. It gets no more.
     pub fn into_recorder(self) -> R
         ensures { result ≡ self.recorder }
     {
@@ -120,7 +121,7 @@ impl<R: Recorder + Drop> Merger<R> {
         recorder
     }
 
-    /// Takes what there is in the rings, but not for ever. True where there was something.
+    /// Takes items from each ring, up to a limit. Returns whether there was one.
     fn take(&mut self) -> Result<bool, AllocError>
         ensures rings { SameRings self.old.reels.items self.new.reels.items }
         ensures same { (self.new.keeps ≡ self.old.keeps) × (self.new.is_lost ≡ self.old.is_lost) × (self.new.recorder ≡ self.old.recorder) }
@@ -129,7 +130,7 @@ impl<R: Recorder + Drop> Merger<R> {
         take_all(self.reels.as_mut_slice())
     }
 
-    /// Takes what is left in the rings, whose putting ends are at hand.
+    /// Takes what is left in the rings. `logs` are their putting endpoints.
     fn take_rest(&mut self, logs: &mut [FeedIn<LogItem>]) -> Result<(), AllocError>
         requires { ArePairs logs.old self.old.reels.items }
         ensures rings { SameRings self.old.reels.items self.new.reels.items }
@@ -140,7 +141,7 @@ impl<R: Recorder + Drop> Merger<R> {
         take_rests(self.reels.as_mut_slice(), logs)
     }
 
-    /// Hands on what is held from before a moment.
+    /// Passes the held events before a moment to the recorder.
     fn hand_on(&mut self, bound: u64) -> Result<(), AllocError>
         requires few { length self.old.reels.items ≤ 64 }
         ensures rings { SameRings self.old.reels.items self.new.reels.items }
@@ -153,7 +154,8 @@ impl<R: Recorder + Drop> Merger<R> {
         Ok(())
     }
 
-    /// Takes what there is in the rings, but not for ever, and hands on what is sure to be earlier than what comes. True where there was something.
+    /// Takes items from each ring, up to a limit. Passes on the events that no later item can
+    /// precede. Returns whether there was an item.
     #[tactic(auto, using(crate::proofs::Parting::rings_then, crate::proofs::Handing::merged_taken, crate::proofs::Handing::merged_handed))]
     fn take_and_hand(&mut self) -> Result<bool, AllocError>
         requires few { length self.old.reels.items ≤ 64 }
@@ -168,7 +170,11 @@ impl<R: Recorder + Drop> Merger<R> {
         Ok(busy)
     }
 
-    /// Takes what there is in the rings, but not for ever, and hands on what is sure to be earlier than what comes. True where there was something.
+    /// Takes items from each ring, up to a limit. Passes on the events that no later item can
+    /// precede. Returns whether there was an item.
+    ///
+    /// If memory is refused, a part of the record is lost. Later turns drop what they take, and
+    /// `finish` returns `AllocError`.
     pub fn turn(&mut self) -> bool
         requires few { length self.old.reels.items ≤ 64 }
         ensures rings { SameRings self.old.reels.items self.new.reels.items }
@@ -189,7 +195,8 @@ impl<R: Recorder + Drop> Merger<R> {
         }
     }
 
-    /// Takes what is left in the rings, whose putting ends are at hand, and hands it on.
+    /// If the record is kept, takes what is left in the rings, and passes it on. `logs` are their
+    /// putting endpoints.
     #[tactic(auto, using(crate::proofs::Handing::merged_taken, crate::proofs::Handing::has_one))]
     fn hand_rest(&mut self, logs: Vec<FeedIn<LogItem>>) -> Result<(), AllocError>
         requires few { length self.old.reels.items ≤ 64 }
@@ -209,7 +216,9 @@ impl<R: Recorder + Drop> Merger<R> {
         self.hand_on(u64::MAX)
     }
 
-    /// Takes what is left in the rings, whose putting ends are at hand, hands it on, and gives the recorder back.
+    /// If the record is kept, takes what is left in the rings, and passes it on. Returns the recorder
+    /// too. `logs` are the putting endpoints of the rings. `AllocError` means that a part of the
+    /// record is lost.
     pub fn finish(self, logs: Vec<FeedIn<LogItem>>) -> (Result<(), AllocError>, R)
         requires few { length self.reels.items ≤ 64 }
         requires pairs { ArePairs logs.items self.reels.items }

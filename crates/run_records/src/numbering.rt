@@ -1,4 +1,4 @@
-//! The events of a worker, under the numbers that their scripts have among all.
+//! The events of a worker, with the numbers that their scripts have among all.
 
 ghost use Rattle.std.specs.Prelude.{◌≡◌, ◌≤◌};
 ghost use Rattle.child_hands.specs.Record.{moment_in};
@@ -7,7 +7,7 @@ ghost use Rattle.run_records.specs.Merged.{IsNumbered};
 
 use child_events::HallEvent;
 
-/// When it was.
+/// Returns the moment of an event, in milliseconds.
 pub(crate) fn moment(event: &HallEvent) -> u64
     ensures { result ≡ moment_in event.now }
 {
@@ -17,7 +17,7 @@ pub(crate) fn moment(event: &HallEvent) -> u64
     }
 }
 
-/// The number among all of a worker's script, as long as there are at most 255.
+/// Returns the number, among all scripts, of a worker's script. 255 if it is greater.
 fn number(workers: u8, worker: u8, script: u8) -> u8
     ensures { script_of workers worker script ≤ 255 → result ≡ script_of workers worker script }
 {
@@ -25,7 +25,7 @@ fn number(workers: u8, worker: u8, script: u8) -> u8
     u8::try_from(before + u64::from(worker) + 1).unwrap_or(u8::MAX)
 }
 
-/// An event of a worker, under the number that its script has among all.
+/// Returns an event of a worker, with the number that its script has among all.
 pub(crate) fn renumbered(workers: u8, worker: u8, event: HallEvent) -> HallEvent
     ensures { IsNumbered workers worker event → result ≡ numbered workers worker event }
 {

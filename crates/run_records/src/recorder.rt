@@ -1,21 +1,21 @@
-//! Who takes the record of a run.
+//! Recorders: receivers of a run's record.
 
 ghost use Rattle.std.specs.Prelude.{◌≡◌, List};
 ghost use Rattle.child_events.specs.declared.event.HallEvent.{HallEvent};
 
 use child_events::HallEvents;
 
-/// Takes the record of a run as it goes.
+/// Receives the record of a run as it comes.
 pub trait Recorder {
-    /// What it becomes by taking these events.
+    /// The recorder after it gets these events.
     ghost notes: { Self → List HallEvent → Self → Type 0 };
 
-    /// Takes what comes next of the record.
+    /// Receives the next events of the record.
     fn note(&mut self, events: HallEvents)
         ensures { notes self.old events self.new };
 }
 
-/// Takes nothing.
+/// A recorder that drops everything.
 #[derive(Drop)]
 pub struct NoRecorder;
 

@@ -1,4 +1,4 @@
-//! The record of one worker, as it is taken from its ring.
+//! The record of one worker, taken from its ring.
 
 ghost use Rattle.std.specs.Prelude.{◌≡◌, ◌++◌, [], OnOk};
 ghost use Rattle.feed_rings.specs.Ends.{put_items, taken_items, IsPair, LooksOn, SameOut};
@@ -12,26 +12,26 @@ use feed_rings::{FeedIn, FeedOut};
 use std::alloc::{AllocError, Global};
 use std::collections::VecDeque;
 
-/// How many items are taken from one ring before the next is looked at.
+/// The most items that one turn takes from a ring.
 const ROUND: u32 = 1_024;
 
-/// Which worker it is, of how many.
+/// A worker's index, from 0, and the number of workers.
 #[derive(Clone, Copy)]
 pub(crate) struct Place {
     pub(crate) workers: u8,
     pub(crate) worker: u8,
 }
 
-/// The taking end of a worker's ring, and what was taken and not handed on.
+/// The taking endpoint of a worker's ring, and the events that were taken but not yet passed on.
 #[derive(Drop)]
 pub struct Reel {
     pub(crate) out: FeedOut<LogItem>,
     pub(crate) held: VecDeque<HallEvent>,
-    /// The moment of the last item that was taken.
+    /// The moment of the last item taken, in milliseconds.
     pub(crate) since: u64,
 }
 
-/// When it was.
+/// Returns the moment of an item, in milliseconds.
 fn item_moment(item: &LogItem) -> u64
     ensures { result ≡ moment_at item.now }
 {
@@ -42,7 +42,7 @@ fn item_moment(item: &LogItem) -> u64
 }
 
 impl Reel {
-    /// The end of a ring from which nothing was taken.
+    /// Creates a reel of a ring from which nothing was taken.
     pub fn new(alloc: Global, out: FeedOut<LogItem>) -> Reel
         requires { taken_items out ≡ [] }
         ensures out { result.out ≡ out }
@@ -55,7 +55,7 @@ impl Reel {
         }
     }
 
-    /// Holds the event that an item is, if it is one.
+    /// Holds the event of an item, if it is one.
     fn hold(&mut self, item: LogItem) -> Result<(), AllocError>
         ensures out { self.new.out ≡ self.old.out }
         ensures held { OnOk result (self.new.held.items ≡ self.old.held.items ++ events_at item) }
@@ -71,7 +71,7 @@ impl Reel {
         Ok(())
     }
 
-    /// Takes what there is, but not for ever. True where there was something.
+    /// Takes items, up to a limit. Returns whether there was one.
     pub(crate) fn take_some(&mut self) -> Result<bool, AllocError>
         ensures ring { SameOut self.old.out self.new.out }
         ensures takes { OnOk result (TakesOn self.old self.new) }
@@ -85,7 +85,7 @@ impl Reel {
         Ok(true)
     }
 
-    /// Takes what there is, but not for ever, and drops it. True where there was something.
+    /// Takes items, up to a limit, and drops them. Returns whether there was one.
     pub(crate) fn drop_some(&mut self) -> bool
         ensures ring { SameOut self.old.out self.new.out }
     {
@@ -97,7 +97,7 @@ impl Reel {
         true
     }
 
-    /// Takes what is left, where the putting end of the ring is at hand.
+    /// Takes what is left. `log` is the putting endpoint of the ring.
     pub(crate) fn take_rest(&mut self, log: &mut FeedIn<LogItem>) -> Result<(), AllocError>
         requires pair { IsPair log.old self.old.out }
         ensures ring { SameOut self.old.out self.new.out }
@@ -113,7 +113,7 @@ impl Reel {
         Ok(())
     }
 
-    /// The first event that is held, if it is earlier than a moment.
+    /// Takes the first held event, if it is before a moment.
     fn next_before(&mut self, bound: u64) -> Option<HallEvent>
         ensures { TakesFirst bound self.old self.new result }
     {
@@ -123,7 +123,8 @@ impl Reel {
         }
     }
 
-    /// Puts the events that are held and earlier than a moment behind others, under their numbers among all.
+    /// Moves the held events at the front that are before a moment to the end of `all`. Scripts get
+    /// their numbers among all.
     #[tactic(auto, using(crate::proofs::Parting::moves_none, crate::proofs::Parting::moves_all))]
     pub(crate) fn move_before(
         &mut self,

@@ -1,7 +1,8 @@
 -- A problem with the arguments of a command of the language is the error in which the command ends.
-use Rattle.std.proofs.Common.{◌≡◌, ℕ, suc, Bool, true, false, List, [], ◌∷◌, length, Option, Some, None, Err, if◌then◌else◌, sym, ap, subst, ◌∙◌, refl, true≢false, arith}
-use Rattle.std.specs.Prelude.{codes, bytes_eq, nat_le, option_map}
+use Rattle.std.proofs.Common.{◌≡◌, ℕ, suc, ◌+◌, Bool, true, false, ◌&&◌, List, [], ◌∷◌, length, drop, Option, Some, None, Ok, Err, if◌then◌else◌, sym, ap, subst, ◌∙◌, refl, true≢false, arith}
+use Rattle.std.specs.Prelude.{codes, bytes_eq, nat_le, nat_lt, option_map, option_and_then}
 use Rattle.std.proofs.lemmas.Bool.Decides.{nat_tests}
+use Rattle.std.proofs.lemmas.List.{drop-drop}
 use Rattle.tcl_subst.specs.Variables.{Variables}
 use Rattle.command_table.specs.declared.commands.Command.{Command}
 use Rattle.command_table.specs.declared.commands.Command.TheVariants.{Tcl, Expect}
@@ -9,35 +10,45 @@ use Rattle.command_table.specs.declared.commands.ExpectCommand.{ExpectCommand}
 use Rattle.command_table.specs.declared.commands.TclCommand.{TclCommand}
 use Rattle.command_table.specs.declared.commands.TclCommand.TheVariants.{Value, If, Foreach, Expr, Eval as EvalCommand, Exit, While, For, Proc, Catch}
 use Rattle.command_table.specs.declared.commands.ValueCommand.{ValueCommand}
-use Rattle.command_table.specs.declared.commands.ValueCommand.TheVariants.{String, Info}
+use Rattle.command_table.specs.declared.commands.ValueCommand.TheVariants.{String, Info, Lsearch, Lsort}
 use Rattle.command_table.specs.declared.counts.Count.{Count}
 use Rattle.command_table.specs.declared.options.StringOption.{StringOption}
+use Rattle.command_table.specs.declared.options.StringOption.TheVariants as string
+use Rattle.command_table.specs.declared.switches.Switch.{Switch}
+use Rattle.command_table.specs.declared.switches.Switch.TheVariants as switch
+use Rattle.command_table.specs.declared.switches.Switches.{Switches}
+use Rattle.command_table.specs.declared.switches.Switches.TheVariants as switches
 use Rattle.command_table.specs.declared.options.InfoOption.{InfoOption}
 use Rattle.command_table.specs.declared.reading.Kind.{Kind}
 use Rattle.command_table.specs.declared.reading.Kind.TheVariants.{Text, Script}
 use Rattle.command_table.specs.declared.reading.Stage.{Stage}
 use Rattle.command_table.specs.declared.reading.Stage.TheVariants.{Each, Test, Then, Branch, Ends, Else, Done, Over}
-use Rattle.command_table.specs.Commands.{tcl_command, expect_command, tcl_or_expect, command_of}
-use Rattle.command_table.specs.Counts.{fits}
-use Rattle.command_table.specs.Options.{string_option, string_count, info_option, info_count, option_count}
+use Rattle.command_table.specs.Commands.{tcl_command, language_command, or_redefinable, expect_command, tcl_or_expect, command_of}
+use Rattle.command_table.specs.Counts.{exactly, at_least, fits}
+use Rattle.command_table.specs.Flags.{begins_with_minus}
+use Rattle.command_table.specs.Switches.{switch_of, takes_value}
+use Rattle.command_table.specs.Options.{string_option, string_count, string_switches, info_option, info_count, option_count, option_switches}
 use Rattle.command_table.specs.Reading.{step, is_short}
 use Rattle.command_table.specs.Rows.{value_row, tcl_row}
 use Rattle.tcl_commands.specs.declared.code.Code.TheVariants as code
 use Rattle.tcl_commands.specs.Texts.{wrong_args}
-use Rattle.tcl_commands.specs.Said.{Said, Outcome, told}
+use Rattle.tcl_commands.specs.Said.{Said, Outcome, told, ◌>>=◌}
 use Rattle.tcl_commands.specs.Given.{if_fits}
 use Rattle.tcl_commands.specs.Plain.{plain, allowed, info_by, info_named, info}
+use Rattle.tcl_commands.specs.Switches.{nothing, with_switch, if_switch, flag_step, on_flag, flags_from, flags_of}
+use Rattle.tcl_commands.specs.Classes.{classed}
 use Rattle.tcl_commands.specs.Strings.{string_by, string_named, string}
 use Rattle.tcl_commands.specs.Arms.{arms_of, with_arm, only_body, tests, bodies, body, ends, or_wrong}
 use Rattle.tcl_commands.specs.Groups.{each_of}
 use Rattle.tcl_commands.specs.Joining.{expr_text, eval_text}
-use Rattle.tcl_commands.specs.Verbs.{as_verb, verb_of, exit_status}
-use Rattle.tcl_commands.specs.declared.verbs.Verb.{Verb}
+use Rattle.tcl_commands.specs.Verbs.{as_verb, exit_status}
+use Rattle.tcl_subst.specs.Entries.{find}
+use Rattle.tcl_eval.specs.declared.procedure.Procedure.{Procedure}
 use Rattle.tcl_eval.specs.Tree.{State, Tree}
-use Rattle.tcl_eval.specs.Meaning.{Next, Eval, on_said, after, invoked, named}
+use Rattle.tcl_eval.specs.Meaning.{Next, Eval, on_said, after, invoked, redefinable_or_begun, called_or_begun, named}
 use Rattle.script_check.specs.declared.placed.Placed.{Placed}
 use Rattle.script_check.specs.declared.problem.Problem.{Problem}
-use Rattle.script_check.specs.Faults.{wrong, counted, if_counted, chosen, last_stage, fault_of}
+use Rattle.script_check.specs.Faults.{wrong, counted, by_switch, maybe_switch, switched, if_counted, chosen, last_stage, fault_of}
 use Rattle.script_check.specs.Texts.{text_of}
 use Rattle.script_check.specs.Runs.{MayBe, AreWords, FindingsHold}
 
@@ -78,6 +89,127 @@ unfit c name words said is = ap (λ (b : Bool). if b then said else Err (wrong_a
 one_fits : (n : ℕ) → nat_le 1 (suc n) ≡ true
 one_fits n = grind (arith, nat_tests)
 
+-- ---- flags before the last arguments
+
+abbrev TypeOf : {X : Type 0} → X → Type 0
+TypeOf {X = X} x = X
+
+-- flags that were read
+abbrev Flagged : Type 0
+Flagged = TypeOf nothing
+
+bind_ends : {X Y : Type 0} (said : Said X) (text : List ℕ) (more : X → Said Y) → said ≡ Err text → (said >>= more) ≡ Err text
+bind_ends {X = X} said text more is = ap (λ (s : Said X). s >>= more) is
+
+bind_goes : {X Y : Type 0} (said : Said X) (x : X) (more : X → Said Y) → said ≡ Ok x → (said >>= more) ≡ more x
+bind_goes {X = X} said x more is = ap (λ (s : Said X). s >>= more) is
+
+drop_next : (n : ℕ) (whole : List (List ℕ)) (x : List ℕ) (xs : List (List ℕ)) → drop n whole ≡ x ∷ xs → drop (n + 1) whole ≡ xs
+drop_next n whole x xs is = sym (drop-drop 1 n whole) ∙ ap (λ (ws : List (List ℕ)). drop 1 ws) is
+
+too_many : (n m : ℕ) → nat_lt n m ≡ true → fits (exactly n) m ≡ false
+too_many n m lt = grind (arith, nat_tests, lt)
+
+-- the next word is the value of a flag
+due_of : (x : Switch) (n : ℕ) (g : Flagged) → g.due ≡ false → (with_switch x n g).due ≡ takes_value x
+due_of switch.Index n g is = refl
+due_of switch.Start n g is = refl
+due_of other n g is = is
+
+module _ (name : List ℕ) (s : Switches) (n : ℕ) (whole : List (List ℕ)) where
+  abbrev behind_flags : Flagged × ℕ → Said (Flagged × ℕ)
+  behind_flags p = if_fits (exactly n) name (drop p.1 whole) (Ok p)
+
+  -- the flags from a word on end in this error
+  abbrev FlagsEnd : Flagged → ℕ → List (List ℕ) → List ℕ → Type 0
+  FlagsEnd g at words text = (flags_from s n g at words >>= behind_flags) ≡ Err text
+
+  -- no word is a flag
+  none_left : (g : Flagged) (at : ℕ) (words : List (List ℕ)) (m : ℕ) → flags_from s n g at words ≡ Ok (g, at) → drop at whole ≡ words → length words ≡ m
+      → Foretold (counted name (exactly n) m) (FlagsEnd g at words)
+  none_left g at words m is here long =
+      counted_is (exactly n) name m (length (drop at whole)) (FlagsEnd g at words) (ap (λ (ws : List (List ℕ)). length ws) here ∙ long)
+      (λ unfits. bind_goes (flags_from s n g at words) (g, at) behind_flags is ∙ unfit (exactly n) name (drop at whole) (Ok (g, at)) unfits)
+
+  module _ (g : Flagged) (at : ℕ) (x : List ℕ) (xs : List (List ℕ)) where
+    abbrev onward : Said (Option Flagged) → Said (Flagged × ℕ)
+    onward t = t >>= λ t. on_flag (λ h. flags_from s n h (at + 1) xs) (g, at) t
+
+    abbrev step_at : Said (Option Flagged)
+    step_at = flag_step s x (nat_lt n (length (x ∷ xs))) (at + 1) g
+
+    steps_to : (due more minus : Bool) → g.due ≡ due → nat_lt n (length (x ∷ xs)) ≡ more → begins_with_minus x ≡ minus
+        → step_at ≡ (if due then Ok (Some (record g { due = false })) else if more && minus then if_switch x (switch_of s x) (at + 1) g else Ok None)
+    steps_to due more minus is_due is_more is_minus =
+        ap (λ (b : Bool). if b then Ok (Some (record g { due = false })) else if nat_lt n (length (x ∷ xs)) && begins_with_minus x then if_switch x (switch_of s x) (at + 1) g else Ok None) is_due
+        ∙ ap (λ (b : Bool). if due then Ok (Some (record g { due = false })) else if b && begins_with_minus x then if_switch x (switch_of s x) (at + 1) g else Ok None) is_more
+        ∙ ap (λ (b : Bool). if due then Ok (Some (record g { due = false })) else if more && b then if_switch x (switch_of s x) (at + 1) g else Ok None) is_minus
+
+    goes_on : (h : Flagged) → step_at ≡ Ok (Some h) → (text : List ℕ) → FlagsEnd h (at + 1) xs text → FlagsEnd g at (x ∷ xs) text
+    goes_on h is text ends = ap (λ (t : Said (Option Flagged)). onward t >>= behind_flags) is ∙ ends
+
+    stays : step_at ≡ Ok None → flags_from s n g at (x ∷ xs) ≡ Ok (g, at)
+    stays is = ap (λ (t : Said (Option Flagged)). onward t) is
+
+    module _ (w : Placed) (ws : List Placed) (is_word : MayBe w.value x) (long : length xs ≡ length ws) (here : drop at whole ≡ x ∷ xs)
+        (later : (h : Flagged) → Foretold (switched name s n h.due ws) (FlagsEnd h (at + 1) xs)) where
+      abbrev on : Bool → Option Problem
+      on due = switched name s n due ws
+
+      module _ (not_due : g.due ≡ false) (more : nat_lt n (length (x ∷ xs)) ≡ true) where
+        switch_told : (o : Option Switch) → switch_of s x ≡ o → begins_with_minus x ≡ true → Foretold (by_switch on x o) (FlagsEnd g at (x ∷ xs))
+        switch_told None is minus =
+            ap (λ (t : Said (Option Flagged)). onward t >>= behind_flags) (steps_to false true true not_due more minus ∙ ap (λ (o : Option Switch). if_switch x o (at + 1) g) is)
+        switch_told (Some y) is minus =
+            weaker (switched name s n (takes_value y) ws) (FlagsEnd (with_switch y (at + 1) g) (at + 1) xs) (FlagsEnd g at (x ∷ xs))
+            (goes_on (with_switch y (at + 1) g) (steps_to false true true not_due more minus ∙ ap (λ (o : Option Switch). if_switch x o (at + 1) g) is))
+            (subst (λ (b : Bool). Foretold (switched name s n b ws) (FlagsEnd (with_switch y (at + 1) g) (at + 1) xs)) (due_of y (at + 1) g not_due) (later (with_switch y (at + 1) g)))
+
+        minus_told : (b : Bool) → begins_with_minus x ≡ b → Foretold (if b then by_switch on x (switch_of s x) else wrong name) (FlagsEnd g at (x ∷ xs))
+        minus_told true is = switch_told (switch_of s x) refl is
+        minus_told false is =
+            bind_goes (flags_from s n g at (x ∷ xs)) (g, at) behind_flags (stays (steps_to false true false not_due more is))
+            ∙ unfit (exactly n) name (drop at whole) (Ok (g, at)) (ap (λ (ys : List (List ℕ)). fits (exactly n) (length ys)) here ∙ too_many n (length (x ∷ xs)) more)
+
+        value_told : (v : Option (List ℕ)) → MayBe v x → Foretold (option_and_then (maybe_switch on name s) v) (FlagsEnd g at (x ∷ xs))
+        value_told None is = tt
+        value_told (Some text) is = subst (λ (y : List ℕ). Foretold (maybe_switch on name s y) (FlagsEnd g at (x ∷ xs))) is (minus_told (begins_with_minus x) refl)
+
+      more_told : (b : Bool) → g.due ≡ false → nat_lt n (suc (length ws)) ≡ b
+          → Foretold (if b then option_and_then (maybe_switch on name s) w.value else counted name (exactly n) (suc (length ws))) (FlagsEnd g at (x ∷ xs))
+      more_told true not_due is = value_told not_due (ap (λ (m : ℕ). nat_lt n (suc m)) long ∙ is) w.value is_word
+      more_told false not_due is =
+          none_left g at (x ∷ xs) (suc (length ws)) (stays (steps_to false false (begins_with_minus x) not_due (ap (λ (m : ℕ). nat_lt n (suc m)) long ∙ is) refl)) here
+          (ap (λ (m : ℕ). suc m) long)
+
+      due_told : (d : Bool) → g.due ≡ d → Foretold (switched name s n d (w ∷ ws)) (FlagsEnd g at (x ∷ xs))
+      due_told true is =
+          weaker (switched name s n false ws) (FlagsEnd (record g { due = false }) (at + 1) xs) (FlagsEnd g at (x ∷ xs))
+          (goes_on (record g { due = false }) (steps_to true (nat_lt n (length (x ∷ xs))) (begins_with_minus x) is refl refl)) (later (record g { due = false }))
+      due_told false is = more_told (nat_lt n (suc (length ws))) is refl
+
+  flags_told : (args : List Placed) (words : List (List ℕ)) (g : Flagged) (at : ℕ) → AreWords args words → drop at whole ≡ words
+      → Foretold (switched name s n g.due args) (FlagsEnd g at words)
+  flags_told [] [] g at are here = none_left g at [] 0 refl here refl
+  flags_told [] (x ∷ xs) g at are here = absurd are
+  flags_told (w ∷ ws) [] g at are here = absurd are
+  flags_told (w ∷ ws) (x ∷ xs) g at are here =
+      due_told g at x xs w ws are.0 (lengths ws xs are.1) here (λ h. flags_told ws xs h (at + 1) are.1 (drop_next at whole x xs here)) g.due refl
+
+by_fit : (b : Bool) (name : List ℕ) (found : Option Problem) (says : List ℕ → Type 0) → (b ≡ false → says (wrong_args name)) → (b ≡ true → Foretold found says)
+    → Foretold (if b then found else wrong name) says
+by_fit true name found says unfits fit = fit refl
+by_fit false name found says unfits fit = unfits refl
+
+-- flags before the last n of these words, of a command that may have so many words
+module _ (c : Count) (name : List ℕ) (s : Switches) (n : ℕ) (args : List Placed) (words : List (List ℕ)) (are : AreWords args words) where
+  flagged_told : (k m : ℕ) (says : List ℕ → Type 0) → m ≡ k → (fits c m ≡ false → says (wrong_args name))
+      → (fits c m ≡ true → (text : List ℕ) → flags_of s n name words ≡ Err text → says text) → Foretold (if fits c k then switched name s n false args else wrong name) says
+  flagged_told k m says same unfits ends =
+      by_fit (fits c k) name (switched name s n false args) says (λ is. unfits (ap (λ (i : ℕ). fits c i) same ∙ is))
+      (λ is. weaker (switched name s n false args) (FlagsEnd name s n words nothing 0 words) says (ends (ap (λ (i : ℕ). fits c i) same ∙ is))
+      (flags_told name s n words args words nothing 0 are refl))
+
 -- ---- options
 
 option_told : (found : Option Problem) (name : List ℕ) (n m : ℕ) (said : Variables → Said (List ℕ)) → Foretold found (λ text. (vars : Variables) → said vars ≡ Err text)
@@ -89,44 +221,83 @@ option_told found name n m said holds =
     (λ text is vars. ap (λ (b : Bool). if b then told (said vars) vars else told (Err (wrong_args name)) vars) (one_fits m) ∙ ap (λ (s : Said (List ℕ)). told s vars) (is vars))
     holds)
 
-module _ (name : List ℕ) (n : ℕ) (words : List (List ℕ)) (same : length words ≡ n) where
-  string_known : (text : List ℕ) (o : Option StringOption) → Foretold (if_counted name n text (option_map string_count o)) (λ t. string_named name text o words ≡ Err t)
-  string_known text None = refl
-  string_known text (Some o) = counted_is (string_count o) name n (length words) (λ t. string_named name text (Some o) words ≡ Err t) same (unfit (string_count o) name words (string_by o words))
+tail_are : (args : List Placed) (words : List (List ℕ)) → AreWords args words → AreWords (drop 1 args) (drop 1 words)
+tail_are [] [] are = tt
+tail_are [] (x ∷ xs) are = absurd are
+tail_are (w ∷ ws) [] are = absurd are
+tail_are (w ∷ ws) (x ∷ xs) are = are.1
 
-  string_told : (value : Option (List ℕ)) (x : List ℕ) → MayBe value x → Foretold (chosen (Tcl (Value String)) name n value) (λ t. (vars : Variables) → string name (x ∷ words) ≡ Err t)
+module _ (name : List ℕ) (args : List Placed) (words : List (List ℕ)) (are : AreWords args words) where
+  fit_ends : (c : Count) (said : Said (List ℕ)) (text : List ℕ) → fits c (length words) ≡ true → said ≡ Err text → if_fits c name words said ≡ Err text
+  fit_ends c said text fit is = ap (λ (b : Bool). if b then said else Err (wrong_args name)) fit ∙ is
+
+  flags_foretold : (s : Switches) (n : ℕ) (c : Count) (some : List Placed) (their : List (List ℕ)) (said : Said (List ℕ)) → AreWords some their
+      → ((text : List ℕ) → flags_of s n name their ≡ Err text → said ≡ Err text) → Foretold (if fits c (length args) then switched name s n false some else wrong name) (λ t. if_fits c name words said ≡ Err t)
+  flags_foretold s n c some their said are_so ends =
+      flagged_told c name s n some their are_so (length args) (length words) (λ t. if_fits c name words said ≡ Err t) (lengths args words are) (unfit c name words said)
+      (λ fit text is. fit_ends c said text fit (ends text is))
+
+  string_known : (text : List ℕ) (o : Option StringOption) → Foretold (if_counted name args text (option_map string_count o) (option_and_then string_switches o)) (λ t. string_named name text o words ≡ Err t)
+  string_known text None = refl
+  string_known text (Some string.Equal) = flags_foretold switches.Case 2 (at_least 2) args words (string_by string.Equal name words) are (λ t is. bind_ends (flags_of switches.Case 2 name words) t _ is)
+  string_known text (Some string.Compare) = flags_foretold switches.Case 2 (at_least 2) args words (string_by string.Compare name words) are (λ t is. bind_ends (flags_of switches.Case 2 name words) t _ is)
+  string_known text (Some string.Match) = flags_foretold switches.Case 2 (at_least 2) args words (string_by string.Match name words) are (λ t is. bind_ends (flags_of switches.Case 2 name words) t _ is)
+  string_known text (Some string.Map) = flags_foretold switches.Case 2 (at_least 2) args words (string_by string.Map name words) are (λ t is. bind_ends (flags_of switches.Case 2 name words) t _ is)
+  string_known text (Some string.Is) =
+      flags_foretold switches.Strict 1 (at_least 2) (drop 1 args) (drop 1 words) (string_by string.Is name words) (tail_are args words are)
+      (λ t is. bind_ends (classed name words) t _ (bind_ends (flags_of switches.Strict 1 name (drop 1 words)) t _ is))
+  string_known text (Some o) =
+      counted_is (string_count o) name (length args) (length words) (λ t. string_named name text (Some o) words ≡ Err t) (lengths args words are) (unfit (string_count o) name words (string_by o name words))
+
+  string_told : (value : Option (List ℕ)) (x : List ℕ) → MayBe value x → Foretold (chosen (Tcl (Value String)) name args value) (λ t. (vars : Variables) → string name (x ∷ words) ≡ Err t)
   string_told None x is = tt
   string_told (Some text) x is =
-      weaker (if_counted name n text (option_count (Tcl (Value String)) text)) _ _ (λ t holds vars. holds)
-      (subst (λ y. Foretold (if_counted name n text (option_count (Tcl (Value String)) text)) (λ t. string name (y ∷ words) ≡ Err t)) (sym is) (string_known text (string_option text)))
+      weaker (if_counted name args text (option_count (Tcl (Value String)) text) (option_switches (Tcl (Value String)) text)) _ _ (λ t holds vars. holds)
+      (subst (λ y. Foretold (if_counted name args text (option_count (Tcl (Value String)) text) (option_switches (Tcl (Value String)) text)) (λ t. string name (y ∷ words) ≡ Err t)) (sym is)
+      (string_known text (string_option text)))
 
-  info_known : (text : List ℕ) (o : Option InfoOption) → Foretold (if_counted name n text (option_map info_count o)) (λ t. (vars : Variables) → info_named name text o words vars ≡ Err t)
+  info_known : (text : List ℕ) (o : Option InfoOption) → Foretold (if_counted name args text (option_map info_count o) None) (λ t. (vars : Variables) → info_named name text o words vars ≡ Err t)
   info_known text None = λ vars. refl
-  info_known text (Some o) = counted_is (info_count o) name n (length words) (λ t. (vars : Variables) → info_named name text (Some o) words vars ≡ Err t) same (λ is vars. unfit (info_count o) name words (info_by o words vars) is)
+  info_known text (Some o) =
+      counted_is (info_count o) name (length args) (length words) (λ t. (vars : Variables) → info_named name text (Some o) words vars ≡ Err t) (lengths args words are)
+      (λ is vars. unfit (info_count o) name words (info_by o words vars) is)
 
-  info_told : (value : Option (List ℕ)) (x : List ℕ) → MayBe value x → Foretold (chosen (Tcl (Value Info)) name n value) (λ t. (vars : Variables) → info name (x ∷ words) vars ≡ Err t)
+  info_told : (value : Option (List ℕ)) (x : List ℕ) → MayBe value x → Foretold (chosen (Tcl (Value Info)) name args value) (λ t. (vars : Variables) → info name (x ∷ words) vars ≡ Err t)
   info_told None x is = tt
   info_told (Some text) x is =
-      subst (λ y. Foretold (if_counted name n text (option_count (Tcl (Value Info)) text)) (λ t. (vars : Variables) → info name (y ∷ words) vars ≡ Err t)) (sym is) (info_known text (info_option text))
+      subst (λ y. Foretold (if_counted name args text (option_count (Tcl (Value Info)) text) None) (λ t. (vars : Variables) → info name (y ∷ words) vars ≡ Err t)) (sym is)
+      (info_known text (info_option text))
 
 -- ---- commands that evaluate nothing
+
+unfit_row : (c : ValueCommand) (name : List ℕ) (words : List (List ℕ)) → fits (value_row c).count (length words) ≡ false → ValueEnds (wrong_args name) name words c
+unfit_row c name words is vars = ap (λ (b : Bool). if b then allowed c name words vars else told (Err (wrong_args name)) vars) is
+
+fit_row : (c : ValueCommand) (name : List ℕ) (words : List (List ℕ)) → fits (value_row c).count (length words) ≡ true → (vars : Variables) → plain c name words vars ≡ allowed c name words vars
+fit_row c name words is vars = ap (λ (b : Bool). if b then allowed c name words vars else told (Err (wrong_args name)) vars) is
 
 by_row : (c : ValueCommand) (name : List ℕ) (args : List Placed) (words : List (List ℕ)) → AreWords args words → Foretold (counted name (value_row c).count (length args)) (λ text. ValueEnds text name words c)
 by_row c name args words are =
     counted_is (value_row c).count name (length args) (length words) (λ text. ValueEnds text name words c) (lengths args words are)
-    (λ is vars. ap (λ (b : Bool). if b then allowed c name words vars else told (Err (wrong_args name)) vars) is)
+    (unfit_row c name words)
 
 value_foretold : (c : ValueCommand) (name : List ℕ) (args : List Placed) (words : List (List ℕ)) → AreWords args words → Foretold (fault_of (Tcl (Value c)) name args) (λ text. ValueEnds text name words c)
 value_foretold String name [] [] are = λ vars. refl
 value_foretold String name [] (x ∷ xs) are = absurd are
 value_foretold String name (w ∷ ws) [] are = absurd are
 value_foretold String name (w ∷ ws) (x ∷ xs) are =
-    option_told (chosen (Tcl (Value String)) name (length ws) w.value) name (length ws) (length xs) (λ vars. string name (x ∷ xs)) (string_told name (length ws) xs (lengths ws xs are.1) w.value x are.0)
+    option_told (chosen (Tcl (Value String)) name ws w.value) name (length ws) (length xs) (λ vars. string name (x ∷ xs)) (string_told name ws xs are.1 w.value x are.0)
 value_foretold Info name [] [] are = λ vars. refl
 value_foretold Info name [] (x ∷ xs) are = absurd are
 value_foretold Info name (w ∷ ws) [] are = absurd are
 value_foretold Info name (w ∷ ws) (x ∷ xs) are =
-    option_told (chosen (Tcl (Value Info)) name (length ws) w.value) name (length ws) (length xs) (λ vars. info name (x ∷ xs) vars) (info_told name (length ws) xs (lengths ws xs are.1) w.value x are.0)
+    option_told (chosen (Tcl (Value Info)) name ws w.value) name (length ws) (length xs) (λ vars. info name (x ∷ xs) vars) (info_told name ws xs are.1 w.value x are.0)
+value_foretold Lsearch name args words are =
+    flagged_told (at_least 2) name switches.Search 2 args words are (length args) (length words) (λ text. ValueEnds text name words Lsearch) (lengths args words are) (unfit_row Lsearch name words)
+    (λ fit text is vars. fit_row Lsearch name words fit vars ∙ ap (λ (s : Said (List ℕ)). told s vars) (bind_ends (flags_of switches.Search 2 name words) text _ is))
+value_foretold Lsort name args words are =
+    flagged_told (at_least 1) name switches.Sort 1 args words are (length args) (length words) (λ text. ValueEnds text name words Lsort) (lengths args words are) (unfit_row Lsort name words)
+    (λ fit text is vars. fit_row Lsort name words fit vars ∙ ap (λ (s : Said (List ℕ)). told s vars) (bind_ends (flags_of switches.Sort 1 name words) text _ is))
 value_foretold other name args words are = by_row other name args words are
 
 -- ---- if
@@ -279,10 +450,18 @@ found_is_run : (t : Option TclCommand) (name : List ℕ) → of_language (tcl_or
 found_is_run None name = expect_is_other (expect_command name)
 found_is_run (Some c) name = refl
 
-verb_is : (c : TclCommand) (name : List ℕ) → command_of name ≡ Some (Tcl c) → verb_of name ≡ Some (as_verb c)
-verb_is c name named = ap (option_map as_verb) (sym (found_is_run (tcl_command name) name) ∙ ap of_language named)
+language_is : (c : TclCommand) (name : List ℕ) → command_of name ≡ Some (Tcl c) → language_command name ≡ Some c
+language_is c name is = sym (found_is_run (language_command name) name) ∙ ap of_language is
+
+-- a command runs by the verb that the table has for it
+runs_as : (o : Option TclCommand) (c : TclCommand) (name : List ℕ) (words : List (List ℕ)) (ev : Eval) (k : Next) (st : State)
+    → or_redefinable o name ≡ Some c → (o ≡ None → find name st.procs ≡ None) → named ev (option_map as_verb o) name words k st ≡ invoked ev (as_verb c) name words k st
+runs_as (Some d) c name words ev k st is free = ap (λ (v : Option TclCommand). named ev (option_map as_verb v) name words k st) is
+runs_as None c name words ev k st is free =
+    ap (λ (p : Option Procedure). called_or_begun ev p name words k st) (free refl)
+    ∙ ap (λ (v : Option TclCommand). redefinable_or_begun ev (option_map as_verb v) name words k st) is
 
 pub findings_hold : FindingsHold
-findings_hold c name args p words named_so found are ev k st =
-    ap (λ (v : Option Verb). named ev v name words k st) (verb_is c name named_so)
+findings_hold c name args p words named_so found are ev k st free =
+    runs_as (tcl_command name) c name words ev k st (language_is c name named_so) free
     ∙ subst (λ (f : Option Problem). Foretold f (λ text. EndsIn text name words c)) found (foretold c name args words are) ev k st

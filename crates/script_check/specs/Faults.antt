@@ -1,20 +1,23 @@
 -- The error in the arguments of a command, by the command's row, as far as they are literal. `None` stands for a word
 -- that isn't literal and may be any word.
-use Rattle.std.specs.Prelude.{ℕ, suc, Bool, true, false, List, [], ◌∷◌, length, codes, Option, Some, None, is_some, option_and_then, bytes_eq, if◌then◌else◌}
+use Rattle.std.specs.Prelude.{ℕ, suc, ◌-◌, nat_lt, drop, Bool, true, false, List, [], ◌∷◌, length, codes, Option, Some, None, is_some, option_and_then, bytes_eq, if◌then◌else◌}
 use Rattle.tcl_words.specs.Bytes as ascii
 use Rattle.command_table.specs.declared.commands.Command.{Command}
 use Rattle.command_table.specs.declared.counts.Count.{Count}
 use Rattle.command_table.specs.declared.flags.Flags.{Flags}
 use Rattle.command_table.specs.declared.flags.Role.{Role}
 use Rattle.command_table.specs.declared.flags.Role.TheVariants as role
+use Rattle.command_table.specs.declared.switches.Switch.{Switch}
+use Rattle.command_table.specs.declared.switches.Switches.{Switches}
 use Rattle.command_table.specs.declared.reading.Stage.{Stage}
 use Rattle.command_table.specs.declared.reading.Stage.TheVariants.{Choice, Test, Pattern, Output}
 use Rattle.command_table.specs.declared.rows.Row.{Row}
-use Rattle.command_table.specs.Counts.{fits}
-use Rattle.command_table.specs.Flags.{flag_role}
-use Rattle.command_table.specs.Options.{option_count}
+use Rattle.command_table.specs.Counts.{exactly, fits}
+use Rattle.command_table.specs.Flags.{begins_with_minus, flag_role}
+use Rattle.command_table.specs.Options.{option_count, option_switches}
 use Rattle.command_table.specs.Reading.{step, is_short}
 use Rattle.command_table.specs.Rows.{row_of}
+use Rattle.command_table.specs.Switches.{switch_of, takes_value, words_before}
 use Rattle.script_check.specs.declared.placed.Placed.{Placed}
 use Rattle.script_check.specs.declared.problem.Problem.{Problem}
 use Rattle.script_check.specs.declared.problem.Problem.TheVariants.{WrongArgs, BadOption, BadFlag}
@@ -28,17 +31,39 @@ wrong name = Some (WrongArgs name)
 abbrev pub counted : List ℕ → Count → ℕ → Option Problem
 counted name c n = if fits c n then None else wrong name
 
--- An option, and the number of words after it.
-abbrev pub if_counted : List ℕ → ℕ → List ℕ → Option Count → Option Problem
-if_counted name left option None = Some (BadOption option)
-if_counted name left option (Some c) = counted name c left
+-- `on` gives the error after this flag; its argument tells whether the next word is the flag's value.
+abbrev pub by_switch : (Bool → Option Problem) → List ℕ → Option Switch → Option Problem
+by_switch on word None = Some (BadFlag word)
+by_switch on word (Some x) = on (takes_value x)
 
-abbrev pub chosen : Command → List ℕ → ℕ → Option (List ℕ) → Option Problem
-chosen command name left = option_and_then (λ option. if_counted name left option (option_count command option))
+-- A word that is a flag if it begins with a minus. Too many words are left otherwise.
+abbrev pub maybe_switch : (Bool → Option Problem) → List ℕ → Switches → List ℕ → Option Problem
+maybe_switch on name s word = if begins_with_minus word then by_switch on word (switch_of s word) else wrong name
+
+-- Flags before the last n words. `due` is true if the next word is the value of a flag.
+abbrev pub switched : List ℕ → Switches → ℕ → Bool → List Placed → Option Problem
+switched name s n due [] = counted name (exactly n) 0
+switched name s n true (w ∷ ws) = switched name s n false ws
+switched name s n false (w ∷ ws) =
+    if nat_lt n (length (w ∷ ws)) then option_and_then (maybe_switch (λ due. switched name s n due ws) name s) w.value
+    else counted name (exactly n) (length (w ∷ ws))
+
+-- Words whose number may be counted, with flags before the last of them, if the command has any.
+abbrev pub if_switched : List ℕ → Count → List Placed → Option Switches → Option Problem
+if_switched name c args None = counted name c (length args)
+if_switched name c args (Some s) = if fits c (length args) then switched name s (c.least - words_before s) false (drop (words_before s) args) else wrong name
+
+-- An option, and the words after it.
+abbrev pub if_counted : List ℕ → List Placed → List ℕ → Option Count → Option Switches → Option Problem
+if_counted name args option None s = Some (BadOption option)
+if_counted name args option (Some c) s = if_switched name c args s
+
+abbrev pub chosen : Command → List ℕ → List Placed → Option (List ℕ) → Option Problem
+chosen command name args = option_and_then (λ option. if_counted name args option (option_count command option) (option_switches command option))
 
 abbrev pub choice_fault : Command → List ℕ → List Placed → Option Problem
 choice_fault command name [] = wrong name
-choice_fault command name (option ∷ args) = if fits (row_of command).count (suc (length args)) then chosen command name (length args) option.value else wrong name
+choice_fault command name (option ∷ args) = if fits (row_of command).count (suc (length args)) then chosen command name args option.value else wrong name
 
 -- `on` gives the error after this flag; its argument tells whether the spawn id of an `-i` must follow.
 abbrev pub by_role : List ℕ → Count → ℕ → (Bool → Option Problem) → List ℕ → Role → Option Problem
@@ -55,9 +80,9 @@ flagged name f c true (w ∷ ws) = flagged name f c false ws
 flagged name f c false [] = counted name c 0
 flagged name f c false (w ∷ ws) = option_and_then (λ text. by_role name c (length ws) (λ due. flagged name f c due ws) text (flag_role f text)) w.value
 
-abbrev pub by_flags : List ℕ → Count → List Placed → Option Flags → Option Problem
-by_flags name c args None = counted name c (length args)
-by_flags name c args (Some f) = flagged name f c false args
+abbrev pub by_flags : List ℕ → Row → List Placed → Option Flags → Option Problem
+by_flags name r args None = if_switched name r.count args r.switches
+by_flags name r args (Some f) = flagged name f r.count false args
 
 -- The stage after the words.
 abbrev pub last_stage : Stage → List Placed → Stage
@@ -91,7 +116,7 @@ by_stage command r name args Test = if_fault name args
 by_stage command r name args Pattern = expect_fault args
 by_stage command r name args Choice = choice_fault command name args
 by_stage command r name args Output = output_fault name args
-by_stage command r name args other = by_flags name r.count args r.flags
+by_stage command r name args other = by_flags name r args r.flags
 
 abbrev pub fault_of : Command → List ℕ → List Placed → Option Problem
 fault_of command name args = by_stage command (row_of command) name args (row_of command).words

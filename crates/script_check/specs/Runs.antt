@@ -2,7 +2,8 @@
 use Rattle.std.specs.Prelude.{◌≡◌, ℕ, List, [], ◌∷◌, Option, Some, None}
 use Rattle.command_table.specs.declared.commands.Command.TheVariants.{Tcl}
 use Rattle.command_table.specs.declared.commands.TclCommand.{TclCommand}
-use Rattle.command_table.specs.Commands.{command_of}
+use Rattle.tcl_subst.specs.Entries.{find}
+use Rattle.command_table.specs.Commands.{tcl_command, command_of}
 use Rattle.tcl_commands.specs.declared.code.Code.TheVariants.{Error}
 use Rattle.tcl_eval.specs.Tree.{State}
 use Rattle.tcl_eval.specs.Meaning.{Next, Eval, invoke}
@@ -23,10 +24,14 @@ AreWords [] (x ∷ xs) = ⊥
 AreWords (w ∷ ws) [] = ⊥
 AreWords (w ∷ ws) (x ∷ xs) = MayBe w.value x × AreWords ws xs
 
--- If a word names a command of the language and the arguments have a problem, then a run of the command is an error.
--- Its text is that of the problem. The run evaluates nothing, and changes no variable.
+-- No procedure stands for the command. None can, unless the command is one that can be redefined.
+abbrev pub IsNotReplaced : List ℕ → State → Type 0
+IsNotReplaced name st = tcl_command name ≡ None → find name st.procs ≡ None
+
+-- If a word names a command of the language and the arguments have a problem, then a run of the command is an error,
+-- unless a procedure stands for it. Its text is that of the problem. The run evaluates nothing, and changes no variable.
 abbrev pub FindingsHold : Type 0
 FindingsHold =
     (c : TclCommand) (name : List ℕ) (args : List Placed) (p : Problem) (words : List (List ℕ)) → command_of name ≡ Some (Tcl c)
-    → fault_of (Tcl c) name args ≡ Some p → AreWords args words → (ev : Eval) (k : Next) (st : State)
+    → fault_of (Tcl c) name args ≡ Some p → AreWords args words → (ev : Eval) (k : Next) (st : State) → IsNotReplaced name st
     → invoke ev (name ∷ words) k st ≡ k Error (text_of p) st

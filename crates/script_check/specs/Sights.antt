@@ -1,5 +1,5 @@
 -- What is in a script and in the scripts nested in it: errors and procedure definitions.
-use Rattle.std.specs.Prelude.{ℕ, zero, suc, List, [], ◌∷◌, ◌++◌, length, Option, Some, None, option_map, option_to_list, Result, Ok, Err, if◌then◌else◌}
+use Rattle.std.specs.Prelude.{ℕ, zero, suc, List, [], ◌∷◌, ◌++◌, length, Option, Some, None, option_map, option_to_list, is_some, Result, Ok, Err, if◌then◌else◌}
 use Rattle.std.specs.List.{flat_map}
 use Rattle.tcl_expr.specs.declared.faults.ExprFault.{ExprFault}
 use Rattle.tcl_expr.specs.declared.faults.ExprFault.TheVariants as expr
@@ -11,7 +11,7 @@ use Rattle.command_table.specs.declared.commands.TclCommand.TheVariants as tcl
 use Rattle.command_table.specs.declared.reading.Kind.{Kind}
 use Rattle.command_table.specs.declared.reading.Kind.TheVariants.{Expression}
 use Rattle.command_table.specs.declared.reading.Stage.{Stage}
-use Rattle.command_table.specs.Commands.{command_of}
+use Rattle.command_table.specs.Commands.{redefinable_command, command_of}
 use Rattle.command_table.specs.Reading.{step, begin}
 use Rattle.command_table.specs.Rows.{row_of}
 use Rattle.script_check.specs.declared.span.Span.{Span}
@@ -22,7 +22,7 @@ use Rattle.script_check.specs.declared.problem.Problem.TheVariants.{Malformed as
 use Rattle.script_check.specs.declared.readings.Reading.{Reading}
 use Rattle.script_check.specs.declared.readings.Reading.TheVariants.{Command, Malformed}
 use Rattle.script_check.specs.declared.sights.Sight.{Sight}
-use Rattle.script_check.specs.declared.sights.Sight.TheVariants.{Defines, Finds}
+use Rattle.script_check.specs.declared.sights.Sight.TheVariants.{Defines, Finds, Unless}
 use Rattle.script_check.specs.Expects.{list_of, spread_by}
 use Rattle.script_check.specs.Faults.{fault_of}
 use Rattle.script_check.specs.Nested.{any_expanded, scripts_of}
@@ -31,6 +31,14 @@ use Rattle.script_check.specs.Readings.{readings_in}
 -- The command at this position has a problem.
 abbrev pub found : ℕ → Problem → List Sight
 found at p = Finds (record { at = at; what = p }) ∷ []
+
+-- The command at this position has a problem, unless a procedure has this name.
+abbrev pub doubted : List ℕ → ℕ → Problem → List Sight
+doubted name at p = Unless name (record { at = at; what = p }) ∷ []
+
+-- A problem of a command. A procedure can have the name of some commands.
+abbrev pub found_in : List ℕ → ℕ → Problem → List Sight
+found_in name at p = if is_some (redefinable_command name) then doubted name at p else found at p
 
 -- A text that is read as an expression.
 abbrev pub by_parse : ℕ → List ℕ → Result Tree ExprFault → List Sight
@@ -52,12 +60,12 @@ formula_sights at s [] = []
 formula_sights at s (w ∷ ws) = formula_sight at w.value (step s w.value).0 ++ formula_sights at (step s w.value).1 ws
 
 -- Expressions are checked if the arguments are correct otherwise.
-abbrev pub by_fault : ℕ → Stage → List Placed → Option Problem → List Sight
-by_fault at s args (Some p) = found at p
-by_fault at s args None = formula_sights at s args
+abbrev pub by_fault : List ℕ → ℕ → Stage → List Placed → Option Problem → List Sight
+by_fault name at s args (Some p) = found_in name at p
+by_fault name at s args None = formula_sights at s args
 
 abbrev pub judged : ℕ → Commands → List ℕ → List Placed → List Sight
-judged at c name args = if any_expanded args then [] else by_fault at (begin (row_of c).words (length args)) args (fault_of c name args)
+judged at c name args = if any_expanded args then [] else by_fault name at (begin (row_of c).words (length args)) args (fault_of c name args)
 
 -- The procedure that a `proc` defines.
 abbrev pub defined : Commands → List Placed → List Sight
@@ -65,7 +73,7 @@ defined (Tcl tcl.Proc) (name ∷ args) = option_to_list (option_map Defines name
 defined other args = []
 
 abbrev pub by_command : ℕ → List ℕ → List Placed → Option Commands → List Sight
-by_command at name args None = found at (NoCommand name)
+by_command at name args None = doubted name at (NoCommand name)
 by_command at name args (Some c) = judged at c name args ++ defined c args
 
 abbrev pub named : ℕ → List Placed → Option (List ℕ) → List Sight

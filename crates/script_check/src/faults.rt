@@ -1,14 +1,16 @@
 //! Checks the arguments of a command.
 
 ghost use Rattle.std.specs.Prelude.{◌≡◌, false, IfOk};
-ghost use Rattle.script_check.specs.Faults.{wrong, counted, chosen, choice_fault, flagged, last_stage, channel, output_fault, fault_of};
+ghost use Rattle.command_table.specs.Counts.{exactly};
+ghost use Rattle.script_check.specs.Faults.{wrong, counted, switched, if_switched, chosen, choice_fault, flagged, last_stage, channel, output_fault, fault_of};
 
 use crate::expects::expect_fault;
 use crate::placed::Placed;
 use crate::problem::Problem;
-use crate::stretch::begins_with;
+use crate::stretch::{begins_with, behind};
 use command_table::{
-    Command, Count, Flags, Role, Stage, fits, flag_role, is, is_short, option_count, row_of, step,
+    Command, Count, Flags, Role, Stage, Switches, begins_with_minus, fits, flag_role, is, is_short,
+    option_count, option_switches, row_of, step, switch_of, takes_value, words_before,
 };
 use std::alloc::{AllocError, Global};
 use tcl_words::Text;
@@ -33,16 +35,79 @@ fn counted(alloc: Global, name: &[u8], count: Count, n: usize) -> Judged
     wrong(alloc, name)
 }
 
-/// Checks an option and the number of arguments after it. An option that isn't literal isn't
-/// checked.
-fn chosen(alloc: Global, command: Command, name: &[u8], option: &Placed, left: usize) -> Judged
-    ensures { IfOk result (λ p. p ≡ chosen command name.now left option.now.value) }
+/// Returns the count that only n arguments fit.
+fn exactly(n: usize) -> Count
+    ensures { result ≡ exactly n }
+{
+    Count {
+        least: n,
+        most: Some(n),
+    }
+}
+
+/// Checks flags before the last n arguments.
+fn switched(alloc: Global, name: &[u8], switches: Switches, n: usize, args: &[Placed]) -> Judged
+    ensures { IfOk result (λ p. p ≡ switched name.now switches n false args.now) }
+{
+    let mut due = false;
+    let mut rest = args;
+    while let [word, more @ ..] = rest {
+        if due {
+            due = false;
+            rest = more;
+            continue;
+        }
+        if rest.len() <= n {
+            return counted(alloc, name, exactly(n), rest.len());
+        }
+        let Some(text) = &word.value else {
+            return Ok(None);
+        };
+        if !begins_with_minus(text.as_slice()) {
+            return wrong(alloc, name);
+        }
+        let Some(switch) = switch_of(switches, text.as_slice()) else {
+            return Ok(Some(Problem::BadFlag(text.copied(alloc)?)));
+        };
+        due = takes_value(switch);
+        rest = more;
+    }
+    counted(alloc, name, exactly(n), 0)
+}
+
+/// Checks the number of arguments, and the flags before the last of them, if the command has any.
+fn if_switched(
+    alloc: Global,
+    name: &[u8],
+    count: Count,
+    args: &[Placed],
+    switches: Option<Switches>,
+) -> Judged
+    ensures { IfOk result (λ p. p ≡ if_switched name.now count args.now switches) }
+{
+    let Some(switches) = switches else {
+        return counted(alloc, name, count, args.len());
+    };
+    if !fits(count, args.len()) {
+        return wrong(alloc, name);
+    }
+    let before = words_before(switches);
+    let n = count.least.saturating_sub(before);
+    switched(alloc, name, switches, n, behind(args, before))
+}
+
+/// Checks an option and the arguments after it. An option that isn't literal isn't checked.
+fn chosen(alloc: Global, command: Command, name: &[u8], option: &Placed, args: &[Placed]) -> Judged
+    ensures { IfOk result (λ p. p ≡ chosen command name.now args.now option.now.value) }
 {
     match &option.value {
         None => Ok(None),
         Some(text) => match option_count(command, text.as_slice()) {
             None => Ok(Some(Problem::BadOption(text.copied(alloc)?))),
-            Some(count) => counted(alloc, name, count, left),
+            Some(count) => {
+                let switches = option_switches(command, text.as_slice());
+                if_switched(alloc, name, count, args, switches)
+            }
         },
     }
 }
@@ -55,7 +120,7 @@ fn choice_fault(alloc: Global, command: Command, name: &[u8], args: &[Placed]) -
         [] => wrong(alloc, name),
         [option, rest @ ..] => {
             if fits(row_of(command).count, args.len()) {
-                return chosen(alloc, command, name, option, rest.len());
+                return chosen(alloc, command, name, option, rest);
             }
             wrong(alloc, name)
         }
@@ -149,7 +214,7 @@ pub(crate) fn fault_of(alloc: Global, command: Command, name: &[u8], args: &[Pla
         Stage::Choice => choice_fault(alloc, command, name, args),
         Stage::Output => output_fault(alloc, name, args),
         _ => match row.flags {
-            None => counted(alloc, name, row.count, args.len()),
+            None => if_switched(alloc, name, row.count, args, row.switches),
             Some(flags) => flagged(alloc, name, flags, row.count, args),
         },
     }

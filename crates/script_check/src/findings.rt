@@ -2,9 +2,9 @@
 
 ghost use Rattle.std.specs.Prelude.{◌≡◌, [], length, IfOk, IsTrue, is_some};
 ghost use Rattle.tcl_subst.specs.Entries.{find};
-ghost use Rattle.script_check.specs.Findings.{names_of, is_defined, reported, findings};
+ghost use Rattle.script_check.specs.Findings.{names_of, reported, findings};
 
-use crate::problem::{Finding, Problem};
+use crate::problem::Finding;
 use crate::sights::{Sight, sights};
 use crate::span::Span;
 use std::alloc::{AllocError, Global};
@@ -53,14 +53,11 @@ fn names_of(alloc: Global, sights: &[Sight]) -> Result<Names<bool>, AllocError>
     Ok(names)
 }
 
-/// Returns whether the problem is an unknown command whose name is that of a procedure.
-fn is_defined(names: &Names<bool>, problem: &Problem) -> bool
-    ensures { result ≡ is_defined names.now problem.now }
+/// Returns whether a procedure with this name is defined.
+fn is_defined(names: &Names<bool>, name: &[u8]) -> bool
+    ensures { result ≡ is_some (find name.now names.now) }
 {
-    match problem {
-        Problem::NoCommand(name) => names.get(name.as_slice()).is_some(),
-        _ => false,
-    }
+    names.get(name).is_some()
 }
 
 /// Returns the errors in a list of errors and procedure definitions.
@@ -69,9 +66,13 @@ fn reported(alloc: Global, names: &Names<bool>, sights: Vec<Sight>) -> Result<Fi
 {
     let mut list = Vec::new(alloc);
     for sight in sights {
-        if let Sight::Finds(finding) = sight {
-            if !is_defined(names, &finding.what) {
-                list.push(finding)?;
+        match sight {
+            Sight::Defines(_name) => {}
+            Sight::Finds(finding) => list.push(finding)?,
+            Sight::Unless(name, finding) => {
+                if !is_defined(names, name.as_slice()) {
+                    list.push(finding)?;
+                }
             }
         }
     }

@@ -3,7 +3,7 @@
 ghost use Rattle.std.specs.Prelude.{◌≡◌, ◌++◌, IfOk, OnOk};
 ghost use Rattle.std.specs.List.{flat_map};
 ghost use Rattle.script_check.specs.Expects.{list_of, spread_by};
-ghost use Rattle.script_check.specs.Sights.{found, parse_sight, formula_sights, judged, defined, own, command_sights, reading_sights, sights};
+ghost use Rattle.script_check.specs.Sights.{found, doubted, found_in, parse_sight, formula_sights, judged, defined, own, command_sights, reading_sights, sights};
 
 use crate::expects::spread;
 use crate::faults::fault_of;
@@ -12,7 +12,9 @@ use crate::placed::{Placed, Words};
 use crate::problem::{Finding, Problem};
 use crate::readings::{Reading, readings_in};
 use crate::span::{Done, Span};
-use command_table::{Command, Kind, Stage, TclCommand, begin, command_of, row_of, step};
+use command_table::{
+    Command, Kind, Stage, TclCommand, begin, command_of, redefinable_command, row_of, step,
+};
 use std::alloc::{AllocError, Global};
 use tcl_expr::{ExprFault, parse};
 use tcl_words::Text;
@@ -27,6 +29,8 @@ pub enum Sight {
     Defines(Text),
     /// An error.
     Finds(Finding),
+    /// An error, unless a procedure has this name.
+    Unless(Text, Finding),
 }
 
 /// Appends an error.
@@ -35,6 +39,25 @@ fn push_found(at: usize, what: Problem, out: &mut Seen) -> Done
 {
     out.push(Sight::Finds(Finding { at, what }))?;
     Ok(())
+}
+
+/// Appends an error that is none if a procedure has this name.
+fn push_doubted(alloc: Global, name: &[u8], at: usize, what: Problem, out: &mut Seen) -> Done
+    ensures { OnOk result (out.new.items ≡ out.old.items ++ doubted name.now at what) }
+{
+    let name = Text::from_slice(alloc, name)?;
+    out.push(Sight::Unless(name, Finding { at, what }))?;
+    Ok(())
+}
+
+/// Appends an error of the command with this name.
+fn push_found_in(alloc: Global, name: &[u8], at: usize, what: Problem, out: &mut Seen) -> Done
+    ensures { OnOk result (out.new.items ≡ out.old.items ++ found_in name.now at what) }
+{
+    if redefinable_command(name).is_some() {
+        return push_doubted(alloc, name, at, what, out);
+    }
+    push_found(at, what, out)
 }
 
 /// Appends the error of an expression, if it has one.
@@ -84,7 +107,7 @@ fn judge(
         return Ok(());
     }
     match fault_of(alloc, known, name, args)? {
-        Some(problem) => push_found(at, problem, out),
+        Some(problem) => push_found_in(alloc, name, at, problem, out),
         None => formula_sights(alloc, at, begin(row_of(known).words, args.len()), args, out),
     }
 }
@@ -117,7 +140,10 @@ fn push_own(alloc: Global, at: usize, words: &[Placed], out: &mut Seen) -> Done
         return Ok(());
     };
     match command_of(name.as_slice()) {
-        None => push_found(at, Problem::NoCommand(name.copied(alloc)?), out),
+        None => {
+            let what = Problem::NoCommand(name.copied(alloc)?);
+            push_doubted(alloc, name.as_slice(), at, what, out)
+        }
         Some(command) => {
             judge(alloc, at, command, name.as_slice(), args, out)?;
             push_defined(alloc, command, args, out)

@@ -5,12 +5,12 @@ ghost use Rattle.script_check.specs.Stretches.{begins_with, part, inside};
 
 use crate::span::Span;
 
-/// Returns the bytes from index n on. Empty past the end.
-pub(crate) fn behind(bytes: &[u8], n: usize) -> &[u8]
-    ensures { result.now ≡ drop n bytes.now }
+/// Returns the elements from index n on. Empty past the end.
+pub(crate) fn behind<T>(list: &[T], n: usize) -> &[T]
+    ensures { result.now ≡ drop n list.now }
 {
-    if n < bytes.len() {
-        bytes.split_at(n).1
+    if n < list.len() {
+        list.split_at(n).1
     } else {
         &[]
     }

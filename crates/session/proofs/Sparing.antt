@@ -20,7 +20,7 @@ use Rattle.tcl_commands.specs.declared.verbs.Verb.TheVariants.{Plain, If, While,
 use Rattle.tcl_commands.specs.Texts.{wrong_args, expected_number, not_read, word_fault, expr_fault, too_deep}
 use Rattle.tcl_commands.specs.Said.{Said, Outcome as Carried}
 use Rattle.tcl_commands.specs.Plain.{plain}
-use Rattle.tcl_commands.specs.Verbs.{verb_of, exit_status}
+use Rattle.tcl_commands.specs.Verbs.{verb_of, redefinable_verb, exit_status}
 use Rattle.tcl_commands.specs.Joining.{expr_text, eval_text}
 use Rattle.tcl_commands.specs.Arms.{arms_of}
 use Rattle.tcl_commands.specs.Groups.{each_of, assigned}
@@ -39,7 +39,7 @@ use Rattle.tcl_eval.specs.declared.trail.Origin.{Origin}
 use Rattle.tcl_eval.specs.declared.trail.Origin.TheVariants as origin
 use Rattle.tcl_host.specs.Calls.{Call, Begin, Resume, AfterWords, AfterBody, Knows, Reply, Stepped, Known, step_of, vars_of, known_of}
 use Rattle.tcl_eval.specs.Tree.{State, Tree, Over, Ask}
-use Rattle.tcl_eval.specs.Meaning.{Next, Eval, passed, taken, noting, on_ok, on_said, after, on_bool, tested, computed, turn_end, stepped, fill_word, fill_parts, spread, fill_words, value_from, expression, tree_of as expression_of, condition, otherwise, arms, decided, advanced, turned, loop, each, digit, caught, left_scope, left_by_error, scope_end, no_command, called, called_or_begun, reserved, defined, replied, once_more, told_end, next_body, after_body, host_body, host_words, words_in, begin, while_command, for_command, new_proc, proc_command, catch_command, invoked, named, invoke, command, sequence, eval}
+use Rattle.tcl_eval.specs.Meaning.{Next, Eval, passed, taken, noting, on_ok, on_said, after, on_bool, tested, computed, turn_end, stepped, fill_word, fill_parts, spread, fill_words, value_from, expression, tree_of as expression_of, condition, otherwise, arms, decided, advanced, turned, loop, each, digit, caught, left_scope, left_by_error, scope_end, no_command, called, redefinable_or_begun, called_or_begun, reserved, defined, replied, once_more, told_end, next_body, after_body, host_body, host_words, words_in, begin, while_command, for_command, new_proc, proc_command, catch_command, invoked, named, invoke, command, sequence, eval}
 use Rattle.tcl_eval.specs.Suspended.{at_the_end}
 use Rattle.expect_core.specs.declared.dialogue.Dialogue.{Dialogue}
 use Rattle.expect_core.specs.declared.request.Request.{Request}
@@ -375,8 +375,12 @@ module _ (ev : Eval) (evaluates : SparedEval ev) where
   invoked-spared Catch name args k st h = catch-spared name args k st h
   invoked-spared Exit name args k st h = on_said-spared (exit_status name args) k (λ n st. Over (end.Stopped (ending.Exit n)) st) st h (λ n st. tt)
 
+  redefinable-spared : (o : Option Verb) (name : List ℕ) (args : List (List ℕ)) (k : Next) (st : State) → SparedNext k → SparedTree (redefinable_or_begun ev o name args k st)
+  redefinable-spared (Some verb) name args k st h = invoked-spared verb name args k st h
+  redefinable-spared None name args k st h = begin-spared (name ∷ args) k st h
+
   called_or_begun-spared : (o : Option Procedure) (name : List ℕ) (args : List (List ℕ)) (k : Next) (st : State) → SparedNext k → SparedTree (called_or_begun ev o name args k st)
-  called_or_begun-spared None name args k st h = begin-spared (name ∷ args) k st h
+  called_or_begun-spared None name args k st h = redefinable-spared (redefinable_verb name) name args k st h
   called_or_begun-spared (Some p) name args k st h = called-spared p name args k st h
 
   named-spared : (o : Option Verb) (name : List ℕ) (args : List (List ℕ)) (k : Next) (st : State) → SparedNext k → SparedTree (named ev o name args k st)

@@ -1,4 +1,4 @@
--- A limit on time ends a script.
+-- A time limit ends a script.
 use Rattle.std.specs.Prelude.{◌≡◌, ◌≢◌, ℕ, ◌<◌, List, IsTrue, Option, Some}
 use Rattle.child_events.specs.declared.event.Event.{Event}
 use Rattle.child_events.specs.World.{horizon_from, horizon_of}
@@ -10,16 +10,18 @@ use Rattle.session.specs.Left.{Kept, left, Fed, HandsOut}
 use Rattle.session.specs.Spent.{Reports}
 use Rattle.session.specs.Meaning.{meaning}
 
--- Where the greatest moment of a script's events is past its limit, it doesn't wait.
+-- If the greatest moment of a script's events is past its limit, it doesn't wait.
 abbrev pub LimitEnds : Type 0
 LimitEnds = (source : List ℕ) (settings : Settings) (events : List Event) (limit : ℕ) →
     settings.limit_ms ≡ Some limit → limit < horizon_of events → (meaning source settings events).ending ≢ Waiting
 
--- A session to which these were the greatest moment so far and the limit waits for nothing behind that limit, whatever comes.
+-- The script of a session doesn't wait past this limit, whatever events come later. `horizon` is the greatest moment so
+-- far.
 abbrev pub EndsPast : ℕ → ℕ → Kept → Type 0
 EndsPast limit horizon k = IsTrue k.lives → (later : List Event) → limit < horizon_from horizon later → (left k later).ending ≢ Waiting
 
--- It holds of a session at its start, and stays. So what a session reports behind its limit isn't that it waits, also where memory was refused.
+-- `EndsPast` holds of a new session, and stays. A report past the limit therefore never says that the script waits,
+-- even if memory was refused.
 pub record StaysLimited : Type 0 where
   pub begins : (source : List ℕ) (settings : Settings) (limit : ℕ) (k : Kept) → settings.limit_ms ≡ Some limit → (IsTrue k.lives → (later : List Event) → left k later ≡ meaning source settings later) → EndsPast limit 0 k
   pub fed : (limit horizon : ℕ) (old new : Kept) (events : List Event) → Fed old events new → EndsPast limit horizon old → EndsPast limit (horizon_from horizon events) new

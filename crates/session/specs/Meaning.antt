@@ -11,14 +11,15 @@ use Rattle.session.specs.declared.report.Report.{Report}
 use Rattle.session.specs.First.{first_variables}
 use Rattle.session.specs.Play.{play, told}
 
--- a bound of more than 1,000,000,000,000 steps counts as that
+-- A limit above 1,000,000,000,000 steps counts as that number.
 abbrev pub steps_of : ℕ → ℕ
 steps_of n = if nat_lt n 1000000000000 then n else 1000000000000
 
--- The tree of a source: at most 200 scripts are evaluated within one another. It computes long, so it opens only where it is named.
+-- The tree of a source. At most 200 scripts are nested. It is unfoldable because it is slow to compute.
 unfoldable pub tree_of : List ℕ → Settings → Tree
 tree_of source settings = eval 200 source at_the_end (record { vars = first_variables settings.env; procs = []; left = steps_of settings.steps; trail = [] })
 
--- The meaning of a source, its settings and the script's own events, whose moments are raised as they come: each call sees all of them.
+-- The meaning of a source, settings and the script's own events. The moment of each event is raised to the greatest one
+-- before it. Each call sees all events.
 abbrev pub meaning : List ℕ → Settings → List Event → Report
 meaning source settings events = told settings.tells_vars (play (steps_of settings.steps) (tree_of source settings) (extended events (fresh settings.limit_ms)))

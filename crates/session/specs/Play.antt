@@ -1,4 +1,4 @@
--- What a script's tree comes to with a dialogue.
+-- The report of a script's tree over a dialogue.
 use Rattle.std.specs.Prelude.{ℕ, ◌-◌, Bool, List, [], ◌∷◌, map, codes, if◌then◌else◌}
 use Rattle.tcl_subst.specs.Report.{values_of}
 use Rattle.tcl_subst.specs.Variables.{Variables}
@@ -21,7 +21,7 @@ use Rattle.session.specs.declared.place.Place.{Place}
 use Rattle.session.specs.declared.place.Place.TheVariants.{Command, Procedure}
 use Rattle.session.specs.declared.report.Report.{Report}
 
--- what is said with these variables
+-- The report with these variables.
 abbrev pub said_with : Ending → List ℕ → List Place → ℕ → List (List ℕ × List ℕ) → Dialogue → Report
 said_with e fault trail steps values st = record {
   ending = e;
@@ -37,11 +37,11 @@ said_with e fault trail steps values st = record {
 abbrev pub said : Ending → List ℕ → List Place → ℕ → Variables → Dialogue → Report
 said e fault trail steps vars st = said_with e fault trail steps (values_of vars.globals) st
 
--- a report as it is told: without the variables where it doesn't tell them
+-- A report with its variables only if the settings ask for them.
 abbrev pub told : Bool → Report → Report
 told tells r = record r { vars = if tells then r.vars else [] }
 
--- A script's end: code 2 is one too, and another code than 0 is an error.
+-- The ending of a script with this code. Code 2 (return) is a normal end; any other code than 0 and 2 is an error.
 abbrev pub ending_at : Code → Ending
 ending_at Ok = ending.Exit 0
 ending_at Return = ending.Exit 0
@@ -60,17 +60,17 @@ fault_at Continue value = outside_loop (codes "continue")
 fault_at Again value = codes "exp_continue outside of expect"
 fault_at AgainLater value = codes "exp_continue outside of expect"
 
--- the name of a procedure that these words called
+-- The name of the procedure that these words called.
 abbrev pub name_of : List (List ℕ) → List ℕ
 name_of [] = []
 name_of (name ∷ args) = name
 
--- where an error was handed on
+-- A place that an error passed.
 abbrev pub place_of : Origin → Place
 place_of (origin.Command script at) = Command script at
 place_of (origin.Procedure words) = Procedure (name_of words)
 
--- where the error came by that ended a script
+-- The places that the error passed which ended a script.
 abbrev pub trail_at : Code → List Origin → List Place
 trail_at Ok trail = []
 trail_at Return trail = []
@@ -104,7 +104,7 @@ trail_of end.Memory trail = []
 abbrev pub over_with : End → List Origin → ℕ → Variables → Dialogue → Report
 over_with e trail steps vars st = said (ending_of e) (fault_of e) (trail_of e trail) steps vars st
 
--- a call that waits waits for ever, where no more events come
+-- The report after a call. A call that waits waits for ever, because no more events come.
 abbrev pub behind : ℕ → (Reply → Dialogue → Report) → Outcome → Report
 behind steps more (Wait, vars, st) = said ending.Waiting [] [] steps vars st
 behind steps more (Done c v, vars, st) = more (Stepped (Done c v) vars) st
@@ -115,7 +115,7 @@ behind steps more (Stop e, vars, st) = more (Stepped (Stop e) vars) st
 behind steps more (Unknown, vars, st) = more (Stepped Unknown vars) st
 behind steps more (Memory, vars, st) = more (Stepped Memory vars) st
 
--- what a call is answered, and what follows
+-- The report after the reply to a call.
 abbrev pub asking : ℕ → (Reply → Dialogue → Report) → Call → Dialogue → Report
 asking steps more (Knows word) st = more (Known (knows word)) st
 asking steps more (Begin words vars) st = behind steps more (outcome (Begin words vars) st)
@@ -123,7 +123,7 @@ asking steps more (Resume vars) st = behind steps more (outcome (Resume vars) st
 asking steps more (AfterWords words vars) st = behind steps more (outcome (AfterWords words vars) st)
 asking steps more (AfterBody c value vars) st = behind steps more (outcome (AfterBody c value vars) st)
 
--- The report of a tree and a dialogue: each call sees all that its dialogue has.
+-- The report of a tree over a dialogue. Each call sees all that came to the dialogue.
 abbrev pub play : ℕ → Tree → Dialogue → Report
 play bound (Over e s) st = over_with e s.trail (bound - s.left) s.vars st
 play bound (Ask call left go) st = asking (bound - left) (λ r. play bound (go r)) call st

@@ -1,4 +1,4 @@
--- What a machine that has paused shows.
+-- The report of a paused machine.
 use Rattle.std.specs.Prelude.{◌≡◌, ℕ, ◌-◌, List, [], IsTrue, Option, Some, None}
 use Rattle.child_events.specs.declared.event.Event.{Event}
 use Rattle.tcl_host.specs.declared.ending.Ending.TheVariants as ending
@@ -14,16 +14,17 @@ use Rattle.session.specs.declared.report.Report.{Report}
 use Rattle.session.specs.Play.{said, over_with, play}
 use Rattle.session.specs.Quiet.{Quiet}
 
--- the report of a machine that ended so, or waits
+-- The report of a machine that has ended, or waits.
 abbrev pub shown_at : Option End → ℕ → Engine → Dialogue → Report
 shown_at (Some e) steps engine st = over_with e engine.trail steps engine.vars st
 shown_at None steps engine st = said ending.Waiting [] [] steps engine.vars st
 
--- the report that a machine shows
+-- The report of a paused machine.
 abbrev pub shown : ℕ → Engine → Mode → ℕ → Dialogue → Report
 shown bound engine mode left st = shown_at (end_of mode) (bound - left) engine st
 
--- A run to a pause: the report for whatever comes stays, now the report is what the pause shows, and it stays so up to the deadline.
+-- A run to a pause. The report for any later events stays the same. The report for none is the paused machine's, and
+-- ticks up to the deadline don't change it.
 pub record Ran (old : Engine) (was : Mode) (had : ℕ) (before : Dialogue) (new : Engine) (is : Mode) (has : ℕ) (after : Dialogue) : Type 0 where
   pub lived : IsTrue before.lives
   pub good : Good after

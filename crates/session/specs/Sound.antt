@@ -1,4 +1,4 @@
--- What always holds of a session's fields.
+-- The invariant of a session.
 use Rattle.std.specs.Prelude.{◌≡◌, ◌≤◌, [], drop, length, false, IsTrue}
 use Rattle.tcl_eval.specs.Rest.{engine_rest}
 use Rattle.tcl_eval.specs.Steps.{left_of}
@@ -21,8 +21,9 @@ kept_of a = record {
   lives = a.lives;
 }
 
--- The report now is what the machine shows, up to the deadline; nothing is later than the greatest moment; no more requests were
--- handed out than there are, and those behind them lie ready.
+-- Unless memory was refused: the report now is the paused machine's, and ticks up to the deadline don't change it. No
+-- item is later than the greatest moment. `handed` is at most the number of requests, and the later requests are
+-- queued.
 pub record Sound (a : Inside) : Type 0 where
   pub shows : IsTrue a.lives → play a.bound (engine_rest a.machine.engine (left_of a.meter) a.machine.mode) a.dialogue ≡ shown a.bound a.machine.engine a.machine.mode (left_of a.meter) a.dialogue
   pub quiet : IsTrue a.lives → Quiet a.machine.engine a.machine.mode (left_of a.meter) a.dialogue

@@ -20,23 +20,23 @@ use Rattle.expect_core.specs.declared.settings.Settings.{Settings}
 use Rattle.session.specs.Left.{Kept}
 use Rattle.session.specs.Meaning.{tree_of}
 
--- an expect that met something, the variables with what was stored, and what was asked for before
+-- An expect that met something, the variables with what was stored, and the requests before it.
 pub record Meeting : Type 0 where
   pub plan : Plan
   pub vars : Variables
   pub asked : List Request
 
--- that of the innermost expect
+-- The meeting of the innermost expect.
 abbrev pub innermost : List Plan → Variables → List Request → Option Meeting
 innermost [] vars asked = None
 innermost (p ∷ ps) vars asked = Some (record { plan = p; vars = vars; asked = asked })
 
--- Where a call is answered by a script to be evaluated, it is the action of the innermost expect, which met something.
+-- A reply with a script to evaluate is the action of the innermost expect, which met something.
 abbrev pub met_by : HostStep → Variables → Own → Option Meeting
 met_by (Body text) vars o = innermost o.plans vars o.requests
 met_by step vars o = None
 
--- the same of a reply
+-- The same for a reply.
 abbrev pub met_in : Reply → Own → Option Meeting
 met_in (Stepped step vars) o = met_by step vars o
 met_in (Known b) o = None
@@ -45,7 +45,7 @@ abbrev pub met_then : Option Meeting → List Meeting → List Meeting
 met_then None ms = ms
 met_then (Some m) ms = m ∷ ms
 
--- what is met behind a call that came to this, with what is met in it
+-- What is met in a call with this outcome, and after it.
 abbrev pub meets_behind : (Reply → Dialogue → List Meeting) → Outcome → List Meeting
 meets_behind more (Wait, vars, st) = []
 meets_behind more (Done c v, vars, st) = more (Stepped (Done c v) vars) st
@@ -63,24 +63,24 @@ meets_asking more (Resume vars) st = meets_behind more (outcome (Resume vars) st
 meets_asking more (AfterWords words vars) st = meets_behind more (outcome (AfterWords words vars) st)
 meets_asking more (AfterBody c value vars) st = meets_behind more (outcome (AfterBody c value vars) st)
 
--- all that is met by a tree and a dialogue, in order
+-- All that a tree meets over a dialogue, in order.
 abbrev pub meets : Tree → Dialogue → List Meeting
 meets (Over e s) st = []
 meets (Ask call left go) st = meets_asking (λ r. meets (go r)) call st
 
--- all that a script meets over all its events
+-- All that a script meets over all its events.
 abbrev pub met_over : List ℕ → Settings → List Event → List Meeting
 met_over source settings events = meets (tree_of source settings) (extended events (fresh settings.limit_ms))
 
--- all that a machine and a dialogue meet over later events
+-- All that a machine and a dialogue meet over later events.
 abbrev pub met_by_run : Engine → ℕ → Mode → Dialogue → List Event → List Meeting
 met_by_run engine steps mode st later = meets (engine_rest engine steps mode) (extended later st)
 
--- all that a session, as it stands, meets over later events
+-- All that a session meets over later events.
 unfoldable pub met_from : Kept → List Event → List Meeting
 met_from k later = met_by_run k.engine k.steps k.mode k.dialogue later
 
--- how a watcher sees one thing or another
+-- The relation that a watcher defines for what it sees.
 abbrev pub Sight : Type 0 → Type 1
 Sight W = W → Plan → Variables → List Request → W → Type 0
 
@@ -88,12 +88,12 @@ abbrev pub Sees : {W : Type 0} → Sight W → Option Meeting → W → W → Ty
 Sees sees None old new = new ≡ old
 Sees sees (Some m) old new = sees old m.plan m.vars m.asked new
 
--- it saw these, one after another
+-- The watcher saw these meetings, one after another.
 abbrev pub SeesAll : {W : Type 0} → Sight W → List Meeting → W → W → Type 0
 SeesAll sees [] old new = new ≡ old
 SeesAll {W} sees (m ∷ ms) old new = (mid : W) × sees old m.plan m.vars m.asked mid × SeesAll sees ms mid new
 
--- Of all that is met, the watcher saw what isn't left, all of it and in order.
+-- The watcher saw, in order, all meetings before those that are left.
 pub record Sights {W : Type 0} (sees : Sight W) (all : List Event → List Meeting) (old : W) (left : List Event → List Meeting) (new : W) : Type 0 where
   pub met : List Meeting
   pub each : (later : List Event) → all later ≡ met ++ left later

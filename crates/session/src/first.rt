@@ -1,4 +1,4 @@
-//! The variables that a script begins with.
+//! The initial variables of a script.
 
 ghost use Rattle.std.specs.Prelude.{◌≡◌, IfOk, OnOk};
 ghost use Rattle.session.specs.First.{env_name as env_text, first_variables as first_of, setting, with_array, with_env};
@@ -8,7 +8,7 @@ use tcl_subst::{SubstFault, Vars};
 use tcl_values::Value;
 use tcl_words::Text;
 
-/// Gives a variable a value, where it can have one.
+/// Sets a variable. Changes nothing if it can't have a value.
 fn set(vars: &mut Vars, name: &[u8], value: Value) -> Result<(), AllocError>
     ensures { OnOk result (vars.new ≡ setting name.now value vars.old) }
 {
@@ -19,7 +19,7 @@ fn set(vars: &mut Vars, name: &[u8], value: Value) -> Result<(), AllocError>
     }
 }
 
-/// The name of an element of `env`.
+/// Returns the name of an element of `env`.
 fn env_name(alloc: Global, name: &[u8]) -> Result<Text, AllocError>
     ensures { IfOk result (λ t. t ≡ env_text name.now) }
 {
@@ -29,7 +29,7 @@ fn env_name(alloc: Global, name: &[u8]) -> Result<Text, AllocError>
     Ok(text)
 }
 
-/// `env` is an array, also where it has no elements.
+/// Makes `env` an array, without elements.
 fn add_array(alloc: Global, vars: &mut Vars) -> Result<(), AllocError>
     ensures { OnOk result (vars.new ≡ with_array vars.old) }
 {
@@ -41,7 +41,7 @@ fn add_array(alloc: Global, vars: &mut Vars) -> Result<(), AllocError>
     }
 }
 
-/// The elements of `env`.
+/// Sets the elements of `env`. If a name occurs twice, the last value counts.
 fn add_env(alloc: Global, vars: &mut Vars, env: &[(Text, Text)]) -> Result<(), AllocError>
     ensures { OnOk result (vars.new ≡ with_env env.now vars.old) }
 {
@@ -52,7 +52,8 @@ fn add_env(alloc: Global, vars: &mut Vars, env: &[(Text, Text)]) -> Result<(), A
     Ok(())
 }
 
-/// The variables that a script begins with: `timeout` is 10, and `env` is the array that the settings hand in.
+/// Returns the initial variables of a script: `timeout` is 10, and `env` is the array from the
+/// settings.
 pub(crate) fn first_variables(alloc: Global, env: &[(Text, Text)]) -> Result<Vars, AllocError>
     ensures { IfOk result (λ v. v ≡ first_of env.now) }
 {

@@ -1,33 +1,37 @@
-//! What holds of the reports of all scripts.
+//! Laws of the reports of all scripts.
 
 ghost use Rattle.session.specs.Growth.{EndingStays, OnlyGrows};
 ghost use Rattle.session.specs.Limits.{LimitEnds, StaysLimited};
 ghost use Rattle.session.specs.Requests.{AllNameAChild, StaysAsking};
 ghost use Rattle.session.specs.Spent.{NoneMeansMemory, StaysSpared};
 
-/// More events only make a waiting script go on. So each request of a report is handed out once, in order, whenever the events that come
-/// later are known. It does nothing when it runs.
+/// States that more events only continue a waiting script. An ending stays, and requests and output
+/// are not undone. Each request is therefore handed out once, in order, whenever later events are
+/// known. It does nothing at run time.
 pub fn growth()
     ensures stays { EndingStays }
     ensures grows { OnlyGrows }
 {}
 
-/// Each request of a report names a child from 1 to 16, as an event does that answers it. So does each request that a session hands out,
-/// from its start on and whatever it was fed. It does nothing when it runs.
+/// States that each request of a report names a child from 1 to 16, as an event with its answer
+/// does. So does each request that a session hands out, whatever events it took. It does nothing at
+/// run time.
 pub fn request_law()
     ensures asked { AllNameAChild }
     ensures handed { StaysAsking }
 {}
 
-/// No script means the ending for want of memory, whatever its source, its settings and its events are. So a session that lives never says
-/// it, from its start on and whatever it was fed: where a report has it, memory was refused. It does nothing when it runs.
+/// States that no script means the ending `Memory`, whatever its source, settings and events are. A
+/// session that was not refused memory never reports it. So if a report has it, memory was refused.
+/// It does nothing at run time.
 pub fn no_meaning_is_memory()
     ensures meant { NoneMeansMemory }
     ensures said { StaysSpared }
 {}
 
-/// A limit ends a script: where the greatest moment of its events is past the limit of its settings, it doesn't wait, whatever its source is.
-/// So it is with a session that was fed events past its limit, and with what it reports. It does nothing when it runs.
+/// States that a time limit ends a script. If the greatest moment of its events is past the limit
+/// of its settings, it doesn't wait. The same holds for a session that took such events, and for
+/// its report. It does nothing at run time.
 pub fn limit_law()
     ensures ends { LimitEnds }
     ensures stays { StaysLimited }

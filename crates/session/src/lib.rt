@@ -1,6 +1,7 @@
 //! One script with its children: its commands over their events, its requests, its report.
 //!
-//! What a script means over all its events is defined in `specs/Meaning`. A session keeps no event that was taken.
+//! `specs/Meaning` defines what a script means over all its events. A session keeps no event that a
+//! command has taken.
 #![tactic(auto)]
 
 mod first;

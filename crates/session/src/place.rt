@@ -1,4 +1,4 @@
-//! Where an error came by.
+//! The places that an error passed.
 
 ghost use Rattle.std.specs.Prelude.{◌≡◌, IfOk, map, [], List};
 ghost use Rattle.session.specs.Play.{name_of as name_meant, place_of as place_meant};
@@ -9,18 +9,20 @@ use tcl_eval::Origin;
 use tcl_host::Values;
 use tcl_words::Text;
 
-/// Where an error was handed on.
+/// A place that an error passed.
 #[derive(Drop)]
 pub enum Place {
-    /// At a command of a script with this text, which was read from this place on: behind the command before it.
+    /// A command of the script with this text. `at` is the index in the text from which the command
+    /// was read: the end of the command before it.
     Command { script: Text, at: usize },
-    /// At the end of a procedure of this name.
+    /// The end of the procedure with this name.
     Procedure { name: Text },
 }
 
-/// Where an error came by, the innermost place first. A contract sees a list.
+/// The places that an error passed, the innermost one first. A contract sees a list.
 #[derive(Drop)]
 pub struct Places {
+    /// The places.
     pub list: Vec<Place>,
 }
 
@@ -34,7 +36,7 @@ impl Model for Places {
 }
 
 impl Place {
-    /// The same place once more.
+    /// Returns a copy.
     fn copied(&self, alloc: Global) -> Result<Place, AllocError>
         ensures { IfOk result (λ p. p ≡ self.now) }
     {
@@ -51,7 +53,7 @@ impl Place {
 }
 
 impl Places {
-    /// None.
+    /// Creates an empty list.
     pub fn new(alloc: Global) -> Places
         ensures { result ≡ [] }
     {
@@ -60,12 +62,14 @@ impl Places {
         }
     }
 
+    /// Returns the places as a slice.
     pub fn as_slice(&self) -> &[Place]
         ensures { result.now ≡ self.now }
     {
         self.list.as_slice()
     }
 
+    /// Returns a copy.
     pub fn copied(&self, alloc: Global) -> Result<Places, AllocError>
         ensures { IfOk result (λ p. p ≡ self.now) }
     {
@@ -76,7 +80,7 @@ impl Places {
         Ok(Places { list })
     }
 
-    /// The places of what handed an error on.
+    /// Converts the trail of an error.
     pub(crate) fn of(alloc: Global, trail: &[Origin]) -> Result<Places, AllocError>
         ensures { IfOk result (λ p. p ≡ map place_meant trail.now) }
     {
@@ -88,7 +92,7 @@ impl Places {
     }
 }
 
-/// The name of a procedure that these words called.
+/// Returns the name of the procedure that these words called.
 fn name_of(alloc: Global, words: &Values) -> Result<Text, AllocError>
     ensures { IfOk result (λ t. t ≡ name_meant words.now) }
 {

@@ -1,4 +1,4 @@
-//! What came of a script.
+//! The report of a script.
 
 ghost use Rattle.std.specs.Prelude.{◌≡◌, IfOk};
 ghost use Rattle.session.specs.Spent.{memory_report};
@@ -10,9 +10,10 @@ use std::marker::Model;
 use tcl_host::Ending;
 use tcl_words::Text;
 
-/// Numbers in order, seen as a list.
+/// A list of numbers. A contract sees a list.
 #[derive(Drop)]
 pub struct Counts {
+    /// The numbers.
     pub list: Vec<u64>,
 }
 
@@ -25,12 +26,14 @@ impl Model for Counts {
 }
 
 impl Counts {
+    /// Returns the numbers as a slice.
     pub fn as_slice(&self) -> &[u64]
         ensures { result.now ≡ self.now }
     {
         self.list.as_slice()
     }
 
+    /// Returns a copy.
     pub fn copied(&self, alloc: Global) -> Result<Counts, AllocError>
         ensures { IfOk result (λ c. c ≡ self.now) }
     {
@@ -40,28 +43,31 @@ impl Counts {
     }
 }
 
-/// What came of a script so far.
+/// The report of a script so far.
 #[derive(Drop)]
 pub struct Report {
+    /// How the script ended, or `Waiting`.
     pub ending: Ending,
-    /// The text of the error that ended it; empty at any other ending.
+    /// The message of the error that ended the script. Empty for any other ending.
     pub fault: Text,
-    /// Where that error came by, the innermost place first; empty at any other ending.
+    /// The places that this error passed, the innermost one first. Empty for any other ending.
     pub trail: Places,
-    /// What it wrote, and the output of its children that it took.
+    /// The bytes that the script wrote, and the output of its children that it took.
     pub transcript: Text,
-    /// The global variables that have a value, in byte order of names; none where the settings don't ask for them.
+    /// The global variables that have a value, in byte order of their names. Empty if the settings
+    /// don't ask for them.
     pub vars: Pairs,
-    /// What it asked of its children, in order.
+    /// The requests of the script, in order.
     pub requests: Requests,
-    /// For each child the bytes of its writes that were accepted.
+    /// For each child, the number of bytes of its accepted writes.
     pub sent: Counts,
-    /// How many steps were begun.
+    /// The number of steps begun.
     pub steps: u64,
 }
 
 impl Report {
-    /// The report of a script that was refused memory: its ending, and nothing else. It allocates nothing.
+    /// Returns the report of a script that was refused memory: only the ending. It allocates
+    /// nothing.
     pub fn of_memory(alloc: Global) -> Report
         ensures { result ≡ memory_report }
     {
@@ -79,6 +85,7 @@ impl Report {
         }
     }
 
+    /// Returns a copy.
     pub fn copied(&self, alloc: Global) -> Result<Report, AllocError>
         ensures { IfOk result (λ r. r ≡ self.now) }
     {

@@ -1,4 +1,4 @@
-//! A script that is fed its events one by one.
+//! A script that takes its events one by one.
 
 ghost use Rattle.std.specs.Prelude.{◌≡◌, ◌<◌, ◌≤◌, ◌↔◌, ◌≢◌, ◌++◌, [], ◌∷◌, List, length, drop, IfOk, OnOk, MatchOption, IsTrue, IsErrOf, None, Some, Ok, false};
 ghost use Rattle.std.specs.Bool.{OnFalse};
@@ -36,13 +36,14 @@ use tcl_words::Text;
 pub enum NewFault {
     /// The source has more bytes than `SOURCE_LIMIT`.
     SourceTooLong,
+    /// Memory was refused.
     Memory,
 }
 
-/// How many bytes a source may have.
+/// The most bytes of a source.
 pub const SOURCE_LIMIT: usize = 1_048_576;
 
-/// How many steps may be begun at the most.
+/// The most steps of a script.
 pub const STEPS_LIMIT: u64 = 1_000_000_000_000;
 
 fn bounded(steps: u64) -> u64
@@ -61,7 +62,7 @@ fn is_memory(pause: &Pause) -> bool
     matches!(pause, Pause::Memory)
 }
 
-/// Runs on to the next pause, and says whether no memory was refused.
+/// Runs the machine to its next pause. Returns whether no memory was refused.
 fn run_on(machine: &mut Machine, dialogue: &mut DialogueHost, meter: &mut Meter) -> bool
     requires { IsTrue dialogue.old.lives → Good dialogue.old }
     ensures { IsTrue result → Ran machine.old.engine machine.old.mode (left_of meter.old) dialogue.old machine.new.engine machine.new.mode (left_of meter.new) dialogue.new }
@@ -73,7 +74,7 @@ fn run_on(machine: &mut Machine, dialogue: &mut DialogueHost, meter: &mut Meter)
     dialogue.state().lives()
 }
 
-/// The requests from a place on.
+/// Returns the requests from an index on.
 fn rest_of(requests: &[Request], from: usize) -> &[Request]
     ensures { result.now ≡ drop from requests.now }
 {
@@ -84,7 +85,7 @@ fn rest_of(requests: &[Request], from: usize) -> &[Request]
     }
 }
 
-/// Lays copies of requests behind those that lie ready.
+/// Appends copies of requests to the queue.
 fn lay_ready(
     alloc: Global,
     ready: &mut VecDeque<Request>,
@@ -98,8 +99,8 @@ fn lay_ready(
     Ok(())
 }
 
-/// Lays the requests ready that stand behind the first ones, where no memory was refused to the run that asked for them. The answer says whether
-/// none was refused to it or is here; where some was, no request lies ready.
+/// Appends the requests after the first `asked` ones to the queue, if `ran`. Returns whether no
+/// memory was refused, to the run or here. If some was, the queue is empty.
 fn lay_behind(
     alloc: Global,
     ready: &mut VecDeque<Request>,
@@ -120,8 +121,8 @@ fn lay_behind(
     false
 }
 
-/// Runs on to the next pause, and lays the requests ready that are asked for on the way. The answer says whether no memory was refused;
-/// where some was, no request lies ready.
+/// Runs the machine to its next pause, and queues the requests of that run. Returns whether no
+/// memory was refused. If some was, the queue is empty.
 fn go_on(
     alloc: Global,
     machine: &mut Machine,
@@ -139,7 +140,8 @@ fn go_on(
     lay_behind(alloc, ready, dialogue, asked, ran)
 }
 
-/// Runs on to the next pause, where a dialogue is watched, and says whether no memory was refused.
+/// Runs the machine over a watched dialogue to its next pause. Returns whether no memory was
+/// refused.
 fn run_over_watched<W: Watcher + Drop>(
     machine: &mut Machine,
     watched: &mut Watched<W>,
@@ -156,7 +158,7 @@ fn run_over_watched<W: Watcher + Drop>(
     watched.dialogue.state().lives()
 }
 
-/// A dialogue to which nothing comes, for the place of one that is lent.
+/// Returns an unused dialogue, to put in the place of one that is lent.
 fn nothing(alloc: Global) -> Result<DialogueHost, AllocError> {
     let settings = Settings {
         steps: 0,
@@ -167,7 +169,8 @@ fn nothing(alloc: Global) -> Result<DialogueHost, AllocError> {
     DialogueHost::new(alloc, &settings)
 }
 
-/// Runs on as `run_on` does, and shows a watcher what is met on the way. The watcher is given back.
+/// Runs the machine as `run_on` does, and shows the watcher what the expects meet. Returns the
+/// watcher too.
 fn run_watched<W: Watcher + Drop>(
     alloc: Global,
     machine: &mut Machine,
@@ -195,7 +198,8 @@ fn run_watched<W: Watcher + Drop>(
     (ran, watcher)
 }
 
-/// Runs on as `go_on` does, and shows a watcher what is met on the way. The watcher is given back.
+/// Runs the machine as `go_on` does, and shows the watcher what the expects meet. Returns the
+/// watcher too.
 fn go_on_watched<W: Watcher + Drop>(
     alloc: Global,
     machine: &mut Machine,
@@ -216,7 +220,7 @@ fn go_on_watched<W: Watcher + Drop>(
     (lives, watcher)
 }
 
-/// Puts events behind what came, one after another.
+/// Offers events to the dialogue, one after another.
 fn offer_all(dialogue: &mut DialogueHost, events: Vec<Event>)
     ensures lived { IsTrue dialogue.new.lives → IsTrue dialogue.old.lives }
     ensures came { Good dialogue.old → IsTrue dialogue.new.lives → dialogue.new ≡ extended events.items dialogue.old }
@@ -226,22 +230,23 @@ fn offer_all(dialogue: &mut DialogueHost, events: Vec<Event>)
     }
 }
 
-/// One script and what is left of it. Events that were taken are not kept.
+/// One script: its machine, its dialogue, and the requests to hand out. It keeps no event that a
+/// command has taken. A contract sees what is left of the script.
 #[derive(Drop)]
 pub struct Session {
     alloc: Global,
-    /// How many steps may be begun.
+    /// The most steps.
     bound: u64,
-    /// Whether its report tells the variables.
+    /// Whether its report contains the variables.
     tells_vars: bool,
     machine: Machine,
     dialogue: DialogueHost,
     meter: Meter,
-    /// Copies of the requests that are to be handed out.
+    /// Copies of the requests not yet handed out.
     ready: VecDeque<Request>,
-    /// How many requests were handed out.
+    /// The number of requests handed out.
     handed: usize,
-    /// No memory was refused to it.
+    /// Whether it was never refused memory.
     lives: bool,
 }
 
@@ -301,7 +306,11 @@ impl Session {
         Ok((session, watcher))
     }
 
-    /// A session that has run to its first wait, of which a watcher has seen what was met.
+    /// Creates a session and runs it to its first wait. Shows the watcher what its expects meet,
+    /// and returns the watcher too.
+    ///
+    /// A refusal of memory during the run is no error here: the session's `ending` is then
+    /// `Memory`.
     pub fn watched<W: Watcher + Drop>(
         alloc: Global,
         source: Text,
@@ -322,7 +331,7 @@ impl Session {
         }
     }
 
-    /// A session that has run to its first wait.
+    /// Creates a session and runs it to its first wait, as `watched` does without a watcher.
     pub fn new(alloc: Global, source: Text, settings: Settings) -> Result<Session, NewFault>
         ensures left { IfOk result (λ s. IsTrue s.lives → (later : List Event) → left s later ≡ meaning source settings later) }
         ensures handed { IfOk result (λ s. s.handed ≡ 0) }
@@ -332,7 +341,7 @@ impl Session {
         Ok(session)
     }
 
-    /// Goes on with an event. A session that has ended passes it over.
+    /// Passes an event to the script, and runs it to its next wait. Does nothing if it has ended.
     pub fn feed(&mut self, event: Event)
         ensures { Fed self.old (event ∷ []) self.new }
     {
@@ -352,7 +361,8 @@ impl Session {
         );
     }
 
-    /// Goes on with an event as `feed` does, and shows a watcher what is met on the way. The watcher is given back.
+    /// Passes an event to the script, as `feed` does. Shows the watcher what its expects meet, and
+    /// returns the watcher.
     pub fn feed_watched<W: Watcher + Drop>(&mut self, came: Event, watcher: W) -> W
         ensures fed { Fed self.old (came ∷ []) self.new }
         ensures seen { IsTrue self.new.lives → Sights W.sees (λ later. met_from self.old (came ∷ later)) watcher (met_from self.new) result }
@@ -376,8 +386,8 @@ impl Session {
         watcher
     }
 
-    /// Goes on with events, one after another: the requests that they open lie ready behind the last one. A session that has ended passes
-    /// them over.
+    /// Passes events to the script, and then runs it to its next wait. Its new requests can be
+    /// taken once all events are in. Does nothing if it has ended.
     pub fn feed_all(&mut self, events: Vec<Event>)
         ensures { Fed self.old events.items self.new }
     {
@@ -397,7 +407,7 @@ impl Session {
         );
     }
 
-    /// The next request, once.
+    /// Takes the next request. Each request is returned once. `None` if there is none yet.
     pub fn next_request(&mut self) -> Option<Request>
         ensures { HandsOut self.old result self.new }
     {
@@ -413,7 +423,7 @@ impl Session {
         }
     }
 
-    /// How it ended, or that it waits.
+    /// Returns the ending, or `Waiting`.
     #[tactic(auto, unfolding(crate::specs::Left::left))]
     pub fn ending(&self) -> Ending
         ensures lives { IsTrue self.now.lives → result ≡ (left self.now []).ending }
@@ -428,8 +438,7 @@ impl Session {
         }
     }
 
-    /// What an operator has seen of it so far: the bytes of its transcript. It copies nothing. Nothing is to be seen of a session that was
-    /// refused memory.
+    /// Returns the transcript so far, without a copy. Empty if the session was refused memory.
     pub fn transcript(&self) -> &[u8]
         ensures { HasShown self.now result.now }
     {
@@ -440,9 +449,10 @@ impl Session {
         }
     }
 
-    /// The last moment in milliseconds to which it goes on waiting where only time passes: the lesser of the deadline of the expect that
-    /// waits and the last moment of the settings. None where neither is there, or it has ended. A tick no later than that changes nothing
-    /// in what it says.
+    /// Returns the last moment, in milliseconds, up to which the script keeps waiting if only time
+    /// passes. That is the earlier of the waiting expect's deadline and the script's time limit.
+    /// `None` if there is neither, or the script has ended. A tick no later than that doesn't
+    /// change the report.
     #[tactic(auto, unfolding(crate::specs::Left::left))]
     pub fn deadline(&self) -> Option<u64>
         ensures value { result ≡ waits_until self.now }
@@ -457,7 +467,8 @@ impl Session {
         }
     }
 
-    /// What it has asked of its children so far, in order. It copies nothing. Nothing was asked by a session that was refused memory.
+    /// Returns the requests so far, in order, without a copy. Empty if the session was refused
+    /// memory.
     pub fn requests(&self) -> &[Request]
         ensures { HasAsked self.now result.now }
     {
@@ -468,7 +479,7 @@ impl Session {
         }
     }
 
-    /// How many steps it has begun; none where memory was refused to it.
+    /// Returns the number of steps begun. 0 if the session was refused memory.
     pub fn steps(&self) -> u64
         ensures { HasBegun self.now result }
     {
@@ -479,7 +490,7 @@ impl Session {
         }
     }
 
-    /// Whether it goes on with what comes: it isn't over, and no memory was refused to it.
+    /// Returns whether the script goes on: it has not ended, and was not refused memory.
     fn goes_on(&self) -> bool
         ensures { result ≡ goes_on self.now }
     {
@@ -489,7 +500,8 @@ impl Session {
         }
     }
 
-    /// The number of the child, from 1, whose answer it awaits; None where it awaits none, or doesn't go on.
+    /// Returns the number, from 1, of the child whose answer the script awaits. `None` if it awaits
+    /// none, or doesn't go on.
     pub fn answering(&self) -> Option<u8>
         ensures { result ≡ answering self.now }
     {
@@ -500,7 +512,8 @@ impl Session {
         }
     }
 
-    /// The expect that waits for an item of one of its children; None where none waits, or it doesn't go on.
+    /// Returns the expect that waits for an item of one of its children. `None` if none waits, or
+    /// the script doesn't go on.
     pub fn expecting(&self) -> Option<&Plan>
         ensures { MatchOption result (expecting self.now ≡ None) (λ p. expecting self.now ≡ Some p.now) }
     {
@@ -511,22 +524,25 @@ impl Session {
         }
     }
 
-    /// A copy of the bytes of a child that no expect has taken, on which its patterns are tried; none where there is no such child.
+    /// Returns a copy of a child's bytes that no expect has taken. Patterns are tried on these.
+    /// Empty if there is no such child.
     pub fn buffer_copied(&self, alloc: Global, child: u8) -> Result<Text, AllocError>
         ensures { IfOk result (λ t. t ≡ buffer_of child self.now.dialogue.own.children) }
     {
         self.dialogue.state().buffer_copied(alloc, child)
     }
 
-    /// How many items that came from a child no command has taken yet: pieces of its output, its end, a failure to read it. The echo of what
-    /// was sent to it is none of them. A child that isn't there has none. It costs the same however many there are.
+    /// Returns the number of a child's items that no command has taken: pieces of output, the end
+    /// of output, or a read failure. Echoes of sent input are not counted. 0 if there is no such
+    /// child. Constant time.
     pub fn untaken(&self, child: u8) -> usize
         ensures { result ≡ untaken_of child self.now.dialogue.lanes }
     {
         self.dialogue.state().untaken(child)
     }
 
-    /// What came of it so far. Memory is asked for, and refused, only where the session lives.
+    /// Returns the report so far. On `AllocError` the session is unchanged. It allocates nothing if
+    /// the session was refused memory.
     #[tactic(auto, unfolding(crate::specs::Left::left))]
     pub fn report(&self) -> Result<Report, AllocError>
         ensures lives { IfOk result (λ r. IsTrue self.now.lives → r ≡ left self.now []) }
@@ -545,7 +561,8 @@ impl Session {
         )
     }
 
-    /// What came of it so far. Where memory for that is refused, it is the report of a script that was refused memory.
+    /// Returns the report so far. If the report is refused memory, it is the report of a script
+    /// that was refused memory.
     pub fn report_or_memory(&self) -> Report
         ensures { Reports self.now result }
     {
@@ -555,7 +572,8 @@ impl Session {
         }
     }
 
-    /// What came of it so far, for which the session is given up. Its transcript and its requests aren't copied.
+    /// Returns the last report, as `report_or_memory` does. The session is dropped; its transcript
+    /// and its requests are not copied.
     #[tactic(auto, unfolding(crate::specs::Left::left))]
     pub fn into_report(self) -> Report
         ensures { Reports self result }

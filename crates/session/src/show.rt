@@ -1,4 +1,4 @@
-//! What a machine that has paused shows.
+//! The report of a paused machine.
 
 ghost use Rattle.std.specs.Prelude.{◌≡◌, ◌-◌, [], map, IfOk, if◌then◌else◌};
 ghost use Rattle.tcl_subst.specs.Report.{values_of};
@@ -43,7 +43,7 @@ fn fault_at(alloc: Global, code: Code, value: &Value) -> Result<Text, AllocError
     }
 }
 
-/// How a script ended.
+/// Returns the ending of a script.
 pub(crate) fn ending_of(end: &End) -> Ending
     ensures { result ≡ ending_meant end.now }
 {
@@ -66,7 +66,7 @@ fn fault_of(alloc: Global, end: &End) -> Result<Text, AllocError>
     }
 }
 
-/// Where the error came by that ended a script.
+/// Returns the places that the error passed which ended a script.
 fn trail_at(alloc: Global, code: Code, trail: &[Origin]) -> Result<Places, AllocError>
     ensures { IfOk result (λ p. p ≡ trail_told code trail.now) }
 {
@@ -87,7 +87,7 @@ fn trail_of(alloc: Global, end: &End, trail: &[Origin]) -> Result<Places, AllocE
     }
 }
 
-/// The variables that a report tells.
+/// Returns the variables of a report.
 fn told_vars(alloc: Global, tells: bool, vars: &Vars) -> Result<Pairs, AllocError>
     ensures { IfOk result (λ p. p ≡ (if tells then values_of vars.now.globals else [])) }
 {
@@ -125,7 +125,7 @@ fn said(
     })
 }
 
-/// The report that a machine shows.
+/// Returns the report of a paused machine.
 pub(crate) fn shown(
     alloc: Global,
     bound: u64,
@@ -160,7 +160,7 @@ pub(crate) fn shown(
     }
 }
 
-/// The same as `said`, for which the dialogue gives up its transcript and its requests.
+/// Returns the report as `said` does, but takes the transcript and the requests from the dialogue.
 fn said_last(
     alloc: Global,
     ending: Ending,
@@ -186,7 +186,7 @@ fn said_last(
     })
 }
 
-/// The last report that a machine shows: the dialogue gives up its transcript and its requests.
+/// Returns the report as `shown` does, but takes the transcript and the requests from the dialogue.
 pub(crate) fn shown_last(
     alloc: Global,
     bound: u64,

@@ -1,4 +1,4 @@
-//! A dialogue of which someone sees what its expects meet.
+//! A dialogue with a watcher of its expects.
 
 ghost use Rattle.std.specs.Prelude.{◌≡◌};
 ghost use Rattle.session.specs.Watching.{Sees, met_by};
@@ -10,7 +10,7 @@ use tcl_host::{Host, HostStep, Values};
 use tcl_subst::Vars;
 use tcl_values::Value;
 
-/// A dialogue, and who sees what its expects meet. It answers as the dialogue does.
+/// A dialogue with a watcher of its expects. As a host it replies as the dialogue does.
 #[derive(Drop)]
 pub(crate) struct Watched<W: Watcher + Drop> {
     pub dialogue: DialogueHost,
@@ -18,7 +18,7 @@ pub(crate) struct Watched<W: Watcher + Drop> {
 }
 
 impl<W: Watcher + Drop> Watched<W> {
-    /// Shows what was met, where this step asks for the action of an expect.
+    /// Shows the watcher what was met, if this step is the action of an expect.
     fn show(&mut self, vars: &Vars, step: &HostStep)
         ensures same { self.new.dialogue ≡ self.old.dialogue }
         ensures seen { Sees W.sees (met_by step.now vars.now self.old.dialogue.own) self.old.watcher self.new.watcher }

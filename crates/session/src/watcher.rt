@@ -1,25 +1,25 @@
-//! Who sees what a script's expects meet.
+//! Watchers of a script's expects.
 
 use expect_core::{Plan, Request};
 use tcl_subst::Vars;
 
-/// Who sees what a script's expects meet.
+/// Sees what ends the wait of each expect of a script.
 pub trait Watcher {
     ghost use Rattle.std.specs.Prelude.{List};
     ghost use Rattle.tcl_subst.specs.Variables.{Variables};
     ghost use Rattle.expect_core.specs.declared.plan.Plan.{Plan};
     ghost use Rattle.expect_core.specs.declared.request.Request.{Request};
 
-    /// What it comes to where it sees a plan, the variables and the requests.
+    /// The watcher after it sees a plan, the variables and the requests.
     ghost sees: { Self → Plan → Variables → List Request → Self → Type 0 };
 
-    /// An expect met something, and its action is evaluated next. The plan says what was met, the variables hold what was stored, and all that
-    /// was asked for before is here.
+    /// Takes note that an expect met something, before its action is evaluated. The plan says what
+    /// was met. The variables contain what was stored. `asked` is all requests so far.
     fn met(&mut self, plan: &Plan, vars: &Vars, asked: &[Request])
         ensures { sees self.old plan.now vars.now asked.now self.new };
 }
 
-/// Who sees nothing.
+/// A watcher that ignores everything.
 #[derive(Clone, Copy)]
 pub(crate) struct Nobody {}
 

@@ -3,41 +3,41 @@ use Rattle.std.specs.Prelude.{ℕ, List, [], ◌∷◌, codes, Option, Some, Non
 use Rattle.tcl_commands.specs.Texts.{wrong_args}
 use Rattle.tcl_commands.specs.Said.{Said}
 
--- conditions with their bodies, and the body behind `else`
+-- The conditions with their bodies, and the body after `else`.
 abbrev pub Arms : Type 0
 Arms = List (List ℕ × List ℕ) × Option (List ℕ)
 
 abbrev pub with_arm : List ℕ → List ℕ → Arms → Arms
 with_arm test body arms = ((test, body) ∷ arms.0, arms.1)
 
--- the body behind `else`, and nothing behind it
+-- The body after `else`, as the only argument.
 abbrev pub only_body : List (List ℕ) → Option Arms
 only_body [] = None
 only_body (body ∷ []) = Some ([], Some body)
 only_body (body ∷ other ∷ more) = None
 
--- behind the last arm
+-- The arguments after the last arm.
 abbrev pub ended : List (List ℕ) → Option Arms
 ended [] = Some ([], None)
 ended (w ∷ words) = if bytes_eq w (codes "else") then only_body words else only_body (w ∷ words)
 
 abbrev mutual
-  -- where a condition stands
+  -- A condition comes next.
   pub tests : List (List ℕ) → Option Arms
   tests [] = None
   tests (test ∷ words) = bodies test words
 
-  -- where a body or `then` stands
+  -- A body or `then` comes next.
   pub bodies : List ℕ → List (List ℕ) → Option Arms
   bodies test [] = None
   bodies test (w ∷ words) = if bytes_eq w (codes "then") then body test words else option_map (with_arm test w) (ends words)
 
-  -- where a body stands
+  -- A body comes next.
   pub body : List ℕ → List (List ℕ) → Option Arms
   body test [] = None
   body test (w ∷ words) = option_map (with_arm test w) (ends words)
 
-  -- behind a body
+  -- The arguments after a body.
   pub ends : List (List ℕ) → Option Arms
   ends [] = ended []
   ends (w ∷ words) = if bytes_eq w (codes "elseif") then tests words else ended (w ∷ words)

@@ -1,4 +1,4 @@
--- Words joined to one text (expr(n), eval(n), concat(n)).
+-- Arguments joined into one text (expr(n), eval(n), concat(n)).
 use Rattle.std.specs.Prelude.{ℕ, Bool, ◌&&◌, nat_lt, List, [], ◌∷◌, ◌++◌, length, take, ◌+◌, ◌-◌, ◌==◌, slice_index, Err, if◌then◌else◌}
 use Rattle.tcl_words.specs.Bytes as ascii
 use Rattle.tcl_words.specs.Lists.{is_empty}
@@ -9,7 +9,7 @@ use Rattle.tcl_commands.specs.Strings.{trimmed_front, trimmed_end}
 abbrev pub spaced : List ℕ → List ℕ → List ℕ
 spaced text word = text ++ ascii.space ∷ word
 
--- words behind a text, each behind a space
+-- A text, followed by words, each after a space.
 abbrev pub joined_to : List ℕ → List (List ℕ) → List ℕ
 joined_to text [] = text
 joined_to text (w ∷ ws) = joined_to (spaced text w) ws
@@ -18,7 +18,7 @@ abbrev pub joined : List (List ℕ) → List ℕ
 joined [] = []
 joined (w ∷ ws) = joined_to w ws
 
--- the text of `expr word ..`
+-- The text that `expr word ..` evaluates.
 abbrev pub expr_text : List ℕ → List (List ℕ) → Said (List ℕ)
 expr_text command [] = Err (wrong_args command)
 expr_text command (w ∷ ws) = limited (joined (w ∷ ws))
@@ -26,25 +26,29 @@ expr_text command (w ∷ ws) = limited (joined (w ∷ ws))
 abbrev pub ends_with_backslash : List ℕ → Bool
 ends_with_backslash text = nat_lt 0 (length text) && slice_index text (length text - 1) == ascii.backslash
 
--- where the end was dropped behind a backslash, the first byte of it stays
+-- If white space after a backslash was trimmed, its first byte stays.
 abbrev pub kept_end : List ℕ → List ℕ → List ℕ
 kept_end text front =
     if ends_with_backslash front && nat_lt (length front) (length text) then take (length front + 1) text else front
 
--- a word without the white space at its two ends
+-- A word without the white space at its ends.
 abbrev pub pruned : List ℕ → List ℕ
 pruned word = kept_end (trimmed_front word) (trimmed_end (trimmed_front word))
 
--- those that aren't empty
+-- The pruned words that aren't empty.
 abbrev pub full : List (List ℕ) → List (List ℕ)
 full [] = []
 full (w ∷ ws) = if is_empty (pruned w) then full ws else pruned w ∷ full ws
 
--- a word behind a text, with a space between where both have bytes
+-- A text, followed by a word, with a space between them if neither is empty.
 abbrev pub with_word : List ℕ → List ℕ → List ℕ
 with_word text word = if is_empty word then text else if is_empty text then word else spaced text word
 
--- the script of `eval word ..`
+-- concat ?arg arg ...?
+abbrev pub concat : List (List ℕ) → Said (List ℕ)
+concat args = limited (joined (full args))
+
+-- The script that `eval word ..` evaluates.
 abbrev pub eval_text : List ℕ → List (List ℕ) → Said (List ℕ)
 eval_text command [] = Err (wrong_args command)
 eval_text command (w ∷ ws) = limited (joined (full (w ∷ ws)))

@@ -8,7 +8,7 @@ use Rattle.tcl_commands.specs.Texts.{wrong_args, bad_list, not_set}
 use Rattle.tcl_commands.specs.Said.{Said, ◌>>=◌, list_of}
 use Rattle.tcl_commands.specs.declared.formals.Formal.{Formal}
 
--- a name, or a pair of name and default
+-- A name, or a name and a default.
 abbrev pub formal_in : Option (List (List ℕ)) → Option Formal
 formal_in None = None
 formal_in (Some []) = None
@@ -28,11 +28,11 @@ abbrev pub or_bad_list : Option (List Formal) → Said (List Formal)
 or_bad_list None = Err bad_list
 or_bad_list (Some fs) = Ok fs
 
--- the formal arguments that a text lists
+-- The formal arguments that a text lists.
 abbrev pub formals_of : List ℕ → Said (List Formal)
 formals_of text = list_of text >>= λ es. or_bad_list (formals_in es)
 
--- a last one of this name takes all arguments that are left
+-- The last formal argument takes all remaining arguments if its name is `args`.
 abbrev pub takes_all : Formal → List Formal → Bool
 takes_all f [] = bytes_eq f.name (codes "args")
 takes_all f (g ∷ fs) = false
@@ -44,7 +44,7 @@ abbrev pub with_default : List ℕ → Option (List ℕ) → Option Bound → Op
 with_default name None more = None
 with_default name (Some value) more = option_map (λ l. (name, value) ∷ l) more
 
--- the names with their values; none where there are too few or too many arguments
+-- The names with their values. `None` if there are too few or too many arguments.
 abbrev pub bound : List Formal → List (List ℕ) → Option Bound
 bound [] [] = Some []
 bound [] (a ∷ args) = None
@@ -56,7 +56,7 @@ abbrev pub or_not_set : List ℕ → Result Variables SubstFault → Said Variab
 or_not_set name (Ok vars) = Ok vars
 or_not_set name (Err f) = Err (not_set name f)
 
--- each name set in turn
+-- Sets each name, in order.
 abbrev pub bindings : Bound → Variables → Said Variables
 bindings [] vars = Ok vars
 bindings (b ∷ bs) vars = or_not_set b.0 (with_value (set_to b.1) b.0 vars) >>= bindings bs
@@ -64,21 +64,21 @@ bindings (b ∷ bs) vars = or_not_set b.0 (with_value (set_to b.1) b.0 vars) >>=
 abbrev pub with_scope : Variables → Variables
 with_scope vars = record { globals = vars.globals; locals = [] ∷ vars.locals }
 
--- the names bound, where there are neither too few nor too many arguments
+-- Binds the names, if the number of arguments is right.
 abbrev pub bound_in : List ℕ → Option Bound → Variables → Said Variables
 bound_in command None vars = Err (wrong_args command)
 bound_in command (Some bs) vars = bindings bs vars
 
--- the variables with a scope of its own for a call, its arguments bound
+-- The variables with a new scope for a call, in which its arguments are bound.
 abbrev pub entered : List ℕ → List Formal → List (List ℕ) → Variables → Said Variables
 entered command formals args vars = bound_in command (bound formals args) (with_scope vars)
 
--- whether there is an argument for a formal one, or a default
+-- There is an argument for a formal argument, or a default.
 abbrev pub has_value : Formal → List (List ℕ) → Bool
 has_value f [] = is_some f.default
 has_value f (a ∷ args) = true
 
--- the value of a formal argument that takes one
+-- The value of a formal argument that takes one argument.
 abbrev pub value_for : Formal → List (List ℕ) → List ℕ
 value_for f [] = unwrap_or f.default []
 value_for f (a ∷ args) = a

@@ -1,4 +1,4 @@
--- What commands come to.
+-- The results of commands.
 use Rattle.std.specs.Prelude.{ℕ, List, length, Option, Some, None, Result, Ok, Err, ℤ, if◌then◌else◌}
 use Rattle.tcl_words.specs.Lists.{elements}
 use Rattle.tcl_expr.specs.Number.{number_of}
@@ -9,7 +9,7 @@ use Rattle.tcl_commands.specs.declared.code.Code.{Code}
 use Rattle.tcl_commands.specs.declared.code.Code.TheVariants as code
 use Rattle.tcl_commands.specs.Texts.{bad_list, too_long, expected_number}
 
--- a value, or an error's text
+-- A value, or the text of an error.
 abbrev pub Said : Type 0 → Type 0
 Said X = Result X (List ℕ)
 
@@ -18,21 +18,26 @@ abbrev pub ◌>>=◌ : {X Y : Type 0} → Said X → (X → Said Y) → Said Y
 (Ok x) >>= f = f x
 (Err text) >>= f = Err text
 
--- a code, a value and the variables as they are left
+-- A code, a value and the variables afterwards.
 abbrev pub Outcome : Type 0
 Outcome = Code × List ℕ × Variables
 
--- an error is the value of its code
+-- The text of an error is the value.
 abbrev pub told : Said (List ℕ) → Variables → Outcome
 told (Ok value) vars = (code.Ok, value, vars)
 told (Err text) vars = (code.Error, text, vars)
 
--- goes on with changed variables; a fault is an error, and they stay as they were
+-- Continues with a result. After an error, the variables are unchanged.
+abbrev pub on_said : {X : Type 0} → Said X → Variables → (X → Outcome) → Outcome
+on_said (Ok x) vars more = more x
+on_said (Err text) vars more = told (Err text) vars
+
+-- Continues with changed variables. If the change failed, it is an error, and the variables are unchanged.
 abbrev pub on_changed : Variables → (SubstFault → List ℕ) → Result Variables SubstFault → (Variables → Outcome) → Outcome
 on_changed old text (Ok vars) more = more vars
 on_changed old text (Err f) more = (code.Error, text f, old)
 
--- a value that isn't too long
+-- A value that isn't too long.
 abbrev pub limited : List ℕ → Said (List ℕ)
 limited value = if is_too_long (length value) then Err too_long else Ok value
 
@@ -40,7 +45,7 @@ abbrev pub some_list : Option (List (List ℕ)) → Said (List (List ℕ))
 some_list None = Err bad_list
 some_list (Some es) = Ok es
 
--- the elements of the list that a text is
+-- The elements of the list that a text is.
 abbrev pub list_of : List ℕ → Said (List (List ℕ))
 list_of text = some_list (elements text)
 
@@ -48,6 +53,6 @@ abbrev pub some_number : List ℕ → Option ℤ → Said ℤ
 some_number text None = Err (expected_number text)
 some_number text (Some z) = Ok z
 
--- the number that a text is
+-- The number that a text is.
 abbrev pub as_number : List ℕ → Said ℤ
 as_number text = some_number text (number_of text)

@@ -1,4 +1,4 @@
--- Texts of errors: Tcl's own words where Tcl has them. Of a word that is quoted at most 200 bytes are shown.
+-- Texts of errors, in Tcl's own words if Tcl has them. At most 200 bytes of a quoted word are shown.
 use Rattle.std.specs.Prelude.{ℕ, Bool, true, false, List, [], ◌∷◌, ◌++◌, take, codes, if◌then◌else◌}
 use Rattle.tcl_words.specs.Bytes as ascii
 use Rattle.tcl_words.specs.declared.faults.WordFault.{WordFault}
@@ -8,16 +8,19 @@ use Rattle.tcl_expr.specs.declared.faults.ExprFault.TheVariants as expr
 use Rattle.tcl_subst.specs.declared.faults.SubstFault.{SubstFault}
 use Rattle.tcl_subst.specs.declared.faults.SubstFault.TheVariants.{NoVariable, IsArray, NotArray, TooLong, Memory, Exists, BadList}
 
--- a text, and a word in quotes behind it
+-- A text, followed by a word in quotes.
 abbrev pub quoted : List ℕ → List ℕ → List ℕ
 quoted front word = front ++ ascii.quote ∷ take 200 word ++ ascii.quote ∷ []
 
--- a command's word, where it has too few or too many arguments
+-- The command has too few or too many arguments.
 abbrev pub wrong_args : List ℕ → List ℕ
 wrong_args command = quoted (codes "wrong # args for ") command
 
 abbrev pub bad_option : List ℕ → List ℕ
 bad_option option = quoted (codes "bad option ") option
+
+abbrev pub bad_flag : List ℕ → List ℕ
+bad_flag flag = quoted (codes "bad flag ") flag
 
 abbrev pub bad_index : List ℕ → List ℕ
 bad_index text = quoted (codes "bad index ") text
@@ -34,7 +37,7 @@ too_long = codes "value too long"
 abbrev pub too_deep : List ℕ
 too_deep = codes "too many nested evaluations"
 
--- a variable that can't be read or set: the front says which
+-- A variable can't be read or set. `front` says which.
 abbrev pub variable_fault : List ℕ → List ℕ → SubstFault → List ℕ
 variable_fault front name NoVariable = quoted front name ++ codes ": no such variable"
 variable_fault front name IsArray = quoted front name ++ codes ": variable is array"
@@ -50,7 +53,7 @@ not_read name f = variable_fault (codes "can't read ") name f
 abbrev pub not_set : List ℕ → SubstFault → List ℕ
 not_set name f = variable_fault (codes "can't set ") name f
 
--- whether it says that there is no such variable
+-- The error says that there is no such variable.
 abbrev pub is_missing : SubstFault → Bool
 is_missing NoVariable = true
 is_missing IsArray = false
@@ -60,11 +63,11 @@ is_missing Memory = false
 is_missing Exists = false
 is_missing BadList = false
 
--- nothing to unset; an element of a variable that is no array can't be set
+-- A missing variable can't be unset. All other errors have the text of `set`.
 abbrev pub not_unset : List ℕ → SubstFault → List ℕ
 not_unset name f = if is_missing f then variable_fault (codes "can't unset ") name f else not_set name f
 
--- why a command could not be read
+-- Why a command can't be parsed.
 abbrev pub word_fault : WordFault → List ℕ
 word_fault word.MissingBrace = codes "missing close-brace"
 word_fault word.MissingBracket = codes "missing close-bracket"
@@ -75,7 +78,7 @@ word_fault word.TooDeep = codes "nesting too deep"
 word_fault word.MissingParen = codes "missing )"
 word_fault word.Memory = []
 
--- why the expression of a text has no value
+-- Why an expression has no value.
 abbrev pub expr_fault : List ℕ → ExprFault → List ℕ
 expr_fault source expr.Syntax = quoted (codes "syntax error in expression ") source
 expr_fault source (expr.NotNumber text) = expected_number text

@@ -11,12 +11,12 @@ use std::alloc::{AllocError, Global};
 use std::marker::Model;
 use tcl_values::Value;
 
-/// Conditions with their bodies, and the body behind `else`. A contract sees them in order.
+/// The conditions with their bodies, and the body after `else`. A contract sees them in order.
 #[derive(Drop)]
 pub struct Arms {
     /// The conditions with their bodies, the last first.
     list: Vec<(Value, Value)>,
-    /// The body behind `else`.
+    /// The body after `else`.
     other: Option<Value>,
 }
 
@@ -29,14 +29,14 @@ impl Model for Arms {
 }
 
 impl Arms {
-    /// Takes the first condition with its body.
+    /// Removes the first condition with its body, and returns them. `None` if there is none left.
     pub fn take(&mut self) -> Option<(Value, Value)>
         ensures { MatchOption result ((self.old.0 ≡ []) × (self.new ≡ self.old)) (λ p. (self.old.0 ≡ p ∷ self.new.0) × (self.new.1 ≡ self.old.1)) }
     {
         self.list.pop()
     }
 
-    /// The body behind `else`.
+    /// Returns the body after `else`, or `None`.
     pub fn otherwise(self) -> Option<Value>
         ensures { result ≡ self.1 }
     {
@@ -44,7 +44,7 @@ impl Arms {
     }
 }
 
-/// A condition with its body, and what stands behind them.
+/// Returns a condition, its body and the arguments after them.
 fn arm(words: &[Value]) -> Option<(&Value, &Value, &[Value])>
     ensures read { MatchOption result (tests words.now ≡ None) (λ a. tests words.now ≡ option_map (with_arm a.0.now a.1.now) (ends a.2.now)) }
     ensures less { IfSome result (λ a. length a.2.now < length words.now) }
@@ -58,7 +58,7 @@ fn arm(words: &[Value]) -> Option<(&Value, &Value, &[Value])>
     }
 }
 
-/// A body, behind `then` or not, and what stands behind it.
+/// Returns a body, after an optional `then`, and the arguments after it.
 fn body(words: &[Value]) -> Option<(&Value, &[Value])>
     ensures read { (test : List ℕ) → MatchOption result (bodies test words.now ≡ None) (λ b. bodies test words.now ≡ option_map (with_arm test b.0.now) (ends b.1.now)) }
     ensures less { IfSome result (λ b. length b.1.now < length words.now) }
@@ -84,7 +84,7 @@ fn first_of(words: &[Value]) -> Option<(&Value, &[Value])>
     }
 }
 
-/// What stands behind `elseif`, where that stands behind a body.
+/// Returns the arguments after `elseif`, or `None` if they don't begin with `elseif`.
 fn further(words: &[Value]) -> Option<&[Value]>
     ensures read { MatchOption result (ends words.now ≡ ended words.now) (λ w. ends words.now ≡ tests w.now) }
     ensures less { IfSome result (λ w. length w.now < length words.now) }
@@ -100,7 +100,7 @@ fn further(words: &[Value]) -> Option<&[Value]>
     }
 }
 
-/// A last body that stands alone: the outer option says whether it does.
+/// Returns the last body. The outer `None` means that it isn't the only argument.
 fn only_body(alloc: Global, words: &[Value]) -> Result<Option<Option<Value>>, AllocError>
     ensures { IfOk result (λ o. option_map (λ b. ([], b)) o ≡ only_body words.now) }
 {
@@ -111,7 +111,8 @@ fn only_body(alloc: Global, words: &[Value]) -> Result<Option<Option<Value>>, Al
     }
 }
 
-/// Nothing, or a last body, behind `else` or not: the outer option says whether it is one of these.
+/// Returns the last body, after an optional `else`. The inner `None` means that there is none. The
+/// outer `None` means that there are too few or too many arguments.
 fn last_body(alloc: Global, words: &[Value]) -> Result<Option<Option<Value>>, AllocError>
     ensures { IfOk result (λ o. option_map (λ b. ([], b)) o ≡ ended words.now) }
 {
@@ -126,7 +127,7 @@ fn last_body(alloc: Global, words: &[Value]) -> Result<Option<Option<Value>>, Al
     }
 }
 
-/// Conditions with their bodies, in order, and the last body, where there is one.
+/// Creates the arms from conditions with their bodies, in order, and the last body.
 fn in_order(list: Vec<(Value, Value)>, other: Option<Value>) -> Arms
     ensures { result ≡ (list.items, other) }
 {
@@ -135,7 +136,7 @@ fn in_order(list: Vec<(Value, Value)>, other: Option<Value>) -> Arms
     Arms { list, other }
 }
 
-/// The conditions and bodies, where there are no words too few or too many.
+/// Returns the conditions and bodies. `None` if there are too few or too many arguments.
 fn read(alloc: Global, args: &[Value]) -> Result<Option<Arms>, AllocError>
     ensures { IfOk result (λ o. o ≡ tests args.now) }
 {
@@ -156,7 +157,7 @@ fn read(alloc: Global, args: &[Value]) -> Result<Option<Arms>, AllocError>
     }
 }
 
-/// The conditions and bodies of `if`.
+/// Returns the conditions and bodies of an `if` (if(n)). The error is `wrong # args`.
 pub fn arms_of(alloc: Global, command: &[u8], args: &[Value]) -> Result<Arms, Complaint>
     ensures { Says result (arms_of command.now args.now) }
 {

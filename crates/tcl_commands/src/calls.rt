@@ -1,4 +1,4 @@
-//! How a call binds the arguments of a procedure.
+//! Binds the arguments of a call to the formal arguments of a procedure.
 
 ghost use Rattle.std.specs.Prelude.{◌≡◌, List, ℕ, is_some, drop, true, IfOk, OnErr};
 ghost use Rattle.tcl_commands.specs.Procs.{takes_all, bound, bound_in, value_for, entered, has_value, or_not_set};
@@ -17,7 +17,7 @@ use std::alloc::{AllocError, Global};
 use tcl_subst::Vars;
 use tcl_values::Value;
 
-/// Whether a formal argument, the others behind it, takes all arguments that are left.
+/// Returns whether a formal argument takes all remaining arguments: it is the last, named `args`.
 fn takes_all(formal: &Formal, others: &[Formal]) -> bool
     ensures { result ≡ takes_all formal.now others.now }
 {
@@ -27,7 +27,7 @@ fn takes_all(formal: &Formal, others: &[Formal]) -> bool
     }
 }
 
-/// Whether there are neither too few nor too many arguments.
+/// Returns whether the number of arguments is right.
 fn fits(formals: &[Formal], args: &[Value]) -> bool
     ensures { result ≡ is_some (bound formals.now args.now) }
 {
@@ -46,7 +46,7 @@ fn fits(formals: &[Formal], args: &[Value]) -> bool
     left.is_empty()
 }
 
-/// Whether there is an argument for a formal one, or a default.
+/// Returns whether there is an argument for a formal argument, or a default.
 fn has_value(formal: &Formal, args: &[Value]) -> bool
     ensures { result ≡ has_value formal.now args.now }
 {
@@ -56,7 +56,7 @@ fn has_value(formal: &Formal, args: &[Value]) -> bool
     }
 }
 
-/// The arguments behind the first.
+/// Returns the arguments after the first.
 fn behind(args: &[Value]) -> &[Value]
     ensures { result.now ≡ drop 1 args.now }
 {
@@ -66,7 +66,7 @@ fn behind(args: &[Value]) -> &[Value]
     }
 }
 
-/// Sets a name.
+/// Sets a name in the innermost scope.
 #[tactic(auto, using(crate::proofs::Scopes::keeps_all))]
 fn bind(alloc: Global, name: &[u8], value: Value, vars: &mut Vars) -> Result<(), Complaint>
     requires { IsOwn vars.old.locals }
@@ -79,7 +79,8 @@ fn bind(alloc: Global, name: &[u8], value: Value, vars: &mut Vars) -> Result<(),
     }
 }
 
-/// The value of a formal argument that takes one: the first of these, or its default, or nothing where it has none.
+/// Returns the value of a formal argument: the first argument, or else the default. Empty if it has
+/// no default.
 fn value_of(alloc: Global, formal: &Formal, args: &[Value]) -> Result<Value, AllocError>
     ensures { IfOk result (λ v. v ≡ value_for formal.now args.now) }
 {
@@ -92,14 +93,15 @@ fn value_of(alloc: Global, formal: &Formal, args: &[Value]) -> Result<Value, All
     }
 }
 
-/// The list of values.
+/// Returns the list of values.
 fn list_of(alloc: Global, values: &[Value]) -> Result<Value, AllocError>
     ensures { IfOk result (λ v. v ≡ written values.now) }
 {
     Value::written(alloc, packed(alloc, values)?)
 }
 
-/// Sets the names of formal arguments in a scope of their own, in turn, where there are neither too few nor too many arguments.
+/// Sets the formal arguments in the innermost scope, in order. Requires the right number of
+/// arguments.
 #[tactic(auto, using(crate::proofs::Scopes::keeps_on, crate::proofs::Scopes::keeps_all))]
 fn bind_all(
     alloc: Global,
@@ -126,7 +128,7 @@ fn bind_all(
     Ok(())
 }
 
-/// Begins a scope of its own for a call, and binds the arguments in it. A complaint leaves the variables as they were.
+/// Adds a scope for a call, and binds the arguments in it. On an error the variables are unchanged.
 pub fn enter(
     alloc: Global,
     command: &[u8],

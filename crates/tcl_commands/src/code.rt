@@ -3,18 +3,18 @@
 /// How a command or a script ended.
 #[derive(Clone, Copy, PartialEq, Eq)]
 pub enum Code {
-    /// With its value.
+    /// With a value.
     Ok,
-    /// With an error, whose text is the value.
+    /// With an error. The value is its text.
     Error,
-    /// It leaves the procedure or the script that it stands in, with a value.
+    /// It leaves the enclosing procedure or script, with a value.
     Return,
-    /// It leaves the loop that it stands in.
+    /// It leaves the enclosing loop.
     Break,
-    /// It goes on with the next turn of the loop that it stands in.
+    /// It continues with the next iteration of the enclosing loop.
     Continue,
-    /// A loop of the host goes on at once.
+    /// A loop of the host continues at once.
     Again,
-    /// A loop of the host goes on later.
+    /// A loop of the host continues later.
     AgainLater,
 }

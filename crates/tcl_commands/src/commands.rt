@@ -1,22 +1,27 @@
-//! The commands that read and change variables and texts alone.
+//! The commands that evaluate no script.
 
 ghost use Rattle.std.specs.Prelude.{◌≡◌, IfOk};
 ghost use Rattle.tcl_commands.specs.Plain.{allowed, plain};
 
 use crate::code::Code;
+use crate::editing::{lassign, linsert, lrepeat, lreplace, lreverse, lset};
 use crate::ends::returns;
 use crate::given::arg;
+use crate::joining::concat;
 use crate::lists::{lindex, list, llength, lrange};
+use crate::searching::lsearch;
+use crate::sorting::lsort;
+use crate::splitting::{join, split};
 use crate::strings::string;
 use crate::told::{error, told, wrong_call};
-use crate::variables::{append, global, incr, info, lappend, set, unset};
+use crate::variables::{append, global, incr, info, lappend, set, unset_names};
 use command_table::{ValueCommand, fits, value_row};
 use std::alloc::{AllocError, Global};
 use tcl_subst::Vars;
 use tcl_values::Value;
 use tcl_words::Text;
 
-/// Runs a command. Its row allows the number of its arguments.
+/// Runs a command. Its row must allow the number of arguments.
 fn allowed(
     alloc: Global,
     kind: ValueCommand,
@@ -28,7 +33,7 @@ fn allowed(
 {
     match kind {
         ValueCommand::Set => set(alloc, args, vars),
-        ValueCommand::Unset => unset(alloc, args, vars),
+        ValueCommand::Unset => unset_names(alloc, args, vars),
         ValueCommand::Incr => incr(alloc, args, vars),
         ValueCommand::Append => append(alloc, args, vars),
         ValueCommand::Lappend => lappend(alloc, args, vars),
@@ -43,12 +48,23 @@ fn allowed(
         ValueCommand::Error => error(alloc, Text::from_slice(alloc, arg(args, 0))?),
         ValueCommand::String => told(alloc, string(alloc, command, args)),
         ValueCommand::Info => told(alloc, info(alloc, command, args, vars)),
+        ValueCommand::Split => told(alloc, split(alloc, args)),
+        ValueCommand::Join => told(alloc, join(alloc, args)),
+        ValueCommand::Concat => told(alloc, concat(alloc, args)),
+        ValueCommand::Linsert => told(alloc, linsert(alloc, args)),
+        ValueCommand::Lreplace => told(alloc, lreplace(alloc, args)),
+        ValueCommand::Lset => lset(alloc, args, vars),
+        ValueCommand::Lreverse => told(alloc, lreverse(alloc, args)),
+        ValueCommand::Lrepeat => told(alloc, lrepeat(alloc, args)),
+        ValueCommand::Lassign => lassign(alloc, args, vars),
+        ValueCommand::Lsearch => told(alloc, lsearch(alloc, command, args)),
+        ValueCommand::Lsort => told(alloc, lsort(alloc, command, args)),
     }
 }
 
-/// Runs a command by its word and its arguments: how it ends, and its value or the text of its error.
+/// Runs a command. Returns how it ended, and its value or the text of its error.
 ///
-/// A call that finds no memory may have changed variables.
+/// On `AllocError` variables may have changed.
 pub fn plain(
     alloc: Global,
     kind: ValueCommand,

@@ -8,9 +8,9 @@ use tcl_words::Text;
 /// Why a command has no value.
 #[derive(Drop)]
 pub enum Complaint {
-    /// No memory was left.
+    /// Memory was refused.
     Memory,
-    /// An error, by its text.
+    /// The text of an error.
     Said(Text),
 }
 

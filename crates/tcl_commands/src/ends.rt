@@ -1,4 +1,4 @@
-//! `return`, which ends a procedure.
+//! The command `return`.
 
 ghost use Rattle.std.specs.Prelude.{◌≡◌, IfOk};
 ghost use Rattle.tcl_commands.specs.Given.{arg};
@@ -7,7 +7,7 @@ use crate::code::Code;
 use std::alloc::{AllocError, Global};
 use tcl_values::Value;
 
-/// `return ?value?`
+/// Runs `return ?value?`.
 pub(crate) fn returns(alloc: Global, args: &[Value]) -> Result<(Code, Value), AllocError>
     ensures { IfOk result (λ r. r ≡ (Code.Return, arg 0 args.now)) }
 {

@@ -18,7 +18,7 @@ use tcl_words::{ListFault, Text};
 pub struct Formal {
     /// The name.
     pub name: Text,
-    /// The value where a call has no argument for it.
+    /// The value if a call has no argument for it.
     pub default: Option<Value>,
 }
 
@@ -38,7 +38,7 @@ impl Model for Formals {
 }
 
 impl Formals {
-    /// The formal arguments, in order.
+    /// Returns the formal arguments, in order.
     pub(crate) fn as_slice(&self) -> &[Formal]
         ensures { result.now ≡ self.now }
     {
@@ -46,7 +46,8 @@ impl Formals {
     }
 }
 
-/// A formal argument by the elements of its text: a name, or a name and a default.
+/// Returns a formal argument, given a name, or a name and a default. `None` if there are other
+/// elements.
 fn formal_of(alloc: Global, elements: &[Text]) -> Result<Option<Formal>, AllocError>
     ensures { IfOk result (λ o. o ≡ formal_in (Some elements.now)) }
 {
@@ -64,7 +65,7 @@ fn formal_of(alloc: Global, elements: &[Text]) -> Result<Option<Formal>, AllocEr
     }
 }
 
-/// A formal argument by its text.
+/// Parses a formal argument. `None` if the text is no list of a name, or of a name and a default.
 fn formal_in(alloc: Global, text: &[u8]) -> Result<Option<Formal>, AllocError>
     ensures { IfOk result (λ o. o ≡ formal_in (elements text.now)) }
 {
@@ -78,7 +79,7 @@ fn formal_in(alloc: Global, text: &[u8]) -> Result<Option<Formal>, AllocError>
     }
 }
 
-/// Formal arguments by their texts.
+/// Parses formal arguments. `None` if one of them is invalid.
 fn formals_in(alloc: Global, texts: &[Text]) -> Result<Option<Formals>, AllocError>
     ensures { IfOk result (λ o. o ≡ formals_in texts.now) }
 {
@@ -94,7 +95,7 @@ fn formals_in(alloc: Global, texts: &[Text]) -> Result<Option<Formals>, AllocErr
     Ok(Some(Formals { list }))
 }
 
-/// The formal arguments that a text lists.
+/// Parses a list of formal arguments (proc(n)). The error is `bad list`.
 pub fn formals_of(alloc: Global, text: &Value) -> Result<Formals, Complaint>
     ensures { Says result (formals_of text.now) }
 {

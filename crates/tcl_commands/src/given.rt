@@ -1,18 +1,25 @@
-//! Reads the arguments of a command. The table has allowed their number.
+//! Reads the arguments of a command. Their number fits the command's row.
 
 ghost use Rattle.std.specs.Prelude.{◌≡◌, drop};
-ghost use Rattle.tcl_commands.specs.Given.{arg};
+ghost use Rattle.tcl_commands.specs.Given.{arg, arg_or};
 
 use tcl_values::Value;
 
-/// Returns the argument at an index, or no bytes if it is left out.
+/// Returns the argument at an index, or another text if there is none.
+pub(crate) fn arg_or<'a>(args: &'a [Value], n: usize, other: &'a [u8]) -> &'a [u8]
+    ensures { result.now ≡ arg_or other.now n args.now }
+{
+    match args.get(n) {
+        None => other,
+        Some(value) => value.as_slice(),
+    }
+}
+
+/// Returns the argument at an index, or an empty text if there is none.
 pub(crate) fn arg(args: &[Value], n: usize) -> &[u8]
     ensures { result.now ≡ arg n args.now }
 {
-    match args.get(n) {
-        None => &[],
-        Some(value) => value.as_slice(),
-    }
+    arg_or(args, n, &[])
 }
 
 /// Returns the arguments after the first.
@@ -23,4 +30,14 @@ pub(crate) fn others(args: &[Value]) -> &[Value]
         [] => args,
         [_, rest @ ..] => rest,
     }
+}
+
+/// Returns the arguments from an index on.
+pub(crate) fn behind(args: &[Value], n: usize) -> &[Value]
+    ensures { result.now ≡ drop n args.now }
+{
+    if args.len() < n {
+        return &[];
+    }
+    args.split_at(n).1
 }

@@ -1,4 +1,4 @@
-//! The turns of `foreach`.
+//! The iterations of `foreach`.
 
 ghost use Rattle.std.specs.Prelude.{◌≡◌, ◌==◌, take, drop, length, min, IfOk, ◌<◌};
 ghost use Rattle.tcl_commands.specs.Groups.{assigned, each_of, turned, behind, first, others, names_of, read_each};
@@ -15,14 +15,15 @@ use tcl_subst::Vars;
 use tcl_values::{Elements, Value};
 use tcl_words::{Text, Texts};
 
-/// The names of a `foreach`, and the elements of the turns that are left. A contract sees the elements of each turn.
+/// The names of a `foreach`, and the elements of the remaining iterations. A contract sees the
+/// elements of each iteration.
 #[derive(Drop)]
 pub struct Groups {
     /// The names, at least one.
     names: Texts,
-    /// The elements of all turns.
+    /// The elements of all iterations.
     elements: Elements,
-    /// How many of them earlier turns took.
+    /// How many of them earlier iterations took.
     at: usize,
 }
 
@@ -38,15 +39,15 @@ impl Model for Groups {
 }
 
 impl Groups {
-    /// Whether no turn is left.
+    /// Returns whether no iteration is left.
     pub fn is_done(&self) -> bool
         ensures { result ≡ (length self.now.left == 0) }
     {
         self.elements.len() <= self.at
     }
 
-    /// Sets the names for the next turn, each to its element and to nothing where there is none, up to the first that can't be set.
-    /// With no turn left it does nothing.
+    /// Sets the names for the next iteration, up to the first that can't be set. A missing element
+    /// is empty. Does nothing if no iteration is left.
     pub fn assign(&mut self, alloc: Global, vars: &mut Vars) -> Result<(Code, Value), AllocError>
         ensures set { IfOk result (λ r. turned self.old vars.old ≡ (r.0, r.1, vars.new)) }
         ensures left { self.new ≡ behind self.old }
@@ -74,9 +75,9 @@ fn smaller(a: usize, b: usize) -> usize
     if a < b { a } else { b }
 }
 
-/// Sets each name to its element of those from an index up to another, and to nothing where there is none, up to the first that
-/// can't be set.
-fn assign_all(
+/// Sets each name to its element of `from..to`, up to the first that can't be set. A missing
+/// element is empty.
+pub(crate) fn assign_all(
     alloc: Global,
     names: &[Text],
     elements: &Elements,
@@ -100,7 +101,7 @@ fn assign_all(
     Ok((Code::Ok, Value::new(alloc)))
 }
 
-/// The first element of those from an index up to another, empty where there is none.
+/// Returns the first element of `from..to`, or an empty value if there is none.
 #[tactic(auto, using(crate::proofs::Grouped::first_from, crate::proofs::Grouped::first_of_none))]
 fn first(alloc: Global, elements: &Elements, from: usize, to: usize) -> Result<Value, AllocError>
     ensures { IfOk result (λ v. v ≡ first (drop from (take to elements.now))) }
@@ -114,7 +115,7 @@ fn first(alloc: Global, elements: &Elements, from: usize, to: usize) -> Result<V
     }
 }
 
-/// From which index the elements behind the first of these stand.
+/// Returns the index after the first element of `from..to`.
 #[tactic(auto, using(crate::proofs::Grouped::others_from, crate::proofs::Grouped::others_of_none))]
 fn others(elements: &Elements, from: usize, to: usize) -> usize
     ensures { drop result (take to elements.now) ≡ others (drop from (take to elements.now)) }
@@ -122,7 +123,7 @@ fn others(elements: &Elements, from: usize, to: usize) -> usize
     if from < to { from + 1 } else { from }
 }
 
-/// Names that are a list of at least one.
+/// Parses a list of names. The error is `bad list`, also if there is no name.
 fn names_of(alloc: Global, text: &Value) -> Result<Texts, Complaint>
     ensures said { Says result (names_of text.now) }
     ensures some { IfOk result (λ ns. 0 < length ns) }
@@ -134,7 +135,7 @@ fn names_of(alloc: Global, text: &Value) -> Result<Texts, Complaint>
     Ok(names.texts(alloc)?)
 }
 
-/// The turns and the body of `foreach names list body`.
+/// Returns the iterations and the body of `foreach names list body` (foreach(n)).
 pub fn each_of(alloc: Global, command: &[u8], args: &[Value]) -> Result<(Groups, Value), Complaint>
     ensures { Says result (each_of command.now args.now) }
 {

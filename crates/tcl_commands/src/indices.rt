@@ -1,8 +1,9 @@
-//! Indices of lists and strings.
+//! Indexes of lists and strings (string(n)).
 
-ghost use Rattle.std.specs.Prelude.{◌≡◌, min, codes, take, drop, true, false, bytes_eq, IfOk, MatchOption, ◌-ℤ◌};
-ghost use Rattle.tcl_commands.specs.Indices.{place_of, index_of, before, up_to, between, element_at, last};
+ghost use Rattle.std.specs.Prelude.{◌≡◌, ◌<◌, ◌+◌, min, take, drop, length, [], position, slice_index_or, true, false, bytes_eq, IfOk, IfSome, MatchOption, option_map, option_and_then, ◌+ℤ◌, ◌-ℤ◌, ◌≤ℤ◌, ◌<ℤ◌, ◌^◌, pos, negsuc};
+ghost use Rattle.tcl_commands.specs.Indices.{is_sign, within, signed, signed_by, one_or_two, place_of, index_by, index_of, before, up_to, between, element_at};
 ghost use Rattle.tcl_commands.specs.Says.{Says};
+ghost use Rattle.tcl_expr.specs.Number.{number_of};
 
 use crate::complaint::Complaint;
 use crate::texts::bad_index;
@@ -12,55 +13,165 @@ use tcl_expr::read_number;
 use tcl_values::{Elements, Value};
 use tcl_words::Packed;
 
-/// A text without its first four bytes, where they are `end-`.
-fn behind_end(text: &[u8]) -> Option<&[u8]>
-    ensures { MatchOption result (bytes_eq (take 4 text.now) (codes "end-") ≡ false) (λ t. (bytes_eq (take 4 text.now) (codes "end-") ≡ true) × (t.now ≡ drop 4 text.now)) }
+/// Returns a text without its first four bytes. `None` if they aren't `front`.
+fn behind<'a>(text: &'a [u8], front: &[u8]) -> Option<&'a [u8]>
+    requires { length front.now ≡ 4 }
+    ensures { MatchOption result (bytes_eq (take 4 text.now) front.now ≡ false) (λ t. (bytes_eq (take 4 text.now) front.now ≡ true) × (t.now ≡ drop 4 text.now)) }
 {
     if text.len() < 4 {
         return None;
     }
-    let (front, rest) = text.split_at(4);
-    if is(front, b"end-") { Some(rest) } else { None }
+    let (start, rest) = text.split_at(4);
+    if is(start, front) { Some(rest) } else { None }
 }
 
-/// The place of the last of so many, and so many before it.
-fn from_end(count: usize, back: i64) -> i128
-    ensures { result ≡ last count -ℤ back }
+/// Returns a position, or `None` if it doesn't fit in 64 bits.
+fn within(place: i128) -> Option<i128>
+    ensures { result ≡ within place }
 {
-    count as i128 - 1 - back as i128
+    if i64::MIN as i128 <= place && place <= i64::MAX as i128 {
+        Some(place)
+    } else {
+        None
+    }
 }
 
-/// The place that an index names, of so many.
-fn place_of(count: usize, text: &[u8]) -> Option<i128>
-    ensures { result ≡ place_of count text.now }
+/// Returns the position `end-n`, given the text of n. `None` if the text is no number.
+fn before_end(end: i128, number: &[u8]) -> Option<i128>
+    requires low { negsuc 0 ≤ℤ end }
+    requires high { end <ℤ pos (2 ^ 64) }
+    ensures { result ≡ option_map (λ n. end -ℤ n) (number_of number.now) }
+{
+    match read_number(number) {
+        Some(back) => Some(end - back as i128),
+        None => None,
+    }
+}
+
+/// Returns the position `end+n`. `None` also if it doesn't fit in 64 bits.
+fn behind_end(end: i128, number: &[u8]) -> Option<i128>
+    requires low { negsuc 0 ≤ℤ end }
+    requires high { end <ℤ pos (2 ^ 64) }
+    ensures { result ≡ option_and_then (λ n. within (end +ℤ n)) (number_of number.now) }
+{
+    match read_number(number) {
+        Some(more) => within(end + more as i128),
+        None => None,
+    }
+}
+
+/// Returns the sum or difference of two numbers. `None` also if it doesn't fit in 64 bits.
+fn signed(sign: u8, a: Option<i64>, b: Option<i64>) -> Option<i128>
+    ensures { result ≡ signed sign a b }
+{
+    match a {
+        None => None,
+        Some(a) => match b {
+            None => None,
+            Some(b) => {
+                if sign == b'+' {
+                    within(a as i128 + b as i128)
+                } else {
+                    within(a as i128 - b as i128)
+                }
+            }
+        },
+    }
+}
+
+/// Returns the sum or difference of a number and the one after a sign.
+fn signed_by(first: &[u8], rest: &[u8]) -> Option<i128>
+    ensures { result ≡ signed_by first.now rest.now }
+{
+    match rest {
+        [] => None,
+        [sign, second @ ..] => signed(*sign, read_number(first), read_number(second)),
+    }
+}
+
+/// Returns the number that a text is, or `None`.
+fn number(text: &[u8]) -> Option<i128>
+    ensures { result ≡ number_of text.now }
+{
+    match read_number(text) {
+        Some(place) => Some(place as i128),
+        None => None,
+    }
+}
+
+/// Returns the index of the first sign.
+fn sign_place(text: &[u8]) -> Option<usize>
+    ensures place { result ≡ position is_sign text.now }
+    ensures within { IfSome result (λ k. k < length text.now) }
+{
+    text.iter().position(|b| *b == b'+' || *b == b'-')
+}
+
+/// Returns the number that a text is, or the sum or difference of two numbers. A sign at the front
+/// belongs to the first number.
+fn one_or_two(text: &[u8]) -> Option<i128>
+    ensures { result ≡ one_or_two (position is_sign (drop 1 text.now)) text.now }
+{
+    match text {
+        [] => number(text),
+        [_, rest @ ..] => match sign_place(rest) {
+            Some(at) => {
+                let (first, signed) = text.split_at(at + 1);
+                signed_by(first, signed)
+            }
+            None => number(text),
+        },
+    }
+}
+
+/// Returns the position that an index denotes, given the position of `end`. `None`: no index.
+fn place_of(end: i128, text: &[u8]) -> Option<i128>
+    requires low { negsuc 0 ≤ℤ end }
+    requires high { end <ℤ pos (2 ^ 64) }
+    ensures { result ≡ place_of end text.now }
 {
     if is(text, b"end") {
-        return Some(count as i128 - 1);
+        return Some(end);
     }
-    match behind_end(text) {
-        Some(number) => match read_number(number) {
-            Some(back) => Some(from_end(count, back)),
-            None => None,
-        },
-        None => match read_number(text) {
-            Some(place) => Some(place as i128),
-            None => None,
-        },
+    if let Some(number) = behind(text, b"end-") {
+        return before_end(end, number);
     }
+    if let Some(number) = behind(text, b"end+") {
+        return behind_end(end, number);
+    }
+    one_or_two(text)
 }
 
-/// The same, or the complaint that the text is no index.
-pub(crate) fn index_of(alloc: Global, count: usize, text: &[u8]) -> Result<i128, Complaint>
-    ensures { Says result (index_of count text.now) }
+/// Does the same. The error is `bad index` if the text is no index.
+fn index_by(alloc: Global, end: i128, text: &[u8]) -> Result<i128, Complaint>
+    requires low { negsuc 0 ≤ℤ end }
+    requires high { end <ℤ pos (2 ^ 64) }
+    ensures { Says result (index_by end text.now) }
 {
-    match place_of(count, text) {
+    match place_of(end, text) {
         Some(place) => Ok(place),
         None => Err(Complaint::Said(bad_index(alloc, text)?)),
     }
 }
 
-/// How many of so many stand before a place.
-fn before(place: i128, count: usize) -> usize
+/// Returns the position that an index denotes among `count` items. `end` is the last item. The
+/// position may be out of range.
+pub(crate) fn index_of(alloc: Global, count: usize, text: &[u8]) -> Result<i128, Complaint>
+    ensures { Says result (index_of count text.now) }
+{
+    index_by(alloc, count as i128 - 1, text)
+}
+
+/// Returns the position that an index denotes among `count` items. `end` is the position after the
+/// last item.
+pub(crate) fn index_behind(alloc: Global, count: usize, text: &[u8]) -> Result<i128, Complaint>
+    ensures { Says result (index_by (pos count) text.now) }
+{
+    index_by(alloc, count as i128, text)
+}
+
+/// Returns how many of `count` items come before a position.
+pub(crate) fn before(place: i128, count: usize) -> usize
     ensures { result ≡ min (before place) count }
 {
     if place < 0 {
@@ -72,8 +183,8 @@ fn before(place: i128, count: usize) -> usize
     }
 }
 
-/// How many of so many stand up to a place, it with them.
-fn up_to(place: i128, count: usize) -> usize
+/// Returns how many of `count` items come up to a position, inclusive.
+pub(crate) fn up_to(place: i128, count: usize) -> usize
     ensures { result ≡ min (up_to place) count }
 {
     if place < 0 {
@@ -85,7 +196,7 @@ fn up_to(place: i128, count: usize) -> usize
     }
 }
 
-/// What stands from one place to another.
+/// Returns the items from one position to another, inclusive.
 #[tactic(auto, using(std::proofs::lemmas::List::take_min, std::proofs::lemmas::List::drop_min))]
 pub(crate) fn between<T>(from: i128, to: i128, items: &[T]) -> &[T]
     ensures { result.now ≡ between from to items.now }
@@ -94,7 +205,7 @@ pub(crate) fn between<T>(from: i128, to: i128, items: &[T]) -> &[T]
     front.split_at(before(from, front.len())).1
 }
 
-/// The elements from one place to another, copied.
+/// Copies the elements from one position to another, inclusive.
 #[tactic(auto, using(std::proofs::lemmas::List::take_min, std::proofs::lemmas::List::drop_min))]
 pub(crate) fn elements_between(
     alloc: Global,
@@ -108,7 +219,7 @@ pub(crate) fn elements_between(
     elements.part(alloc, before(from, count), count)
 }
 
-/// The element at a place, empty where there is none.
+/// Returns the element at a position, or an empty value if there is none.
 pub(crate) fn element_at(
     alloc: Global,
     place: i128,
@@ -125,5 +236,15 @@ pub(crate) fn element_at(
     match elements.value(alloc, place as usize)? {
         Some(element) => Ok(element),
         None => Ok(Value::new(alloc)),
+    }
+}
+
+/// Returns the element at an index, or an empty text if there is none.
+pub(crate) fn element(elements: &Elements, index: usize) -> &[u8]
+    ensures { result.now ≡ slice_index_or elements.now index [] }
+{
+    match elements.get(index) {
+        Some(element) => element,
+        None => &[],
     }
 }

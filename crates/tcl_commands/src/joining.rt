@@ -1,7 +1,7 @@
-//! Words joined to one text.
+//! Joins arguments into one text.
 
 ghost use Rattle.std.specs.Prelude.{◌≡◌, ◌∷◌, IfOk, OnOk};
-ghost use Rattle.tcl_commands.specs.Joining.{joined, ends_with_backslash, pruned, full, expr_text, eval_text, with_word};
+ghost use Rattle.tcl_commands.specs.Joining.{joined, ends_with_backslash, pruned, full, expr_text, concat, eval_text, with_word};
 ghost use Rattle.tcl_commands.specs.Said.{limited};
 ghost use Rattle.tcl_commands.specs.Says.{Says};
 
@@ -13,7 +13,7 @@ use std::alloc::{AllocError, Global};
 use tcl_values::Value;
 use tcl_words::Text;
 
-/// A word, and the others behind it, each behind a space.
+/// Returns words joined by spaces.
 fn joined_words(alloc: Global, first: &[u8], words: &[Value]) -> Result<Text, AllocError>
     ensures { IfOk result (λ t. t ≡ joined (first.now ∷ words.now)) }
 {
@@ -25,7 +25,7 @@ fn joined_words(alloc: Global, first: &[u8], words: &[Value]) -> Result<Text, Al
     Ok(text)
 }
 
-/// The text of `expr word ..`. One word is shared.
+/// Returns the text that `expr word ..` evaluates. A single word is not copied.
 pub fn expr_text(alloc: Global, command: &[u8], args: &[Value]) -> Result<Value, Complaint>
     ensures { Says result (expr_text command.now args.now) }
 {
@@ -52,7 +52,8 @@ fn ends_with_backslash(text: &[u8]) -> bool
     }
 }
 
-/// A word without the white space at its two ends; of white space behind a backslash the first byte stays.
+/// Returns a word without the white space at its ends. The first byte of white space after a
+/// backslash stays.
 fn pruned(word: &[u8]) -> &[u8]
     ensures { result.now ≡ pruned word.now }
 {
@@ -64,7 +65,7 @@ fn pruned(word: &[u8]) -> &[u8]
     front
 }
 
-/// Puts a word behind a text, and a space between where both have bytes.
+/// Appends a word to a text, with a space between them if neither is empty.
 fn push_word(text: &mut Text, word: &[u8]) -> Result<(), AllocError>
     ensures { OnOk result (text.new ≡ with_word text.old word.now) }
 {
@@ -78,7 +79,7 @@ fn push_word(text: &mut Text, word: &[u8]) -> Result<(), AllocError>
     text.extend(word)
 }
 
-/// The words that aren't empty once they are pruned, joined.
+/// Returns the pruned words that aren't empty, joined by spaces.
 fn full_words(alloc: Global, words: &[Value]) -> Result<Text, AllocError>
     ensures { IfOk result (λ t. t ≡ joined (full words.now)) }
 {
@@ -89,15 +90,20 @@ fn full_words(alloc: Global, words: &[Value]) -> Result<Text, AllocError>
     Ok(text)
 }
 
-/// The script of `eval word ..`
+/// Returns the value of `concat word ..`.
+pub(crate) fn concat(alloc: Global, args: &[Value]) -> Result<Value, Complaint>
+    ensures { Says result (concat args.now) }
+{
+    let text = full_words(alloc, args)?;
+    limited(alloc, Value::from_text(alloc, text)?)
+}
+
+/// Returns the script that `eval word ..` evaluates.
 pub fn eval_text(alloc: Global, command: &[u8], args: &[Value]) -> Result<Value, Complaint>
     ensures { Says result (eval_text command.now args.now) }
 {
     match args {
         [] => Err(wrong(alloc, command)),
-        [_, ..] => {
-            let text = full_words(alloc, args)?;
-            limited(alloc, Value::from_text(alloc, text)?)
-        }
+        [_, ..] => concat(alloc, args),
     }
 }

@@ -1,12 +1,15 @@
-//! The commands of a Tcl subset but for their evaluation: their names, those that read and change variables and texts alone, the texts of
-//! errors, and how the arguments of the others are read.
+//! The commands of a Tcl subset: those that evaluate no script, and the arguments of the others.
+//! Also the texts of errors.
 #![tactic(auto)]
 
 mod arms;
 mod calls;
+mod cases;
+mod classes;
 mod code;
 mod commands;
 mod complaint;
+mod editing;
 mod ends;
 mod formals;
 mod given;
@@ -14,10 +17,17 @@ mod groups;
 mod indices;
 mod joining;
 mod lists;
+mod mapping;
+mod searching;
+mod sets;
+mod sorting;
+mod splitting;
 mod status;
 mod strings;
+mod switches;
 mod texts;
 mod told;
+mod trimming;
 mod values;
 mod variables;
 mod verbs;
@@ -38,4 +48,4 @@ pub use texts::{
 };
 pub use told::said;
 pub use values::{as_number, list_of, texts_of};
-pub use verbs::{Verb, verb_of};
+pub use verbs::{Verb, redefinable_verb, verb_of};

@@ -14,14 +14,14 @@ use std::alloc::Global;
 use tcl_values::Value;
 use tcl_words::{Packed, stands_bare};
 
-/// The list of elements, where it isn't too long.
-fn list_text(alloc: Global, elements: Packed) -> Result<Value, Complaint>
+/// Returns the list of elements. It is an error if it is too long.
+pub(crate) fn list_text(alloc: Global, elements: Packed) -> Result<Value, Complaint>
     ensures { Says result (limited (written elements)) }
 {
     limited(alloc, Value::written(alloc, elements)?)
 }
 
-/// `list value ..`
+/// Returns the value of `list value ..`.
 pub(crate) fn list(alloc: Global, args: &[Value]) -> Result<Value, Complaint>
     ensures { Says result (limited (written args.now)) }
 {
@@ -31,8 +31,8 @@ pub(crate) fn list(alloc: Global, args: &[Value]) -> Result<Value, Complaint>
     }
 }
 
-/// The list that has a value alone. A value that is written as it stands is shared; a long one is read as a list then, so that this is
-/// known at its next use.
+/// Returns the list with one value as its element. A value that needs no quoting is shared. It is
+/// parsed as a list, so that `is_word` is known at its next use if it is long.
 fn list_of_one(alloc: Global, value: &Value) -> Result<Value, Complaint>
     ensures { Says result (limited (written (value.now ∷ []))) }
 {
@@ -48,7 +48,7 @@ fn list_of_one(alloc: Global, value: &Value) -> Result<Value, Complaint>
     list_text(alloc, elements)
 }
 
-/// `llength list`
+/// Returns the value of `llength list`.
 pub(crate) fn llength(alloc: Global, args: &[Value]) -> Result<Value, Complaint>
     ensures { Says result (llength args.now) }
 {
@@ -65,7 +65,7 @@ fn list_length(alloc: Global, list: &Value) -> Result<Value, Complaint>
     Ok(count_text(alloc, elements.len())?)
 }
 
-/// `lindex list ?index?`
+/// Returns the value of `lindex list ?index?`.
 pub(crate) fn lindex(alloc: Global, args: &[Value]) -> Result<Value, Complaint>
     ensures { Says result (lindex args.now) }
 {
@@ -84,7 +84,7 @@ fn list_element(alloc: Global, list: &Value, index: &[u8]) -> Result<Value, Comp
     Ok(element_at(alloc, place, &elements)?)
 }
 
-/// `lrange list from to`
+/// Returns the value of `lrange list from to`.
 pub(crate) fn lrange(alloc: Global, args: &[Value]) -> Result<Value, Complaint>
     ensures { Says result (lrange args.now) }
 {

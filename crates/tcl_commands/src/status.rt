@@ -1,4 +1,4 @@
-//! The status of `exit`.
+//! The exit status of `exit`.
 
 ghost use Rattle.tcl_commands.specs.Says.{Says};
 ghost use Rattle.tcl_commands.specs.Verbs.{status_of, exit_status};
@@ -10,7 +10,7 @@ use std::alloc::Global;
 use tcl_expr::read_number;
 use tcl_values::Value;
 
-/// The status of `exit ?status?`: a number from 0 to 255, and 0 where it is left out.
+/// Returns the exit status of `exit ?status?`: a number from 0 to 255, by default 0.
 pub fn exit_status(alloc: Global, command: &[u8], args: &[Value]) -> Result<u8, Complaint>
     ensures { Says result (exit_status command.now args.now) }
 {

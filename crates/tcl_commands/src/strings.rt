@@ -1,24 +1,34 @@
 //! The command `string`.
 
-ghost use Rattle.std.specs.Prelude.{◌≡◌, map, IfOk};
+ghost use Rattle.std.specs.Prelude.{◌≡◌, map, reverse, IfOk};
 ghost use Rattle.std.specs.Char.{to_ascii_lowercase, to_ascii_uppercase};
 ghost use Rattle.tcl_commands.specs.Says.{Says};
-ghost use Rattle.tcl_commands.specs.Strings.{byte_at, bytes_between, string_by, string, bit_text, order_text, place_text, first_place};
+ghost use Rattle.tcl_commands.specs.Strings.{byte_at, bytes_between, equal, compared, matched, trimmed_left, trimmed_right, string_by, string, bit_text, order_text, place_text, first_place, last_place};
+ghost use Rattle.exp_glob.specs.Whole.{matches};
 
+use crate::cases::{are_same, lower, order};
+use crate::classes::classed;
 use crate::complaint::Complaint;
-use crate::given::{arg, others};
+use crate::given::{arg, arg_or, behind, others};
 use crate::indices::{between, index_of};
+use crate::mapping::mapped;
+use crate::sets::ByteSet;
+use crate::switches::flags_of;
 use crate::texts::{bad_option, wrong};
+use crate::trimming::{trimmed_left, trimmed_right};
 use crate::values::count_text;
-use crate::white::trimmed;
-use command_table::{StringOption, fits, is, string_count, string_option};
+use command_table::{StringOption, Switches, fits, string_count, string_option};
+use exp_glob::Glob;
 use memchr::memmem;
 use std::alloc::{AllocError, Global};
 use std::cmp::Ordering;
 use tcl_values::Value;
 use tcl_words::Text;
 
-/// `string option arg ..`
+/// The bytes that are trimmed by default.
+const BLANKS: &[u8] = b" \t\n\x0b\x0c\r";
+
+/// Returns the value of `string option arg ..`.
 pub(crate) fn string(alloc: Global, command: &[u8], args: &[Value]) -> Result<Value, Complaint>
     ensures { Says result (string command.now args.now) }
 {
@@ -27,7 +37,7 @@ pub(crate) fn string(alloc: Global, command: &[u8], args: &[Value]) -> Result<Va
         Some(option) => {
             let texts = others(args);
             if fits(string_count(option), texts.len()) {
-                return string_by(alloc, option, texts);
+                return string_by(alloc, option, command, texts);
             }
             Err(wrong(alloc, command))
         }
@@ -35,8 +45,13 @@ pub(crate) fn string(alloc: Global, command: &[u8], args: &[Value]) -> Result<Va
 }
 
 /// Runs an option of `string` with the arguments after it.
-fn string_by(alloc: Global, option: StringOption, args: &[Value]) -> Result<Value, Complaint>
-    ensures { Says result (string_by option args.now) }
+fn string_by(
+    alloc: Global,
+    option: StringOption,
+    command: &[u8],
+    args: &[Value],
+) -> Result<Value, Complaint>
+    ensures { Says result (string_by option command.now args.now) }
 {
     let a = arg(args, 0);
     let b = arg(args, 1);
@@ -44,13 +59,93 @@ fn string_by(alloc: Global, option: StringOption, args: &[Value]) -> Result<Valu
         StringOption::Length => Ok(count_text(alloc, a.len())?),
         StringOption::Index => byte_at(alloc, a, b),
         StringOption::Range => bytes_between(alloc, a, b, arg(args, 2)),
-        StringOption::Equal => Ok(bit_text(alloc, is(a, b))?),
-        StringOption::Compare => Ok(order_text(alloc, a.cmp(&b))?),
+        StringOption::Equal => equal(alloc, command, args),
+        StringOption::Compare => compared(alloc, command, args),
         StringOption::First => Ok(place_text(alloc, first_place(a, b))?),
-        StringOption::ToLower => Ok(lower(alloc, a)?),
+        StringOption::Last => Ok(place_text(alloc, last_place(a, b))?),
+        StringOption::ToLower => Ok(lowered(alloc, a)?),
         StringOption::ToUpper => Ok(upper(alloc, a)?),
-        StringOption::Trim => Ok(Value::from_slice(alloc, trimmed(a))?),
+        StringOption::Trim => Ok(trimmed(alloc, arg_or(args, 1, BLANKS), a)?),
+        StringOption::TrimLeft => Ok(without_front(alloc, arg_or(args, 1, BLANKS), a)?),
+        StringOption::TrimRight => Ok(without_end(alloc, arg_or(args, 1, BLANKS), a)?),
+        StringOption::Match => matched(alloc, command, args),
+        StringOption::Map => mapped(alloc, command, args),
+        StringOption::Is => is_in_class(alloc, command, args),
+        StringOption::Reverse => Ok(reversed(alloc, a)?),
     }
+}
+
+/// Returns the value of `string equal ?-nocase? text text`.
+fn equal(alloc: Global, command: &[u8], args: &[Value]) -> Result<Value, Complaint>
+    ensures { Says result (equal command.now args.now) }
+{
+    let (given, count) = flags_of(alloc, Switches::Case, 2, command, args)?;
+    let texts = behind(args, count);
+    let same = are_same(given.nocase, arg(texts, 0), arg(texts, 1));
+    Ok(bit_text(alloc, same)?)
+}
+
+/// Returns the value of `string compare ?-nocase? text text`.
+fn compared(alloc: Global, command: &[u8], args: &[Value]) -> Result<Value, Complaint>
+    ensures { Says result (compared command.now args.now) }
+{
+    let (given, count) = flags_of(alloc, Switches::Case, 2, command, args)?;
+    let texts = behind(args, count);
+    let found = order(alloc, given.nocase, arg(texts, 0), arg(texts, 1))?;
+    Ok(order_text(alloc, found)?)
+}
+
+/// Returns whether a pattern matches a whole text.
+fn matches(alloc: Global, nocase: bool, pattern: &[u8], text: &[u8]) -> Result<bool, AllocError>
+    ensures { IfOk result (λ t. t ≡ matches nocase pattern.now text.now) }
+{
+    let glob = Glob::whole(alloc, pattern)?;
+    Ok(glob.is_found(text, nocase))
+}
+
+/// Returns the value of `string match ?-nocase? pattern text`.
+fn matched(alloc: Global, command: &[u8], args: &[Value]) -> Result<Value, Complaint>
+    ensures { Says result (matched command.now args.now) }
+{
+    let (given, count) = flags_of(alloc, Switches::Case, 2, command, args)?;
+    let texts = behind(args, count);
+    let found = matches(alloc, given.nocase, arg(texts, 0), arg(texts, 1))?;
+    Ok(bit_text(alloc, found)?)
+}
+
+/// Returns the value of `string is class ?-strict? text`.
+fn is_in_class(alloc: Global, command: &[u8], args: &[Value]) -> Result<Value, Complaint>
+    ensures { Says result (string_by StringOption.Is command.now args.now) }
+{
+    let is_in = classed(alloc, command, args)?;
+    Ok(bit_text(alloc, is_in)?)
+}
+
+fn trimmed(alloc: Global, chars: &[u8], text: &[u8]) -> Result<Value, AllocError>
+    ensures { IfOk result (λ v. v ≡ trimmed_right chars.now (trimmed_left chars.now text.now)) }
+{
+    let set = ByteSet::new(chars);
+    let text = trimmed_right(&set, trimmed_left(&set, text));
+    Value::from_slice(alloc, text)
+}
+
+fn without_front(alloc: Global, chars: &[u8], text: &[u8]) -> Result<Value, AllocError>
+    ensures { IfOk result (λ v. v ≡ trimmed_left chars.now text.now) }
+{
+    Value::from_slice(alloc, trimmed_left(&ByteSet::new(chars), text))
+}
+
+fn without_end(alloc: Global, chars: &[u8], text: &[u8]) -> Result<Value, AllocError>
+    ensures { IfOk result (λ v. v ≡ trimmed_right chars.now text.now) }
+{
+    Value::from_slice(alloc, trimmed_right(&ByteSet::new(chars), text))
+}
+
+fn reversed(alloc: Global, text: &[u8]) -> Result<Value, AllocError>
+    ensures { IfOk result (λ v. v ≡ reverse text.now) }
+{
+    let bytes = text.iter().rev().copied().collect(alloc)?;
+    Value::from_text(alloc, Text { bytes })
 }
 
 fn byte_at(alloc: Global, text: &[u8], index: &[u8]) -> Result<Value, Complaint>
@@ -68,15 +163,10 @@ fn bytes_between(alloc: Global, text: &[u8], from: &[u8], to: &[u8]) -> Result<V
     Ok(Value::from_slice(alloc, between(from, to, text))?)
 }
 
-fn lower(alloc: Global, text: &[u8]) -> Result<Value, AllocError>
+fn lowered(alloc: Global, text: &[u8]) -> Result<Value, AllocError>
     ensures { IfOk result (λ v. v ≡ map to_ascii_lowercase text.now) }
 {
-    Value::from_text(
-        alloc,
-        Text {
-            bytes: text.to_ascii_lowercase(alloc)?,
-        },
-    )
+    Value::from_text(alloc, lower(alloc, text)?)
 }
 
 fn upper(alloc: Global, text: &[u8]) -> Result<Value, AllocError>
@@ -90,7 +180,7 @@ fn upper(alloc: Global, text: &[u8]) -> Result<Value, AllocError>
     )
 }
 
-/// `1` for true, `0` for false.
+/// Returns `1` for true, `0` for false.
 pub(crate) fn bit_text(alloc: Global, bit: bool) -> Result<Value, AllocError>
     ensures { IfOk result (λ v. v ≡ bit_text bit) }
 {
@@ -111,14 +201,22 @@ fn order_text(alloc: Global, order: Ordering) -> Result<Value, AllocError>
     }
 }
 
-/// The first place of a text in another. It takes linear time.
+/// Returns the first index of a text in another. Linear time.
 fn first_place(text: &[u8], bytes: &[u8]) -> Option<usize>
     ensures { result ≡ first_place text.now bytes.now }
 {
     memmem::find(bytes, text)
 }
 
-fn place_text(alloc: Global, place: Option<usize>) -> Result<Value, AllocError>
+/// Returns the last index of a text in another. Linear time.
+fn last_place(text: &[u8], bytes: &[u8]) -> Option<usize>
+    ensures { result ≡ last_place text.now bytes.now }
+{
+    memmem::rfind(bytes, text)
+}
+
+/// Returns an index as text, or `-1` for `None`.
+pub(crate) fn place_text(alloc: Global, place: Option<usize>) -> Result<Value, AllocError>
     ensures { IfOk result (λ v. v ≡ place_text place) }
 {
     match place {

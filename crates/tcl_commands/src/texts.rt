@@ -2,7 +2,7 @@
 
 ghost use Rattle.std.specs.Prelude.{◌≡◌, ◌≢◌, ◌++◌, take, IfOk};
 ghost use Rattle.tcl_commands.specs.Says.{Complains};
-ghost use Rattle.tcl_commands.specs.Texts.{bad_list, too_long, too_deep, is_missing, quoted, wrong_args, bad_option, bad_index, expected_number, variable_fault, not_read, not_set, not_unset, word_fault, expr_fault};
+ghost use Rattle.tcl_commands.specs.Texts.{bad_list, too_long, too_deep, is_missing, quoted, wrong_args, bad_option, bad_flag, bad_index, expected_number, variable_fault, not_read, not_set, not_unset, word_fault, expr_fault};
 
 use crate::complaint::Complaint;
 use std::alloc::{AllocError, Global};
@@ -10,29 +10,29 @@ use tcl_expr::ExprFault;
 use tcl_subst::SubstFault;
 use tcl_words::{Text, WordFault};
 
-/// A text is no list.
+/// Returns the text of the error that a text is no list.
 pub fn bad_list() -> &'static [u8]
     ensures { result.now ≡ bad_list }
 {
     b"bad list"
 }
 
-/// A value would have more bytes than are allowed.
+/// Returns the text of the error that a value would be too long.
 pub fn too_long() -> &'static [u8]
     ensures { result.now ≡ too_long }
 {
     b"value too long"
 }
 
-/// Evaluations stand too deep in one another.
+/// Returns the text of the error that evaluations are nested too deep.
 pub fn too_deep() -> &'static [u8]
     ensures { result.now ≡ too_deep }
 {
     b"too many nested evaluations"
 }
 
-/// At most so many bytes of a word.
-fn front(word: &[u8], most: usize) -> &[u8]
+/// Returns the first `most` bytes of a word.
+pub(crate) fn front(word: &[u8], most: usize) -> &[u8]
     ensures { result.now ≡ take most word.now }
 {
     if word.len() <= most {
@@ -42,7 +42,7 @@ fn front(word: &[u8], most: usize) -> &[u8]
     }
 }
 
-/// A text, and a word in quotes behind it, of which at most 200 bytes are shown.
+/// Returns a text, followed by at most 200 bytes of a word in quotes.
 pub fn quoted(alloc: Global, front_text: &[u8], word: &[u8]) -> Result<Text, AllocError>
     ensures { IfOk result (λ t. t ≡ quoted front_text.now word.now) }
 {
@@ -53,7 +53,7 @@ pub fn quoted(alloc: Global, front_text: &[u8], word: &[u8]) -> Result<Text, All
     Ok(text)
 }
 
-/// A quoted word with a text behind it.
+/// Returns the same, followed by another text.
 fn quoted_before(
     alloc: Global,
     front_text: &[u8],
@@ -67,35 +67,42 @@ fn quoted_before(
     Ok(text)
 }
 
-/// A command has too few or too many arguments.
+/// Returns the text of the error that a command has too few or too many arguments.
 pub fn wrong_args(alloc: Global, command: &[u8]) -> Result<Text, AllocError>
     ensures { IfOk result (λ t. t ≡ wrong_args command.now) }
 {
     quoted(alloc, b"wrong # args for ", command)
 }
 
-/// A command has no such option.
+/// Returns the text of the error that a command has no such flag.
+pub(crate) fn bad_flag(alloc: Global, flag: &[u8]) -> Result<Text, AllocError>
+    ensures { IfOk result (λ t. t ≡ bad_flag flag.now) }
+{
+    quoted(alloc, b"bad flag ", flag)
+}
+
+/// Returns the text of the error that a command has no such option.
 pub fn bad_option(alloc: Global, option: &[u8]) -> Result<Text, AllocError>
     ensures { IfOk result (λ t. t ≡ bad_option option.now) }
 {
     quoted(alloc, b"bad option ", option)
 }
 
-/// A text is no index.
+/// Returns the text of the error that a text is no index.
 pub fn bad_index(alloc: Global, text: &[u8]) -> Result<Text, AllocError>
     ensures { IfOk result (λ t. t ≡ bad_index text.now) }
 {
     quoted(alloc, b"bad index ", text)
 }
 
-/// A text is no number.
+/// Returns the text of the error that a text is no number.
 pub fn expected_number(alloc: Global, text: &[u8]) -> Result<Text, AllocError>
     ensures { IfOk result (λ t. t ≡ expected_number text.now) }
 {
     quoted(alloc, b"expected number but got ", text)
 }
 
-/// Why a variable can't be read or set. The front says which. There is a text but for want of memory.
+/// Returns why a variable can't be read or set. `front_text` says which. `AllocError` for `Memory`.
 fn variable_fault(
     alloc: Global,
     front_text: &[u8],
@@ -116,7 +123,7 @@ fn variable_fault(
     }
 }
 
-/// Why a variable can't be read. There is a text but for want of memory.
+/// Returns why a variable can't be read. `AllocError` for `Memory`.
 pub fn not_read(alloc: Global, name: &[u8], fault: SubstFault) -> Result<Text, AllocError>
     ensures text { IfOk result (λ t. t ≡ not_read name.now fault) }
     ensures memory { IfOk result (λ _. fault ≢ SubstFault.Memory) }
@@ -124,7 +131,7 @@ pub fn not_read(alloc: Global, name: &[u8], fault: SubstFault) -> Result<Text, A
     variable_fault(alloc, b"can't read ", name, fault)
 }
 
-/// Why a variable can't be set. There is a text but for want of memory.
+/// Returns why a variable can't be set. `AllocError` for `Memory`.
 pub fn not_set(alloc: Global, name: &[u8], fault: SubstFault) -> Result<Text, AllocError>
     ensures text { IfOk result (λ t. t ≡ not_set name.now fault) }
     ensures memory { IfOk result (λ _. fault ≢ SubstFault.Memory) }
@@ -132,7 +139,7 @@ pub fn not_set(alloc: Global, name: &[u8], fault: SubstFault) -> Result<Text, Al
     variable_fault(alloc, b"can't set ", name, fault)
 }
 
-/// Whether a fault says that there is no such variable.
+/// Returns whether an error says that there is no such variable.
 pub(crate) fn is_missing(fault: SubstFault) -> bool
     ensures { result ≡ is_missing fault }
 {
@@ -147,7 +154,7 @@ pub(crate) fn is_missing(fault: SubstFault) -> bool
     }
 }
 
-/// Why a variable can't be unset. There is a text but for want of memory.
+/// Returns why a variable can't be unset. `AllocError` for `Memory`.
 pub fn not_unset(alloc: Global, name: &[u8], fault: SubstFault) -> Result<Text, AllocError>
     ensures text { IfOk result (λ t. t ≡ not_unset name.now fault) }
     ensures memory { IfOk result (λ _. fault ≢ SubstFault.Memory) }
@@ -158,7 +165,7 @@ pub fn not_unset(alloc: Global, name: &[u8], fault: SubstFault) -> Result<Text, 
     not_set(alloc, name, fault)
 }
 
-/// Why a command could not be read.
+/// Returns why a command can't be parsed.
 pub fn word_fault(fault: WordFault) -> &'static [u8]
     ensures { result.now ≡ word_fault fault }
 {
@@ -174,7 +181,7 @@ pub fn word_fault(fault: WordFault) -> &'static [u8]
     }
 }
 
-/// Why the expression of a text has no value.
+/// Returns why an expression has no value.
 pub fn expr_fault(alloc: Global, source: &[u8], fault: &ExprFault) -> Result<Text, AllocError>
     ensures { IfOk result (λ t. t ≡ expr_fault source.now fault.now) }
 {
@@ -188,7 +195,7 @@ pub fn expr_fault(alloc: Global, source: &[u8], fault: &ExprFault) -> Result<Tex
     }
 }
 
-/// The complaint that a command has too few or too many arguments.
+/// Returns the error that a command has too few or too many arguments.
 pub(crate) fn wrong(alloc: Global, command: &[u8]) -> Complaint
     ensures { Complains result (wrong_args command.now) }
 {
@@ -198,11 +205,21 @@ pub(crate) fn wrong(alloc: Global, command: &[u8]) -> Complaint
     }
 }
 
-/// The complaint that a text is no list.
+/// Returns the error that a text is no list.
 pub(crate) fn no_list(alloc: Global) -> Complaint
     ensures { Complains result bad_list }
 {
     match Text::from_slice(alloc, bad_list()) {
+        Ok(text) => Complaint::Said(text),
+        Err(_) => Complaint::Memory,
+    }
+}
+
+/// Returns the error that a value would be too long.
+pub(crate) fn over_limit(alloc: Global) -> Complaint
+    ensures { Complains result too_long }
+{
+    match Text::from_slice(alloc, too_long()) {
         Ok(text) => Complaint::Said(text),
         Err(_) => Complaint::Memory,
     }

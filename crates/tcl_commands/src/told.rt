@@ -1,4 +1,4 @@
-//! What a call gave, told apart: a value, the text of an error, or want of memory.
+//! Turns results into outcomes of commands.
 
 ghost use Rattle.std.specs.Prelude.{◌≡◌, ℕ, List, IfOk};
 ghost use Rattle.tcl_commands.specs.Said.{Said as Meant, told};
@@ -13,7 +13,8 @@ use std::alloc::{AllocError, Global};
 use tcl_values::Value;
 use tcl_words::Text;
 
-/// A value ends a command, and so does the text of an error. Want of memory is passed on.
+/// Returns a value with `Code::Ok`, or the text of an error with `Code::Error`. Passes on
+/// `AllocError`.
 pub(crate) fn told(
     alloc: Global,
     given: Result<Value, Complaint>,
@@ -27,7 +28,7 @@ pub(crate) fn told(
     }
 }
 
-/// What a call gave, or the text of its error as a value. Want of memory is passed on.
+/// Returns a result, or the text of its error as a value. Passes on `AllocError`.
 pub fn said<T: Drop>(
     alloc: Global,
     given: Result<T, Complaint>,
@@ -41,14 +42,14 @@ pub fn said<T: Drop>(
     }
 }
 
-/// The error that a command has too few or too many arguments.
+/// Returns the error that a command has too few or too many arguments.
 pub(crate) fn wrong_call(alloc: Global, command: &[u8]) -> Result<(Code, Value), AllocError>
     ensures { IfOk result (λ r. r ≡ (Code.Error, wrong_args command.now)) }
 {
     error(alloc, wrong_args(alloc, command)?)
 }
 
-/// An error, by its text.
+/// Returns an error with this text.
 pub(crate) fn error(alloc: Global, text: Text) -> Result<(Code, Value), AllocError>
     ensures { IfOk result (λ r. r ≡ (Code.Error, text)) }
 {

@@ -1,14 +1,15 @@
-//! Texts read as lists and as numbers.
+//! Reads texts as lists and as numbers.
 
-ghost use Rattle.std.specs.Prelude.{◌≡◌, IfOk};
+ghost use Rattle.std.specs.Prelude.{◌≡◌, ◌≢◌, ◌++◌, length, true, false, IfOk, IfErr, OnOk};
 ghost use Rattle.tcl_commands.specs.Said.{limited, list_of, as_number};
-ghost use Rattle.tcl_commands.specs.Says.{Says};
+ghost use Rattle.tcl_commands.specs.Says.{Says, text_of};
 ghost use Rattle.tcl_commands.specs.Strings.{count_text};
+ghost use Rattle.tcl_commands.specs.Texts.{too_long};
 ghost use Rattle.tcl_expr.specs.Number.{number_text};
 ghost use Rattle.tcl_subst.specs.Faults.{is_too_long};
 
 use crate::complaint::Complaint;
-use crate::texts::{expected_number, no_list, too_long};
+use crate::texts::{expected_number, no_list, over_limit};
 use itoa::Buffer;
 use std::alloc::{AllocError, Global};
 use tcl_expr::read_number;
@@ -16,7 +17,7 @@ use tcl_subst::VALUE_LIMIT;
 use tcl_values::{Elements, Value};
 use tcl_words::{ListFault, Packed, Text, Texts};
 
-/// The elements of the list that a value is.
+/// Returns the elements of a list. The error is `bad list` if the value is no list.
 pub fn list_of(alloc: Global, value: &Value) -> Result<Elements, Complaint>
     ensures { Says result (list_of value.now) }
 {
@@ -27,7 +28,7 @@ pub fn list_of(alloc: Global, value: &Value) -> Result<Elements, Complaint>
     }
 }
 
-/// The number that a text is.
+/// Returns the number that a text is. The error is `expected number` if it is none.
 pub fn as_number(alloc: Global, text: &[u8]) -> Result<i64, Complaint>
     ensures { Says result (as_number text.now) }
 {
@@ -44,17 +45,36 @@ fn is_too_long(count: usize) -> bool
     VALUE_LIMIT < count
 }
 
-/// A value, where it isn't too long.
+/// Returns a value. It is an error if it has more than `VALUE_LIMIT` bytes.
 pub(crate) fn limited(alloc: Global, value: Value) -> Result<Value, Complaint>
     ensures { Says result (limited value) }
 {
     if is_too_long(value.len()) {
-        return Err(Complaint::Said(Text::from_slice(alloc, too_long())?));
+        return Err(over_limit(alloc));
     }
     Ok(value)
 }
 
-/// The texts of values, in order.
+/// Appends `gap` and `more` to a text. It is an error if the text is too long afterwards.
+pub(crate) fn extend_limited(
+    alloc: Global,
+    text: &mut Text,
+    gap: &[u8],
+    more: &[u8],
+) -> Result<(), Complaint>
+    ensures extended { OnOk result (text.new ≡ text.old ++ (gap.now ++ more.now)) }
+    ensures short { OnOk result (is_too_long (length text.new) ≡ false) }
+    ensures long { IfErr result (λ c. c ≢ Complaint.Memory → (text_of c ≡ too_long) × (is_too_long (length (text.old ++ (gap.now ++ more.now))) ≡ true)) }
+{
+    text.extend(gap)?;
+    text.extend(more)?;
+    if is_too_long(text.len()) {
+        return Err(over_limit(alloc));
+    }
+    Ok(())
+}
+
+/// Copies values to texts, in order.
 pub fn texts_of(alloc: Global, values: &[Value]) -> Result<Texts, AllocError>
     ensures { IfOk result (λ t. t ≡ values.now) }
 {
@@ -65,7 +85,7 @@ pub fn texts_of(alloc: Global, values: &[Value]) -> Result<Texts, AllocError>
     Ok(texts)
 }
 
-/// The texts of values, in order and one behind another.
+/// Copies values into one block, in order.
 pub(crate) fn packed(alloc: Global, values: &[Value]) -> Result<Packed, AllocError>
     ensures { IfOk result (λ p. p ≡ values.now) }
 {
@@ -76,7 +96,7 @@ pub(crate) fn packed(alloc: Global, values: &[Value]) -> Result<Packed, AllocErr
     Ok(packed)
 }
 
-/// The text of a number.
+/// Returns the decimal text of a number.
 pub(crate) fn number_text(alloc: Global, number: i64) -> Result<Value, AllocError>
     ensures { IfOk result (λ v. v ≡ number_text number) }
 {
@@ -84,7 +104,7 @@ pub(crate) fn number_text(alloc: Global, number: i64) -> Result<Value, AllocErro
     Value::from_slice(alloc, digits.format(number).as_bytes())
 }
 
-/// The text of a count.
+/// Returns the decimal text of a count.
 pub(crate) fn count_text(alloc: Global, count: usize) -> Result<Value, AllocError>
     ensures { IfOk result (λ v. v ≡ count_text count) }
 {

@@ -1,12 +1,13 @@
-//! The commands on variables.
+//! The commands that read and change variables.
 
-ghost use Rattle.std.specs.Prelude.{◌≡◌, ℕ, List, IfOk, Ok};
+ghost use Rattle.std.specs.Prelude.{◌≡◌, ℕ, List, IfOk, OnOk, Ok};
 ghost use Rattle.std.specs.List.{flat_map};
-ghost use Rattle.tcl_commands.specs.Plain.{read, written_to, set, unset, global, old_number, sum, incremented, set_if_said, increment, incr, append, lappend, info_by, info};
+ghost use Rattle.tcl_commands.specs.Plain.{set, changed_or, unset, unset_quietly, is_quiet, unset_names, global, old_number, sum, incremented, increment, incr, append, lappend, info_by, info};
 ghost use Rattle.tcl_commands.specs.Said.{Said as Meant, told, on_changed};
 ghost use Rattle.tcl_commands.specs.Says.{Says};
+ghost use Rattle.tcl_commands.specs.Setting.{read, written_to, set_if_said};
 ghost use Rattle.tcl_commands.specs.Texts.{not_set};
-ghost use Rattle.tcl_subst.specs.Variables.{with_value};
+ghost use Rattle.tcl_subst.specs.Variables.{with_value, without_value};
 ghost use Rattle.tcl_subst.specs.Writes.{set_to, appended, elements_appended};
 
 use crate::code::Code;
@@ -16,14 +17,14 @@ use crate::strings::bit_text;
 use crate::texts::{bad_option, is_missing, not_read, not_set, not_unset, wrong};
 use crate::told::{error, told};
 use crate::values::{as_number, number_text, packed};
-use command_table::{InfoOption, fits, info_count, info_option};
+use command_table::{InfoOption, fits, info_count, info_option, is};
 use std::alloc::{AllocError, Global};
-use tcl_subst::Vars;
+use tcl_subst::{SubstFault, Vars};
 use tcl_values::Value;
 use tcl_words::Text;
 
-/// The value of a variable.
-fn read(alloc: Global, name: &[u8], vars: &Vars) -> Result<Value, Complaint>
+/// Returns the value of a variable. The error says why it can't be read.
+pub(crate) fn read(alloc: Global, name: &[u8], vars: &Vars) -> Result<Value, Complaint>
     ensures { Says result (read name.now vars.now) }
 {
     match vars.get(name) {
@@ -32,7 +33,7 @@ fn read(alloc: Global, name: &[u8], vars: &Vars) -> Result<Value, Complaint>
     }
 }
 
-/// Sets a variable, and answers its value.
+/// Sets a variable, and returns its value.
 fn set_to(
     alloc: Global,
     name: &[u8],
@@ -48,7 +49,7 @@ fn set_to(
     }
 }
 
-/// `set name ?value?`
+/// Runs `set name ?value?`.
 pub(crate) fn set(
     alloc: Global,
     args: &[Value],
@@ -63,12 +64,66 @@ pub(crate) fn set(
     }
 }
 
-/// `unset name ..`
-pub(crate) fn unset(
+/// Unsets a variable. Does nothing if it can't be unset.
+fn unset_one(name: &[u8], vars: &mut Vars) -> Result<(), AllocError>
+    ensures { OnOk result (vars.new ≡ changed_or vars.old (without_value name.now vars.old)) }
+{
+    match vars.unset(name) {
+        Ok(()) => Ok(()),
+        Err(SubstFault::Memory) => Err(AllocError),
+        Err(SubstFault::NoVariable) => Ok(()),
+        Err(SubstFault::IsArray) => Ok(()),
+        Err(SubstFault::NotArray) => Ok(()),
+        Err(SubstFault::TooLong) => Ok(()),
+        Err(SubstFault::Exists) => Ok(()),
+        Err(SubstFault::BadList) => Ok(()),
+    }
+}
+
+/// Unsets all variables that can be unset.
+fn unset_quietly(
     alloc: Global,
     args: &[Value],
     vars: &mut Vars,
 ) -> Result<(Code, Value), AllocError>
+    ensures { IfOk result (λ r. unset_quietly args.now vars.old ≡ (r.0, r.1, vars.new)) }
+{
+    let mut names = args;
+    while let [name, rest @ ..] = names {
+        unset_one(name.as_slice(), vars)?;
+        names = rest;
+    }
+    Ok((Code::Ok, Value::new(alloc)))
+}
+
+/// Returns whether a word is `-nocomplain`, and not the name of an existing variable.
+fn is_quiet(word: &[u8], vars: &Vars) -> bool
+    ensures { result ≡ is_quiet word.now vars.now }
+{
+    is(word, b"-nocomplain") && !vars.exists(word)
+}
+
+/// Runs `unset ?-nocomplain? name ..`.
+pub(crate) fn unset_names(
+    alloc: Global,
+    args: &[Value],
+    vars: &mut Vars,
+) -> Result<(Code, Value), AllocError>
+    ensures { IfOk result (λ r. unset_names args.now vars.old ≡ (r.0, r.1, vars.new)) }
+{
+    match args {
+        [] => unset(alloc, args, vars),
+        [word, names @ ..] => {
+            if is_quiet(word.as_slice(), vars) {
+                return unset_quietly(alloc, names, vars);
+            }
+            unset(alloc, args, vars)
+        }
+    }
+}
+
+/// Unsets variables in order, up to the first that can't be unset.
+fn unset(alloc: Global, args: &[Value], vars: &mut Vars) -> Result<(Code, Value), AllocError>
     ensures { IfOk result (λ r. unset args.now vars.old ≡ (r.0, r.1, vars.new)) }
 {
     let mut names = args;
@@ -82,7 +137,7 @@ pub(crate) fn unset(
     Ok((Code::Ok, Value::new(alloc)))
 }
 
-/// `global name ..`
+/// Runs `global name ..`.
 pub(crate) fn global(
     alloc: Global,
     args: &[Value],
@@ -101,7 +156,7 @@ pub(crate) fn global(
     Ok((Code::Ok, Value::new(alloc)))
 }
 
-/// The number that a variable is, where a missing one counts as 0.
+/// Returns the number that a variable is. A missing variable counts as 0.
 fn old_number(alloc: Global, name: &[u8], vars: &Vars) -> Result<i64, Complaint>
     ensures { Says result (old_number name.now vars.now) }
 {
@@ -125,7 +180,7 @@ fn sum(alloc: Global, a: i64, b: i64) -> Result<Value, Complaint>
     }
 }
 
-/// The value of a variable with a number added.
+/// Returns the value of a variable plus a number.
 fn incremented(alloc: Global, name: &[u8], by: &[u8], vars: &Vars) -> Result<Value, Complaint>
     ensures { Says result (incremented name.now by.now vars.now) }
 {
@@ -134,8 +189,8 @@ fn incremented(alloc: Global, name: &[u8], by: &[u8], vars: &Vars) -> Result<Val
     sum(alloc, old, by)
 }
 
-/// Sets a variable to a value, where there is one.
-fn set_if_said(
+/// Sets a variable to a value, or returns the error that came instead.
+pub(crate) fn set_if_said(
     alloc: Global,
     name: &[u8],
     said: Result<Value, Complaint>,
@@ -150,7 +205,7 @@ fn set_if_said(
     }
 }
 
-/// Returns what `incr` adds: 1 if nothing is given.
+/// Returns the increment of `incr`, by default 1.
 fn increment(args: &[Value]) -> &[u8]
     ensures { result.now ≡ increment args.now }
 {
@@ -160,7 +215,7 @@ fn increment(args: &[Value]) -> &[u8]
     }
 }
 
-/// `incr name ?number?`
+/// Runs `incr name ?number?`.
 pub(crate) fn incr(
     alloc: Global,
     args: &[Value],
@@ -172,7 +227,7 @@ pub(crate) fn incr(
     set_if_said(alloc, arg(args, 0), value, vars)
 }
 
-/// All bytes of texts.
+/// Returns the concatenated bytes of texts.
 fn joined(alloc: Global, texts: &[Value]) -> Result<Text, AllocError>
     ensures { IfOk result (λ t. t ≡ flat_map (λ t. t) texts.now) }
 {
@@ -183,7 +238,7 @@ fn joined(alloc: Global, texts: &[Value]) -> Result<Text, AllocError>
     Ok(text)
 }
 
-/// `append name text ..`
+/// Runs `append name text ..`.
 pub(crate) fn append(
     alloc: Global,
     args: &[Value],
@@ -220,7 +275,7 @@ fn append_bytes(
     }
 }
 
-/// `lappend name value ..`
+/// Runs `lappend name value ..`.
 pub(crate) fn lappend(
     alloc: Global,
     args: &[Value],
@@ -236,7 +291,7 @@ pub(crate) fn lappend(
     }
 }
 
-/// `info option arg ..`
+/// Returns the value of `info option arg ..`.
 pub(crate) fn info(
     alloc: Global,
     command: &[u8],

@@ -1,9 +1,9 @@
 //! The commands of the language by their names.
 
 ghost use Rattle.std.specs.Prelude.{◌≡◌};
-ghost use Rattle.tcl_commands.specs.Verbs.{as_verb, verb_of};
+ghost use Rattle.tcl_commands.specs.Verbs.{as_verb, verb_of, redefinable_verb};
 
-use command_table::{TclCommand, ValueCommand, tcl_command};
+use command_table::{TclCommand, ValueCommand, redefinable_command, tcl_command};
 
 /// A command of the language.
 #[derive(Clone, Copy, PartialEq, Eq)]
@@ -21,6 +21,7 @@ pub enum Verb {
     Exit,
 }
 
+/// Returns the command of the language for its entry in the table.
 fn as_verb(command: TclCommand) -> Verb
     ensures { result ≡ as_verb command }
 {
@@ -38,11 +39,21 @@ fn as_verb(command: TclCommand) -> Verb
     }
 }
 
-/// The command that a word names.
+/// Finds a command that no procedure can have the name of.
 pub fn verb_of(word: &[u8]) -> Option<Verb>
     ensures { result ≡ verb_of word.now }
 {
     match tcl_command(word) {
+        None => None,
+        Some(command) => Some(as_verb(command)),
+    }
+}
+
+/// Finds a command by a name that a procedure can have. The procedure is then called in its place.
+pub fn redefinable_verb(word: &[u8]) -> Option<Verb>
+    ensures { result ≡ redefinable_verb word.now }
+{
+    match redefinable_command(word) {
         None => None,
         Some(command) => Some(as_verb(command)),
     }

@@ -1,8 +1,8 @@
-//! White space at the two ends of a text.
+//! Trims white space from the ends of a text.
 
 ghost use Rattle.std.specs.Prelude.{◌≡◌, ◌≤◌, length, reverse};
 ghost use Rattle.std.specs.List.{prefix_len};
-ghost use Rattle.tcl_commands.specs.Strings.{trimmed_front, trimmed_end, trimmed};
+ghost use Rattle.tcl_commands.specs.Strings.{trimmed_front, trimmed_end};
 ghost use Rattle.tcl_words.specs.Lists.{is_white};
 
 use tcl_words::is_white;
@@ -21,23 +21,16 @@ fn white_end(text: &[u8]) -> usize
     text.iter().rev().take_while(|b| is_white(**b)).count()
 }
 
-/// A text without the white space at its front.
+/// Returns a text without the white space at its front.
 pub(crate) fn trimmed_front(text: &[u8]) -> &[u8]
     ensures { result.now ≡ trimmed_front text.now }
 {
     text.split_at(white_front(text)).1
 }
 
-/// A text without the white space at its end.
+/// Returns a text without the white space at its end.
 pub(crate) fn trimmed_end(text: &[u8]) -> &[u8]
     ensures { result.now ≡ trimmed_end text.now }
 {
     text.split_at(text.len() - white_end(text)).0
-}
-
-/// A text without the white space at its two ends.
-pub(crate) fn trimmed(text: &[u8]) -> &[u8]
-    ensures { result.now ≡ trimmed text.now }
-{
-    trimmed_end(trimmed_front(text))
 }

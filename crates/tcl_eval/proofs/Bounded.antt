@@ -20,7 +20,7 @@ use Rattle.tcl_commands.specs.declared.verbs.Verb.TheVariants.{Plain, If, While,
 use Rattle.tcl_commands.specs.Texts.{wrong_args, expected_number, not_read, word_fault, expr_fault, too_deep}
 use Rattle.tcl_commands.specs.Said.{Said, Outcome}
 use Rattle.tcl_commands.specs.Plain.{plain}
-use Rattle.tcl_commands.specs.Verbs.{verb_of, exit_status}
+use Rattle.tcl_commands.specs.Verbs.{verb_of, redefinable_verb, exit_status}
 use Rattle.tcl_commands.specs.Joining.{expr_text, eval_text}
 use Rattle.tcl_commands.specs.Arms.{arms_of}
 use Rattle.tcl_commands.specs.Groups.{each_of, assigned}
@@ -38,7 +38,7 @@ use Rattle.tcl_eval.specs.declared.trail.Origin.{Origin}
 use Rattle.tcl_eval.specs.declared.trail.Origin.TheVariants as origin
 use Rattle.tcl_host.specs.Calls.{Begin, AfterWords, AfterBody, Knows, step_of, vars_of, known_of}
 use Rattle.tcl_eval.specs.Tree.{State, Tree, Over, Ask}
-use Rattle.tcl_eval.specs.Meaning.{Next, Eval, passed, taken, noting, on_ok, on_said, after, on_bool, tested, computed, turn_end, stepped, fill_word, fill_parts, spread, fill_words, value_from, expression, tree_of, condition, otherwise, arms, decided, advanced, one_turn, turned, turns, loop, each, digit, caught, left_scope, left_by_error, scope_end, no_command, called, called_or_begun, reserved, defined, replied, once_more, told_end, one_body, next_body, after_body, host_body, host_words, words_in, begin, while_command, for_command, new_proc, proc_command, catch_command, invoked, named, invoke, command, sequence, eval}
+use Rattle.tcl_eval.specs.Meaning.{Next, Eval, passed, taken, noting, on_ok, on_said, after, on_bool, tested, computed, turn_end, stepped, fill_word, fill_parts, spread, fill_words, value_from, expression, tree_of, condition, otherwise, arms, decided, advanced, one_turn, turned, turns, loop, each, digit, caught, left_scope, left_by_error, scope_end, no_command, called, redefinable_or_begun, called_or_begun, reserved, defined, replied, once_more, told_end, one_body, next_body, after_body, host_body, host_words, words_in, begin, while_command, for_command, new_proc, proc_command, catch_command, invoked, named, invoke, command, sequence, eval}
 use Rattle.tcl_eval.specs.Unrolled.{LoopsUnroll, BodiesUnroll}
 
 -- what a code has cost at least
@@ -470,9 +470,13 @@ module _ (ev : Eval) (bounded : IsBounded ev) where
   invoked-agree Exit name args k k' st h =
       on_said-agree (exit_status name args) k k' (λ n st. Over (Stopped (ending.Exit n)) st) (λ n st. Over (Stopped (ending.Exit n)) st) st (with_cost st.left k k' h) (λ n. refl)
 
+  redefinable-agree : (o : Option Verb) (name : List ℕ) (args : List (List ℕ)) (k k' : Next) (st : State) → AgreeAll st.left k k' → redefinable_or_begun ev o name args k st ≡ redefinable_or_begun ev o name args k' st
+  redefinable-agree (Some verb) name args k k' st h = invoked-agree verb name args k k' st h
+  redefinable-agree None name args k k' st h = begin-agree (name ∷ args) k k' st h
+
   called_or_begun-agree : (o : Option Procedure) (name : List ℕ) (args : List (List ℕ)) (k k' : Next) (st : State) → AgreeAll st.left k k' → called_or_begun ev o name args k st ≡ called_or_begun ev o name args k' st
   called_or_begun-agree (Some p) name args k k' st h = called-agree p name args k k' st h
-  called_or_begun-agree None name args k k' st h = begin-agree (name ∷ args) k k' st h
+  called_or_begun-agree None name args k k' st h = redefinable-agree (redefinable_verb name) name args k k' st h
 
   named-agree : (o : Option Verb) (name : List ℕ) (args : List (List ℕ)) (k k' : Next) (st : State) → AgreeAll st.left k k' → named ev o name args k st ≡ named ev o name args k' st
   named-agree None name args k k' st h = called_or_begun-agree (find name st.procs) name args k k' st h

@@ -1,4 +1,4 @@
--- What an evaluation tells of its expression.
+-- What a step of an evaluation says about its expression.
 use Rattle.std.specs.Prelude.{◌≡◌}
 use Rattle.tcl_words.specs.Pieces.{Spelled}
 use Rattle.tcl_expr.specs.Value.{outcome, known, faulty, needs}
@@ -14,18 +14,18 @@ use Rattle.tcl_eval.specs.declared.begun.Begun.TheVariants.{Full, Alone, Script,
 use Rattle.tcl_eval.specs.Alone.{asks_alone}
 use Rattle.tcl_eval.specs.Evaluated.{Evaluated}
 
--- A filler that was just begun comes to what the word's parts come to.
+-- A new filler performs the substitution of the word.
 abbrev pub Fills : Filling → Spelled → Type 0
 Fills f w = (vars : Variables) → rest f vars ≡ fill w.pieces vars
 
--- what a word comes to whose filling was begun
+-- The substitution of a word after its first step.
 abbrev pub begun_fill : Begun → Fill
 begun_fill (Full value) = Filled value
 begun_fill (Alone script) = asks_alone script
 begun_fill (Script f number) = told (step.NeedScript number, f.value)
 begun_fill (Failed f fault) = told (step.Fault fault, f.value)
 
--- the operand that is needed, and what it comes to
+-- The operand that is needed, and its substitution.
 pub record NeedsFilled (vars : Variables) (p : Fill) (e : Evaluated) : Type 0 where
   pub word : Spelled
   pub is : outcome e.tree e.given ≡ needs word

@@ -1,4 +1,4 @@
--- What came of a call of the host.
+-- The result of a call of the host.
 use Rattle.std.specs.Prelude.{◌≡◌, ℕ, suc, ◌<◌, List, [], ◌∷◌, Bool, true, false, IsTrue}
 use Rattle.tcl_host.specs.declared.host.HostStep.TheVariants.{Wait}
 use Rattle.tcl_eval.specs.declared.frame.Asked.{Asked}
@@ -6,7 +6,7 @@ use Rattle.tcl_eval.specs.declared.frame.Mode.{Mode}
 use Rattle.tcl_eval.specs.declared.frame.Mode.TheVariants.{Give, Run, Call as CallHost, Ended}
 use Rattle.tcl_host.specs.Calls.{Reply, Stepped, Known}
 
--- nothing is in hand for a frame, and no script is to be begun
+-- No outcome is to be passed to a frame, and no script is to be begun.
 abbrev pub is_settled : Mode → Bool
 is_settled (Give c v) = false
 is_settled (Run script depth) = false
@@ -25,18 +25,18 @@ WaitsAt a r = a.paused ≡ true → IsWait r
 abbrev pub GoesDown : Asked → ℕ → ℕ → Type 0
 GoesDown a new old = a.paused ≡ false → new < old
 
--- the last reply is a `Wait`
+-- The last reply is `Wait`.
 abbrev pub EndsInWait : List Reply → Type 0
 EndsInWait [] = ⊥
 EndsInWait (r ∷ []) = IsWait r
 EndsInWait (r ∷ s ∷ rs) = EndsInWait (s ∷ rs)
 
--- it waits in a call
+-- The machine waits in a call.
 abbrev pub IsAsking : Mode → Type 0
 IsAsking (CallHost call depth resumed) = Unit {0}
 IsAsking _ = ⊥
 
--- it is over, or it waits in a call and the last reply was a `Wait`
+-- The run has ended, or it waits in a call and the last reply was `Wait`.
 abbrev pub PausesAt : Mode → List Reply → Type 0
 PausesAt (Ended end) rs = Unit {0}
 PausesAt mode rs = EndsInWait rs × IsAsking mode
@@ -45,14 +45,14 @@ abbrev pub IsOverOrAsking : Mode → Type 0
 IsOverOrAsking (Ended end) = Unit {0}
 IsOverOrAsking mode = IsAsking mode
 
--- what pauses waits in a call, or it is over
+-- A paused machine waits in a call, or its run has ended.
 abbrev pub IsAskingOnPause : Asked → Type 0
 IsAskingOnPause a = a.paused ≡ true → IsOverOrAsking a.mode
 
 abbrev pub OnPause : Asked → List Reply → Type 0
 OnPause a rs = a.paused ≡ true → PausesAt a.mode rs
 
--- what the potential falls below: nothing is in hand
+-- A bound of the potential if no outcome is to be passed on.
 abbrev pub Falls : Mode → ℕ → ℕ
 Falls (Give c v) n = suc n
 Falls (Run script depth) n = suc n

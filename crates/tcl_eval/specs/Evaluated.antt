@@ -1,4 +1,4 @@
--- An expression, and the values of its operands that were worked out, in order.
+-- An expression, and the values of the operands computed so far, in order.
 use Rattle.std.specs.Prelude.{ℕ, List, [], ◌∷◌, ◌++◌, refl}
 use Rattle.std.specs.Coded.{codes, Coded, code_by, coded_ℕ, coded_list, coded×}
 use Rattle.tcl_expr.specs.Built.{tree_of-postfix}
@@ -10,15 +10,15 @@ pub record Evaluated : Type 0 where
   pub tree : Tree
   pub given : List (List ℕ)
 
--- none is worked out yet
+-- No operand is computed yet.
 abbrev pub fresh : Tree → Evaluated
 fresh tree = record { tree = tree; given = [] }
 
--- one more
+-- The same with one more operand.
 abbrev pub with_operand : List ℕ → Evaluated → Evaluated
 with_operand value e = record { tree = e.tree; given = e.given ++ value ∷ [] }
 
--- by which trees are told apart
+-- A code that tells trees apart.
 pub coded_instrs : Coded (List Instr)
 coded_instrs = hlevel (codes, coded_spelled)
 

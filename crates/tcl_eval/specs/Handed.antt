@@ -1,4 +1,4 @@
--- The words of a command that are handed to it.
+-- The words passed to a command.
 use Rattle.std.specs.Prelude.{ℕ, List}
 use Rattle.tcl_eval.specs.declared.values.Handed.{Handed}
 use Rattle.tcl_eval.specs.declared.values.Handed.TheVariants.{Own, Lent}

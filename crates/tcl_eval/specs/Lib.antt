@@ -1,8 +1,8 @@
--- What scripts mean, and what is left of a run. To read first: Tree (a meaning is a tree that names the calls of the host, one after
--- another), Meaning (the tree of a script), Unrolled (what loops mean, with no bound) and Suspended (a run that stops and goes on). Asked, Steps,
--- Evaluated and Advanced have the words of single contracts. Rest says what is left of a machine's frames, Native what is
--- left where a function has returned, Worth what is left of an expression, and Potential that a run comes to an end: these are about the
--- machine alone, and can be passed over.
+-- The meaning of scripts, and the rest of a run. Read first: Tree, Meaning, Unrolled and Suspended. Tree defines a
+-- meaning as a tree of the host's calls, Meaning defines the tree of a script. Unrolled describes loops without a
+-- bound, Suspended a run that stops and continues. Asked, Steps, Evaluated and Advanced define the words of single
+-- contracts. The others concern the machine only and can be skipped. Rest is the rest of a machine's frames, Native the
+-- rest after a function has returned, and Worth the rest of an expression. Potential shows that a run ends.
 pub mod Tree
 pub mod Meaning
 pub mod Unrolled

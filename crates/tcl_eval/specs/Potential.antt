@@ -1,4 +1,4 @@
--- That a run comes to an end, or to where it waits: this falls with each step and each reply.
+-- Shows that a run ends, or waits: the potential falls with each step and each reply.
 use Rattle.std.specs.Prelude.{ℕ, ◌+◌, ◌*◌, List, [], ◌∷◌}
 use Rattle.tcl_commands.specs.declared.code.Code.{Code}
 use Rattle.tcl_commands.specs.declared.code.Code.TheVariants.{Ok, Error, Return, Break, Continue, Again, AgainLater}
@@ -14,7 +14,7 @@ use Rattle.tcl_eval.specs.declared.frame.Call.{Call}
 use Rattle.tcl_eval.specs.declared.frame.Call.TheVariants.{Begin, AfterWords, AfterBody}
 use Rattle.tcl_eval.specs.declared.frame.Mode.TheVariants.{Give, Run, Call as CallHost, Define, Ended}
 
--- a code at which a host may ask for one more script
+-- A code at which a host may ask for another script.
 abbrev pub again : Code → ℕ
 again Ok = 0
 again Error = 0
@@ -24,7 +24,7 @@ again Continue = 0
 again Again = 2
 again AgainLater = 2
 
--- words and scripts that the host asked for
+-- Words and scripts that the host asked for.
 abbrev pub then_weight : Then → ℕ
 then_weight Command = 0
 then_weight (HostList fault) = 5
@@ -42,7 +42,7 @@ abbrev pub bodies : List Frame → ℕ
 bodies [] = 0
 bodies (f ∷ fs) = frame_weight f + bodies fs
 
--- what a reply may ask for
+-- What a reply may ask for.
 abbrev pub asks : Call → ℕ
 asks (Begin words) = 3
 asks (AfterWords words) = 2
@@ -58,6 +58,6 @@ credit (CallHost call depth resumed) = call_credit call
 credit (Define name formals body) = 6
 credit (Ended end) = 0
 
--- falls with each step and each reply
+-- The potential. It falls with each step and each reply.
 abbrev pub potential : Engine → Mode → ℕ
 potential m mode = 8 * m.left + bodies m.stack + credit mode

@@ -1,4 +1,4 @@
--- The steps that a meter has left.
+-- The number of steps that a meter has left.
 use Rattle.std.specs.Prelude.{ℕ, ◌-◌}
 use Rattle.tcl_eval.specs.declared.meter.Meter.{Meter}
 

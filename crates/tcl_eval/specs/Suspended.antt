@@ -1,4 +1,4 @@
--- A machine that is run again.
+-- Machines that can be suspended and resumed.
 use Rattle.std.specs.Prelude.{◌≡◌, List, Option, Some, None}
 use Rattle.tcl_eval.specs.declared.machine.Pause.{Pause}
 use Rattle.tcl_eval.specs.declared.machine.Pause.TheVariants.{Finished, Waits, Stopped, StepLimit, Memory}
@@ -11,11 +11,11 @@ use Rattle.tcl_eval.specs.Tree.{Over}
 use Rattle.tcl_eval.specs.Meaning.{Next}
 use Rattle.tcl_eval.specs.Asked.{EndsInWait, IsAsking}
 
--- the end of the source is the end of the run
+-- The end of the source is the end of the run.
 abbrev pub at_the_end : Next
 at_the_end c v st = Over (FinishedSo c v) st
 
--- how a run ended, where it is over
+-- The end of a run, or `None` if it has not ended.
 abbrev pub end_of : Mode → Option End
 end_of (Ended end) = Some end
 end_of _ = None
@@ -28,13 +28,13 @@ abbrev pub IsSuspended : Mode → Type 0
 IsSuspended (Ended end) = ⊥
 IsSuspended _ = Unit {0}
 
--- a run can answer `Memory`: it ended so, or its value has to be copied
+-- A run may return `Memory`: it ended so, or its value has to be copied.
 abbrev pub CanBeRefused : Mode → Type 0
 CanBeRefused (Ended NoMemory) = Unit {0}
 CanBeRefused (Ended (FinishedSo c v)) = Unit {0}
 CanBeRefused _ = ⊥
 
--- the pause that a machine shows
+-- The pause that a machine shows.
 abbrev pub IsShownBy : Pause → Mode → Type 0
 IsShownBy Waits mode = IsSuspended mode
 IsShownBy (Finished c v) mode = mode ≡ Ended (FinishedSo c v)
@@ -42,7 +42,7 @@ IsShownBy (Stopped e) mode = mode ≡ Ended (StoppedSo e)
 IsShownBy StepLimit mode = mode ≡ Ended AtLimit
 IsShownBy Memory mode = CanBeRefused mode
 
--- it is over by this pause, or it waits in a call and the last reply was a `Wait`
+-- The run has ended with this pause, or it waits in a call and the last reply was `Wait`.
 abbrev pub IsPauseOf : Pause → Mode → List Reply → Type 0
 IsPauseOf Waits mode replies = EndsInWait replies × IsAsking mode
 IsPauseOf (Finished c v) mode replies = mode ≡ Ended (FinishedSo c v)

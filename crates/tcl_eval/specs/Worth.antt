@@ -1,9 +1,9 @@
--- An expression of which some operands are worked out.
+-- Expressions with some computed operands.
 use Rattle.std.specs.Prelude.{ℕ, List}
 use Rattle.tcl_eval.specs.Evaluated.{Evaluated}
 use Rattle.tcl_eval.specs.Tree.{State, Tree}
 use Rattle.tcl_eval.specs.Meaning.{Next, Eval, fill_parts, value_from}
 
--- an expression's value, where some operands have theirs
+-- The value of an expression, given the values of some operands.
 abbrev pub worth : Eval → Evaluated → Next → (List ℕ → State → Tree) → State → Tree
 worth ev e k go st = value_from (fill_parts ev) e.tree e.given k (λ v vs st. go v st) st

@@ -1,16 +1,16 @@
-//! What an evaluation came to.
+//! The result of a step of an evaluation.
 
 use crate::begun::Begun;
 use tcl_expr::ExprFault;
 use tcl_values::Value;
 
-/// What an evaluation came to.
+/// The result of a step of an evaluation.
 #[derive(Drop)]
 pub(crate) enum Advance {
     /// The value.
     Value(Value),
-    /// An operand's value is needed, and filling it was begun.
+    /// An operand's value is needed. Its substitution has begun.
     Operand(Begun),
-    /// There is no value.
+    /// The evaluation failed.
     Fault(ExprFault),
 }

@@ -1,4 +1,4 @@
-//! The conditions and bodies of `if`.
+//! Evaluates the conditions and bodies of `if`.
 
 ghost use Rattle.tcl_eval.specs.Meaning.{eval, otherwise as otherwise_of, arms as arms_of};
 ghost use Rattle.tcl_eval.specs.Native.{CameIs, Spent, owed};
@@ -11,7 +11,7 @@ use tcl_commands::Arms;
 use tcl_values::Value;
 
 impl Engine {
-    /// Evaluates the body of the first condition that holds, or the one behind `else`.
+    /// Evaluates the body of the first condition that is true, or the body after `else`.
     #[cycle(native)]
     #[tactic(auto, unfolding(crate::specs::Rest::onward_rest))]
     pub(crate) fn choose(&mut self, arms: Arms, depth: u32) -> Result<Value, Leave>
@@ -34,7 +34,7 @@ impl Engine {
         }
     }
 
-    /// Evaluates the body behind `else`, where there is one.
+    /// Evaluates the body after `else`, if there is one.
     #[cycle(native)]
     fn otherwise(&mut self, arms: Arms, depth: u32) -> Result<Value, Leave>
         ensures measures { Spent self.old self.new 0 (owed 0 result) }

@@ -1,4 +1,4 @@
-//! Runs of a machine over a host.
+//! Runs a machine with its host.
 
 ghost use Rattle.std.specs.Prelude.{◌≡◌, ◌+◌, ◌≤◌, ◌<◌, ◌*◌, List, IfOk};
 ghost use Rattle.tcl_eval.specs.Asked.{IsAskingOnPause, IsSettled, WaitsAt, GoesDown, PausesAt, OnPause, Falls};
@@ -16,7 +16,7 @@ use tcl_host::{Host, HostStep};
 use tcl_values::Value;
 
 impl Engine {
-    /// Goes on until the host is needed or it is over.
+    /// Continues until the host is needed or the run has ended.
     fn settle(&mut self, mode: Mode) -> Result<Mode, AllocError>
         ensures rest { IfOk result (λ m. rest_of self.new m ≡ rest_of self.old mode) }
         ensures potential { IfOk result (λ m. potential self.new m ≤ potential self.old mode) }
@@ -37,7 +37,7 @@ impl Engine {
         }
     }
 
-    /// Calls the host, or has it go on with that call.
+    /// Calls the host, or resumes that call.
     fn call<H: Host>(&mut self, host: &mut H, call: &Call, resumed: bool) -> HostStep
         ensures answered { H.answers host.old (host_call resumed call.now self.old.vars) (Stepped result self.new.vars) host.new }
         ensures same { self.new ≡ record self.old { vars = self.new.vars } }
@@ -52,7 +52,7 @@ impl Engine {
         }
     }
 
-    /// Asks whether the host knows the name of a new procedure, and defines it.
+    /// Asks the host whether it knows the name of a new procedure, and defines the procedure.
     fn ask_known<H: Host>(
         &mut self,
         host: &H,
@@ -69,7 +69,7 @@ impl Engine {
         Ok(mode)
     }
 
-    /// Asks the host, where it is needed, or carries out what was begun.
+    /// Calls the host if it is needed, or carries out what has begun.
     fn ask<H: Host>(&mut self, host: &mut H, mode: Mode) -> Result<Asked, AllocError>
         ensures leads { IfOk result (λ a. (replies : List Reply) × Leads H.answers replies (rest_of self.old mode) host.old (rest_of self.new a.mode) host.new × OnPause a replies) }
         ensures potential { IfOk result (λ a. GoesDown a (potential self.new a.mode) (Falls mode (potential self.old mode))) }
@@ -102,7 +102,7 @@ impl Engine {
         }
     }
 
-    /// Runs on until it is over or the host paused.
+    /// Runs until the run has ended or the host paused.
     pub(crate) fn go<H: Host>(&mut self, host: &mut H, mode: Mode) -> Result<Asked, AllocError>
         ensures leads { IfOk result (λ a. (replies : List Reply) × Leads H.answers replies (rest_of self.old mode) host.old (rest_of self.new a.mode) host.new × PausesAt a.mode replies) }
         ensures less { self.new.left ≤ self.old.left }

@@ -1,4 +1,4 @@
-//! Words whose filling was begun.
+//! Words after the first step of their substitution.
 
 ghost use Rattle.std.specs.Prelude.{◌≡◌, [], IfOk, IfSome};
 ghost use Rattle.tcl_words.specs.Pieces.{Spelled, script, no_pieces, piece, part_view, word_view};
@@ -17,20 +17,20 @@ use tcl_subst::{FillStep, Filler, Recipe, SubstFault, Vars, filling_is_fill, pla
 use tcl_values::Value;
 use tcl_words::{Part, Text, Word};
 
-/// A word whose filling was begun.
+/// A word after the first step of its substitution.
 #[derive(Drop)]
 pub(crate) enum Begun {
-    /// It is filled with this value.
+    /// The value of the word.
     Full(Value),
-    /// It is one script alone, whose value is needed.
+    /// The word is exactly one command substitution, and the value of this script is needed.
     Alone(Script),
-    /// The value of a script is needed: of the step of that number of what fills it.
+    /// The value of a script is needed. The number is that of the filler's step.
     Script(Box<Filler>, usize),
-    /// It can't be filled.
+    /// The substitution failed.
     Failed(Box<Filler>, SubstFault),
 }
 
-/// Begins to fill an operand of an expression.
+/// Begins the substitution of an expression's operand.
 pub(crate) fn begin_operand(
     alloc: Global,
     word: &Word,
@@ -51,7 +51,7 @@ pub(crate) fn begin_operand(
     Ok(begun)
 }
 
-/// The script that a word is, where it is one script alone.
+/// Returns the script if the word is exactly one command substitution.
 fn script_alone(word: &Word) -> Option<&Text>
     ensures { IfSome result (λ text. (word_view word.now).pieces ≡ piece (script text.now) no_pieces) }
 {
@@ -61,7 +61,7 @@ fn script_alone(word: &Word) -> Option<&Text>
     }
 }
 
-/// The script that a part of a word is, where it is one.
+/// Returns the script if the part is a command substitution.
 fn part_script(part: &Part) -> Option<&Text>
     ensures { IfSome result (λ text. part_view part.now ≡ script text.now) }
 {
@@ -72,7 +72,8 @@ fn part_script(part: &Part) -> Option<&Text>
     }
 }
 
-/// What fills a word that is one script alone, where it waits for the value of that.
+/// Returns a filler for a word that is exactly one command substitution. It waits for the value of
+/// the script.
 #[cold]
 pub(crate) fn waiting(alloc: Global, alone: &Script, vars: &mut Vars) -> Result<Filler, AllocError>
     ensures waits { IfOk result (λ f. WaitsAlone f) }
@@ -86,7 +87,7 @@ pub(crate) fn waiting(alloc: Global, alone: &Script, vars: &mut Vars) -> Result<
     }
 }
 
-/// What fills a word that is one script alone, at its first step.
+/// Returns a filler at the first step of such a word.
 fn alone_filler(alloc: Global, alone: &Script) -> Result<Filler, AllocError>
     ensures { IfOk result (λ f. (vars : Variables) → rest f vars ≡ asks_alone alone.now) }
 {
@@ -100,7 +101,7 @@ fn alone_filler(alloc: Global, alone: &Script) -> Result<Filler, AllocError>
     Ok(filler)
 }
 
-/// What fills an operand, at its first step.
+/// Returns a filler at the first step of an operand.
 fn operand_filler(alloc: Global, word: &Word) -> Result<Filler, AllocError>
     ensures { IfOk result (λ f. Fills f (word_view word.now)) }
 {
@@ -109,7 +110,7 @@ fn operand_filler(alloc: Global, word: &Word) -> Result<Filler, AllocError>
     Ok(first(filler))
 }
 
-/// Takes the first step of a filler.
+/// Runs the first step of a filler.
 fn begin(alloc: Global, mut filler: Filler, vars: &mut Vars) -> Result<Begun, AllocError>
     ensures told { IfOk result (λ b. begun_fill b ≡ rest filler vars.old) }
     ensures same { vars.new ≡ vars.old }
@@ -121,7 +122,7 @@ fn begin(alloc: Global, mut filler: Filler, vars: &mut Vars) -> Result<Begun, Al
     }
 }
 
-/// A filler that was just begun.
+/// Returns the same filler. The contract states that it performs the substitution of its word.
 pub(crate) fn first(filler: Filler) -> Filler
     ensures { (w : Spelled) → filler ≡ begun (steps_onto w.pieces []) → Fills result w }
 {
@@ -129,7 +130,7 @@ pub(crate) fn first(filler: Filler) -> Filler
     filler
 }
 
-/// The next step of a filler.
+/// Runs a filler up to its next result.
 pub(crate) fn advanced(
     alloc: Global,
     filler: &mut Filler,

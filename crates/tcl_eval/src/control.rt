@@ -1,4 +1,4 @@
-//! Commands of the language that evaluate something, by their arguments.
+//! The commands of the language that evaluate scripts or expressions.
 
 ghost use Rattle.std.specs.Prelude.{◌≡◌, [], Some};
 ghost use Rattle.tcl_commands.specs.Texts.{wrong_args};
@@ -22,7 +22,7 @@ use tcl_commands::{
 use tcl_host::Ending;
 use tcl_values::Value;
 
-/// `wrong # args`.
+/// Returns the error `wrong # args`.
 fn wrong(alloc: Global, name: &[u8]) -> Leave
     ensures rest { Knows result → (k : Next) (st : State) → left result st k ≡ k code.Error (wrong_args name.now) st }
     ensures weight { leave_weight result ≡ 0 }
@@ -66,7 +66,7 @@ impl Engine {
         }
     }
 
-    /// `if c ?then? b ?elseif c ?then? b? .. ?else? ?b?`.
+    /// Carries out `if c ?then? b ?elseif c ?then? b? .. ?else? ?b?`.
     #[cycle(native)]
     #[inline(never)]
     fn if_command(&mut self, name: &[u8], args: &[Value], depth: u32) -> Result<Value, Leave>
@@ -77,7 +77,7 @@ impl Engine {
         self.choose(arms, depth)
     }
 
-    /// `while c b`.
+    /// Carries out `while c b`.
     #[cycle(native)]
     #[inline(never)]
     fn while_command(&mut self, name: &[u8], args: &[Value], depth: u32) -> Result<Value, Leave>
@@ -98,7 +98,7 @@ impl Engine {
         self.turns(turning, depth)
     }
 
-    /// `for a c n b`.
+    /// Carries out `for a c n b`.
     #[cycle(native)]
     #[inline(never)]
     #[tactic(auto, unfolding(crate::specs::Rest::onward_rest))]
@@ -123,7 +123,7 @@ impl Engine {
         }
     }
 
-    /// `foreach names list b`.
+    /// Carries out `foreach names list b`.
     #[cycle(native)]
     #[inline(never)]
     fn foreach_command(&mut self, name: &[u8], args: &[Value], depth: u32) -> Result<Value, Leave>
@@ -135,7 +135,7 @@ impl Engine {
         self.each_turns(groups, &body, depth)
     }
 
-    /// `proc name args b`.
+    /// Carries out `proc name args b`.
     #[inline(never)]
     fn proc_command(&mut self, name: &[u8], args: &[Value]) -> Result<Value, Leave>
         ensures measures { Spent self.old self.new 6 (owed 0 result) }
@@ -156,7 +156,7 @@ impl Engine {
         Err(stopped(self.alloc, at))
     }
 
-    /// `expr word ..`.
+    /// Carries out `expr word ..`.
     #[cycle(native)]
     #[inline(never)]
     fn expr_command(&mut self, name: &[u8], args: &[Value], depth: u32) -> Result<Value, Leave>
@@ -168,7 +168,7 @@ impl Engine {
         self.result(test, depth)
     }
 
-    /// `eval word ..`.
+    /// Carries out `eval word ..`.
     #[cycle(native)]
     #[inline(never)]
     fn eval_command(&mut self, name: &[u8], args: &[Value], depth: u32) -> Result<Value, Leave>
@@ -179,7 +179,7 @@ impl Engine {
         self.text(&text, depth)
     }
 
-    /// `catch script ?name?`.
+    /// Carries out `catch script ?name?`.
     #[cycle(native)]
     #[inline(never)]
     #[tactic(auto, unfolding(crate::specs::Rest::frame_rest))]
@@ -201,7 +201,7 @@ impl Engine {
         }
     }
 
-    /// `exit ?n?`.
+    /// Carries out `exit ?n?`.
     #[inline(never)]
     fn exit_command(&mut self, name: &[u8], args: &[Value]) -> Result<Value, Leave>
         ensures measures { Spent self.old self.new 6 (owed 0 result) }

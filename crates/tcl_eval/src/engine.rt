@@ -1,4 +1,4 @@
-//! What a run keeps.
+//! The state of a run.
 
 ghost use Rattle.std.specs.Prelude.{◌≡◌, ◌+◌, IfOk};
 ghost use Rattle.std.specs.Bool.{OnTrue, OnFalse};
@@ -12,27 +12,27 @@ use tcl_host::Pile;
 use tcl_subst::{Names, Vars};
 use tcl_values::Value;
 
-/// Everything that a run keeps, but for what it does next.
+/// The state of a run, except for what it does next.
 #[derive(Drop)]
 pub struct Engine {
-    /// Where values are allocated.
+    /// The allocator of values.
     pub(crate) alloc: Global,
-    /// What is still to be done, the innermost first.
+    /// The work left, the innermost first.
     pub(crate) stack: Pile<Frame>,
     /// The variables.
     pub vars: Vars,
     /// The procedures.
     pub(crate) procs: Names<Procedure>,
-    /// What handed on the error that is under way.
+    /// The trail of the current error.
     pub(crate) trail: Trail,
-    /// What was read and may come again.
+    /// A cache of parsed texts.
     pub(crate) read: ReadTexts,
-    /// The steps that are left.
+    /// The number of steps left.
     pub(crate) left: u64,
 }
 
 impl Engine {
-    /// Begins a step where one is left. Returns whether one was.
+    /// Begins a step if one is left. Returns whether one was.
     pub(crate) fn begin(&mut self) -> bool
         ensures begun { OnTrue result (self.new ≡ record self.old { left = self.new.left } × (self.old.left ≡ self.new.left + 1)) }
         ensures spent { OnFalse result ((self.old.left ≡ 0) × (self.new ≡ self.old)) }
@@ -44,7 +44,7 @@ impl Engine {
         true
     }
 
-    /// A value of these bytes.
+    /// Returns a value of these bytes.
     pub(crate) fn value(&self, bytes: &[u8]) -> Result<Value, AllocError>
         ensures { IfOk result (λ v. v ≡ bytes.now) }
     {

@@ -1,4 +1,4 @@
-//! The evaluation of an expression, operand by operand.
+//! Evaluates expressions operand by operand.
 
 ghost use Rattle.std.specs.Prelude.{◌≡◌, ℕ, List, Some, Ok, IfOk, IfSome, OnOk};
 ghost use Rattle.tcl_expr.specs.Answers.{Comes};
@@ -23,14 +23,14 @@ use tcl_expr::{Expr, ExprFault, Operands, Readings, Step, parse};
 use tcl_subst::Vars;
 use tcl_values::Value;
 
-/// An expression with the text that it was read from.
+/// An expression with its text.
 #[derive(Drop)]
 pub struct ReadExpr {
     text: Value,
     expr: Expr,
 }
 
-/// An expression with its text, shared. A contract sees its tree.
+/// An expression with its text, shared between owners. A contract sees the tree.
 #[derive(Drop)]
 pub struct Test {
     read: Rc<ReadExpr>,
@@ -52,7 +52,7 @@ impl Model for Test {
 }
 
 impl Test {
-    /// The expression that a text is.
+    /// Parses a text as an expression.
     pub(crate) fn parse(alloc: Global, text: &Value) -> Result<Test, ExprFault>
         ensures { Gives result (parsed text.now) }
     {
@@ -63,21 +63,22 @@ impl Test {
         })
     }
 
-    /// The text that it was read from.
+    /// Returns the text of the expression.
     pub(crate) fn text(&self) -> &[u8]
         ensures { parsed result.now ≡ Ok self.now }
     {
         self.read.text.as_slice()
     }
 
-    /// The number that it is, where all operands that it needs are numbers that are known.
+    /// Returns the value if it is a number and all operands needed are known numbers. `None`
+    /// otherwise.
     pub(crate) fn number<R: Readings>(&self, alloc: Global, readings: &R) -> Option<i64>
         ensures { IfSome result (λ z. Comes (R.tells readings.now) self.now z) }
     {
         self.read.expr.number(alloc, readings)
     }
 
-    /// The same expression. Nothing is copied.
+    /// Returns the same expression for another owner, without copying it.
     pub(crate) fn shared(&self) -> Result<Test, AllocError>
         ensures { IfOk result (λ t. t ≡ self.now) }
     {
@@ -87,7 +88,8 @@ impl Test {
     }
 }
 
-/// An evaluation of an expression. A contract sees the expression's tree and the values of the operands that were worked out.
+/// The evaluation of an expression. A contract sees the tree and the values of the operands
+/// computed so far.
 #[derive(Drop)]
 pub struct Evaluation {
     test: Test,
@@ -108,7 +110,7 @@ impl Model for Evaluation {
 }
 
 impl Evaluation {
-    /// The evaluation of an expression, with no operand worked out yet.
+    /// Creates an evaluation with no computed operand.
     pub(crate) fn new(alloc: Global, test: Test) -> Evaluation
         ensures { result ≡ fresh test }
     {
@@ -118,7 +120,7 @@ impl Evaluation {
         }
     }
 
-    /// Takes the value of the operand that was needed.
+    /// Adds the value of the operand that was needed.
     #[inline(always)]
     pub(crate) fn give(&mut self, value: Value) -> Result<(), AllocError>
         ensures { OnOk result (self.new ≡ with_operand value self.old) }
@@ -126,7 +128,8 @@ impl Evaluation {
         self.log.give(value)
     }
 
-    /// Goes on until the value is known, a fault is met or an operand is needed, and begins to fill that.
+    /// Continues until the value is known, an error occurs, or an operand is needed. Begins the
+    /// substitution of that operand.
     pub(crate) fn step(
         &mut self,
         alloc: Global,
@@ -147,7 +150,7 @@ impl Evaluation {
         }
     }
 
-    /// Begins to fill the operand of a number.
+    /// Begins the substitution of the operand with a number.
     #[inline(always)]
     fn operand(
         &self,
@@ -166,7 +169,7 @@ impl Evaluation {
     }
 }
 
-/// A fault that says something of the expression.
+/// Returns an error of the expression itself. Refused memory becomes an `AllocError`.
 fn told(fault: ExprFault) -> Result<ExprFault, AllocError>
     ensures { (t : Tree) (given : List (List ℕ)) → TellsFault fault t given → IfOk result (λ f. outcome t given ≡ faulty f) }
 {

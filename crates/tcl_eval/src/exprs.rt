@@ -1,4 +1,4 @@
-//! How expressions are evaluated.
+//! Evaluates expressions.
 
 ghost use Rattle.std.specs.Prelude.{◌≡◌, ℕ, ◌≤◌, Bool, List, [], IfOk};
 ghost use Rattle.tcl_expr.specs.Tree.{Tree as Expression};
@@ -26,7 +26,7 @@ use tcl_subst::FillStep;
 use tcl_values::Value;
 
 impl Engine {
-    /// Evaluates an expression on.
+    /// Evaluates the rest of an expression.
     #[cycle(native)]
     #[inline(never)]
     pub(crate) fn worth(&mut self, first: Evaluation, depth: u32) -> Result<Value, Leave>
@@ -52,7 +52,7 @@ impl Engine {
         }
     }
 
-    /// Fills an operand on.
+    /// Performs the rest of an operand's substitution.
     #[cycle(native)]
     fn operand(&mut self, begun: Begun, depth: u32) -> Result<Value, Leave>
         ensures measures { Spent self.old self.new 0 (owed 0 result) }
@@ -72,7 +72,7 @@ impl Engine {
         }
     }
 
-    /// Whether a condition holds.
+    /// Returns whether a condition is true.
     #[cycle(native)]
     pub(crate) fn truth(&mut self, test: Test, depth: u32) -> Result<bool, Leave>
         ensures measures { Spent self.old self.new 0 (owed 0 result) }
@@ -85,7 +85,7 @@ impl Engine {
         truth_of(self.alloc, &value)
     }
 
-    /// Whether the condition that a text is holds.
+    /// Returns whether the condition that a text is is true.
     #[cycle(native)]
     pub(crate) fn text_truth(&mut self, text: &Value, depth: u32) -> Result<bool, Leave>
         ensures measures { Spent self.old self.new 0 (owed 0 result) }
@@ -97,7 +97,7 @@ impl Engine {
         }
     }
 
-    /// The expression that a text is.
+    /// Parses a text as an expression, or takes it from the cache.
     pub(crate) fn test(&mut self, text: &Value) -> Result<Test, Leave>
         ensures measures { Spent self.old self.new 0 (owed 0 result) }
         ensures same { now_of self.new ≡ now_of self.old }
@@ -115,7 +115,7 @@ impl Engine {
         }
     }
 
-    /// The value of an expression, as a command's.
+    /// Returns the value of an expression, as the value of a command.
     #[cycle(native)]
     pub(crate) fn result(&mut self, test: Test, depth: u32) -> Result<Value, Leave>
         ensures measures { Spent self.old self.new 0 (owed 0 result) }
@@ -128,7 +128,7 @@ impl Engine {
     }
 }
 
-/// The truth value that a value is.
+/// Returns the truth value of a value.
 #[inline(always)]
 pub(crate) fn truth_of(alloc: Global, value: &Value) -> Result<bool, Leave>
     ensures rest { Known result → (k : Next) (go : Bool → State → Tree) (st : State) → flow result st k go ≡ tested value.now k go st }
@@ -144,7 +144,7 @@ pub(crate) fn truth_of(alloc: Global, value: &Value) -> Result<bool, Leave>
     }
 }
 
-/// The text of an expression's fault.
+/// Returns the text of an expression's error.
 fn fault_text(alloc: Global, fault: &ExprFault) -> Result<Value, AllocError>
     ensures { IfOk result (λ text. text ≡ expr_fault [] fault.now) }
 {

@@ -1,4 +1,4 @@
-//! What a machine still has to do.
+//! The work that a machine has left.
 
 ghost use Rattle.std.specs.Prelude.{◌≡◌, IfOk};
 
@@ -11,43 +11,43 @@ use tcl_subst::Filler;
 use tcl_values::Value;
 use tcl_words::WordFault;
 
-/// How a run ended.
+/// The end of a run.
 #[derive(Drop)]
 pub enum End {
-    /// The script came to its end, with a code and a value.
+    /// The script ended with a code and a value.
     Finished(Code, Value),
-    /// A command ended it.
+    /// A command ended the run.
     Stopped(Ending),
-    /// No step was left.
+    /// The limit on steps was reached.
     StepLimit,
-    /// No memory was left.
+    /// Memory was refused.
     Memory,
 }
 
-/// What is done with words once they are filled.
+/// What follows the substitution of words.
 #[derive(Clone, Copy)]
 pub enum Then {
-    /// They are a command.
+    /// The words are a command.
     Command,
-    /// The host asked for them; a text that is malformed at its end has a fault.
+    /// The host asked for the words. If the text is malformed at its end, this is the error.
     List(Option<WordFault>),
 }
 
-/// A loop: `while`, or `for` behind its start.
+/// A loop: `while`, or `for` after its start.
 #[derive(Drop)]
 pub struct Turning {
     /// The condition.
     pub test: Test,
     /// The body.
     pub body: Script,
-    /// The script behind each turn of a `for`.
+    /// The third argument of `for`, which is evaluated after each turn.
     pub next: Option<Script>,
-    /// At most so many turns are left: as many as there were steps when it began.
+    /// The most turns left: the number of steps left when the loop began.
     pub bound: u64,
 }
 
 impl Turning {
-    /// The same loop. Nothing is copied.
+    /// Returns the same loop for another owner, without copying it.
     pub(crate) fn shared(&self) -> Result<Turning, AllocError>
         ensures { IfOk result (λ t. t ≡ self.now) }
     {
@@ -63,7 +63,7 @@ impl Turning {
     }
 }
 
-/// The script behind a turn, shared.
+/// Returns the script after a turn for another owner.
 fn shared_next(next: &Option<Script>) -> Result<Option<Script>, AllocError>
     ensures { IfOk result (λ s. s ≡ next.now) }
 {
@@ -73,15 +73,16 @@ fn shared_next(next: &Option<Script>) -> Result<Option<Script>, AllocError>
     }
 }
 
-/// What is still to be done behind the code `Ok`.
+/// The work left after the code `Ok`.
 #[derive(Drop)]
 pub enum Onward {
-    /// Fills the rest of a word with the value of one of its scripts.
+    /// Continues the substitution of a word, given the value of one of its scripts.
     Word {
         filler: Filler,
         depth: u32,
     },
-    /// The words behind one that is filled: the words and the place behind it, whether it stands behind `{*}`, and the values that are done.
+    /// Continues the substitution of words: the words and the index after the current one, whether
+    /// `{*}` precedes it, and the finished values.
     Fill {
         words: Words,
         next: usize,
@@ -90,28 +91,28 @@ pub enum Onward {
         then: Then,
         depth: u32,
     },
-    /// Evaluates the rest of an expression with the value of an operand.
+    /// Evaluates the rest of an expression, given the value of an operand.
     Operand {
         evaluation: Evaluation,
         depth: u32,
     },
-    /// Runs the turns of a loop, by the value of its condition.
+    /// Runs the turns of a loop, given the value of its condition.
     Test {
         turning: Turning,
         depth: u32,
     },
-    /// Runs a body of an `if` or tests the next condition, by the value of this one.
+    /// Runs a body of `if` or tests the next condition, given the value of this one.
     Arm {
         body: Value,
         arms: Arms,
         depth: u32,
     },
-    /// The end of the script behind a turn of a `for`.
+    /// The end of the script after a turn of `for`.
     Next {
         turning: Turning,
         depth: u32,
     },
-    /// The end of the start of a `for`, with its condition, its script behind each turn and its body.
+    /// The end of the start of `for`, with its condition, the script after each turn, and its body.
     Start {
         test: Value,
         next: Value,
@@ -120,19 +121,20 @@ pub enum Onward {
     },
 }
 
-/// What is still to be done with the code and the value of what stands above.
+/// The work left, given the code and the value of the frame above.
 #[derive(Drop)]
 pub enum Frame {
-    /// The end of a command that was read from a place of a script on, and the number of the one behind it.
+    /// The end of a command of a script: the index in the text from which it was read, and the
+    /// number of the next command.
     Sequence {
         script: Script,
         at: usize,
         next: usize,
         depth: u32,
     },
-    /// It goes on at `Ok`, and hands any other code on.
+    /// Continues after `Ok`, and passes any other code on.
     Onward(Onward),
-    /// The end of a `catch`, and the variable that gets the value.
+    /// The end of a `catch`, with the variable for the value.
     Catch {
         name: Option<Value>,
     },
@@ -141,31 +143,33 @@ pub enum Frame {
         turning: Turning,
         depth: u32,
     },
-    /// The end of the body of a `foreach`.
+    /// The end of the body of `foreach`.
     Each {
         groups: Groups,
         body: Script,
         depth: u32,
     },
-    /// The end of a procedure that these words called.
+    /// The end of a procedure that was called with these words.
     Scope {
         words: Values,
     },
-    /// The end of a script that the host asked for, with at most so many more.
+    /// The end of a script that the host asked for. `bound` is the number of further scripts that
+    /// the host may ask for.
     HostBody {
         bound: u64,
         depth: u32,
     },
 }
 
-/// What the host is called about.
+/// A call of the host.
 #[derive(Drop)]
 pub enum Call {
-    /// It is to begin a command.
+    /// The host begins a command.
     Begin(Values),
-    /// It gets the words that it asked for.
+    /// The host gets the words that it asked for.
     AfterWords(Values),
-    /// It is told how a script that it asked for ended, with at most so many more.
+    /// The host gets the outcome of a script that it asked for. `bound` is the number of further
+    /// scripts that it may ask for.
     AfterBody {
         code: Code,
         value: Value,
@@ -176,7 +180,7 @@ pub enum Call {
 /// What a machine does next.
 #[derive(Drop)]
 pub enum Mode {
-    /// Hands a code and a value to the top frame.
+    /// Passes a code and a value to the top frame.
     Give(Code, Value),
     /// Evaluates a script.
     Run {
@@ -195,11 +199,11 @@ pub enum Mode {
         formals: Value,
         body: Value,
     },
-    /// It is over.
+    /// The run has ended.
     Ended(End),
 }
 
-/// What came of a call of the host.
+/// The result of a call of the host.
 #[derive(Drop)]
 pub struct Asked {
     pub mode: Mode,

@@ -1,10 +1,11 @@
-//! What holds of every meaning.
+//! Laws of all meanings.
 
 ghost use Rattle.tcl_eval.specs.Unrolled.{LoopsUnroll, BodiesUnroll};
 
-/// A loop is its condition and, where that holds, its body, the script behind it, and then the loop again. A script that a host asks for is
-/// that script and, where the host asks for one more behind it, such a script again. No bound on turns or scripts is ever what ends them: a
-/// run ends there only where no step is left for the next. It does nothing when it runs.
+/// States that loops and host scripts have no bound of their own. A loop is its condition and, if
+/// this is true, its body, the script after it, and the loop again. A script that a host asks for
+/// is that script, followed by any further one. Such a run ends by a limit only if no step is left.
+/// It does nothing at run time.
 pub fn loops_unroll()
     ensures loops { LoopsUnroll }
     ensures bodies { BodiesUnroll }

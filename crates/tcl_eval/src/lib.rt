@@ -1,9 +1,11 @@
-//! The evaluation of scripts, over any host.
+//! The evaluation of scripts with any host.
 //!
-//! A [`Machine`] runs a script's commands. It carries out those of the language itself, and calls of procedures, and asks a
-//! [`tcl_host::Host`] for all others; where the host waits, the machine pauses, and goes on where it stood when it is run again.
+//! A [`Machine`] runs the commands of a script. It carries out commands of the language and calls
+//! of procedures itself, and calls a [`tcl_host::Host`] for all other commands. If the host waits,
+//! the machine pauses. It continues at the same place when it is run again.
 //!
-//! What a script means is defined in `specs/Meaning`: a tree of the calls of the host that it needs, with what follows each reply.
+//! `specs/Meaning` defines the meaning of a script: a tree of the host's calls, with what follows
+//! each reply.
 #![tactic(auto)]
 
 mod advance;

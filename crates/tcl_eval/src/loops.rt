@@ -1,4 +1,4 @@
-//! Loops: `while`, `for` and `foreach`.
+//! Evaluates loops: `while`, `for` and `foreach`.
 
 ghost use Rattle.std.specs.Prelude.{◌≡◌, ◌<◌, ◌≤◌, ℕ, List, true, Ok, Some};
 ghost use Rattle.tcl_eval.specs.Tree.{State};
@@ -15,7 +15,7 @@ use tcl_scripts::Script;
 use tcl_values::Value;
 
 impl Engine {
-    /// Evaluates a loop, from its condition on.
+    /// Evaluates a loop, beginning with its condition.
     #[cycle(native)]
     pub(crate) fn turns(&mut self, turning: Turning, depth: u32) -> Result<Value, Leave>
         ensures measures { Spent self.old self.new 0 (owed 0 result) }
@@ -29,7 +29,8 @@ impl Engine {
         }
     }
 
-    /// A turn of a loop, from its condition on: whether the next one follows.
+    /// Evaluates a turn of a loop, beginning with its condition. Returns whether another turn
+    /// follows.
     #[cycle(native)]
     #[tactic(auto, unfolding(crate::specs::Rest::onward_rest))]
     fn turn_once(&mut self, turning: &mut Turning, depth: u32) -> Result<bool, Leave>
@@ -44,7 +45,7 @@ impl Engine {
         }
     }
 
-    /// A turn of a loop, where its condition holds.
+    /// Evaluates a turn of a loop if its condition is true. Returns whether another turn follows.
     #[cycle(native)]
     #[tactic(auto, unfolding(crate::specs::Rest::frame_rest))]
     pub(crate) fn turn_if(
@@ -70,7 +71,7 @@ impl Engine {
         self.turn_body(turning, depth)
     }
 
-    /// The body of a turn, and the script behind it.
+    /// Evaluates the body of a turn and the script after it.
     #[cycle(native)]
     #[tactic(auto, unfolding(crate::specs::Rest::frame_rest))]
     fn turn_body(&mut self, turning: &Turning, depth: u32) -> Result<bool, Leave>
@@ -81,7 +82,7 @@ impl Engine {
         self.turn_end(out, turning, depth)
     }
 
-    /// What follows the body of a turn: whether the next one follows.
+    /// Continues after the body of a turn. Returns whether another turn follows.
     #[cycle(native)]
     #[tactic(auto, unfolding(crate::specs::Rest::frame_rest))]
     pub(crate) fn turn_end(
@@ -105,7 +106,7 @@ impl Engine {
         }
     }
 
-    /// The script behind a turn, where there is one.
+    /// Evaluates the script after a turn, if there is one.
     #[cycle(native)]
     #[tactic(auto, unfolding(crate::specs::Rest::onward_rest))]
     fn turn_next(&mut self, turning: &Turning, depth: u32) -> Result<bool, Leave>
@@ -121,7 +122,7 @@ impl Engine {
         }
     }
 
-    /// Evaluates the loop of a `for`, behind its start.
+    /// Evaluates the loop of a `for` after its start.
     #[cycle(native)]
     pub(crate) fn started(
         &mut self,
@@ -145,7 +146,7 @@ impl Engine {
         self.turns(turning, depth)
     }
 
-    /// Evaluates the turns of a `foreach` that are left.
+    /// Evaluates the turns of `foreach` that are left.
     #[cycle(native)]
     pub(crate) fn each_turns(
         &mut self,
@@ -169,7 +170,8 @@ impl Engine {
         }
     }
 
-    /// Begins a turn of a `foreach`, where one is left: its names get their elements. Returns whether one was.
+    /// Begins a turn of `foreach` if one is left: sets its variables to their elements. Returns
+    /// whether one was left.
     #[tactic(auto, unfolding(crate::specs::Rest::frame_rest))]
     fn each_begin(&mut self, groups: &mut Groups) -> Result<bool, Leave>
         ensures measures { Spent self.old self.new 0 (owed 0 result) }
@@ -188,7 +190,7 @@ impl Engine {
     }
 }
 
-/// What follows the body of a turn of a `foreach`: the turns that are left, where they follow.
+/// Continues after the body of a turn of `foreach`. Returns the turns that follow.
 #[tactic(auto, unfolding(crate::specs::Rest::frame_rest))]
 pub(crate) fn each_end(
     out: Result<Value, Leave>,
@@ -216,7 +218,7 @@ pub(crate) fn each_end(
     }
 }
 
-/// What is done behind a script in a loop's condition.
+/// Adds what follows a script in a loop's condition to a stop.
 #[cold]
 #[tactic(auto, using(crate::proofs::Natives::code_passes), unfolding(crate::specs::Rest::frame_rest))]
 fn test_below(leave: Leave, turning: &Turning, depth: u32) -> Leave
@@ -233,7 +235,7 @@ fn test_below(leave: Leave, turning: &Turning, depth: u32) -> Leave
     }
 }
 
-/// What is done behind the script behind a turn.
+/// Adds what follows the script after a turn to a stop.
 #[cold]
 #[tactic(auto, using(crate::proofs::Natives::code_passes), unfolding(crate::specs::Rest::frame_rest))]
 fn next_below(leave: Leave, turning: &Turning, depth: u32) -> Leave

@@ -1,4 +1,4 @@
-//! A machine that is run again.
+//! Machines that can be suspended and resumed.
 
 ghost use Rattle.std.specs.Prelude.{◌≡◌, ◌≢◌, ◌↔◌, ℕ, ◌+◌, List, IfOk, IsTrue, option_map, []};
 ghost use Rattle.tcl_eval.specs.Meaning.{eval};
@@ -21,34 +21,35 @@ use tcl_scripts::Script;
 use tcl_subst::{Names, Vars};
 use tcl_values::Value;
 
-/// So many scripts may be under evaluation at once.
+/// The most scripts that may be under evaluation at once.
 pub const DEEPEST: u32 = 200;
 
 /// Why a run paused.
 #[derive(Drop)]
 pub enum Pause {
-    /// The script came to its end, with a code and a value.
+    /// The script ended with a code and a value.
     Finished(Code, Value),
     /// The host waits.
     Waits,
     /// A command ended the script.
     Stopped(Ending),
-    /// No step was left.
+    /// The limit on steps was reached.
     StepLimit,
-    /// No memory was left.
+    /// Memory was refused.
     Memory,
 }
 
-/// A script's evaluation, which can be suspended and run again over any host that answers as the one before: such as one that tells of its commands.
+/// The evaluation of a script. It can be suspended, and resumed with any host that continues to
+/// answer like the one before.
 #[derive(Drop)]
 pub struct Machine {
-    /// What is kept.
+    /// The state.
     engine: Engine,
     /// What is done next.
     mode: Mode,
 }
 
-/// A machine that is to evaluate a source, with so many levels of scripts.
+/// Creates a machine for a source, with this number of levels of scripts.
 fn begin(alloc: Global, source: &[u8], vars: Vars, depth: u32) -> Result<Machine, AllocError>
     ensures { IfOk result (λ m. (left : ℕ) → engine_rest m.engine left m.mode ≡ eval depth source.now at_the_end (record { vars = vars; procs = []; left = left; trail = [] })) }
 {
@@ -68,28 +69,29 @@ fn begin(alloc: Global, source: &[u8], vars: Vars, depth: u32) -> Result<Machine
 }
 
 impl Machine {
-    /// A machine that is to evaluate a source, with these variables and no procedures.
+    /// Creates a machine for a source, with these variables and no procedures.
     pub fn new(alloc: Global, source: &[u8], vars: Vars) -> Result<Machine, AllocError>
         ensures { IfOk result (λ m. (left : ℕ) → engine_rest m.engine left m.mode ≡ eval 200 source.now at_the_end (record { vars = vars; procs = []; left = left; trail = [] })) }
     {
         begin(alloc, source, vars, DEEPEST)
     }
 
-    /// The variables as they are.
+    /// Returns the current variables.
     pub fn vars(&self) -> &Vars
         ensures { result.now ≡ self.now.engine.vars }
     {
         &self.engine.vars
     }
 
-    /// What handed on the error that is under way, the innermost first: at the end of a script by an error, where that came from.
+    /// Returns the trail of the current error, the innermost origin first. After a script ended by
+    /// an error, it tells the error's origin.
     pub fn trail(&self) -> &[Origin]
         ensures { result.now ≡ self.now.engine.trail }
     {
         self.engine.trail.as_slice()
     }
 
-    /// How it ended, where it is over.
+    /// Returns the end state, or `None` while the script is running.
     pub fn end(&self) -> Option<&End>
         ensures { option_map (λ e. e.now) result ≡ end_of self.now.mode }
     {
@@ -99,14 +101,15 @@ impl Machine {
         }
     }
 
-    /// Whether it is over.
+    /// Returns whether the run has ended.
     pub fn is_over(&self) -> bool
         ensures { IsTrue result ↔ IsOver self.now.mode }
     {
         matches!(&self.mode, Mode::Ended(_))
     }
 
-    /// The pause of a machine that is suspended or over; a refused copy of a text is `Memory`.
+    /// Returns the pause of a machine that is suspended or has ended. `Memory` if the copy of a
+    /// value was refused.
     fn pause(&self) -> Pause
         ensures { IsShownBy result self.now.mode }
     {
@@ -122,12 +125,14 @@ impl Machine {
         }
     }
 
-    /// Runs on until it is over or the host waits.
+    /// Runs until the script has ended or the host waits. The meter keeps its bound.
     ///
-    /// There are replies to just the calls that what was left of the run names, each once and in order, which lead the host from its old
-    /// state to its new one, and with which what was left of the run is what is left of it now. The meter keeps its bound, and counts just
-    /// the steps that the meaning begins on the way. A run that is over stays as it is, and shows the same pause again, or `Memory` where a
-    /// copy of its text was refused. Behind `Memory` it is over.
+    /// Unless the result is `Memory`, the host is called exactly as the meaning prescribes.
+    /// Afterwards the machine denotes the rest of the run. The meter counts exactly the steps that
+    /// the meaning begins.
+    ///
+    /// A run that has ended is unchanged and shows the same pause again, or `Memory` if the copy of
+    /// its value was refused. After `Memory` the run has ended.
     pub fn run<H: Host>(&mut self, host: &mut H, meter: &mut Meter) -> Pause
         ensures leads { result ≢ Pause.Memory → (replies : List Reply) × Leads H.answers replies (engine_rest self.old.engine (left_of meter.old) self.old.mode) host.old (engine_rest self.new.engine (left_of meter.new) self.new.mode) host.new × IsPauseOf result self.new.mode replies }
         ensures shown { IsShownBy result self.new.mode }

@@ -1,13 +1,13 @@
-//! A count of steps with a bound.
+//! A counter of steps with a limit.
 
 ghost use Rattle.std.specs.Prelude.{◌≡◌, ◌≤◌};
 
-/// Counts steps up to a bound.
+/// Counts steps up to a limit.
 #[derive(Drop)]
 pub struct Meter {
-    /// So many steps may be begun.
+    /// The most steps that may begin.
     bound: u64,
-    /// So many were begun.
+    /// The number of steps that have begun.
     count: u64,
     ghost within: { count ≤ bound },
 }
@@ -15,7 +15,7 @@ pub struct Meter {
 impl Meter {
     ghost use Rattle.tcl_eval.specs.Steps.{left_of};
 
-    /// No step yet, of so many.
+    /// Creates a meter with this limit and no steps.
     pub fn new(bound: u64) -> Meter
         ensures left { left_of result ≡ bound }
         ensures count { result.count ≡ 0 }
@@ -23,7 +23,7 @@ impl Meter {
         Meter { bound, count: 0 }
     }
 
-    /// Steps were begun, and so many are left: no more than before.
+    /// Sets the number of steps left, which must not increase.
     pub(crate) fn go_down(&mut self, left: u64)
         ensures left { left ≤ left_of self.old → left_of self.new ≡ left }
         ensures bound { self.new.bound ≡ self.old.bound }
@@ -31,14 +31,14 @@ impl Meter {
         self.count = self.bound - left.min(self.bound);
     }
 
-    /// How many steps were begun.
+    /// Returns the number of steps that have begun.
     pub fn count(&self) -> u64
         ensures { result ≡ self.now.count }
     {
         self.count
     }
 
-    /// How many steps are left.
+    /// Returns the number of steps left.
     pub fn left(&self) -> u64
         ensures { result ≡ left_of self.now }
     {

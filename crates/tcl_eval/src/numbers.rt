@@ -1,4 +1,4 @@
-//! Expressions over variables that are numbers.
+//! Evaluates expressions over variables that are numbers.
 
 ghost use Rattle.std.specs.Prelude.{◌≡◌, ℕ, Bool, List, Some, IfSome};
 ghost use Rattle.tcl_words.specs.Pieces.{variable, no_pieces, piece, part_view};
@@ -14,7 +14,7 @@ use tcl_expr::{Readings, numbers_round_trip, read_number};
 use tcl_subst::{VALUE_LIMIT, Vars};
 use tcl_words::{Part, Word};
 
-/// The numbers that variables are.
+/// The numbers of variables.
 #[derive(Drop)]
 struct Variables<'v> {
     vars: &'v Vars,
@@ -35,7 +35,7 @@ impl Readings for Variables<'_> {
     }
 }
 
-/// The number that a word of one part is, where that is a variable and a number.
+/// Returns the number of a word that is one variable, if its value is a number.
 fn part_number(part: &Part, vars: &Vars) -> Option<i64>
     ensures { IfSome result (λ z. fill (piece (part_view part.now) no_pieces) vars.now ≡ Full (number_text z)) }
 {
@@ -49,7 +49,7 @@ fn part_number(part: &Part, vars: &Vars) -> Option<i64>
     }
 }
 
-/// The number that a variable is.
+/// Returns the number of a variable, if its value is one.
 #[tactic(auto, unfolding(tcl_subst::specs::Faults::is_too_long))]
 fn variable_number(name: &[u8], vars: &Vars) -> Option<i64>
     ensures { IfSome result (λ z. fill (piece (variable name.now) no_pieces) vars.now ≡ Full (number_text z)) }
@@ -66,16 +66,16 @@ fn variable_number(name: &[u8], vars: &Vars) -> Option<i64>
     }
 }
 
-/// The number that an expression is, where each operand that it needs is a variable and a number. `None` where that isn't so, and where
-/// memory is wanted.
+/// Returns the value of an expression if each operand that it needs is a variable with a number.
+/// `None` otherwise, and if memory is refused.
 pub(crate) fn number_of(alloc: Global, test: &Test, vars: &Vars) -> Option<i64>
     ensures { IfSome result (λ z. (ev : Eval) (k : Next) (go : List ℕ → State → Tree) (st : State) → st.vars ≡ vars.now → expression ev test.now k go st ≡ go (number_text z) st) }
 {
     test.number(alloc, &Variables { vars })
 }
 
-/// Whether a condition holds, where each operand that it needs is a variable and a number. `None` where that isn't so, and where memory is
-/// wanted.
+/// Returns whether a condition is true, if each operand that it needs is a variable with a number.
+/// `None` otherwise, and if memory is refused.
 pub(crate) fn truth_by_numbers(alloc: Global, test: &Test, vars: &Vars) -> Option<bool>
     ensures { IfSome result (λ b. (ev : Eval) (k : Next) (go : Bool → State → Tree) (st : State) → st.vars ≡ vars.now → condition ev test.now k go st ≡ go b st) }
 {
@@ -85,7 +85,7 @@ pub(crate) fn truth_by_numbers(alloc: Global, test: &Test, vars: &Vars) -> Optio
     }
 }
 
-/// Whether a number is true.
+/// Returns whether a number is true.
 #[tactic(auto, unfolding(tcl_expr::specs::Truth::truth_of))]
 fn is_true(number: i64) -> bool
     ensures { truth_of (number_text number) ≡ Some result }

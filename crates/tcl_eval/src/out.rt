@@ -1,4 +1,4 @@
-//! What came of a function that evaluates.
+//! The results of evaluating functions.
 
 ghost use Rattle.std.specs.Prelude.{◌≡◌, ◌≤◌, ℕ, List};
 ghost use Rattle.tcl_commands.specs.Said.{Said as Meant};
@@ -25,7 +25,7 @@ pub enum Exception {
 }
 
 impl Exception {
-    /// Its code.
+    /// Returns its code.
     pub(crate) fn code(self) -> Code
         ensures { result ≡ code_of self }
     {
@@ -40,14 +40,14 @@ impl Exception {
     }
 }
 
-/// Why a function that evaluates has no value.
+/// Why an evaluating function returns no value.
 #[derive(Drop)]
 pub enum Leave {
-    /// A code other than `Ok` and its value, which are the whole command's.
+    /// A code other than `Ok` with its value. It is the outcome of the whole command.
     Gone(Exception, Value),
-    /// It stands still.
+    /// The run has stopped: it waits or has ended.
     Stopped(Box<Stop>),
-    /// No memory was left.
+    /// Memory was refused.
     Memory,
 }
 
@@ -73,7 +73,7 @@ impl<T: Drop> From<AllocFailed<T>> for Leave {
     }
 }
 
-/// The outcome of a command that ended with this code and value.
+/// Returns the outcome of a command with this code and value.
 pub(crate) fn came(code: Code, value: Value) -> Result<Value, Leave>
     ensures known { Known result }
     ensures rest { (k : Next) (st : State) → ended result st k ≡ k code value st }
@@ -92,7 +92,7 @@ pub(crate) fn came(code: Code, value: Value) -> Result<Value, Leave>
     Err(Leave::Gone(exception, value))
 }
 
-/// The result of a call. A complaint becomes an error of the command.
+/// Returns the result of a call. A complaint becomes an error of the command.
 pub(crate) fn given<T: Drop>(alloc: Global, heard: Result<T, Complaint>) -> Result<T, Leave>
     ensures rest { (meant : Meant T) → Says heard meant → Known result → (k : Next) (go : T → State → Tree) (st : State) → flow result st k go ≡ on_said meant k go st }
     ensures within { (meant : Meant T) → Says heard meant → Known result → (k : Next) (on : List ℕ → State → Tree) (go : T → State → Tree) (st : State) → flow result st (on_ok on k) go ≡ on_said meant k go st }

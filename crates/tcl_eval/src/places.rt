@@ -1,21 +1,21 @@
-//! Places at which what was read of texts is kept.
+//! A cache of items by a hash of their texts.
 
 use std::alloc::Global;
 use std::marker::Model;
 use std::mem;
 
-/// How many places there are: as many as there are hashes.
+/// The number of places: one per hash.
 const ROOM: usize = 128;
 
-/// So many bytes at most has a text with a place.
+/// The most bytes in a text that has a place.
 const LONGEST: usize = 512;
 
-/// At most one item at each place.
+/// A cache with at most one item at each place.
 ///
-/// A contract sees nothing of them, so whoever takes an item has to see for himself of what text it is.
+/// A contract sees nothing of it. The caller must check that an item belongs to the text.
 #[derive(Drop)]
 pub(crate) struct Places<T: Drop> {
-    /// What stands at each place. There are no places before the first item is kept.
+    /// The item at each place. The places exist only after the first item was kept.
     items: Vec<Option<T>>,
 }
 
@@ -28,14 +28,15 @@ impl<T: Drop> Model for Places<T> {
 }
 
 impl<T: Drop> Places<T> {
-    /// No items. It allocates nothing.
+    /// Creates an empty cache without allocating.
     pub(crate) fn new(alloc: Global) -> Places<T> {
         Places {
             items: Vec::new(alloc),
         }
     }
 
-    /// The item at the place of a text, where it has one and an item stands there. Takes time in the length of the text.
+    /// Returns the item at the place of a text. `None` if the text has no place or the place is
+    /// empty. Time is linear in the length of the text.
     pub(crate) fn at(&self, text: &[u8]) -> Option<&T> {
         match self.items.get(place_of(text)?) {
             Some(Some(item)) => Some(item),
@@ -43,7 +44,8 @@ impl<T: Drop> Places<T> {
         }
     }
 
-    /// Puts an item at the place of a text, where it has one and there is memory for the places. What stood there is gone.
+    /// Keeps an item at the place of a text, if it has one and memory allows. The item that was
+    /// there is dropped.
     pub(crate) fn keep(&mut self, text: &[u8], item: T) {
         let Some(place) = place_of(text) else {
             return;
@@ -57,7 +59,8 @@ impl<T: Drop> Places<T> {
     }
 }
 
-/// The place of a text that isn't too long for one: the upper bits of a hash of its bytes.
+/// Returns the place of a text: the upper bits of a hash of its bytes. `None` if the text is too
+/// long.
 fn place_of(text: &[u8]) -> Option<usize> {
     if LONGEST < text.len() {
         return None;

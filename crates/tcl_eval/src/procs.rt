@@ -1,4 +1,4 @@
-//! Procedures and `catch`.
+//! Evaluates procedures and `catch`.
 
 ghost use Rattle.std.specs.Prelude.{◌≡◌, ◌+◌, ◌≤◌, [], drop, IfOk, ◌≢◌, ℕ};
 ghost use Rattle.tcl_commands.specs.Texts.{quoted, not_set};
@@ -20,7 +20,7 @@ use tcl_scripts::Script;
 use tcl_subst::SubstFault;
 use tcl_values::Value;
 
-/// The digit of a code.
+/// Returns the digit of a code.
 fn digit(code: Code) -> &'static [u8]
     ensures { result.now ≡ digit code }
 {
@@ -35,7 +35,7 @@ fn digit(code: Code) -> &'static [u8]
     }
 }
 
-/// A loop's word outside of a loop.
+/// Returns the error of `break` or `continue` outside a loop.
 fn outside_loop(alloc: Global, word: &[u8]) -> Result<Value, AllocError>
     ensures { IfOk result (λ v. v ≡ outside_loop word.now) }
 {
@@ -44,7 +44,7 @@ fn outside_loop(alloc: Global, word: &[u8]) -> Result<Value, AllocError>
     Value::from_text(alloc, text)
 }
 
-/// A text with a name in quotes behind it.
+/// Returns a text followed by a quoted name.
 fn named(alloc: Global, front: &[u8], name: &[u8]) -> Result<Value, AllocError>
     ensures { IfOk result (λ v. v ≡ quoted front.now name.now) }
 {
@@ -53,7 +53,7 @@ fn named(alloc: Global, front: &[u8], name: &[u8]) -> Result<Value, AllocError>
 }
 
 impl Engine {
-    /// What follows the script of a `catch` that came to this.
+    /// Continues after the script of a `catch`, given its outcome.
     #[tactic(auto, unfolding(crate::specs::Rest::frame_rest))]
     pub(crate) fn caught_as(
         &mut self,
@@ -72,7 +72,7 @@ impl Engine {
         }
     }
 
-    /// What follows the script of a `catch`, by its code.
+    /// Continues after the script of a `catch`, given its code.
     fn caught_by(&mut self, name: Option<Value>, code: Code, value: Value) -> Result<Value, Leave>
         ensures measures { Spent self.old self.new 0 (owed 0 result) }
         ensures rest { CameIs self.old result self.new (λ k st. caught name k code value st) }
@@ -90,7 +90,7 @@ impl Engine {
         }
     }
 
-    /// Goes on behind the body of a procedure that these words called.
+    /// Continues after the body of a procedure that was called with these words.
     #[tactic(auto, unfolding(crate::specs::Rest::frame_rest))]
     pub(crate) fn leave_scope(
         &mut self,
@@ -129,7 +129,7 @@ impl Engine {
         }
     }
 
-    /// An error leaves a procedure that these words called.
+    /// Adds the procedure to the trail of an error that leaves it.
     fn error_out(&mut self, words: Values, text: Value) -> Result<Value, Leave>
         ensures measures { Spent self.old self.new 0 (owed 0 result) }
         ensures rest { CameIs self.old result self.new (λ k st. k Code.Error text (passed (Origin.Procedure words) st)) }
@@ -138,7 +138,7 @@ impl Engine {
         Err(Leave::Gone(Exception::Error, text))
     }
 
-    /// Ends the current scope, where it isn't the outermost one.
+    /// Ends the current scope, unless it is the outermost one.
     fn leave(&mut self)
         ensures { self.new ≡ record self.old { vars = record { globals = self.old.vars.globals; locals = drop 1 self.old.vars.locals } } }
     {
@@ -147,7 +147,8 @@ impl Engine {
         }
     }
 
-    /// Enters the procedure that has the name of a command, where there is one, and returns its body.
+    /// Enters the procedure with the name of a command, and returns its body. `None` if there is no
+    /// such procedure.
     pub(crate) fn enter(&mut self, words: &Values) -> Result<Option<Script>, Leave>
         ensures measures { Spent self.old self.new 0 (owed 0 result) }
         ensures rest { (depth : ℕ) → Comes self.old result self.new (entered_rest (eval depth) words.now) (λ k st. other_command (eval depth) words.now k st) }
@@ -170,7 +171,7 @@ impl Engine {
         }
     }
 
-    /// Defines a procedure, where the host has no command of its name.
+    /// Defines a procedure, unless the host has a command of its name.
     pub(crate) fn define(
         &mut self,
         name: Value,
@@ -185,7 +186,7 @@ impl Engine {
         self.define_by(&name, &formals, &body, is_known)
     }
 
-    /// Defines a procedure by its texts.
+    /// Defines a procedure, given its texts.
     fn define_by(
         &mut self,
         name: &Value,
@@ -213,7 +214,7 @@ impl Engine {
     }
 }
 
-/// Why a variable can't be set.
+/// Returns the error of a variable that can't be set.
 fn not_set_text(alloc: Global, name: &[u8], fault: SubstFault) -> Result<Value, AllocError>
     ensures text { IfOk result (λ v. v ≡ not_set name.now fault) }
     ensures memory { IfOk result (λ _. fault ≢ SubstFault.Memory) }
@@ -222,14 +223,14 @@ fn not_set_text(alloc: Global, name: &[u8], fault: SubstFault) -> Result<Value, 
     Value::from_text(alloc, text)
 }
 
-/// A name that no procedure can have.
+/// Returns the error of a name that no procedure can have.
 pub(crate) fn reserved(alloc: Global, name: &[u8]) -> Result<Value, AllocError>
     ensures { IfOk result (λ v. v ≡ reserved name.now) }
 {
     named(alloc, b"can't redefine ", name)
 }
 
-/// No one has a command of the name.
+/// Returns the error of an unknown command.
 pub(crate) fn no_command(alloc: Global, words: &Values) -> Result<Value, AllocError>
     ensures { IfOk result (λ v. v ≡ no_command words.now) }
 {

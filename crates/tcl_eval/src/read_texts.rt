@@ -1,4 +1,4 @@
-//! Texts that were read and may come again.
+//! A cache of parsed texts.
 
 ghost use Rattle.std.specs.Prelude.{◌≡◌, Ok, IfOk, IfSome};
 ghost use Rattle.tcl_expr.specs.Grammar.{parsed};
@@ -12,12 +12,13 @@ use tcl_expr::ExprFault;
 use tcl_scripts::Script;
 use tcl_values::Value;
 
-/// Scripts and expressions that were read, so that a text that comes again isn't read anew.
+/// A cache of parsed scripts and expressions.
 ///
-/// A text of at most 512 bytes has one of 128 places among the scripts, and one among the expressions, at which the last one that was read
-/// stands. So to find one takes one pass over the text and at most one comparison. A longer text is read each time.
+/// A text of at most 512 bytes has one of 128 places among the scripts, and one among the
+/// expressions. A place keeps the last text parsed. A lookup therefore takes one pass over the text
+/// and at most one comparison. Longer texts are parsed each time.
 ///
-/// A contract sees nothing of them: what is read with them is what is read without.
+/// A contract sees nothing of the cache: results are the same with and without it.
 #[derive(Drop)]
 pub(crate) struct ReadTexts {
     scripts: Places<Script>,
@@ -33,7 +34,7 @@ impl Model for ReadTexts {
 }
 
 impl ReadTexts {
-    /// Nothing was read. It allocates nothing.
+    /// Creates an empty cache without allocating.
     pub(crate) fn new(alloc: Global) -> ReadTexts {
         ReadTexts {
             scripts: Places::new(alloc),
@@ -41,7 +42,7 @@ impl ReadTexts {
         }
     }
 
-    /// The script that these bytes are. They are copied only where they are read.
+    /// Returns the script of these bytes. They are copied only if they are parsed.
     pub(crate) fn script(&mut self, alloc: Global, text: &[u8]) -> Result<Script, AllocError>
         ensures { IfOk result (λ s. s ≡ text.now) }
     {
@@ -53,7 +54,7 @@ impl ReadTexts {
         Ok(script)
     }
 
-    /// The script that a text is. Nothing is copied.
+    /// Returns the script of a text, without copying it.
     pub(crate) fn script_of(&mut self, alloc: Global, text: &Value) -> Result<Script, AllocError>
         ensures { IfOk result (λ s. s ≡ text.now) }
     {
@@ -65,7 +66,7 @@ impl ReadTexts {
         Ok(script)
     }
 
-    /// The expression that a text is. Nothing is copied.
+    /// Returns the expression of a text, without copying it.
     pub(crate) fn test(&mut self, alloc: Global, text: &Value) -> Result<Test, ExprFault>
         ensures { Gives result (parsed text.now) }
     {
@@ -77,7 +78,7 @@ impl ReadTexts {
         Ok(test)
     }
 
-    /// The script of a text, where it is kept.
+    /// Returns the script of a text, if it is in the cache.
     fn kept_script(&self, text: &[u8]) -> Option<&Script>
         ensures { IfSome result (λ s. s.now ≡ text.now) }
     {
@@ -88,14 +89,14 @@ impl ReadTexts {
         None
     }
 
-    /// Keeps a script, where its text is short enough and there is memory for that.
+    /// Keeps a script, if its text is short enough and memory allows.
     fn keep_script(&mut self, script: &Script) {
         if let Ok(kept) = script.shared() {
             self.scripts.keep(script.text(), kept);
         }
     }
 
-    /// The expression of a text, where it is kept.
+    /// Returns the expression of a text, if it is in the cache.
     fn kept_test(&self, text: &[u8]) -> Option<&Test>
         ensures { IfSome result (λ t. parsed text.now ≡ Ok t.now) }
     {
@@ -106,7 +107,7 @@ impl ReadTexts {
         None
     }
 
-    /// Keeps an expression, where its text is short enough and there is memory for that.
+    /// Keeps an expression, if its text is short enough and memory allows.
     fn keep_test(&mut self, test: &Test) {
         if let Ok(kept) = test.shared() {
             self.tests.keep(test.text(), kept);

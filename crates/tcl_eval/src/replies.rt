@@ -1,4 +1,4 @@
-//! What a machine makes of the host's replies.
+//! Continues a machine by the host's replies.
 
 ghost use Rattle.std.specs.Prelude.{◌≡◌, ℕ, ◌+◌, ◌<◌, ◌*◌, [], IfOk, false, ◌≤◌};
 ghost use Rattle.tcl_eval.specs.Asked.{WaitsAt, GoesDown, IsAskingOnPause};
@@ -16,7 +16,7 @@ use tcl_commands::Code;
 use tcl_host::{HostStep, Values};
 use tcl_values::Value;
 
-/// It goes on.
+/// Returns a result that continues with this mode.
 pub(crate) fn on(mode: Mode) -> Asked
     ensures { result ≡ record { mode = mode; paused = false } }
 {
@@ -26,7 +26,7 @@ pub(crate) fn on(mode: Mode) -> Asked
     }
 }
 
-/// The error of a command that the host doesn't know.
+/// Returns the error of a command that the host doesn't know.
 fn unknown_for(alloc: Global, call: &Call) -> Result<Value, AllocError>
     ensures { IfOk result (λ v. v ≡ unknown_for call.now) }
 {
@@ -38,7 +38,8 @@ fn unknown_for(alloc: Global, call: &Call) -> Result<Value, AllocError>
 }
 
 impl Engine {
-    /// Begins a script that the host asked for, with at most so many more.
+    /// Begins a script that the host asked for. `bound` is the number of further scripts that it
+    /// may ask for.
     #[tactic(auto, unfolding(crate::specs::Rest::frame_rest))]
     fn host_body(&mut self, text: Value, bound: u64, depth: u32) -> Result<Mode, AllocError>
         ensures rest { RestIs self.old result self.new (λ k st. eval depth text (after_body (eval depth) k bound) st) }
@@ -50,7 +51,7 @@ impl Engine {
         Ok(Mode::Run { script, depth })
     }
 
-    /// Begins to fill the words of a text that the host asked for.
+    /// Begins the substitution of the words of a text that the host asked for.
     fn host_words(&mut self, text: Value, depth: u32) -> Result<Mode, AllocError>
         ensures rest { RestIs self.old result self.new (λ k st. words_in (eval depth) k text st) }
         ensures potential { IfOk result (λ mode. potential self.new mode ≤ 8 * self.old.left + bodies self.old.stack + 5) }
@@ -64,7 +65,7 @@ impl Engine {
         Ok(mode)
     }
 
-    /// Takes the host's reply to a call.
+    /// Processes the host's reply to a call.
     pub(crate) fn take(
         &mut self,
         call: Call,
@@ -118,7 +119,7 @@ impl Engine {
         }
     }
 
-    /// Begins to fill the words that the host asked for in its reply to a call.
+    /// Begins the substitution of words that the host asked for in its reply to a call.
     fn words_for(&mut self, call: &Call, text: Value, depth: u32) -> Result<Mode, AllocError>
         ensures rest { RestIs self.old result self.new (λ k st. words_for (eval depth) call.now k text st) }
         ensures potential { IfOk result (λ mode. potential self.new mode < 8 * self.old.left + bodies self.old.stack + call_credit call.now) }
@@ -131,7 +132,7 @@ impl Engine {
         }
     }
 
-    /// One more script of the host, at the two codes at which there may be one.
+    /// Begins another script of the host, at the two codes that allow one.
     fn body_again(
         &mut self,
         code: Code,
@@ -150,7 +151,7 @@ impl Engine {
         }
     }
 
-    /// One more script of the host, where one is left.
+    /// Begins another script of the host, if one is left.
     fn next_body(&mut self, text: Value, bound: u64, depth: u32) -> Result<Mode, AllocError>
         ensures rest { RestIs self.old result self.new (λ k st. next_body (eval depth) k bound text st) }
         ensures potential { IfOk result (λ mode. bodies self.new.stack + credit mode ≤ bodies self.old.stack + 4) }

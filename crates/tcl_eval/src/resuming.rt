@@ -25,7 +25,8 @@ use tcl_subst::Filler;
 use tcl_values::Value;
 
 impl Engine {
-    /// Passes the outcome of a script or a command to the frames, one after another, until the run stands still.
+    /// Passes the outcome of a script or a command to the frames, one after another, until the run
+    /// stops.
     pub(crate) fn settle_by(&mut self, out: Result<Value, Leave>) -> Result<Mode, AllocError>
         ensures rest { IfOk result (λ mode. Known out × (rest_of self.new mode ≡ ended out (now_of self.old) (frames_rest self.old.stack))) }
         ensures potential { IfOk result (λ mode. potential self.new mode ≤ 8 * self.old.left + bodies self.old.stack + owed 0 out) }
@@ -97,7 +98,7 @@ impl Engine {
         }
     }
 
-    /// Goes on behind the code `Ok` with a value.
+    /// Continues after the code `Ok`, with its value.
     #[tactic(auto, unfolding(crate::specs::Rest::onward_rest))]
     fn onward_with(&mut self, onward: Onward, value: Value) -> Result<Value, Leave>
         ensures measures { Spent self.old self.new (onward_weight onward) (owed 0 result) }
@@ -131,7 +132,7 @@ impl Engine {
         }
     }
 
-    /// Fills a word on, with the value of its script.
+    /// Continues the substitution of a word, given the value of its script.
     #[tactic(auto, unfolding(crate::specs::Rest::onward_rest))]
     fn word_with(&mut self, mut filler: Filler, value: Value, depth: u32) -> Result<Value, Leave>
         ensures measures { Spent self.old self.new 0 (owed 0 result) }
@@ -141,7 +142,8 @@ impl Engine {
         self.fill_on(filler, step, depth)
     }
 
-    /// Fills words on behind one with this value, and goes on behind them.
+    /// Continues the substitution of words, given the value of the current one, and then continues
+    /// after them.
     #[tactic(auto, unfolding(crate::specs::Rest::onward_rest))]
     fn words_with(
         &mut self,
@@ -160,7 +162,7 @@ impl Engine {
         self.words_from(words, next, done, to, depth)
     }
 
-    /// Fills words from a place on, and goes on behind them.
+    /// Substitutes words from an index on, and continues after them.
     pub(crate) fn words_from(
         &mut self,
         words: &Words,
@@ -176,7 +178,7 @@ impl Engine {
         self.words_done(done, to, depth)
     }
 
-    /// Goes on behind words that are filled.
+    /// Continues after the substitution of words.
     fn words_done(&mut self, done: Values, to: Then, depth: u32) -> Result<Value, Leave>
         ensures measures { Spent self.old self.new (then_weight to) (owed 0 result) }
         ensures rest { CameIs self.old result self.new (λ k st. then_rest depth to k done st) }
@@ -198,7 +200,7 @@ impl Engine {
         }
     }
 
-    /// Evaluates an expression on, with the value of an operand.
+    /// Continues the evaluation of an expression, given the value of an operand.
     #[tactic(auto, unfolding(crate::specs::Rest::onward_rest))]
     fn operand_with(
         &mut self,
@@ -213,7 +215,7 @@ impl Engine {
         self.worth(evaluation, depth)
     }
 
-    /// The turns of a loop that are left, behind the value of its condition.
+    /// Evaluates the turns of a loop that are left, given the value of its condition.
     #[tactic(auto, unfolding(crate::specs::Rest::onward_rest))]
     fn test_with(&mut self, mut turning: Turning, value: &Value, depth: u32) -> Result<Value, Leave>
         ensures measures { Spent self.old self.new 0 (owed 0 result) }
@@ -227,7 +229,8 @@ impl Engine {
     }
 }
 
-/// Stops the run to tell the host how its script ended. `bound` is how many more scripts it may ask for.
+/// Stops the run to pass the outcome of a script to the host. `bound` is the number of further
+/// scripts that the host may ask for.
 #[tactic(auto, unfolding(crate::specs::Rest::frame_rest))]
 fn told_host(alloc: Global, out: Result<Value, Leave>, bound: u64, depth: u32) -> Leave
     ensures known { Knows result → Known out }

@@ -1,10 +1,10 @@
-//! Scripts evaluated by calls of functions: what is still to be done is laid down only where a run stands still.
+//! Evaluates scripts by function calls. The work left is saved in frames only when a run stops.
 
 ghost use Rattle.std.specs.Prelude.{◌≡◌, ℕ, ◌+◌, ◌++◌, ◌≤◌, ◌∷◌, List, [], drop, take, OnOk};
 ghost use Rattle.tcl_scripts.specs.Commands.{commands};
 ghost use Rattle.tcl_eval.specs.Handed.{handed_words};
 ghost use Rattle.tcl_eval.specs.Meaning.{Next, eval, command, invoke, sequence, scope_end};
-ghost use Rattle.tcl_eval.specs.Native.{other_command, ended, flow, owed, CameIs, Comes, Known, Spent};
+ghost use Rattle.tcl_eval.specs.Native.{not_called, other_command, ended, flow, owed, CameIs, Comes, Known, Spent};
 ghost use Rattle.tcl_eval.specs.Rest.{frame_rest, now_of, then_rest};
 
 use crate::engine::Engine;
@@ -15,7 +15,7 @@ use crate::trail::Origin;
 use crate::values::Handed;
 use std::alloc::AllocError;
 use std::mem;
-use tcl_commands::{too_deep, verb_of, word_fault};
+use tcl_commands::{redefinable_verb, too_deep, verb_of, word_fault};
 use tcl_host::Values;
 use tcl_scripts::{Reading, Script, Words};
 use tcl_values::Value;
@@ -35,7 +35,8 @@ impl Engine {
         self.sequence(script, 0, depth - 1, value)
     }
 
-    /// Evaluates the commands of a script from a place on, behind one with this value.
+    /// Evaluates the commands of a script from number `start` on. `last` is the value of the
+    /// previous command.
     #[cycle(native)]
     pub(crate) fn sequence(
         &mut self,
@@ -59,7 +60,7 @@ impl Engine {
         }
     }
 
-    /// Evaluates a command of a script, and notes an error that it hands on.
+    /// Evaluates a command of a script, and adds it to the trail of an error.
     #[cycle(native)]
     #[tactic(auto, unfolding(crate::specs::Rest::frame_rest))]
     fn step(
@@ -85,7 +86,8 @@ impl Engine {
         }
     }
 
-    /// Notes that a command of a script, which was read from a place on, hands on an error.
+    /// Adds a command of a script to the trail of an error. `at` is the index in the text from
+    /// which it was read.
     fn note(&mut self, script: &Script, at: usize) -> Result<(), AllocError>
         ensures noted { OnOk result (self.new ≡ record self.old { trail = take 31 self.old.trail ++ Origin.Command script.now at ∷ [] }) }
         ensures measures { Spent self.old self.new 0 0 }
@@ -95,7 +97,7 @@ impl Engine {
         Ok(())
     }
 
-    /// Takes what came of a command of a script, which was read from a place on, and notes an error that it hands on.
+    /// Continues after a command of a script, and adds the command to the trail of an error.
     #[tactic(auto, using(crate::proofs::Natives::code_passes), unfolding(crate::specs::Rest::frame_rest))]
     pub(crate) fn behind_command(
         &mut self,
@@ -128,7 +130,7 @@ impl Engine {
         }
     }
 
-    /// Fills the words of a command, and carries it out.
+    /// Substitutes the words of a command and carries it out.
     #[cycle(native)]
     fn command(&mut self, words: &Words, depth: u32) -> Result<Value, Leave>
         ensures measures { Spent self.old self.new 0 (owed 0 result) }
@@ -142,7 +144,7 @@ impl Engine {
         self.begun(Handed::Own(done), depth)
     }
 
-    /// Begins a command whose words are filled, where a step is left, and carries it out.
+    /// Begins a command with substituted words, if a step is left, and carries it out.
     #[cycle(native)]
     pub(crate) fn begun(&mut self, words: Handed<'_>, depth: u32) -> Result<Value, Leave>
         ensures measures { Spent self.old self.new 0 (owed 0 result) }
@@ -154,7 +156,7 @@ impl Engine {
         self.carry_out(words, depth)
     }
 
-    /// Carries out a command that was begun.
+    /// Carries out a command whose step has begun.
     #[cycle(native)]
     fn carry_out(&mut self, words: Handed<'_>, depth: u32) -> Result<Value, Leave>
         ensures measures { Spent self.old self.new 6 (owed 0 result) }
@@ -172,7 +174,7 @@ impl Engine {
         }
     }
 
-    /// Calls a procedure where there is one of the command's name, and else needs the host.
+    /// Calls the procedure with the command's name, if there is one.
     #[cycle(native)]
     #[inline(never)]
     fn other(&mut self, words: Values, depth: u32) -> Result<Value, Leave>
@@ -180,19 +182,34 @@ impl Engine {
         ensures rest { CameIs self.old result self.new (λ k st. other_command (eval depth) words k st) }
     {
         match self.enter(&words)? {
-            None => Err(stopped(
-                self.alloc,
-                Mode::Call {
-                    call: Call::Begin(words),
-                    depth,
-                    resumed: false,
-                },
-            )),
+            None => self.not_called(words, depth),
             Some(script) => self.body(words, &script, depth),
         }
     }
 
-    /// Evaluates the body of a procedure that these words called, and leaves its scope.
+    /// Carries out a command whose name no procedure has. Unless it is one of the language, the host is needed.
+    #[cycle(native)]
+    #[inline(never)]
+    fn not_called(&mut self, words: Values, depth: u32) -> Result<Value, Leave>
+        ensures measures { Spent self.old self.new 6 (owed 0 result) }
+        ensures rest { CameIs self.old result self.new (λ k st. not_called (eval depth) words k st) }
+    {
+        if let Some((name, args)) = words.as_slice().split_first() {
+            if let Some(verb) = redefinable_verb(name.as_slice()) {
+                return self.verb(verb, name.as_slice(), args, depth);
+            }
+        }
+        Err(stopped(
+            self.alloc,
+            Mode::Call {
+                call: Call::Begin(words),
+                depth,
+                resumed: false,
+            },
+        ))
+    }
+
+    /// Evaluates the body of a procedure that was called with these words, and leaves its scope.
     #[cycle(native)]
     #[tactic(auto, unfolding(crate::specs::Rest::frame_rest))]
     fn body(&mut self, words: Values, script: &Script, depth: u32) -> Result<Value, Leave>
@@ -203,7 +220,7 @@ impl Engine {
         self.leave_scope(words, out)
     }
 
-    /// Evaluates the script that a text is.
+    /// Evaluates a text as a script.
     #[cycle(native)]
     pub(crate) fn text(&mut self, text: &Value, depth: u32) -> Result<Value, Leave>
         ensures measures { Spent self.old self.new 0 (owed 0 result) }

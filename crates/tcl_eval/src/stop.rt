@@ -1,11 +1,12 @@
-//! A run that stands still.
+//! Runs that have stopped.
 
 ghost use Rattle.tcl_eval.specs.Asked.{IsSettled};
 
 use crate::frame::{Frame, Mode};
 use tcl_host::Pile;
 
-/// Where a run stands still, and what is still to be done behind it. The outermost frame was laid last, and is on top.
+/// The point at which a run stopped, and the saved frames. The outermost frame was saved last, and
+/// is on top.
 #[derive(Drop)]
 pub struct Stop {
     pub at: Mode,

@@ -1,4 +1,4 @@
-//! Runs that stand still, and the frames of what is still to be done behind them.
+//! Stops a run and saves its frames.
 
 ghost use Rattle.std.specs.Prelude.{◌≡◌, ◌+◌, ◌≤◌, IfOk, OnOk};
 ghost use Rattle.tcl_eval.specs.Asked.{IsSettled};
@@ -15,7 +15,7 @@ use crate::stop::Stop;
 use std::alloc::{AllocError, Global};
 use tcl_host::Pile;
 
-/// A run that stands still, with nothing to be done behind it yet.
+/// Stops a run, with no saved frames yet.
 #[cold]
 #[tactic(auto, unfolding(crate::specs::Native::stop_rest))]
 pub(crate) fn stop(alloc: Global, at: Mode) -> Result<Box<Stop>, AllocError>
@@ -33,7 +33,7 @@ pub(crate) fn stop(alloc: Global, at: Mode) -> Result<Box<Stop>, AllocError>
     Ok(stop)
 }
 
-/// The same, as what came of a script or a command.
+/// Returns a stop as the outcome of a script or a command. `Memory` if memory was refused.
 #[cold]
 pub(crate) fn stopped(alloc: Global, at: Mode) -> Leave
     requires { IsSettled at }
@@ -46,7 +46,7 @@ pub(crate) fn stopped(alloc: Global, at: Mode) -> Leave
     }
 }
 
-/// One frame more, behind those that were laid.
+/// Saves one more frame, outside the others.
 #[cold]
 #[tactic(auto, unfolding(crate::specs::Native::stop_rest))]
 pub(crate) fn laid_on(stop: Box<Stop>, frame: Frame) -> Result<Box<Stop>, AllocError>
@@ -58,7 +58,7 @@ pub(crate) fn laid_on(stop: Box<Stop>, frame: Frame) -> Result<Box<Stop>, AllocE
     Ok(stop)
 }
 
-/// Adds a frame to a stop. Returns `Memory` if that needs memory that isn't there.
+/// Adds a frame to a stop. Returns `Memory` if memory was refused.
 #[cold]
 pub(crate) fn below(stop: Box<Stop>, frame: Frame) -> Leave
     ensures rest { Knows result → (k : Next) (st : State) → left result st k ≡ stop_rest stop.value (frame_rest frame k) st }
@@ -70,7 +70,7 @@ pub(crate) fn below(stop: Box<Stop>, frame: Frame) -> Leave
     }
 }
 
-/// Adds to a stop what follows the code `Ok`. Other reasons pass unchanged.
+/// Adds what follows the code `Ok` to a stop. Other reasons are unchanged.
 #[cold]
 #[tactic(auto, using(crate::proofs::Natives::code_passes), unfolding(crate::specs::Rest::frame_rest))]
 pub(crate) fn onward_below(leave: Leave, onward: Onward) -> Leave
@@ -84,7 +84,7 @@ pub(crate) fn onward_below(leave: Leave, onward: Onward) -> Leave
     }
 }
 
-/// Frames that were laid, on a stack: the outermost comes first.
+/// Moves saved frames to a stack. The outermost one is moved first.
 fn lay_on(stack: &mut Pile<Frame>, laid: Pile<Frame>) -> Result<(), AllocError>
     ensures rest { OnOk result (frames_rest stack.new ≡ laid_rest laid (frames_rest stack.old)) }
     ensures even { OnOk result (bodies stack.new ≡ bodies laid + bodies stack.old) }
@@ -97,7 +97,7 @@ fn lay_on(stack: &mut Pile<Frame>, laid: Pile<Frame>) -> Result<(), AllocError>
 }
 
 impl Engine {
-    /// Lays on the stack what is still to be done.
+    /// Moves the saved frames to the stack of the run, and returns what is done next.
     #[tactic(auto, unfolding(crate::specs::Native::stop_rest))]
     pub(crate) fn lay(&mut self, stop: Box<Stop>) -> Result<Mode, AllocError>
         ensures rest { IfOk result (λ mode. rest_of self.new mode ≡ stop_rest stop.value (frames_rest self.old.stack) (now_of self.old)) }

@@ -1,4 +1,4 @@
-//! Where an error came from.
+//! The trail of an error: the commands and procedures that passed it on.
 
 ghost use Rattle.std.specs.Prelude.{◌≡◌, ◌++◌, ◌∷◌, [], take, OnOk};
 
@@ -7,19 +7,20 @@ use std::marker::Model;
 use tcl_host::Values;
 use tcl_scripts::Script;
 
-/// What handed an error on.
+/// A command or procedure that passed an error on.
 #[derive(Drop)]
 pub enum Origin {
-    /// A command of a script, which was read from this place on: behind the command before it.
+    /// A command of a script. `at` is the index in the text from which it was read, which is the
+    /// end of the previous command.
     Command { script: Script, at: usize },
-    /// A procedure, which these words called.
+    /// A procedure that was called with these words.
     Procedure { words: Values },
 }
 
-/// So many are kept, and the last.
+/// The number of first origins that are kept. The last one is kept too.
 const FIRST: usize = 31;
 
-/// What handed an error on, the innermost first. A contract sees a list.
+/// The trail of an error, the innermost origin first. A contract sees a list.
 #[derive(Drop)]
 pub struct Trail {
     list: Vec<Origin>,
@@ -35,7 +36,7 @@ impl Model for Trail {
 }
 
 impl Trail {
-    /// Nothing yet. It allocates nothing.
+    /// Creates an empty trail without allocating.
     pub fn new(alloc: Global) -> Trail
         ensures { result ≡ [] }
     {
@@ -44,14 +45,14 @@ impl Trail {
         }
     }
 
-    /// What handed it on, the innermost first.
+    /// Returns the origins, the innermost first.
     pub fn as_slice(&self) -> &[Origin]
         ensures { result.now ≡ self.now }
     {
         self.list.as_slice()
     }
 
-    /// Puts one behind the others; of more than 32 the first 31 and the last are kept.
+    /// Appends an origin. If there are more than 32, the first 31 and the last are kept.
     pub fn push(&mut self, origin: Origin) -> Result<(), AllocError>
         ensures { OnOk result (self.new ≡ take 31 self.old ++ origin ∷ []) }
     {
@@ -60,7 +61,7 @@ impl Trail {
         Ok(())
     }
 
-    /// Forgets them all.
+    /// Removes all origins.
     pub fn clear(&mut self)
         ensures { self.new ≡ [] }
     {

@@ -7,7 +7,7 @@ use std::alloc::{AllocError, Global};
 use tcl_host::Values;
 use tcl_values::Value;
 
-/// The values of a command's words: values of its own, or lent by the words, of which each is a literal.
+/// The values of a command's words. They are owned, or lent by words that are literals.
 #[derive(Drop)]
 pub(crate) enum Handed<'w> {
     Own(Values),
@@ -15,7 +15,7 @@ pub(crate) enum Handed<'w> {
 }
 
 impl Handed<'_> {
-    /// The values, in order.
+    /// Returns the values, in order.
     pub(crate) fn as_slice(&self) -> &[Value]
         ensures { result.now ≡ handed_words self.now }
     {
@@ -25,7 +25,7 @@ impl Handed<'_> {
         }
     }
 
-    /// The values as a list of its own. Lent ones are shared.
+    /// Returns the values as an owned list. Lent values are shared.
     pub(crate) fn own(self, alloc: Global) -> Result<Values, AllocError>
         ensures { IfOk result (λ v. v ≡ handed_words self.entry) }
     {

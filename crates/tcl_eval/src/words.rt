@@ -1,4 +1,4 @@
-//! How words are filled.
+//! Substitutes words.
 
 ghost use Rattle.std.specs.Prelude.{◌≡◌, ℕ, ◌+◌, ◌≤◌, List, [], drop, unwrap_or, IfOk};
 ghost use Rattle.tcl_subst.specs.Recipes.{IsOnward, given, script_at, refused_name};
@@ -27,7 +27,7 @@ use tcl_values::Value;
 use tcl_words::ListFault;
 
 impl Engine {
-    /// Fills a word on, from what its filler answered.
+    /// Continues the substitution of a word after a filler's result.
     #[cycle(native)]
     #[inline(never)]
     pub(crate) fn fill_on(
@@ -62,7 +62,7 @@ impl Engine {
         }
     }
 
-    /// Fills a word, step by step.
+    /// Substitutes a word, step by step.
     #[cycle(native)]
     #[inline(never)]
     fn word(&mut self, word: &KeptWord, depth: u32) -> Result<Value, Leave>
@@ -78,7 +78,8 @@ impl Engine {
         self.fill_on(filler, step, depth)
     }
 
-    /// Evaluates the script that a word is, whose value is the word's. What fills the word is wanted only where the script stands still.
+    /// Evaluates the script that a word is, and returns its value as that of the word. A filler is
+    /// created only if the script stops.
     #[cycle(native)]
     pub(crate) fn alone_script(&mut self, script: &Script, depth: u32) -> Result<Value, Leave>
         ensures measures { Spent self.old self.new 0 (owed 0 result) }
@@ -90,7 +91,7 @@ impl Engine {
         }
     }
 
-    /// What is done behind the script that a word is.
+    /// Adds what follows the script that a word is to a stop.
     #[cold]
     fn alone_below(&mut self, leave: Leave, script: &Script, depth: u32) -> Leave
         ensures same { self.new ≡ self.old }
@@ -107,7 +108,7 @@ impl Engine {
         }
     }
 
-    /// Fills words from a place on, behind those that are done.
+    /// Substitutes words from an index on, and appends their values to the finished ones.
     #[cycle(native)]
     pub(crate) fn words(
         &mut self,
@@ -132,7 +133,7 @@ impl Engine {
         }
     }
 
-    /// Fills a word, and puts its value behind those that are done.
+    /// Substitutes a word, and appends its value to the finished ones.
     #[cycle(native)]
     #[tactic(auto, unfolding(crate::specs::Rest::onward_rest))]
     fn next_word(
@@ -160,7 +161,8 @@ impl Engine {
     }
 }
 
-/// What a word comes to that is one script alone, with the value of that.
+/// Returns the value of a word that is exactly one command substitution, given the value of the
+/// script.
 #[tactic(auto, unfolding(tcl_subst::specs::Faults::is_too_long))]
 fn alone(alloc: Global, value: Value) -> Result<Value, Leave>
     ensures rest { Known result → (ev : Eval) (k : Next) (go : List ℕ → State → Tree) (st : State) → flow result st (on_ok go k) go ≡ fill_word ev (alone value) k go st }
@@ -173,7 +175,7 @@ fn alone(alloc: Global, value: Value) -> Result<Value, Leave>
     Ok(value)
 }
 
-/// What is done behind a script of a word, with the words behind it.
+/// Adds what follows a script of a word, and the later words, to a stop.
 #[cold]
 #[tactic(auto, using(crate::proofs::Natives::code_passes), unfolding(crate::specs::Rest::frame_rest))]
 fn fill_below(
@@ -208,7 +210,8 @@ fn fill_below(
     below(stop, Frame::Onward(onward))
 }
 
-/// Puts a word's value behind those that are done, or the elements of its list where it stands behind `{*}`.
+/// Appends a word's value to the finished ones, or the elements of its list if the word stands
+/// after `{*}`.
 #[inline(always)]
 pub(crate) fn spread_onto(
     alloc: Global,
@@ -237,7 +240,7 @@ pub(crate) fn spread_onto(
     }
 }
 
-/// The error of a word that can't be filled.
+/// Returns the error of a failed substitution.
 pub(crate) fn unfilled(
     alloc: Global,
     filler: &Filler,
@@ -248,7 +251,7 @@ pub(crate) fn unfilled(
     Value::from_text(alloc, not_read(alloc, filler.name(), fault)?)
 }
 
-/// The next step of a filler, with the value of its script.
+/// Continues a filler up to its next result, given the value of its script.
 pub(crate) fn resumed(
     alloc: Global,
     value: Value,
@@ -264,7 +267,7 @@ pub(crate) fn resumed(
     Ok(step)
 }
 
-/// The script that a filler needs.
+/// Returns the script that a filler needs.
 pub(crate) fn script_of(
     read: &mut ReadTexts,
     alloc: Global,

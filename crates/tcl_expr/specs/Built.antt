@@ -1,4 +1,4 @@
--- A tree's instructions give the tree back.
+-- The instructions of a tree determine the tree.
 use Rattle.std.specs.Prelude.{◌≡◌, List, [], ◌∷◌, ◌++◌, suc, length, refl}
 use Rattle.std.proofs.Common.{ap, sym, ◌∙◌, append_assoc}
 use Rattle.tcl_expr.specs.Tree.{Tree, number, word, operand, unary, binary, lazy, choice}

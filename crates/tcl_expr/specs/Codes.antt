@@ -1,4 +1,4 @@
--- That words and parts can be told apart, by a code for each: the list of what stands in them, with an end mark behind each index.
+-- Words and parts can be told apart by a code: the list of their contents, with an end mark after each index.
 use Rattle.std.specs.Prelude.{◌≡◌, ℕ, List, [], ◌∷◌, ◌++◌, Bool, ◌==◌, if◌then◌else◌, refl}
 use Rattle.std.proofs.Common.{ap, sym, ◌∙◌, append_assoc}
 use Rattle.std.specs.Coded.{Coded, code_by, coded_ℕ, coded_bool, coded_list, coded×}
@@ -18,18 +18,18 @@ abbrev mutual
   marks no_pieces = []
   marks (piece p ps) = marks_of p (marks ps)
 
--- a part goes before those that stand behind it
+-- A part goes before the later parts.
 abbrev pub before : Piece → List Pieces → List Pieces
 before p [] = []
 before p (ps ∷ s) = piece p ps ∷ s
 
--- an index that ends goes into its part
+-- An index that ends becomes part of its element.
 abbrev pub closed : List ℕ → List Pieces → List Pieces
 closed name [] = []
 closed name (index ∷ []) = []
 closed name (index ∷ (ps ∷ s)) = piece (member name index) ps ∷ s
 
--- a mark, read from behind, with what was read so far
+-- A mark, read backwards, with what was read so far.
 abbrev pub seen : Mark → List Pieces → List Pieces
 seen m s =
     if m.0 == 0 then no_pieces ∷ s

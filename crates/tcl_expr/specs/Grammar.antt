@@ -1,12 +1,12 @@
--- The grammar of `Rules` as a function, which names the first fault. Each level of precedence is a chain of the next tighter one, grouped to the
--- left, and `?:` groups to the right.
+-- The grammar of `Rules` as a function that also gives the first error. Each level of precedence is a chain of the next
+-- tighter level, grouped to the left. `?:` groups to the right.
 --
 --     whole   := level10 | level10 '?' whole ':' whole
 --     level k := level (k-1) (operator-of-level-k level (k-1))*
 --     level 0 := prefix level0 | '(' whole ')' | number | word | operand
 --
--- A reading takes bytes that begin with no white space, and the white space behind what it reads. Nesting that is too deep is a fault where
--- it opens.
+-- A reading takes bytes that don't begin with white space, and the white space after what it reads. Nesting that is too
+-- deep is an error at its opening byte.
 use Rattle.std.specs.Prelude.{ℕ, zero, suc, ◌+◌, List, [], ◌∷◌, length, drop, Option, Some, None, Result, Ok, Err, ◌==◌, if◌then◌else◌}
 use Rattle.tcl_words.specs.Bytes as ascii
 use Rattle.tcl_words.specs.Course.{reading}
@@ -21,17 +21,17 @@ use Rattle.tcl_expr.specs.Tree.{Tree, number, unary, joined, choice}
 use Rattle.tcl_expr.specs.Leaf.{Read, spaced, leaf, is_lowest, digits_len, lowest}
 use Rattle.tcl_expr.specs.Rules.{deepest}
 
--- What is read with n more bytes before it, which change its tree by f.
+-- The same, read n bytes later. f changes the tree.
 abbrev pub behind : ℕ → (Tree → Tree) → Read → Read
 behind n f (Err e) = Err e
 behind n f (Ok p) = Ok (f p.0, n + p.1)
 
--- What stands one deeper: behind `(`, in a branch of `?:`, and behind a prefix operator.
+-- The readers one level deeper: after `(`, in a branch of `?:`, and after a prefix operator.
 pub record Inside : Type 0 where
   pub whole : List ℕ → Read
   pub term : List ℕ → Read
 
--- an expression that was read at the place n, with the `)` behind it
+-- An expression that was read at index n, with the `)` after it.
 abbrev pub in_parens : List ℕ → ℕ → Read → Read
 in_parens text n (Err e) = Err e
 in_parens text n (Ok p) = if begins_with ascii.close_paren (drop (n + p.1) text) then spaced text p.0 (n + p.1 + 1) else Err Syntax
@@ -46,17 +46,17 @@ term_at inside b bytes =
     else (if is_lowest b bytes then spaced (b ∷ bytes) (number lowest) (1 + digits_len bytes)
     else prefixed inside (b ∷ bytes) (prefix_at b))
 
--- level 0
+-- Level 0.
 unfoldable pub term : Inside → List ℕ → Read
 term inside [] = Err Syntax
 term inside (b ∷ bytes) = term_at inside b bytes
 
--- a right operand that stands n bytes behind its operator's first byte, and then the chain behind it
+-- A right operand that begins n bytes after its operator's first byte, followed by the rest of the chain.
 abbrev pub linked : (ℕ → Tree → Read) → Infix → ℕ → Tree → Read → Read
 linked on op n l (Err e) = Err e
 linked on op n l (Ok p) = behind (1 + n + p.1) (λ t. t) (on (n + p.1) (joined op l p.0))
 
--- an operator of this level with its right operand, and what is behind them
+-- An operator of this level with its right operand, followed by the rest of the chain.
 abbrev pub link : (List ℕ → Read) → ℕ → (ℕ → Tree → Read) → List ℕ → Tree → Option (Infix × ℕ) → Read
 link next k on bytes l None = Ok (l, 0)
 link next k on bytes l (Some (op, n)) =
@@ -65,11 +65,12 @@ link next k on bytes l (Some (op, n)) =
 abbrev pub chain_step : (List ℕ → Read) → ℕ → (ℕ → Tree → Read) → ℕ → List ℕ → Tree → Read
 chain_step next k on b bytes l = link next k on bytes l (infix_at b bytes)
 
--- Behind a first operand: the operators of level k, each with a right operand of the next tighter level, grouped to the left.
+-- After a first operand: the operators of level k, each with a right operand of the next tighter level, grouped to the
+-- left.
 unfoldable pub chain : (List ℕ → Read) → ℕ → List ℕ → Tree → Read
 chain next k = reading (λ l. Ok (l, 0)) (chain_step next k)
 
--- an operand and the chain behind it
+-- An operand and the chain after it.
 abbrev pub chained : (List ℕ → Read) → ℕ → List ℕ → Read → Read
 chained next k text (Err e) = Err e
 chained next k text (Ok p) = behind p.1 (λ t. t) (chain next k (drop p.1 text) p.0)
@@ -78,11 +79,11 @@ unfoldable pub level : Inside → ℕ → List ℕ → Read
 level inside zero text = term inside text
 level inside (suc k) text = chained (level inside k) (suc k) text (level inside k text)
 
--- the second branch, at the place n
+-- The second branch, at index n.
 abbrev pub otherwise : Tree → Tree → ℕ → Read → Read
 otherwise c a n r = behind n (choice c a) r
 
--- the first branch was read at the place n: `:` and the second branch
+-- The first branch was read at index n. Now `:` and the second branch follow.
 abbrev pub colon : Inside → List ℕ → Tree → ℕ → Read → Read
 colon inside text c n (Err e) = Err e
 colon inside text c n (Ok p) =
@@ -90,7 +91,7 @@ colon inside text c n (Ok p) =
     then otherwise c p.0 (gap text (n + p.1 + 1)) (inside.whole (drop (gap text (n + p.1 + 1)) text))
     else Err Syntax
 
--- a condition, and its branches where `?` is behind it
+-- A condition, and its branches if `?` follows.
 abbrev pub question : Inside → List ℕ → Read → Read
 question inside text (Err e) = Err e
 question inside text (Ok p) =
@@ -105,11 +106,11 @@ unfoldable pub inside_of : ℕ → Inside
 inside_of zero = record { whole = λ text. Err TooDeep; term = λ text. Err TooDeep }
 inside_of (suc depth) = record { whole = whole (inside_of depth); term = term (inside_of depth) }
 
--- nothing may be left behind an expression
+-- No bytes may follow an expression.
 abbrev pub to_the_end : List ℕ → Read → Result Tree ExprFault
 to_the_end text (Err e) = Err e
 to_the_end text (Ok p) = if length text == p.1 then Ok p.0 else Err Syntax
 
--- the tree that a text is, or its fault
+-- The tree of a text, or the error.
 unfoldable pub parsed : List ℕ → Result Tree ExprFault
 parsed text = to_the_end (drop (gap text 0) text) (whole (inside_of deepest) (drop (gap text 0) text))

@@ -1,4 +1,4 @@
--- The operators of expressions and their precedence, as the manual page expr(n) has them. No shifts, `**`, `in` or `ni`.
+-- The operators of expressions and their precedence, as in expr(n), without shifts, `**`, `in` and `ni`.
 use Rattle.std.specs.Prelude.{ℕ, Bool, false, not, ◌&&◌, ◌||◌, nat_le, List, [], ◌∷◌, drop, Option, Some, None, ◌==◌, if◌then◌else◌}
 use Rattle.tcl_words.specs.Bytes as ascii
 use Rattle.tcl_words.specs.Lists.{begins_with}
@@ -28,27 +28,27 @@ arithmetic op = between.Eager (eager.Arithmetic op)
 abbrev pub comparison : Comparison → Infix
 comparison op = between.Eager (eager.Comparison op)
 
--- an operator, and how many bytes behind its first one belong to it
+-- An operator of one byte: no later bytes belong to it.
 abbrev pub alone : Option Infix → Option (Infix × ℕ)
 alone None = None
 alone (Some op) = Some (op, 0)
 
--- an operator that may stand alone or, as another one, before `=`
+-- An operator that may be followed by `=`, which makes it another operator.
 abbrev pub with_equals : Option Infix → Comparison → List ℕ → Option (Infix × ℕ)
 with_equals short longer bytes = if begins_with ascii.equals bytes then Some (comparison longer, 1) else alone short
 
--- an operator of one byte that is another one where it stands twice
+-- An operator of one byte that becomes another one if it is doubled.
 abbrev pub doubled : ℕ → Arithmetic → Lazy → List ℕ → Option (Infix × ℕ)
 doubled b short twice bytes = if begins_with b bytes then Some (between.Lazy twice, 1) else Some (arithmetic short, 0)
 
--- `eq` and `ne`, by their second letter, where no letter follows
+-- `eq` and `ne`, given their second letter. No letter may follow.
 abbrev pub word_operator : ℕ → Eager → List ℕ → Option (Infix × ℕ)
 word_operator second op bytes =
     if not (begins_with second bytes) then None
     else (if begins_letter (drop 1 bytes) then None
     else Some (between.Eager op, 1))
 
--- the operator between two operands that begins with a byte, and how many bytes behind it belong to it
+-- The infix operator that begins with a byte, and the number of later bytes that belong to it.
 unfoldable pub infix_at : ℕ → List ℕ → Option (Infix × ℕ)
 infix_at b bytes =
     if b == ascii.star then Some (arithmetic Multiply, 0)
@@ -85,7 +85,7 @@ comparison_level AtLeast = 3
 comparison_level Equal = 4
 comparison_level Unequal = 4
 
--- how loosely an operator binds: 1 is the tightest level, 10 the loosest
+-- The level of an operator. Level 1 binds tightest, level 10 loosest.
 abbrev pub level_of : Infix → ℕ
 level_of (between.Eager (eager.Arithmetic op)) = arithmetic_level op
 level_of (between.Eager (eager.Comparison op)) = comparison_level op
@@ -94,7 +94,7 @@ level_of (between.Eager eager.Differs) = 5
 level_of (between.Lazy And) = 9
 level_of (between.Lazy Or) = 10
 
--- the operator before an operand that a byte is
+-- The prefix operator that a byte is.
 abbrev pub prefix_at : ℕ → Option Prefix
 prefix_at b =
     if b == ascii.minus then Some Minus

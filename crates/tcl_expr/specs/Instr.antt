@@ -1,4 +1,4 @@
--- An expression's tree, and its instructions in postfix order.
+-- The tree of an expression, and its instructions in postfix order.
 use Rattle.std.specs.Prelude.{ℕ, suc, List, [], ◌∷◌, ◌++◌, length, ℤ, pos}
 use Rattle.tcl_words.specs.Pieces.{Spelled, word_view}
 use Rattle.tcl_expr.specs.declared.bareword.Bareword.{Bareword}
@@ -9,7 +9,7 @@ use Rattle.tcl_expr.specs.declared.code.Op.{Op}
 use Rattle.tcl_expr.specs.declared.code.Op.TheVariants as ops
 use Rattle.tcl_expr.specs.Tree.{Tree, number, word, operand, unary, binary, lazy, choice}
 
--- what an instruction does is told in `Run`
+-- `Run` defines what an instruction does.
 pub data Instr : Type 0 where
   push : ℤ → Instr
   push_word : Bareword → Instr
@@ -34,7 +34,7 @@ op_view (ops.Branch n) = branch n
 op_view (ops.Skip n) = skip n
 op_view ops.Join = join
 
--- A tree's instructions: its operands' first, then its own. A jump goes past what isn't needed.
+-- The instructions of a tree: first those of its operands, then its own. A jump skips what isn't needed.
 unfoldable pub postfix : Tree → List Instr
 postfix (number z) = push z ∷ []
 postfix (word w) = push_word w ∷ []
@@ -44,7 +44,7 @@ postfix (binary op l r) = postfix l ++ (postfix r ++ (combine op ∷ []))
 postfix (lazy op l r) = postfix l ++ (test op (suc (length (postfix r))) ∷ (postfix r ++ (truth op ∷ [])))
 postfix (choice c a b) = postfix c ++ (branch (suc (length (postfix a))) ∷ (postfix a ++ (skip (length (postfix b)) ∷ (postfix b ++ (join ∷ [])))))
 
--- the trees on a stack, after an instruction
+-- The trees on a stack after an instruction.
 abbrev pub grown : Instr → List Tree → List Tree
 grown (push z) ts = number z ∷ ts
 grown (push_word w) ts = word w ∷ ts
@@ -63,6 +63,6 @@ abbrev pub top : List Tree → Tree
 top [] = number (pos 0)
 top (t ∷ ts) = t
 
--- the tree of which these are the instructions
+-- The tree with these instructions.
 unfoldable pub tree_of : List Instr → Tree
 tree_of code = top (built code [])

@@ -1,4 +1,4 @@
--- Small words of the operators on values.
+-- Definitions for the operators on values.
 use Rattle.std.specs.Prelude.{◌≡◌, ℕ, List, Bool, true, false, not}
 use Rattle.tcl_expr.specs.declared.items.Shown.{Shown}
 use Rattle.tcl_expr.specs.declared.items.Shown.TheVariants.{Lent, Written}
@@ -13,7 +13,7 @@ abbrev pub opposed : Bool → Bool → Bool
 opposed true b = not b
 opposed false b = b
 
--- the fault of a text that is no number, or of want of memory
+-- The error for a text that is no number, or for refused memory.
 abbrev pub IsNotNumber : ExprFault → List ℕ → Type 0
 IsNotNumber Memory text = Unit {0}
 IsNotNumber fault text = fault ≡ NotNumber text

@@ -1,5 +1,5 @@
--- What has no part that is an expression: a number, one of six words, or an operand that is read as words and their parts are. Numbers as `Number`
--- says, and the six words, are this language's own.
+-- The leaves of an expression: numbers, six words, and operands that are read like words and their parts. The form of
+-- numbers (`Number`) and the six words are rules of this language.
 use Rattle.std.specs.Prelude.{ℕ, Bool, false, ◌&&◌, List, [], ◌∷◌, take, Option, Some, None, Result, Ok, Err, ℤ, pos, negsuc, ◌==◌, if◌then◌else◌}
 use Rattle.std.specs.List.{prefix_len}
 use Rattle.tcl_words.specs.Bytes as ascii
@@ -13,11 +13,11 @@ use Rattle.tcl_expr.specs.White.{gap}
 use Rattle.tcl_expr.specs.Infix.{is_letter}
 use Rattle.tcl_expr.specs.Tree.{Tree, number, word, operand}
 
--- A tree, and how many bytes it took, or the first fault.
+-- A tree and the number of bytes it took, or the first error.
 abbrev pub Read : Type 0
 Read = Result (Tree × ℕ) ExprFault
 
--- a tree that takes n bytes and the white space behind them
+-- A tree of n bytes, with the white space after it.
 abbrev pub spaced : List ℕ → Tree → ℕ → Read
 spaced text t n = Ok (t, gap text n)
 
@@ -39,7 +39,7 @@ abbrev pub word_leaf : List ℕ → ℕ → Option Bareword → Read
 word_leaf text n None = Err Syntax
 word_leaf text n (Some w) = spaced text (word w) n
 
--- A malformed word is a malformed expression.
+-- A malformed word makes the expression malformed.
 abbrev pub operand_leaf : List ℕ → Operand → Read
 operand_leaf text (Err e) = Err Syntax
 operand_leaf text (Ok None) = Err Syntax
@@ -51,17 +51,17 @@ leaf_at b text =
     else (if is_letter b then word_leaf text (letters_len text) (word_of (take (letters_len text) text))
     else operand_leaf text (operand_read text))
 
--- a number, a word or an operand
+-- A number, a word or an operand.
 unfoldable pub leaf : List ℕ → Read
 leaf [] = Err Syntax
 leaf (b ∷ bytes) = leaf_at b (b ∷ bytes)
 
--- 9223372036854775808, which is a number behind `-` alone
+-- 9223372036854775808 is a number only after `-`.
 abbrev pub is_lowest_magnitude : Option ℕ → Bool
 is_lowest_magnitude None = false
 is_lowest_magnitude (Some n) = n == 9223372036854775808
 
--- `-9223372036854775808`: the `-` is read with the number, and is no operator
+-- `-9223372036854775808`: the `-` is part of the number and no operator.
 unfoldable pub is_lowest : ℕ → List ℕ → Bool
 is_lowest b bytes = b == ascii.minus && is_lowest_magnitude (numeral 9223372036854775808 (take (digits_len bytes) bytes))
 

@@ -1,4 +1,4 @@
--- What a malformed word is to an expression.
+-- The error of an expression with a malformed word.
 use Rattle.std.specs.Prelude.{◌≡◌}
 use Rattle.tcl_words.specs.declared.faults.WordFault.{WordFault}
 use Rattle.tcl_words.specs.declared.faults.WordFault.TheVariants as words

@@ -1,4 +1,4 @@
--- The numbers of an expression's operands: their places among its instructions.
+-- The operands of an expression are numbered by their positions among its instructions.
 use Rattle.std.specs.Prelude.{ℕ, Option, Some, None, slice_get}
 use Rattle.tcl_words.specs.Pieces.{Spelled}
 use Rattle.tcl_expr.specs.Tree.{Tree}
@@ -9,6 +9,6 @@ asked None = None
 asked (Some (ask w)) = Some w
 asked (Some i) = None
 
--- the operand with the number k
+-- The operand with number k.
 unfoldable pub operand_at : Tree → ℕ → Option Spelled
 operand_at t k = asked (slice_get (postfix t) k)

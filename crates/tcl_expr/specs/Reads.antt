@@ -1,4 +1,4 @@
--- What a reading leaves.
+-- The result of a reading.
 use Rattle.std.specs.Prelude.{◌≡◌, ℕ, List, ◌++◌, drop, Result, Ok, Err}
 use Rattle.tcl_expr.specs.declared.faults.ExprFault.{ExprFault}
 use Rattle.tcl_expr.specs.declared.faults.ExprFault.TheVariants.{Memory}
@@ -8,7 +8,7 @@ use Rattle.tcl_expr.specs.Instr.{Instr, postfix}
 use Rattle.tcl_expr.specs.Leaf.{Read}
 use Rattle.tcl_expr.specs.Grammar.{Inside, colon}
 
--- What a function returned is what the definition says: a value or a fault. Want of memory says nothing.
+-- The result is what the definition says: a value or an error. If memory is refused, nothing is claimed.
 abbrev pub Fails : {Y : Type 0} → ExprFault → Result Y ExprFault → Type 0
 Fails Memory read = Unit {0}
 Fails fault read = read ≡ Err fault
@@ -17,7 +17,7 @@ abbrev pub Gives : {Y : Type 0} → Result Y ExprFault → Result Y ExprFault �
 Gives (Ok y) read = read ≡ Ok y
 Gives (Err fault) read = Fails fault read
 
--- a tree of n bytes was read, and its instructions were put behind the old ones
+-- A tree of n bytes was read, and its instructions were appended.
 pub record Wrote (n : ℕ) (read : Read) (old new : List Instr) : Type 0 where
   pub tree : Tree
   pub is : read ≡ Ok (tree, n)
@@ -27,7 +27,8 @@ abbrev pub Writes : Result ℕ ExprFault → Read → List Instr → List Instr 
 Writes (Ok n) read old new = Wrote n read old new
 Writes (Err fault) read old new = Fails fault read
 
--- an operator's right operand was read, and its instructions with the operator's own were put behind the old ones, which are those of a left operand
+-- The right operand of an operator was read. Its instructions and those of the operator were appended to those of the
+-- left operand.
 pub record WroteRight (op : Infix) (n : ℕ) (read : Read) (old new : List Instr) : Type 0 where
   pub tree : Tree
   pub is : read ≡ Ok (tree, n)
@@ -37,7 +38,7 @@ abbrev pub WritesRight : Result ℕ ExprFault → Infix → Read → List Instr 
 WritesRight (Ok n) op read old new = WroteRight op n read old new
 WritesRight (Err fault) op read old new = Fails fault read
 
--- the branches at the place n were read, and their instructions were put behind the old ones, which are those of a condition
+-- The branches at index n were read. Their instructions were appended to those of the condition.
 pub record WroteBranches (m : ℕ) (inside : Inside) (text : List ℕ) (n : ℕ) (old new : List Instr) : Type 0 where
   pub first : Tree
   pub second : Tree

@@ -1,9 +1,9 @@
--- Whether filling a word may begin a command.
+-- Whether the substitution of a word may run a command.
 use Rattle.std.specs.Prelude.{Bool, true, false, ◌||◌}
 use Rattle.tcl_words.specs.Pieces.{Piece, literal, variable, member, script, Pieces, no_pieces, piece}
 
 abbrev mutual
-  -- a part with a script in it, also inside an index
+  -- The part contains a script, possibly inside an index.
   pub is_scripted : Piece → Bool
   is_scripted (literal text) = false
   is_scripted (variable name) = false

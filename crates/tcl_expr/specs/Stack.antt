@@ -1,4 +1,4 @@
--- Values that wait for their operators, the last one first.
+-- The stack of values that wait for their operators, the last value first.
 use Rattle.std.specs.Prelude.{ℕ, List, [], ◌∷◌, slice_index_or, nat_lt, Bool, true, Option, Some, None}
 use Rattle.tcl_expr.specs.declared.stack.Item.{Item}
 use Rattle.tcl_expr.specs.declared.stack.Item.TheVariants as items
@@ -9,13 +9,13 @@ abbrev pub first : List Item → Option Item
 first [] = None
 first (x ∷ xs) = Some x
 
--- a value's text, where these operands were given
+-- The text of a value, with these operands.
 abbrev pub item_text : List (List ℕ) → Item → List ℕ
 item_text given (items.Number z) = number_text z
 item_text given (items.Word w) = word_text w
 item_text given (items.Given k) = slice_index_or given k []
 
--- whether a value is none of the operands from a place on
+-- The value is none of the operands with index n or higher.
 abbrev pub is_below : ℕ → Item → Bool
 is_below n (items.Number z) = true
 is_below n (items.Word w) = true

@@ -1,4 +1,4 @@
--- What an expression is made of, grouped.
+-- The tree of an expression.
 use Rattle.std.specs.Prelude.{ℤ}
 use Rattle.tcl_words.specs.Pieces.{Spelled}
 use Rattle.tcl_expr.specs.declared.bareword.Bareword.{Bareword}
@@ -11,16 +11,16 @@ use Rattle.tcl_expr.specs.declared.operators.Infix.TheVariants as between
 pub data Tree : Type 0 where
   number : ℤ → Tree
   word : Bareword → Tree
-  -- what this word of the language is filled to
+  -- The substituted value of this word.
   operand : Spelled → Tree
   unary : Prefix → Tree → Tree
   binary : Eager → Tree → Tree → Tree
-  -- `&&` and `||`
+  -- `&&` and `||`.
   lazy : Lazy → Tree → Tree → Tree
-  -- `?:`
+  -- `?:`.
   choice : Tree → Tree → Tree → Tree
 
--- two operands with the operator between them
+-- Two operands with the operator between them.
 abbrev pub joined : Infix → Tree → Tree → Tree
 joined (between.Eager op) l r = binary op l r
 joined (between.Lazy op) l r = lazy op l r

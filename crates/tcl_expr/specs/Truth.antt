@@ -1,4 +1,4 @@
--- Truth values: numbers, of which 0 alone is false, and six words.
+-- Truth values: numbers and six words. Of the numbers, only 0 is false.
 use Rattle.std.specs.Prelude.{ℕ, List, Bool, true, false, not, Option, Some, None, ℤ, pos, codes, bytes_eq, if◌then◌else◌}
 use Rattle.std.specs.Ordering.{int_eq}
 use Rattle.tcl_expr.specs.Number.{number_of}
@@ -13,7 +13,7 @@ word_text False = codes "false"
 word_text No = codes "no"
 word_text Off = codes "off"
 
--- the word that a text is
+-- The word that a text is, or `None`.
 unfoldable pub word_of : List ℕ → Option Bareword
 word_of text =
     if bytes_eq text (word_text True) then Some True
@@ -36,11 +36,11 @@ abbrev pub word_says : Option Bareword → Option Bool
 word_says None = None
 word_says (Some w) = Some (says w)
 
--- the truth value of a text that is this number or none
+-- The truth value of a text that is this number, or no number.
 abbrev pub truth_from : Option ℤ → List ℕ → Option Bool
 truth_from (Some z) text = Some (not (int_eq z (pos 0)))
 truth_from None text = word_says (word_of text)
 
--- the truth value that a text is
+-- The truth value of a text, or `None`.
 unfoldable pub truth_of : List ℕ → Option Bool
 truth_of text = truth_from (number_of text) text

@@ -1,4 +1,4 @@
--- What an instruction that was carried out leaves.
+-- The result of carrying out an instruction.
 use Rattle.std.specs.Prelude.{◌≡◌, ℕ, List, [], drop}
 use Rattle.tcl_expr.specs.declared.faults.ExprFault.{ExprFault}
 use Rattle.tcl_expr.specs.declared.faults.ExprFault.TheVariants.{Memory}
@@ -9,13 +9,13 @@ use Rattle.tcl_expr.specs.Instr.{Instr, ask}
 use Rattle.tcl_expr.specs.Value.{failed}
 use Rattle.tcl_expr.specs.Run.{On, does, held, left}
 
--- it was done: n instructions are skipped, and the rest goes on from the new stack and operands
+-- The instruction was carried out. The rest skips n instructions and continues with the new stack and operands.
 pub record WentOn (n : ℕ) (i : Instr) (old new : Operands) : Type 0 where
   pub goes : (go : On) (more : List (List ℕ)) → does i go (held old) (left old more) ≡ go n (held new) (left new more)
   pub given : new.given ≡ old.given
   pub at : new.at ≡ old.at
 
--- it has no value, whatever comes behind it
+-- The instruction fails, whatever follows it.
 pub record Faults (fault : ExprFault) (i : Instr) (old new : Operands) : Type 0 where
   pub is : (go : On) (more : List (List ℕ)) → does i go (held old) (left old more) ≡ failed fault
   pub kept : new ≡ old
@@ -24,7 +24,7 @@ abbrev pub IsAsk : Instr → Type 0
 IsAsk (ask w) = Unit {0}
 IsAsk i = ⊥
 
--- it asks for an operand, and each one that was given is used
+-- The instruction asks for an operand, and all given operands are used.
 pub record AsksFor (i : Instr) (old new : Operands) : Type 0 where
   pub asks : IsAsk i
   pub none_left : drop old.used old.given ≡ []

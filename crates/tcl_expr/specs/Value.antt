@@ -1,5 +1,6 @@
--- An expression's value, by recursion on its tree, over the values of its operands in the order in which they are read.
--- Each value is a text. The rules are those of expr(n), but for the limits of 64 bits, the six words and the numbers of `Number`.
+-- The value of an expression, by recursion on its tree, over the values of its operands in the order in which they are
+-- read. Each value is a text. The rules are those of expr(n), except for the limits of 64 bits, the six words, and the
+-- form of numbers in `Number`.
 use Rattle.std.specs.Prelude.{ℕ, ◌+◌, ◌^◌, nat_lt, Bool, true, false, not, ◌&&◌, List, [], ◌∷◌, Option, Some, None, Result, Ok, Err, ℤ, pos, negsuc, neg_ℤ, ◌+ℤ◌, ◌-ℤ◌, ◌*ℤ◌, bytes_eq, if◌then◌else◌}
 use Rattle.std.specs.Ordering.{int_eq, int_cmp, nat_cmp}
 use Rattle.std.specs.Cmp.Lexicographic.{slice_cmp}
@@ -23,26 +24,26 @@ use Rattle.tcl_expr.specs.Number.{number_of, number_text}
 use Rattle.tcl_expr.specs.Truth.{word_text, truth_of}
 use Rattle.tcl_expr.specs.Tree.{Tree, number, word, operand, unary, binary, lazy, choice}
 
--- ---- numbers
+-- ---- Numbers
 
--- whether a number is within 64 bits
+-- The number fits into 64 bits.
 abbrev pub is_within : ℤ → Bool
 is_within (pos n) = nat_lt n (2 ^ 63)
 is_within (negsuc n) = nat_lt n (2 ^ 63)
 
--- a result, or the fault of one that is outside 64 bits
+-- The number, or an error if it doesn't fit into 64 bits.
 abbrev pub checked : ℤ → Result ℤ ExprFault
 checked z = if is_within z then Ok z else Err Overflow
 
--- whether the quotient whose remainder isn't negative lies above the exact one, so that it isn't the one rounded down
+-- The quotient with a non-negative remainder lies above the exact quotient, so it is not the one rounded down.
 abbrev pub is_rounded_up : ℤ → ℤ → Bool
 is_rounded_up a b = is_negative b && not (int_eq (int_rem_euclid a b) (pos 0))
 
--- the quotient rounded toward minus infinity
+-- The quotient, rounded toward minus infinity.
 abbrev pub floor_div : ℤ → ℤ → ℤ
 floor_div a b = if is_rounded_up a b then int_div_euclid a b -ℤ pos 1 else int_div_euclid a b
 
--- the remainder with the divisor's sign
+-- The remainder, with the sign of the divisor.
 abbrev pub floor_rem : ℤ → ℤ → ℤ
 floor_rem a b = if is_rounded_up a b then int_rem_euclid a b +ℤ b else int_rem_euclid a b
 
@@ -66,7 +67,7 @@ abbrev pub complement : ℤ → ℤ
 complement (pos n) = negsuc n
 complement (negsuc n) = pos n
 
--- ---- texts
+-- ---- Texts
 
 abbrev pub bit : Bool → ℤ
 bit true = pos 1
@@ -75,17 +76,17 @@ bit false = pos 0
 abbrev pub bit_text : Bool → List ℕ
 bit_text b = number_text (bit b)
 
--- a value that is a number, as text
+-- The text of a number, or its error.
 abbrev pub written : Result ℤ ExprFault → Result (List ℕ) ExprFault
 written (Ok z) = Ok (number_text z)
 written (Err e) = Err e
 
--- what f makes of the number that a text is, or the fault of a text that is none
+-- Applies f to the number that a text is. The error `NotNumber` if it is none.
 abbrev pub on_number : List ℕ → Option ℤ → (ℤ → Result ℤ ExprFault) → Result ℤ ExprFault
 on_number text None f = Err (NotNumber text)
 on_number text (Some z) f = f z
 
--- what f makes of the truth value that a text is
+-- Applies f to the truth value that a text is. The error `NotNumber` if it is none.
 abbrev pub on_truth : List ℕ → Option Bool → (Bool → Result ℤ ExprFault) → Result ℤ ExprFault
 on_truth text None f = Err (NotNumber text)
 on_truth text (Some b) f = f b
@@ -102,7 +103,7 @@ prefixed Minus a = on_number a (number_of a) (negated Minus)
 prefixed Plus a = on_number a (number_of a) (negated Plus)
 prefixed Complement a = on_number a (number_of a) (negated Complement)
 
--- Two numbers compare as numbers, all else as texts, by their bytes.
+-- Two numbers are compared as numbers, all other values as texts, byte by byte.
 abbrev pub order_of : Option ℤ → Option ℤ → List ℕ → List ℕ → Ordering
 order_of (Some x) (Some y) a b = int_cmp x y
 order_of (Some x) None a b = slice_cmp nat_cmp a b
@@ -135,14 +136,14 @@ combined (eager.Comparison op) a b = Ok (bit (holds op (order_of (number_of a) (
 combined eager.Same a b = Ok (bit (bytes_eq a b))
 combined eager.Differs a b = Ok (bit (not (bytes_eq a b)))
 
--- whether the first operand decides: false for `&&`, true for `||`
+-- The first operand decides: false for `&&`, true for `||`.
 abbrev pub decides : Lazy → Bool → Bool
 decides And b = not b
 decides Or b = b
 
--- ---- trees
+-- ---- Trees
 
--- A value with the operands that are left, a fault, or the operand that is needed next.
+-- A value with the operands left, an error, or the operand that is needed next.
 pub data Valued : Type 0 where
   valued : List ℕ → List (List ℕ) → Valued
   failed : ExprFault → Valued
@@ -154,22 +155,22 @@ abbrev pub ◌>>=◌ : Valued → (List ℕ → List (List ℕ) → Valued) → 
 (failed e) >>= f = failed e
 (asks w) >>= f = asks w
 
--- a value that was computed, with the operands that are left
+-- A computed value, with the operands left.
 abbrev pub computed : List (List ℕ) → Result ℤ ExprFault → Valued
 computed vs (Ok z) = valued (number_text z) vs
 computed vs (Err e) = failed e
 
--- the next operand
+-- The next operand.
 abbrev pub taken : Spelled → List (List ℕ) → Valued
 taken w [] = asks w
 taken w (v ∷ vs) = valued v vs
 
--- a text that has to be a truth value
+-- Applies f to the truth value that a text must be.
 abbrev pub on_test : List ℕ → Option Bool → (Bool → Valued) → Valued
 on_test a None f = failed (NotNumber a)
 on_test a (Some b) f = f b
 
--- the value of `&&` and `||` where the second operand is needed, by that operand
+-- The value of `&&` and `||` if the second operand is needed, given that operand.
 abbrev pub second : List ℕ → List (List ℕ) → Valued
 second b vs = computed vs (on_truth b (truth_of b) (λ t. Ok (bit t)))
 
@@ -182,11 +183,11 @@ eval (binary op l r) vs = eval l vs >>= λ a vs. eval r vs >>= λ b vs. computed
 eval (lazy op l r) vs = eval l vs >>= λ a vs. on_test a (truth_of a) (λ t. if decides op t then valued (bit_text t) vs else (eval r vs >>= second))
 eval (choice c a b) vs = eval c vs >>= λ x vs. on_test x (truth_of x) (λ t. if t then eval a vs else eval b vs)
 
--- What an expression comes to with these values of operands, in the order in which they are read.
+-- The result of an expression with these values of operands, in the order in which they are read.
 pub data Outcome : Type 0 where
   known : List ℕ → Outcome
   faulty : ExprFault → Outcome
-  -- the operand that is needed next
+  -- The operand that is needed next.
   needs : Spelled → Outcome
 
 abbrev pub outcome_of : Valued → Outcome
@@ -197,7 +198,7 @@ outcome_of (asks w) = needs w
 unfoldable pub outcome : Tree → List (List ℕ) → Outcome
 outcome t vs = outcome_of (eval t vs)
 
--- how many operands stand in an expression
+-- The number of operands in an expression.
 abbrev pub operands_in : Tree → ℕ
 operands_in (number z) = 0
 operands_in (word w) = 0

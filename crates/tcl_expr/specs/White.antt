@@ -1,4 +1,4 @@
--- White space between the parts of an expression, as expr(n) has it: a newline is white space, and so is a backslash before a newline.
+-- White space in an expression, as in expr(n). A newline is white space, and so is a backslash before a newline.
 use Rattle.std.specs.Prelude.{ℕ, ◌+◌, List, drop, if◌then◌else◌}
 use Rattle.tcl_words.specs.Course.{reading}
 use Rattle.tcl_words.specs.Backslash.{blanks}
@@ -11,14 +11,14 @@ white_step on b bytes =
     else (if is_continued b bytes then 2 + blanks (drop 1 bytes) + on (1 + blanks (drop 1 bytes))
     else 0)
 
--- how many bytes of white space a text begins with
+-- The number of leading bytes of white space.
 unfoldable pub white : List ℕ → ℕ
 white = reading 0 white_step
 
--- the place behind the white space at a place
+-- The index after the white space at an index.
 abbrev pub gap : List ℕ → ℕ → ℕ
 gap text at = at + white (drop at text)
 
--- a text without the white space that it begins with
+-- The text without its leading white space.
 abbrev pub past : List ℕ → List ℕ
 past text = drop (white text) text

@@ -1,4 +1,4 @@
-//! An evaluation, operand by operand.
+//! Evaluates an expression operand by operand.
 
 ghost use Rattle.std.specs.Prelude.{◌≡◌, length};
 ghost use Rattle.tcl_expr.specs.Run.{Serves, held};
@@ -14,20 +14,21 @@ use crate::turns::Turn;
 use std::alloc::Global;
 use tcl_values::Value;
 
-/// What an evaluation came to.
+/// The result of a step of an evaluation.
 #[derive(Drop)]
 pub enum Step {
     /// The value.
     Value(Value),
-    /// The operand with this number is needed next, and filling it begins no command.
+    /// The operand with this number is needed next. Its substitution runs no command.
     NeedVar(usize),
-    /// The operand with this number is needed next, and filling it may begin a command.
+    /// The operand with this number is needed next. Its substitution may run a command.
     NeedScript(usize),
-    /// There is no value.
+    /// The evaluation failed.
     Fault(ExprFault),
 }
 
-/// The instruction at a place asks for its operand.
+/// Returns the step for an instruction that asks for its operand. `at` is the index of the
+/// instruction.
 fn needed(op: &Op, at: usize) -> Step
     ensures { AsksAt result (op_view op.now) at }
 {
@@ -42,7 +43,7 @@ fn needed(op: &Op, at: usize) -> Step
     }
 }
 
-/// The value, when all instructions are done.
+/// Returns the value after all instructions.
 fn answer(alloc: Global, log: &Operands) -> Step
     ensures { Answers result (held log.now) }
 {
@@ -56,9 +57,12 @@ fn answer(alloc: Global, log: &Operands) -> Step
 }
 
 impl Expr {
-    /// Goes on with an evaluation until the value is known, a fault is met or an operand is needed that isn't given yet.
-    /// The caller works out that operand's value, hands it in by [`Operands::give`] and calls again. `log` is for this expression alone.
-    /// A `Fault` of [`ExprFault::Memory`] leaves the evaluation as far as it had come, and it may be tried again.
+    /// Continues an evaluation until the value is known, an error occurs, or an operand is needed
+    /// that isn't given yet.
+    ///
+    /// For an operand, the caller computes its value, passes it to [`Operands::give`] and calls
+    /// `advance` again. `log` must be used with this expression only. A `Fault` with
+    /// [`ExprFault::Memory`] keeps the progress made, so `advance` can be called again.
     pub fn advance(&self, alloc: Global, log: &mut Operands) -> Step
         requires { Serves self.now log.old }
         ensures tells { Tells result self.now log.old.given }

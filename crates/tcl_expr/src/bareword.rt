@@ -23,7 +23,7 @@ pub(crate) fn is_same(a: &[u8], b: &[u8]) -> bool
 }
 
 impl Bareword {
-    /// The word that a text is. There is no other case and no abbreviation.
+    /// Returns the word that a text is. Other cases and abbreviations are not accepted.
     #[tactic(auto, unfolding(crate::specs::Truth::word_of))]
     pub(crate) fn read(text: &[u8]) -> Option<Bareword>
         ensures { result ≡ word_of text.now }
@@ -49,7 +49,7 @@ impl Bareword {
         None
     }
 
-    /// The word as a text.
+    /// Returns the word as a text.
     pub(crate) fn text(self) -> &'static [u8]
         ensures { result.now ≡ word_text self }
     {
@@ -63,7 +63,7 @@ impl Bareword {
         }
     }
 
-    /// The truth value that the word is.
+    /// Returns the truth value of the word.
     pub(crate) fn says(self) -> bool
         ensures { result ≡ says self }
     {
@@ -78,7 +78,7 @@ impl Bareword {
     }
 }
 
-/// The truth value of a text that is this number or none.
+/// Returns the truth value of a text that is this number, or no number.
 pub(crate) fn truth_from(number: Option<i64>, text: &[u8]) -> Option<bool>
     ensures { result ≡ truth_from number text.now }
 {
@@ -91,8 +91,8 @@ pub(crate) fn truth_from(number: Option<i64>, text: &[u8]) -> Option<bool>
     }
 }
 
-/// The truth value that a text is, as conditions take it: a number, of which 0 alone is false, or one of the words
-/// `true`, `yes`, `on`, `false`, `no` and `off`.
+/// Returns the truth value of a text. It is a number (only 0 is false), or one of `true`, `yes`,
+/// `on`, `false`, `no` and `off`. `None` for any other text.
 #[tactic(auto, unfolding(crate::specs::Truth::truth_of))]
 pub fn read_truth(text: &[u8]) -> Option<bool>
     ensures { result ≡ truth_of text.now }

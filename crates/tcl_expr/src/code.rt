@@ -1,4 +1,5 @@
-//! An expression as a list of instructions: each operand before its operator, with jumps past what isn't needed.
+//! An expression as a list of instructions. Each operand comes before its operator, and jumps skip
+//! what isn't needed.
 
 ghost use Rattle.std.specs.Prelude.{◌≡◌, ◌<◌, ◌++◌, ◌∷◌, [], length, slice_set, OnOk};
 ghost use Rattle.tcl_expr.specs.Instr.{op_view};
@@ -9,28 +10,29 @@ use std::alloc::{AllocError, Global};
 use std::marker::Model;
 use tcl_words::Word;
 
-/// An instruction, over a stack of values.
+/// An instruction of a stack machine.
 #[derive(Drop)]
 pub(crate) enum Op {
-    /// Puts a number on the stack.
+    /// Pushes a number.
     Number(i64),
-    /// Puts one of the six words on the stack.
+    /// Pushes one of the six words.
     Word(Bareword),
-    /// Puts the next operand on the stack, which is what this word is filled to.
+    /// Pushes the next operand, which is the substituted value of this word.
     Operand(Word),
-    /// An operator on the top value.
+    /// Applies an operator to the top value.
     Apply(Prefix),
-    /// An operator on the two top values.
+    /// Applies an operator to the two top values.
     Combine(Eager),
-    /// Where the top value decides, it becomes a truth value and so many instructions are skipped. Else it is dropped.
+    /// If the top value decides, makes it a truth value and skips this number of instructions.
+    /// Otherwise drops it.
     Test(Lazy, usize),
-    /// The top value, the second one of this operator, becomes a truth value.
+    /// Makes the top value, which is this operator's second operand, a truth value.
     Truth(Lazy),
-    /// Drops the top value and, where it is false, skips so many instructions.
+    /// Drops the top value. If it was false, skips this number of instructions.
     Branch(usize),
-    /// Skips so many instructions.
+    /// Skips this number of instructions.
     Skip(usize),
-    /// The end of `?:`. Nothing happens.
+    /// The end of `?:`. It does nothing.
     Join,
 }
 
@@ -39,7 +41,7 @@ impl Op {
     ghost use Rattle.tcl_words.specs.Pieces.{word_view};
     ghost use Rattle.tcl_expr.specs.Numbered.{asked};
 
-    /// The word of the operand that the instruction puts on the stack, if it is one that does.
+    /// Returns the word of the operand that the instruction pushes. `None` for other instructions.
     pub(crate) fn operand(&self) -> Option<&Word>
         ensures { MatchOption result (asked (Some (op_view self.now)) ≡ None) (λ w. asked (Some (op_view self.now)) ≡ Some (word_view w.now)) }
     {
@@ -50,7 +52,7 @@ impl Op {
     }
 }
 
-/// Instructions in order.
+/// A list of instructions, in order.
 #[derive(Drop)]
 pub(crate) struct Code {
     pub(crate) ops: Vec<Op>,
@@ -84,7 +86,7 @@ impl Code {
         self.ops.len()
     }
 
-    /// Puts an instruction at the end.
+    /// Appends an instruction.
     pub(crate) fn push(&mut self, op: Op) -> Result<(), AllocError>
         ensures pushed { OnOk result (self.new ≡ self.old ++ op_view op ∷ []) }
     {
@@ -92,7 +94,7 @@ impl Code {
         Ok(())
     }
 
-    /// Puts an instruction in the place of another.
+    /// Replaces the instruction at an index.
     pub(crate) fn patch(&mut self, at: usize, op: Op)
         requires { at < length self.old }
         ensures { self.new ≡ slice_set self.old at (op_view op) }

@@ -1,4 +1,4 @@
-//! Why an expression has no value.
+//! The errors of expressions.
 
 ghost use Rattle.std.specs.Prelude.{◌≡◌};
 
@@ -10,15 +10,16 @@ use tcl_words::{Text, WordFault};
 pub enum ExprFault {
     /// The text is no expression.
     Syntax,
-    /// A number or, where a truth value may stand, one of the six words was wanted, and this text is neither.
+    /// This text should be a number, or one of the six words if a truth value is required, and is
+    /// neither.
     NotNumber(Text),
     /// A divisor is 0.
     DivideByZero,
     /// A result is outside 64 bits.
     Overflow,
-    /// More than 200 parentheses, unary operators and branches of `?:` in one another.
+    /// Parentheses, unary operators and branches of `?:` that nest more than 200 deep.
     TooDeep,
-    /// No memory was left.
+    /// Memory was refused.
     Memory,
 }
 

@@ -1,4 +1,4 @@
-//! The values of operands that were given, in order.
+//! The values given for operands, in order.
 
 ghost use Rattle.std.specs.Prelude.{◌≡◌, ◌∷◌, ◌++◌, [], length, OnOk, OnErr};
 
@@ -6,7 +6,7 @@ use std::alloc::{AllocError, Global};
 use std::marker::Model;
 use tcl_values::Value;
 
-/// Values in order. A contract sees a list of byte lists.
+/// A list of values, in order. A contract sees a list of byte lists.
 #[derive(Drop)]
 pub(crate) struct Given {
     values: Vec<Value>,
@@ -21,7 +21,7 @@ impl Model for Given {
 }
 
 impl Given {
-    /// No values. It allocates nothing.
+    /// Creates an empty list without allocating.
     pub(crate) fn new(alloc: Global) -> Given
         ensures { result ≡ [] }
     {
@@ -30,21 +30,21 @@ impl Given {
         }
     }
 
-    /// The values, in order.
+    /// Returns the values, in order.
     pub(crate) fn as_slice(&self) -> &[Value]
         ensures { result.now ≡ self.now }
     {
         self.values.as_slice()
     }
 
-    /// How many values there are.
+    /// Returns the number of values.
     pub(crate) fn len(&self) -> usize
         ensures { result ≡ length self.now }
     {
         self.values.len()
     }
 
-    /// Puts a value behind the others. A refused one leaves the list as it was.
+    /// Appends a value. On `AllocError` the list is unchanged.
     #[inline(always)]
     pub(crate) fn push(&mut self, value: Value) -> Result<(), AllocError>
         ensures pushed { OnOk result (self.new ≡ self.old ++ value ∷ []) }

@@ -1,8 +1,8 @@
-//! The levels of an expression. Each function puts the instructions of what it reads at the end of `code`, and answers how
-//! many bytes it took, with the white space behind them.
+//! Reads the levels of an expression. Each function appends the instructions of what it reads to
+//! `code`. It returns the number of bytes read, with the white space after them.
 //!
-//! `depth` is how many more parentheses, prefix operators and branches of `?:` may open in one another.
-//! A chain of operators is a loop, so the stack grows with the nesting alone.
+//! `depth` is how many more parentheses, prefix operators and branches of `?:` may nest. A chain of
+//! operators is a loop, so only nesting makes the call stack grow.
 
 ghost use Rattle.std.specs.Prelude.{◌≡◌, ◌≤◌, ◌∷◌, IfOk, length};
 ghost use Rattle.tcl_expr.specs.Grammar.{inside_of, term, in_parens, prefixed, level, whole};
@@ -17,13 +17,13 @@ use crate::operators::{Infix, Lazy, Prefix};
 use crate::white::{after, begins_with, gap};
 use std::alloc::{AllocError, Global};
 
-/// Parentheses, prefix operators and branches may stand in one another so deep.
+/// The greatest nesting of parentheses, prefix operators and branches.
 pub(crate) const DEEPEST: u8 = 200;
 
-/// The loosest level of operators between two operands.
+/// The loosest level of infix operators.
 const LOOSEST: u8 = 10;
 
-/// An expression one level deeper.
+/// Reads an expression one level deeper.
 #[cycle(expression)]
 #[tactic(auto, unfolding(crate::specs::Grammar::inside_of))]
 fn inner(alloc: Global, code: &mut Code, text: &[u8], depth: u8) -> Result<usize, ExprFault>
@@ -36,7 +36,7 @@ fn inner(alloc: Global, code: &mut Code, text: &[u8], depth: u8) -> Result<usize
     whole(alloc, code, text, depth - 1)
 }
 
-/// A prefix operator's operand.
+/// Reads the operand of a prefix operator.
 #[cycle(expression)]
 #[tactic(auto, unfolding(crate::specs::Grammar::inside_of))]
 fn inner_term(alloc: Global, code: &mut Code, text: &[u8], depth: u8) -> Result<usize, ExprFault>
@@ -49,7 +49,7 @@ fn inner_term(alloc: Global, code: &mut Code, text: &[u8], depth: u8) -> Result<
     term(alloc, code, text, depth - 1)
 }
 
-/// The expression at the place n, and the `)` behind it.
+/// Reads the expression at index n, and the `)` after it.
 #[cycle(expression)]
 fn in_parens(
     alloc: Global,
@@ -71,7 +71,7 @@ fn in_parens(
 
 ghost use Rattle.std.specs.Prelude.{drop};
 
-/// A prefix operator and its operand.
+/// Reads a prefix operator and its operand.
 #[cycle(expression)]
 fn prefixed(
     alloc: Global,
@@ -90,7 +90,7 @@ fn prefixed(
     Ok(n + m)
 }
 
-/// Level 0: a leaf, an expression in parentheses, or a prefix operator and its operand.
+/// Reads level 0: a leaf, an expression in parentheses, or a prefix operator and its operand.
 #[cycle(expression)]
 #[tactic(auto, unfolding(crate::specs::Grammar::term))]
 fn term(alloc: Global, code: &mut Code, text: &[u8], depth: u8) -> Result<usize, ExprFault>
@@ -115,7 +115,8 @@ fn term(alloc: Global, code: &mut Code, text: &[u8], depth: u8) -> Result<usize,
     }
 }
 
-/// An operator's right operand, of the next tighter level, and the operator's own instructions.
+/// Reads the right operand of an operator, of the next tighter level, and appends the operator's
+/// instructions.
 #[cycle(expression)]
 fn right(
     alloc: Global,
@@ -147,7 +148,8 @@ fn right(
 
 ghost use Rattle.tcl_expr.specs.Reads.{WritesRight};
 
-/// A chain of operands with operators of a level between them, or what a tighter level has.
+/// Reads a chain of operands with operators of a level between them, or a phrase of a tighter
+/// level.
 #[cycle(expression)]
 fn level(
     alloc: Global,
@@ -177,7 +179,7 @@ fn level(
     Ok(at)
 }
 
-/// An expression: a chain of the loosest level and, where `?` is behind it, two branches.
+/// Reads an expression: a chain of the loosest level and, if `?` follows, two branches.
 #[cycle(expression)]
 pub(crate) fn whole(
     alloc: Global,
@@ -195,7 +197,7 @@ pub(crate) fn whole(
     branches(alloc, code, text, gap(text, n + 1), depth)
 }
 
-/// The two branches of `?:`, the first at the place n.
+/// Reads the two branches of `?:`, the first at index n.
 #[cycle(expression)]
 fn branches(
     alloc: Global,

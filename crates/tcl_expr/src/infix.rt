@@ -1,4 +1,4 @@
-//! Which operator stands at a place, and how tightly it binds.
+//! The operators and their precedence.
 
 ghost use Rattle.std.specs.Prelude.{◌≡◌, ◌≤◌, length, IfSome};
 ghost use Rattle.tcl_expr.specs.Infix.{is_letter, begins_letter, with_equals, word_operator, doubled, infix_at, level_of, prefix_at};
@@ -6,7 +6,7 @@ ghost use Rattle.tcl_expr.specs.Infix.{is_letter, begins_letter, with_equals, wo
 use crate::operators::{Arithmetic, Comparison, Eager, Infix, Lazy, Prefix};
 use crate::white::{after, begins_with};
 
-/// Whether a byte is an ASCII letter.
+/// Returns whether a byte is an ASCII letter.
 pub(crate) fn is_letter(b: u8) -> bool
     ensures { result ≡ is_letter b }
 {
@@ -36,7 +36,7 @@ fn comparison(op: Comparison) -> Infix
     Infix::Eager(Eager::Comparison(op))
 }
 
-/// An operator that may stand alone or, as another one, before `=`.
+/// Reads an operator that may be followed by `=`, which makes it another operator.
 fn with_equals(alone: Option<Infix>, longer: Comparison, rest: &[u8]) -> Option<(Infix, usize)>
     ensures value { result ≡ with_equals alone longer rest.now }
     ensures within { IfSome result (λ x. x.1 ≤ length rest.now) }
@@ -50,7 +50,7 @@ fn with_equals(alone: Option<Infix>, longer: Comparison, rest: &[u8]) -> Option<
     }
 }
 
-/// An operator of one byte that is another one where it stands twice.
+/// Reads an operator of one byte that becomes another one if it is doubled.
 fn doubled(b: u8, alone: Arithmetic, twice: Lazy, rest: &[u8]) -> Option<(Infix, usize)>
     ensures value { result ≡ doubled b alone twice rest.now }
     ensures within { IfSome result (λ x. x.1 ≤ length rest.now) }
@@ -61,7 +61,7 @@ fn doubled(b: u8, alone: Arithmetic, twice: Lazy, rest: &[u8]) -> Option<(Infix,
     Some((arithmetic(alone), 0))
 }
 
-/// `eq` and `ne`, by their second letter, where no letter follows.
+/// Reads `eq` or `ne`, given their second letter. No letter may follow.
 fn word_operator(second: u8, op: Eager, rest: &[u8]) -> Option<(Infix, usize)>
     ensures value { result ≡ word_operator second op rest.now }
     ensures within { IfSome result (λ x. x.1 ≤ length rest.now) }
@@ -75,7 +75,8 @@ fn word_operator(second: u8, op: Eager, rest: &[u8]) -> Option<(Infix, usize)>
     Some((Infix::Eager(op), 1))
 }
 
-/// The operator between two operands that begins with a byte, and how many bytes behind it belong to it.
+/// Returns the infix operator that begins with a byte, and the number of later bytes that belong to
+/// it.
 #[tactic(auto, unfolding(crate::specs::Infix::infix_at))]
 pub(crate) fn infix_at(b: u8, rest: &[u8]) -> Option<(Infix, usize)>
     ensures value { result ≡ infix_at b rest.now }
@@ -104,7 +105,7 @@ pub(crate) fn infix_at(b: u8, rest: &[u8]) -> Option<(Infix, usize)>
     }
 }
 
-/// How loosely an operator binds: 1 is the tightest level, 10 the loosest.
+/// Returns the level of an operator. Level 1 binds tightest, level 10 loosest.
 pub(crate) fn level_of(op: Infix) -> u8
     ensures value { result ≡ level_of op }
 {
@@ -148,7 +149,7 @@ fn comparison_level(op: Comparison) -> u8
     }
 }
 
-/// The operator before an operand that a byte is.
+/// Returns the prefix operator that a byte is.
 pub(crate) fn prefix_at(b: u8) -> Option<Prefix>
     ensures { result ≡ prefix_at b }
 {

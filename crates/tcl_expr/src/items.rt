@@ -1,4 +1,4 @@
-//! What operators make of values that wait.
+//! Applies operators to values on the stack.
 
 ghost use Rattle.std.specs.Prelude.{◌≡◌, IfOk, bytes_eq};
 ghost use Rattle.tcl_expr.specs.Number.{number_of};
@@ -17,7 +17,7 @@ use std::cmp::Ordering;
 use tcl_values::Value;
 use tcl_words::Text;
 
-/// The text of a value: lent where it is there, else written.
+/// The text of a value: borrowed if it exists, otherwise newly written.
 #[derive(Drop)]
 pub(crate) enum Shown<'a> {
     Lent(&'a [u8]),
@@ -39,7 +39,7 @@ impl Operands {
     ghost use Rattle.tcl_expr.specs.Stack.{item_text};
     ghost use Rattle.tcl_expr.specs.Reads.{Gives, Fails};
 
-    /// The text of a value.
+    /// Returns the text of a value.
     fn shown(&self, alloc: Global, item: Item) -> Result<Shown<'_>, AllocError>
         ensures { IfOk result (λ s. shown_text s ≡ item_text self.now.given item) }
     {
@@ -53,7 +53,7 @@ impl Operands {
         }
     }
 
-    /// The text of a value, as one of its own.
+    /// Returns a copy of the text of a value.
     fn text(&self, alloc: Global, item: Item) -> Result<Text, AllocError>
         ensures { IfOk result (λ t. t ≡ item_text self.now.given item) }
     {
@@ -61,7 +61,8 @@ impl Operands {
         Text::from_slice(alloc, shown.as_slice())
     }
 
-    /// A value that waits, as one that the caller may keep. One that was given is shared with it.
+    /// Returns a value on the stack as one that the caller may keep. A given value is shared, not
+    /// copied.
     pub(crate) fn value(&self, alloc: Global, item: Item) -> Result<Value, AllocError>
         ensures { IfOk result (λ v. v ≡ item_text self.now.given item) }
     {
@@ -75,7 +76,7 @@ impl Operands {
         }
     }
 
-    /// The number that a value is.
+    /// Returns the number that a value is. `None` if it is none.
     fn number(&self, item: Item) -> Option<i64>
         ensures { result ≡ number_of (item_text self.now.given item) }
     {
@@ -89,7 +90,7 @@ impl Operands {
         }
     }
 
-    /// The truth value that a value is.
+    /// Returns the truth value of a value. `None` if it has none.
     pub(crate) fn truth(&self, item: Item) -> Option<bool>
         ensures { result ≡ truth_of (item_text self.now.given item) }
     {
@@ -103,7 +104,7 @@ impl Operands {
         }
     }
 
-    /// The fault of a value that is no number.
+    /// Returns the error for a value that is no number.
     pub(crate) fn not_number(&self, alloc: Global, item: Item) -> ExprFault
         ensures { IsNotNumber result (item_text self.now.given item) }
     {
@@ -113,7 +114,7 @@ impl Operands {
         }
     }
 
-    /// What a prefix operator on numbers makes of a value.
+    /// Applies a prefix operator on numbers to a value.
     fn on_number(&self, alloc: Global, op: Prefix, item: Item) -> Result<i64, ExprFault>
         ensures { Gives result (on_number (item_text self.now.given item) (number_of (item_text self.now.given item)) (negated op)) }
     {
@@ -123,7 +124,7 @@ impl Operands {
         }
     }
 
-    /// The truth value that a value has to be, or its opposite, as a number.
+    /// Returns the truth value of a value, or its opposite, as 1 or 0. An error if it has none.
     pub(crate) fn on_truth(
         &self,
         alloc: Global,
@@ -138,7 +139,7 @@ impl Operands {
         }
     }
 
-    /// What a prefix operator makes of a value.
+    /// Applies a prefix operator to a value.
     pub(crate) fn prefixed(&self, alloc: Global, op: Prefix, item: Item) -> Result<i64, ExprFault>
         ensures { Gives result (prefixed op (item_text self.now.given item)) }
     {
@@ -150,7 +151,7 @@ impl Operands {
         }
     }
 
-    /// What an operator on numbers makes of two values. The left one is checked first.
+    /// Applies an operator on numbers to two values. The left one is checked first.
     fn computed(&self, alloc: Global, op: Arithmetic, a: Item, b: Item) -> Result<i64, ExprFault>
         ensures { Gives result (combined (Eager.Arithmetic op) (item_text self.now.given a) (item_text self.now.given b)) }
     {
@@ -163,7 +164,7 @@ impl Operands {
         arithmetic(op, x, y)
     }
 
-    /// The order of two values as texts.
+    /// Compares two values as texts.
     fn text_order(&self, alloc: Global, a: Item, b: Item) -> Result<Ordering, AllocError>
         ensures { IfOk result (λ o. o ≡ slice_cmp nat_cmp (item_text self.now.given a) (item_text self.now.given b)) }
     {
@@ -172,7 +173,7 @@ impl Operands {
         Ok(a.as_slice().cmp(&b.as_slice()))
     }
 
-    /// The order of two values: as numbers where both are numbers, else as texts.
+    /// Compares two values: as numbers if both are numbers, otherwise as texts.
     fn order(&self, alloc: Global, a: Item, b: Item) -> Result<Ordering, AllocError>
         ensures { IfOk result (λ o. o ≡ order_of (number_of (item_text self.now.given a)) (number_of (item_text self.now.given b)) (item_text self.now.given a) (item_text self.now.given b)) }
     {
@@ -185,7 +186,7 @@ impl Operands {
         }
     }
 
-    /// Whether two values have the same text.
+    /// Returns whether two values have the same text.
     fn same(&self, alloc: Global, a: Item, b: Item) -> Result<bool, AllocError>
         ensures { IfOk result (λ s. s ≡ bytes_eq (item_text self.now.given a) (item_text self.now.given b)) }
     {
@@ -194,7 +195,7 @@ impl Operands {
         Ok(is_same(a.as_slice(), b.as_slice()))
     }
 
-    /// What an operator makes of two values.
+    /// Applies an operator to two values.
     pub(crate) fn combined(
         &self,
         alloc: Global,

@@ -1,4 +1,4 @@
-//! What an expression is made of in the end: numbers, words and operands.
+//! Reads the leaves of an expression: numbers, words and operands.
 
 ghost use Rattle.std.specs.Prelude.{◌≡◌, ◌≤◌, ◌+◌, ◌<◌, ◌^◌, ◌∷◌, IfOk, IsTrue, length, take, drop};
 ghost use Rattle.tcl_expr.specs.Leaf.{digits_len, letters_len, number_leaf, word_leaf, operand_leaf, leaf, is_lowest, is_lowest_magnitude};
@@ -16,7 +16,7 @@ use crate::white::{before, gap};
 use std::alloc::Global;
 use tcl_words::{WordFault, operand};
 
-/// How many digits a text begins with.
+/// Returns the number of leading digits.
 #[tactic(auto, unfolding(crate::specs::Leaf::digits_len))]
 pub(crate) fn digits_len(text: &[u8]) -> usize
     ensures value { result ≡ digits_len text.now }
@@ -25,7 +25,7 @@ pub(crate) fn digits_len(text: &[u8]) -> usize
     text.iter().take_while(|b| is_digit(**b)).count()
 }
 
-/// How many letters a text begins with.
+/// Returns the number of leading letters.
 #[tactic(auto, unfolding(crate::specs::Leaf::letters_len))]
 fn letters_len(text: &[u8]) -> usize
     ensures value { result ≡ letters_len text.now }
@@ -43,7 +43,8 @@ fn is_lowest_magnitude(magnitude: Option<u64>) -> bool
     }
 }
 
-/// Whether a byte and those behind it are `-9223372036854775808`, the one number that is read with its `-`.
+/// Returns whether the bytes begin with `-9223372036854775808`, the one number whose `-` is part of
+/// it.
 #[tactic(auto, unfolding(crate::specs::Leaf::is_lowest))]
 pub(crate) fn is_lowest(b: u8, rest: &[u8]) -> bool
     ensures { result ≡ is_lowest b rest.now }
@@ -54,7 +55,7 @@ pub(crate) fn is_lowest(b: u8, rest: &[u8]) -> bool
     is_lowest_magnitude(numeral(9_223_372_036_854_775_808, before(rest, digits_len(rest))))
 }
 
-/// A number of n bytes.
+/// Reads a number of n bytes.
 fn number_leaf(
     code: &mut Code,
     text: &[u8],
@@ -77,7 +78,7 @@ fn number_leaf(
 
 ghost use Rattle.std.specs.Prelude.{IfSome};
 
-/// A word of n bytes.
+/// Reads a word of n bytes.
 fn word_leaf(
     code: &mut Code,
     text: &[u8],
@@ -97,7 +98,7 @@ fn word_leaf(
     }
 }
 
-/// The fault of an expression with a malformed word.
+/// Returns the error of an expression with a malformed word.
 fn malformed(fault: WordFault) -> ExprFault
     ensures { IsMalformed fault result }
 {
@@ -109,7 +110,7 @@ fn malformed(fault: WordFault) -> ExprFault
 
 ghost use Rattle.tcl_expr.specs.Leaves.{IsMalformed};
 
-/// `$..`, `[..]`, `".."` or `{..}`.
+/// Reads an operand: `$..`, `[..]`, `".."` or `{..}`.
 fn operand_leaf(alloc: Global, code: &mut Code, text: &[u8]) -> Result<usize, ExprFault>
     ensures value { Writes result (operand_leaf text.now (operand_read text.now)) code.old code.new }
     ensures within { IfOk result (λ m. m ≤ length text.now) }
@@ -124,7 +125,7 @@ fn operand_leaf(alloc: Global, code: &mut Code, text: &[u8]) -> Result<usize, Ex
     }
 }
 
-/// A number, a word or an operand.
+/// Reads a number, a word or an operand.
 #[tactic(auto, unfolding(crate::specs::Leaf::leaf))]
 pub(crate) fn leaf(alloc: Global, code: &mut Code, text: &[u8]) -> Result<usize, ExprFault>
     ensures value { Writes result (leaf text.now) code.old code.new }

@@ -1,11 +1,14 @@
-//! Expressions of a Tcl subset: a text is read once, and its value is then worked out operand by operand.
+//! Expressions of a Tcl subset. A text is parsed once, and its value is then computed operand by
+//! operand.
 //!
-//! [`parse`] reads a text. [`Expr::advance`] goes on until the value is known, a fault is met or the next operand is
-//! needed, which the caller works out and hands in by [`Operands::give`]. What `&&`, `||` and `?:` don't need is never asked for.
+//! [`parse`] parses a text. [`Expr::advance`] continues until the value is known, an error occurs,
+//! or the next operand is needed. The caller computes the operand and passes it to
+//! [`Operands::give`]. Operands that `&&`, `||` and `?:` don't need are never asked for.
 //!
-//! The grammar is `specs/Rules`: which texts are an expression, and of which tree, rule by rule. `specs/Grammar` is the same as a
-//! function, which names the first fault too. [`parse`] gives what the function does, and [`expression_rules`] says that the function
-//! gives a tree just where the rules do. An expression's value is defined in `specs/Value`, by recursion on its tree.
+//! The grammar is `specs/Rules`, which gives a text its tree, rule by rule. `specs/Grammar` is the
+//! same grammar as a function that also gives the first error. [`parse`] computes that function,
+//! and [`expression_rules`] states that both agree. `specs/Value` defines an expression's value, by
+//! recursion on its tree.
 #![tactic(auto)]
 
 mod advance;

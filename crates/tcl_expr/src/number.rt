@@ -1,4 +1,4 @@
-//! Numbers as texts: an optional minus and digits without a needless zero, within 64 bits.
+//! Numbers as text: an optional minus and digits without a leading zero, within 64 bits.
 
 ghost use Rattle.std.specs.Prelude.{◌≡◌, ◌≤◌, ◌<◌, ◌==◌, ◌||◌, not, length, IfOk};
 ghost use Rattle.tcl_expr.specs.Number.{is_digit, digits_value, begins_with_zero, numeral as numeral_of, negative, number_of, number_text};
@@ -8,14 +8,14 @@ use itoa::Buffer;
 use std::alloc::{AllocError, Global};
 use tcl_values::Value;
 
-/// Whether a byte is an ASCII digit.
+/// Returns whether a byte is an ASCII digit.
 pub(crate) fn is_digit(b: u8) -> bool
     ensures { result ≡ is_digit b }
 {
     48 <= b && b <= 57
 }
 
-/// The value of at most 19 bytes, where each of them is a digit.
+/// Returns the value of at most 19 digits. `None` if a byte is no digit.
 fn value(text: &[u8]) -> Option<u64>
     requires { length text.now ≤ 19 }
     ensures { result ≡ digits_value text.now }
@@ -30,7 +30,7 @@ fn value(text: &[u8]) -> Option<u64>
     Some(n)
 }
 
-/// Whether a text of 1 to 19 bytes begins with a needless zero, were they digits.
+/// Returns whether a text of 1 to 19 bytes begins with a leading zero, if its bytes are digits.
 fn is_padded(text: &[u8]) -> bool
     requires { 0 < length text.now }
     ensures { result ≡ not (length text.now == 1 || not (begins_with_zero text.now)) }
@@ -38,7 +38,8 @@ fn is_padded(text: &[u8]) -> bool
     text.len() != 1 && text[0] == b'0'
 }
 
-/// The number that digits are, if it is at most so great.
+/// Returns the number that the digits write. `None` if it exceeds `most`, or if they are no
+/// numeral.
 pub(crate) fn numeral(most: u64, text: &[u8]) -> Option<u64>
     ensures value { result ≡ numeral_of most text.now }
     ensures within { IfSome result (λ n. n ≤ most) }
@@ -50,7 +51,7 @@ pub(crate) fn numeral(most: u64, text: &[u8]) -> Option<u64>
     if n <= most { Some(n) } else { None }
 }
 
-/// The number behind a minus that a magnitude is. There is no number `-0`.
+/// Returns the negative number of a magnitude. `None` for 0, because `-0` is no number.
 fn negative(magnitude: Option<u64>) -> Option<i64>
     requires { IfSome magnitude (λ n. n ≤ 9223372036854775808) }
     ensures { result ≡ negative magnitude }
@@ -79,8 +80,11 @@ fn positive(magnitude: Option<u64>) -> Option<i64>
     }
 }
 
-/// The number that a text is: an optional minus and digits without a needless zero, from -9223372036854775808 to
-/// 9223372036854775807. `-0`, `+1`, `007`, blanks around digits and the empty text are no numbers.
+/// Returns the number that a text is. `None` if it is none.
+///
+/// A number is an optional minus and digits without a leading zero, from -9223372036854775808 to
+/// 9223372036854775807. `-0`, `+1`, `007`, digits with blanks around them and the empty text are no
+/// numbers.
 #[tactic(auto, unfolding(crate::specs::Number::number_of))]
 pub fn read_number(text: &[u8]) -> Option<i64>
     ensures { result ≡ number_of text.now }
@@ -92,8 +96,8 @@ pub fn read_number(text: &[u8]) -> Option<i64>
     }
 }
 
-/// The text of a number, which reads as that number and as no other: its decimal digits, behind `-` where it is below 0.
-/// Of at most 15 bytes it takes no memory.
+/// Returns the text of a number: its decimal digits, with `-` before them if it is negative. A text
+/// of at most 15 bytes needs no allocation.
 pub fn write_number(alloc: Global, number: i64) -> Result<Value, AllocError>
     ensures text { IfOk result (λ t. t ≡ number_text number) }
 {

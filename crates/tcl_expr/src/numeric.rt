@@ -1,4 +1,4 @@
-//! Expressions over numbers alone, which need no text.
+//! Evaluates expressions over numbers only, without texts.
 
 ghost use Rattle.std.specs.Prelude.{◌≡◌, [], IfSome};
 ghost use Rattle.tcl_words.specs.Pieces.{word_view};
@@ -13,21 +13,21 @@ use crate::turns::Turn;
 use std::alloc::Global;
 use tcl_words::Word;
 
-/// Who knows the numbers that operands are.
+/// A source of the numbers of operands.
 pub trait Readings {
     ghost use Rattle.std.specs.Prelude.{ℤ};
     ghost use Rattle.tcl_words.specs.Pieces.{Spelled};
 
-    /// The operand that is this word has this number for its value.
+    /// The operand with this word may have this number as its value.
     ghost tells: { Self → Spelled → ℤ → Type 0 };
 
-    /// The number that an operand is, where it is one and that is known.
+    /// Returns the number of an operand. `None` if it isn't a number or isn't known.
     fn number(&self, word: &Word) -> Option<i64>
         ensures { IfSome result (λ z. tells self.now (word_view word.now) z) };
 }
 
 impl Operands {
-    /// Carries out an instruction, where the operand that it asks for is a number.
+    /// Carries out an instruction. An operand that it asks for is taken from the source.
     fn count<R: Readings>(&mut self, alloc: Global, op: &Op, readings: &R) -> Turn
         ensures { CountsBy (R.tells readings.now) result (op_view op.now) self.old self.new }
     {
@@ -42,8 +42,8 @@ impl Operands {
 }
 
 impl Expr {
-    /// The value, where it is a number, and each operand that it needs is one and known. `None` where that isn't so, and where memory is
-    /// wanted: more than four values that wait take some.
+    /// Returns the value if it is a number and each operand needed is a known number. `None`
+    /// otherwise, and if memory is refused. More than four values on the stack need an allocation.
     pub fn number<R: Readings>(&self, alloc: Global, readings: &R) -> Option<i64>
         ensures { IfSome result (λ z. Comes (R.tells readings.now) self.now z) }
     {
@@ -51,7 +51,7 @@ impl Expr {
         self.counted(alloc, readings, &mut log)
     }
 
-    /// The same, by an evaluation that hasn't begun.
+    /// Like `number`, for an evaluation that has not begun.
     fn counted<R: Readings>(&self, alloc: Global, readings: &R, log: &mut Operands) -> Option<i64>
         requires serves { Serves self.now log.old }
         requires fresh { log.old.given ≡ [] }

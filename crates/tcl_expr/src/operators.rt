@@ -1,6 +1,6 @@
 //! The operators of expressions.
 
-/// An operator before its operand.
+/// A prefix operator.
 #[derive(Clone, Copy, PartialEq, Eq)]
 pub(crate) enum Prefix {
     /// `-`
@@ -13,7 +13,7 @@ pub(crate) enum Prefix {
     Not,
 }
 
-/// An operator on two numbers that gives a number.
+/// An operator on two numbers whose result is a number.
 #[derive(Clone, Copy, PartialEq, Eq)]
 pub(crate) enum Arithmetic {
     /// `*`
@@ -34,7 +34,7 @@ pub(crate) enum Arithmetic {
     BitOr,
 }
 
-/// A comparison: of numbers where both operands are numbers, else of texts.
+/// A comparison: of numbers if both operands are numbers, otherwise of texts.
 #[derive(Clone, Copy, PartialEq, Eq)]
 pub(crate) enum Comparison {
     /// `<`
@@ -51,7 +51,7 @@ pub(crate) enum Comparison {
     Unequal,
 }
 
-/// An operator that needs both its operands.
+/// An operator that needs both operands.
 #[derive(Clone, Copy, PartialEq, Eq)]
 pub(crate) enum Eager {
     Arithmetic(Arithmetic),
@@ -62,7 +62,7 @@ pub(crate) enum Eager {
     Differs,
 }
 
-/// An operator that needs its second operand only where the first doesn't decide.
+/// An operator that needs its second operand only if the first doesn't decide.
 #[derive(Clone, Copy, PartialEq, Eq)]
 pub(crate) enum Lazy {
     /// `&&`
@@ -71,7 +71,7 @@ pub(crate) enum Lazy {
     Or,
 }
 
-/// An operator between two operands.
+/// An infix operator.
 #[derive(Clone, Copy, PartialEq, Eq)]
 pub(crate) enum Infix {
     Eager(Eager),

@@ -1,4 +1,4 @@
-//! A text as an expression.
+//! Parses expressions.
 
 ghost use Rattle.std.specs.Prelude.{◌≡◌, MatchOption};
 ghost use Rattle.tcl_words.specs.Pieces.{word_view};
@@ -14,7 +14,7 @@ use std::alloc::Global;
 use std::marker::Model;
 use tcl_words::Word;
 
-/// An expression, read from its text. A contract sees it as its tree.
+/// A parsed expression. A contract sees its tree.
 #[derive(Drop)]
 pub struct Expr {
     pub(crate) code: Code,
@@ -38,8 +38,10 @@ impl Model for Expr {
     ghost invariant = { λ e. e.code ≡ postfix (tree_of e.code) };
 }
 
-/// Reads a whole text as an expression, in time linear in its length. `Syntax` where it is none, also where a word in it is malformed, and
-/// `TooDeep` where a parenthesis, a prefix operator or a branch of `?:` opens in 200 others, whatever stands behind it.
+/// Parses a whole text as an expression, in linear time.
+///
+/// `Syntax` if it is no expression, also if a word in it is malformed. `TooDeep` if a parenthesis,
+/// a prefix operator or a branch of `?:` opens inside 200 others, whatever follows it.
 #[tactic(auto, unfolding(crate::specs::Grammar::parsed))]
 pub fn parse(alloc: Global, text: &[u8]) -> Result<Expr, ExprFault>
     ensures { Gives result (parsed text.now) }
@@ -54,7 +56,8 @@ pub fn parse(alloc: Global, text: &[u8]) -> Result<Expr, ExprFault>
 }
 
 impl Expr {
-    /// The operand with a number that [`Expr::advance`] named, to be filled. `None` where there is none with that number.
+    /// Returns the operand with a number that [`Expr::advance`] returned, for substitution. `None`
+    /// if there is no operand with this number.
     pub fn operand(&self, number: usize) -> Option<&Word>
         ensures { MatchOption result (operand_at self.now number ≡ None) (λ w. operand_at self.now number ≡ Some (word_view w.now)) }
     {

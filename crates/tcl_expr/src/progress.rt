@@ -1,4 +1,4 @@
-//! The progress of one evaluation.
+//! The progress of an evaluation.
 
 ghost use Rattle.std.specs.Prelude.{◌≡◌, ◌≤◌, ◌∷◌, ◌++◌, [], true, length, IfOk, OnOk, OnErr};
 ghost use Rattle.std.specs.List.{list_all};
@@ -9,16 +9,17 @@ use crate::stack::Stack;
 use std::alloc::{AllocError, Global};
 use tcl_values::Value;
 
-/// The operands that were given to an expression's evaluation, and how far it has come with them.
+/// The operands given to an evaluation, and its progress with them.
 ///
-/// One `Operands` serves one expression. What was worked out is kept, so that nothing is done twice.
+/// Use one `Operands` per expression. Intermediate results are kept, so that nothing is computed
+/// twice.
 #[derive(Drop)]
 pub struct Operands {
-    /// The values that were given, in order.
+    /// The given values, in order.
     pub(crate) given: Given,
-    /// How many of them were used.
+    /// The number of values that were used.
     pub(crate) used: usize,
-    /// The instruction that is next.
+    /// The index of the next instruction.
     pub(crate) at: usize,
     /// The values that wait for their operators.
     pub(crate) stack: Stack,
@@ -30,7 +31,7 @@ impl Operands {
     ghost use Rattle.tcl_expr.specs.Tree.{Tree};
     ghost use Rattle.tcl_expr.specs.Run.{Serves};
 
-    /// No operands, for an evaluation that hasn't begun. It allocates nothing.
+    /// Creates the state of an evaluation that has not begun. It does not allocate.
     pub fn new(alloc: Global) -> Operands
         ensures given { result.given ≡ [] }
         ensures serves { (t : Tree) → Serves t result }
@@ -43,8 +44,7 @@ impl Operands {
         }
     }
 
-    /// Puts a value behind those that were given: the value of the operand that was asked for last.
-    /// A refused one leaves all as it was.
+    /// Adds the value of the operand that was asked for last. On `AllocError` nothing changes.
     #[inline(always)]
     pub fn give(&mut self, value: Value) -> Result<(), AllocError>
         ensures given { OnOk result (self.new.given ≡ self.old.given ++ value ∷ []) }

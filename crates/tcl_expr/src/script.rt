@@ -1,4 +1,4 @@
-//! Whether filling a word may begin a command.
+//! Decides whether the substitution of a word may run a command.
 
 ghost use Rattle.std.specs.Prelude.{◌≡◌};
 ghost use Rattle.tcl_words.specs.Pieces.{part_view, parts_view};
@@ -6,7 +6,7 @@ ghost use Rattle.tcl_expr.specs.Script.{is_scripted, has_script};
 
 use tcl_words::Part;
 
-/// Whether a part has a script in it.
+/// Returns whether a part contains a script.
 #[cycle(script)]
 fn is_scripted(part: &Part) -> bool
     ensures { result ≡ is_scripted (part_view part.now) }
@@ -21,7 +21,7 @@ fn is_scripted(part: &Part) -> bool
     }
 }
 
-/// Whether one of the parts has a script in it.
+/// Returns whether one of the parts contains a script.
 #[cycle(script)]
 pub(crate) fn has_script(parts: &[Part]) -> bool
     ensures { result ≡ has_script (parts_view parts.now) }

@@ -1,4 +1,4 @@
-//! The values that wait for their operators.
+//! The stack of values that wait for their operators.
 
 ghost use Rattle.std.specs.Prelude.{◌≡◌, ◌∷◌, ◌<◌, [], drop, length, reverse, Some, IfSome, OnOk, OnErr};
 ghost use Rattle.tcl_expr.specs.Stack.{first};
@@ -8,26 +8,26 @@ use arrayvec::ArrayVec;
 use std::alloc::{AllocError, Global};
 use std::marker::Model;
 
-/// A value. A number isn't written as a text before its text is wanted.
+/// A value. A number is written as text only when its text is needed.
 #[derive(Clone, Copy)]
 pub(crate) enum Item {
     Number(i64),
     Word(Bareword),
-    /// An operand that was given, by its place among all that were.
+    /// A given operand, by its index among all given ones.
     Given(usize),
 }
 
 impl Default for Item {
-    /// What stands at a place of a stack that holds no value.
+    /// Returns the filler for unused places of a stack.
     fn default() -> Item {
         Item::Number(0)
     }
 }
 
-/// How many values a stack holds itself. The ones above them take memory.
+/// The number of values that a stack stores without allocating.
 const FEW: usize = 4;
 
-/// Values, of which a contract sees the last one first.
+/// A stack of values. A contract sees the last one first.
 #[derive(Drop)]
 pub(crate) struct Stack {
     /// The lowest ones.
@@ -45,7 +45,7 @@ impl Model for Stack {
     ghost view = { λ s. reverse (s.low.items ++ s.high.items) };
 }
 
-/// The last value.
+/// Returns the last value.
 fn last(items: &[Item]) -> Option<Item>
     ensures { result ≡ first (reverse items.now) }
 {
@@ -55,7 +55,7 @@ fn last(items: &[Item]) -> Option<Item>
     }
 }
 
-/// The value before the last one.
+/// Returns the value before the last one.
 fn last_but_one(items: &[Item]) -> Option<Item>
     ensures { result ≡ first (drop 1 (reverse items.now)) }
 {
@@ -67,7 +67,7 @@ fn last_but_one(items: &[Item]) -> Option<Item>
 }
 
 impl Stack {
-    /// No values. It allocates nothing.
+    /// Creates an empty stack without allocating.
     pub(crate) fn new(alloc: Global) -> Stack
         ensures { result ≡ [] }
     {
@@ -90,7 +90,7 @@ impl Stack {
         Ok(())
     }
 
-    /// The value on top.
+    /// Returns the value on top.
     #[inline(always)]
     pub(crate) fn first(&self) -> Option<Item>
         ensures { result ≡ first self.now }
@@ -101,7 +101,7 @@ impl Stack {
         last(self.high.as_slice())
     }
 
-    /// The number on top, where the value there is one.
+    /// Returns the number on top. `None` if the top value is no number item.
     pub(crate) fn number(&self) -> Option<i64>
         ensures { IfSome result (λ z. first self.now ≡ Some (Item.Number z)) }
     {
@@ -111,7 +111,7 @@ impl Stack {
         }
     }
 
-    /// The value below the top.
+    /// Returns the value below the top.
     #[inline(always)]
     pub(crate) fn second(&self) -> Option<Item>
         ensures { result ≡ first (drop 1 self.now) }
@@ -125,7 +125,7 @@ impl Stack {
         last_but_one(self.high.as_slice())
     }
 
-    /// Takes the top value away, if there is one.
+    /// Removes the top value, if there is one.
     #[inline(always)]
     pub(crate) fn pop(&mut self)
         ensures { self.new ≡ drop 1 self.old }
@@ -135,7 +135,7 @@ impl Stack {
         }
     }
 
-    /// Puts a value in the place of the top one.
+    /// Replaces the top value.
     #[inline(always)]
     pub(crate) fn replace(&mut self, item: Item)
         requires { 0 < length self.old }

@@ -1,4 +1,4 @@
-//! What instructions do with the progress of an evaluation.
+//! Carries out instructions.
 
 ghost use Rattle.std.specs.Prelude.{◌≡◌};
 
@@ -9,18 +9,18 @@ use crate::progress::Operands;
 use crate::stack::Item;
 use std::alloc::Global;
 
-/// What an instruction came to.
+/// The result of an instruction.
 #[derive(Drop)]
 pub(crate) enum Turn {
-    /// It was done. So many instructions behind it are skipped.
+    /// The instruction was carried out. This number of later instructions is skipped.
     Went(usize),
     /// The next operand isn't given yet.
     Asks,
-    /// A fault, or no memory.
+    /// An error, or memory was refused.
     Failed(ExprFault),
 }
 
-/// Whether the first operand of `&&` or `||` decides.
+/// Returns whether the first operand of `&&` or `||` decides.
 fn decides(op: Lazy, truth: bool) -> bool
     ensures { result ≡ decides op truth }
 {
@@ -37,7 +37,7 @@ impl Operands {
     ghost use Rattle.tcl_expr.specs.Instr.{op_view, push, push_word, ask, apply, combine, test, truth, branch};
     ghost use Rattle.tcl_expr.specs.Instr.{Instr};
 
-    /// Puts a number on the stack.
+    /// Pushes a number.
     pub(crate) fn hold_number(&mut self, number: i64) -> Turn
         ensures { Turns result (push number) self.old self.new }
     {
@@ -47,7 +47,7 @@ impl Operands {
         }
     }
 
-    /// Puts a word on the stack.
+    /// Pushes a word.
     fn hold_word(&mut self, word: Bareword) -> Turn
         ensures { Turns result (push_word word) self.old self.new }
     {
@@ -57,7 +57,7 @@ impl Operands {
         }
     }
 
-    /// Puts the next operand on the stack.
+    /// Pushes the next operand.
     fn take(&mut self) -> Turn
         ensures { (w : Spelled) → Turns result (ask w) self.old self.new }
     {
@@ -73,7 +73,7 @@ impl Operands {
         }
     }
 
-    /// A prefix operator on the top value.
+    /// Applies a prefix operator to the top value.
     fn apply(&mut self, alloc: Global, op: Prefix) -> Turn
         ensures { Turns result (apply op) self.old self.new }
     {
@@ -89,7 +89,7 @@ impl Operands {
         }
     }
 
-    /// An operator on the two top values.
+    /// Applies an operator to the two top values.
     fn combine(&mut self, alloc: Global, op: Eager) -> Turn
         ensures { Turns result (combine op) self.old self.new }
     {
@@ -109,7 +109,7 @@ impl Operands {
         }
     }
 
-    /// The first operand of `&&` or `||`.
+    /// Tests the first operand of `&&` or `||`.
     fn test(&mut self, alloc: Global, op: Lazy, n: usize) -> Turn
         ensures { Turns result (test op n) self.old self.new }
     {
@@ -127,7 +127,7 @@ impl Operands {
         Turn::Went(0)
     }
 
-    /// The second operand of `&&` or `||`.
+    /// Makes the second operand of `&&` or `||` a truth value.
     fn truth_value(&mut self, alloc: Global) -> Turn
         ensures { (op : Lazy) → Turns result (truth op) self.old self.new }
     {
@@ -143,7 +143,7 @@ impl Operands {
         }
     }
 
-    /// The condition of `?:`.
+    /// Tests the condition of `?:`.
     fn branch(&mut self, alloc: Global, n: usize) -> Turn
         ensures { Turns result (branch n) self.old self.new }
     {

@@ -1,4 +1,4 @@
-//! What operators make of numbers and orders.
+//! Operators on numbers and orders.
 
 ghost use Rattle.std.specs.Prelude.{◌≡◌, ◌+ℤ◌, ◌-ℤ◌, ◌*ℤ◌, neg_ℤ, pos};
 ghost use Rattle.std.specs.Option.{SomeIff};
@@ -37,7 +37,7 @@ fn product(a: i64, b: i64) -> Result<i64, ExprFault>
     }
 }
 
-/// The quotient, rounded toward minus infinity.
+/// Returns the quotient, rounded toward minus infinity.
 fn quotient(a: i64, b: i64) -> Result<i64, ExprFault>
     ensures { result ≡ divided a b }
 {
@@ -53,7 +53,7 @@ fn quotient(a: i64, b: i64) -> Result<i64, ExprFault>
     Ok(q)
 }
 
-/// The remainder, with the divisor's sign.
+/// Returns the remainder, with the sign of the divisor.
 fn remainder(a: i64, b: i64) -> Result<i64, ExprFault>
     ensures { result ≡ remainder a b }
 {
@@ -69,7 +69,7 @@ fn remainder(a: i64, b: i64) -> Result<i64, ExprFault>
     Ok(r)
 }
 
-/// What an operator makes of two numbers.
+/// Applies an operator to two numbers.
 #[tactic(auto, unfolding(crate::specs::Value::arithmetic))]
 pub(crate) fn arithmetic(op: Arithmetic, a: i64, b: i64) -> Result<i64, ExprFault>
     ensures { result ≡ arithmetic op a b }
@@ -95,14 +95,14 @@ fn negative(z: i64) -> Result<i64, ExprFault>
     }
 }
 
-/// 1 for true, 0 for false.
+/// Returns 1 for true and 0 for false.
 pub(crate) fn bit(truth: bool) -> i64
     ensures { result ≡ bit truth }
 {
     if truth { 1 } else { 0 }
 }
 
-/// What a prefix operator makes of a number.
+/// Applies a prefix operator to a number.
 pub(crate) fn negated(op: Prefix, z: i64) -> Result<i64, ExprFault>
     ensures { result ≡ negated op z }
 {
@@ -114,7 +114,7 @@ pub(crate) fn negated(op: Prefix, z: i64) -> Result<i64, ExprFault>
     }
 }
 
-/// Whether a comparison holds of two operands in this order.
+/// Returns whether a comparison holds for two operands in this order.
 pub(crate) fn holds(op: Comparison, order: Ordering) -> bool
     ensures { result ≡ holds op order }
 {

@@ -1,4 +1,4 @@
-//! Places in a text, and the white space there.
+//! White space in an expression, and parts of a text.
 
 ghost use Rattle.std.specs.Prelude.{◌≡◌, ◌≤◌, ◌<◌, drop, take, length, IsTrue};
 ghost use Rattle.tcl_words.specs.Lists.{begins_with};
@@ -6,7 +6,7 @@ ghost use Rattle.tcl_expr.specs.White.{white, gap};
 
 use tcl_words::{blanks, is_continued, is_white};
 
-/// The bytes from a place on.
+/// Returns the bytes from an index on.
 pub(crate) fn after(bytes: &[u8], at: usize) -> &[u8]
     requires { at ≤ length bytes.now }
     ensures { result.now ≡ drop at bytes.now }
@@ -14,7 +14,7 @@ pub(crate) fn after(bytes: &[u8], at: usize) -> &[u8]
     bytes.split_at(at).1
 }
 
-/// The bytes before a place.
+/// Returns the bytes before an index.
 pub(crate) fn before(bytes: &[u8], at: usize) -> &[u8]
     requires { at ≤ length bytes.now }
     ensures { result.now ≡ take at bytes.now }
@@ -22,7 +22,7 @@ pub(crate) fn before(bytes: &[u8], at: usize) -> &[u8]
     bytes.split_at(at).0
 }
 
-/// Whether a text begins with the byte c.
+/// Returns whether a text begins with the byte c.
 pub(crate) fn begins_with(c: u8, bytes: &[u8]) -> bool
     ensures value { result ≡ begins_with c bytes.now }
     ensures some { IsTrue result → 0 < length bytes.now }
@@ -33,7 +33,8 @@ pub(crate) fn begins_with(c: u8, bytes: &[u8]) -> bool
     }
 }
 
-/// How many bytes of white space a text begins with. A backslash before a newline, with the spaces and tabs behind it, is white space too.
+/// Returns the number of leading bytes of white space. A backslash before a newline, with the
+/// spaces and tabs after it, is white space too.
 pub(crate) fn white(bytes: &[u8]) -> usize
     ensures value { result ≡ white bytes.now }
     ensures within { result ≤ length bytes.now }
@@ -54,7 +55,7 @@ pub(crate) fn white(bytes: &[u8]) -> usize
     at
 }
 
-/// The place behind the white space at a place.
+/// Returns the index after the white space at an index.
 pub(crate) fn gap(bytes: &[u8], at: usize) -> usize
     requires { at ≤ length bytes.now }
     ensures value { result ≡ gap bytes.now at }

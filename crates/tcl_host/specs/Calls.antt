@@ -5,7 +5,7 @@ use Rattle.tcl_commands.specs.declared.code.Code.{Code}
 use Rattle.tcl_host.specs.declared.host.HostStep.{HostStep}
 use Rattle.tcl_host.specs.declared.host.HostStep.TheVariants.{Wait}
 
--- a call of the host, with the variables that it borrows
+-- A call of the host, with the variables that it borrows.
 pub data Call : Type 0 where
   Begin : (words : List (List ℕ)) (vars : Variables) → Call
   Resume : (vars : Variables) → Call
@@ -13,22 +13,22 @@ pub data Call : Type 0 where
   AfterBody : (code : Code) (value : List ℕ) (vars : Variables) → Call
   Knows : (name : List ℕ) → Call
 
--- what a call brings: the host's step with the variables that it left, or whether it knows a name
+-- The reply to a call: the host's step with the changed variables, or whether it knows a name.
 pub data Reply : Type 0 where
   Stepped : (step : HostStep) (vars : Variables) → Reply
   Known : (is_known : Bool) → Reply
 
--- the step of a reply; a reply to `Knows` has none, and is read as `Wait`
+-- The step of a reply. A reply to `Knows` contains none, and is read as `Wait`.
 abbrev pub step_of : Reply → HostStep
 step_of (Stepped step vars) = step
 step_of (Known b) = Wait
 
--- the variables that a reply leaves; a reply to `Knows` leaves none
+-- The variables after a reply. A reply to `Knows` contains none.
 abbrev pub vars_of : Reply → Variables
 vars_of (Stepped step vars) = vars
 vars_of (Known b) = no_variables
 
--- whether a reply says that a name is known
+-- The reply says that the name is known.
 abbrev pub known_of : Reply → Bool
 known_of (Stepped step vars) = true
 known_of (Known b) = b

@@ -1,2 +1,2 @@
--- Calls: what a host is asked, and what it replies.
+-- The calls of a host and its replies, as data.
 pub mod Calls

@@ -5,14 +5,14 @@
 pub enum Ending {
     /// The script called `exit` with this status, or reached its end.
     Exit(u8),
-    /// An error ended it.
+    /// An error ended the script.
     Error,
-    /// It reached the limit on steps.
+    /// The script reached the limit on steps.
     StepLimit,
-    /// It reached the time limit.
+    /// The script reached the time limit.
     TimeLimit,
-    /// No memory was left.
+    /// Memory was refused.
     Memory,
-    /// It is waiting, and hasn't ended yet.
+    /// The script is waiting and has not ended.
     Waiting,
 }

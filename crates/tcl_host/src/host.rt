@@ -13,19 +13,19 @@ use tcl_values::Value;
 pub enum HostStep {
     /// The command is done, with a code and a value.
     Done(Code, Value),
-    /// The command is an error, with this text.
+    /// The command fails with this error text.
     Fail(Value),
-    /// A script is to be evaluated before the command goes on.
+    /// The evaluator must evaluate this script, and then call `after_body`.
     Body(Value),
-    /// The words of a text are to be filled before the command goes on.
+    /// The evaluator must substitute the words of this text, and then call `after_words`.
     Words(Value),
-    /// There is no answer yet.
+    /// There is no answer yet. The evaluator must call `resume` later.
     Wait,
     /// The whole script ends.
     Stop(Ending),
     /// The host has no command of that name.
     Unknown,
-    /// No memory was left.
+    /// Memory was refused.
     Memory,
 }
 
@@ -38,10 +38,11 @@ pub enum HostStep {
 pub trait Host {
     ghost use Rattle.tcl_host.specs.Calls.{Call, Reply};
 
-    /// In this state the host may give this call this reply, and go on to that state.
+    /// In this state the host may give this reply to this call, and change to that state.
     ghost answers: { Self → Call → Reply → Self → Type 0 };
 
-    /// Tells whether the host has a command of this name. If it has, no procedure can have that name.
+    /// Returns whether the host has a command of this name. If it has, no procedure can have that
+    /// name.
     fn knows(&self, name: &[u8]) -> bool
         ensures { answers self.now (Call.Knows name.now) (Reply.Known result) self.now };
 

@@ -5,7 +5,7 @@ use Rattle.tcl_words.specs.Pieces.{Spelled}
 use Rattle.tcl_scripts.specs.declared.script.Reading.{Reading}
 use Rattle.tcl_scripts.specs.declared.script.Reading.TheVariants.{Command, Malformed}
 
--- the words in order, up to a malformed command, and its fault
+-- The words in order, up to a malformed command, and its error.
 abbrev pub all_words : List Reading → List Spelled × Option WordFault
 all_words [] = ([], None)
 all_words (Malformed at f ∷ rs) = ([], Some f)

@@ -1,4 +1,4 @@
--- The word whose steps stand in a line.
+-- The word whose steps form a given list.
 use Rattle.std.specs.Prelude.{◌≡◌, ℕ, List, [], ◌∷◌, refl}
 use Rattle.std.proofs.Common.{ap}
 use Rattle.tcl_words.specs.Pieces.{Piece, Pieces, literal, variable, member, script, no_pieces, piece}
@@ -6,7 +6,7 @@ use Rattle.tcl_subst.specs.declared.recipe.Step.{Step}
 use Rattle.tcl_subst.specs.declared.recipe.Step.TheVariants.{Text, Variable, Script, Open, Close}
 use Rattle.tcl_subst.specs.Recipes.{piece_onto, steps_onto}
 
--- Pieces that were read from behind, and around them the indexes that are open, each with its array and the pieces behind it.
+-- Pieces read backwards. The open indexes follow, each with its array's name and the pieces after it.
 abbrev pub Behind : Type 0
 Behind = Pieces × List (List ℕ × Pieces)
 
@@ -14,7 +14,7 @@ abbrev pub opened : Behind → Behind
 opened (ps, []) = (ps, [])
 opened (ps, a ∷ outer) = (piece (member a.0 ps) a.1, outer)
 
--- a step before what was read
+-- Adds a step before those that were read.
 abbrev pub seen : Step → Behind → Behind
 seen (Text text) b = (piece (literal text) b.0, b.1)
 seen (Variable name) b = (piece (variable name) b.0, b.1)
@@ -26,7 +26,7 @@ abbrev pub read_back : List Step → Behind
 read_back [] = (no_pieces, [])
 read_back (s ∷ steps) = seen s (read_back steps)
 
--- the pieces that steps are of
+-- The pieces whose steps these are.
 unfoldable pub pieces_of : List Step → Pieces
 pieces_of steps = (read_back steps).0
 
@@ -41,7 +41,7 @@ mutual
   steps_back no_pieces left outer e = e
   steps_back (piece p more) left outer e = piece_back p (steps_onto more left) (more, outer) (steps_back more left outer e)
 
--- a word's steps are those of its pieces alone
+-- The steps of a word determine its pieces.
 pub pieces_of-steps : (ps : Pieces) → pieces_of (steps_onto ps []) ≡ ps
 unfolding pieces_of
 pieces_of-steps ps = ap (λ (b : Behind). b.0) (steps_back ps [] [] refl)

@@ -13,12 +13,12 @@ use std::rc::Rc;
 use tcl_values::Value;
 use tcl_words::{WordFault, next_command};
 
-/// What was read at a place of a script: behind the command before it.
+/// A command of a script, with its index in the text.
 #[derive(Drop)]
 pub enum Reading {
-    /// A command by its words, at least one.
+    /// A command with its words, at least one.
     Command { at: usize, words: Words },
-    /// A malformed command. It is the last that was read.
+    /// A malformed command. It is the last one.
     Malformed { at: usize, fault: WordFault },
 }
 
@@ -29,7 +29,7 @@ pub struct ReadText {
     readings: Vec<Reading>,
 }
 
-/// A script with its commands, shared. A contract sees its text.
+/// A script with its parsed commands, shared between owners. A contract sees its text.
 #[derive(Drop)]
 pub struct Script {
     read: Rc<ReadText>,
@@ -46,7 +46,7 @@ impl Model for Script {
     ghost invariant = { λ s. s.read.value.readings.items ≡ commands s.read.value.text };
 }
 
-/// A fault that says something of the text.
+/// Returns an error of the text itself. Refused memory becomes an `AllocError`.
 fn told(fault: WordFault) -> Result<WordFault, AllocError>
     ensures { IfOk result (λ f. (read : Result (Option (List Spelled × ℕ)) WordFault) → Fails fault read → read ≡ Err f) }
 {
@@ -62,7 +62,7 @@ fn told(fault: WordFault) -> Result<WordFault, AllocError>
     }
 }
 
-/// The commands of a text, in time linear in its length but for brackets in one another.
+/// Parses the commands of a text. Time is linear in its length, except for nested brackets.
 fn readings(alloc: Global, source: &[u8]) -> Result<Vec<Reading>, AllocError>
     ensures { IfOk result (λ rs. rs.items ≡ commands source.now) }
 {
@@ -86,7 +86,7 @@ fn readings(alloc: Global, source: &[u8]) -> Result<Vec<Reading>, AllocError>
 }
 
 impl Script {
-    /// A text with its commands, in time linear in its length but for brackets in one another.
+    /// Parses a script. Time is linear in its length, except for nested brackets.
     pub fn read(alloc: Global, text: Value) -> Result<Script, AllocError>
         ensures { IfOk result (λ s. s ≡ text) }
     {
@@ -96,14 +96,15 @@ impl Script {
         })
     }
 
-    /// The text.
+    /// Returns the text.
     pub fn text(&self) -> &[u8]
         ensures { result.now ≡ self.now }
     {
         self.read.text.as_slice()
     }
 
-    /// What was read at a place, where anything was, and the place behind it.
+    /// Returns the command with index `at`, counted from 0, and the next index. `None` after the
+    /// last command.
     pub fn next(&self, at: usize) -> Option<(&Reading, usize)>
         ensures { MatchOption result (drop at (commands self.now) ≡ []) (λ p. drop at (commands self.now) ≡ p.0.now ∷ drop p.1 (commands self.now)) }
     {
@@ -113,7 +114,7 @@ impl Script {
         }
     }
 
-    /// The words of all commands in order, up to a malformed one, and its fault.
+    /// Returns the words of all commands in order, up to a malformed one, and its error.
     pub fn all_words(&self, alloc: Global) -> Result<(Words, Option<WordFault>), AllocError>
         ensures { IfOk result (λ r. all_words (commands self.now) ≡ (r.0, r.1)) }
     {
@@ -133,14 +134,14 @@ impl Script {
         }
     }
 
-    /// How many commands were read, a malformed one with them.
+    /// Returns the number of commands, including a malformed one.
     pub fn len(&self) -> usize
         ensures { result ≡ length (commands self.now) }
     {
         self.read.readings.len()
     }
 
-    /// The same script. Nothing is copied.
+    /// Returns the same script for another owner, without copying it.
     pub fn shared(&self) -> Result<Script, AllocError>
         ensures { IfOk result (λ s. s ≡ self.now) }
     {

@@ -1,4 +1,4 @@
-//! The words of a command, kept to be filled.
+//! The words of a command, kept for repeated substitution.
 
 ghost use Rattle.std.specs.Prelude.{◌≡◌, [], ◌∷◌, ◌++◌, MatchOption, drop, length, IfOk, IfSome, OnOk};
 ghost use Rattle.tcl_words.specs.Pieces.{script, no_pieces, piece, word_view, words_view};
@@ -15,7 +15,7 @@ use tcl_subst::{Filler, Recipe, Vars};
 use tcl_values::Value;
 use tcl_words::{Part, Text, Word};
 
-/// A word with the steps of filling it. A contract sees its parts.
+/// A word, kept as the steps that substitute it. A contract sees its parts.
 #[derive(Drop)]
 pub struct KeptWord {
     /// Whether its value is split as a list.
@@ -41,7 +41,8 @@ impl Model for KeptWord {
 }
 
 impl KeptWord {
-    /// Keeps a word. Where it is taken as a list and is one literal, that is read as a list once for all its uses.
+    /// Keeps a word. If `as_list` is true and the word is one literal, it is also parsed as a list,
+    /// once for all uses.
     pub fn new(alloc: Global, word: &Word, as_list: bool) -> Result<KeptWord, AllocError>
         ensures { IfOk result (λ w. w ≡ word_view word.now) }
     {
@@ -52,7 +53,7 @@ impl KeptWord {
         })
     }
 
-    /// The same word. Nothing is copied.
+    /// Returns the same word for another owner, without copying it.
     fn shared(&self) -> Result<KeptWord, AllocError>
         ensures { IfOk result (λ w. w ≡ self.now) }
     {
@@ -62,14 +63,15 @@ impl KeptWord {
         })
     }
 
-    /// Whether its value is split as a list, and each element is a word.
+    /// Returns whether the value is split as a list, so that each element is a word.
     pub fn is_expanded(&self) -> bool
         ensures { result ≡ self.now.expand }
     {
         self.expand
     }
 
-    /// Its value, where no script is in it. `None` for another word, and where it can't be filled.
+    /// Returns the value if the word contains no script. `None` for other words, and if the
+    /// substitution fails.
     pub fn plain_value(&self, alloc: Global, vars: &mut Vars) -> Result<Option<Value>, AllocError>
         ensures value { IfOk result (λ o. TellsValue o (is_plain self.now.pieces) (fill self.now.pieces vars.old)) }
         ensures same { vars.new ≡ vars.old }
@@ -77,7 +79,7 @@ impl KeptWord {
         self.recipe.plain_value(alloc, vars)
     }
 
-    /// Its value, where it is one literal, and isn't split as a list.
+    /// Returns the value if the word is one literal and isn't split as a list.
     fn literal(&self, alloc: Global) -> Result<Option<Value>, AllocError>
         ensures { IfOk result (λ o. IfSome o (λ value. IsLiteral self.now value)) }
     {
@@ -87,14 +89,14 @@ impl KeptWord {
         self.recipe.literal(alloc)
     }
 
-    /// The script that it is, where it is one script alone.
+    /// Returns the script if the word is exactly one command substitution.
     pub fn only_script(&self) -> Option<&Text>
         ensures { IfSome result (λ text. (vars : Variables) → fill self.now.pieces vars ≡ fill (piece (script text.now) no_pieces) vars) }
     {
         self.recipe.only_script()
     }
 
-    /// What fills it, at the first step.
+    /// Returns a filler at the first step of the word.
     pub fn filler(&self, alloc: Global) -> Result<Filler, AllocError>
         ensures { IfOk result (λ f. f ≡ begun (steps_onto self.now.pieces [])) }
     {
@@ -102,14 +104,14 @@ impl KeptWord {
     }
 }
 
-/// Words with their values, where each is one literal.
+/// Words, with their values if each word is one literal.
 #[derive(Drop)]
 pub struct KeptWords {
     list: Vec<KeptWord>,
     literals: Option<Vec<Value>>,
 }
 
-/// The words of a command, shared. A contract sees the list of them.
+/// The words of a command, shared between owners. A contract sees their list.
 #[derive(Drop)]
 pub struct Words {
     kept: Rc<KeptWords>,
@@ -132,7 +134,7 @@ impl Model for Words {
 }
 
 impl Words {
-    /// Keeps words in their order.
+    /// Keeps words, in order.
     pub fn new(alloc: Global, words: &[Word]) -> Result<Words, AllocError>
         ensures { IfOk result (λ w. w ≡ words_view words.now) }
     {
@@ -145,7 +147,7 @@ impl Words {
         Words::of(alloc, list)
     }
 
-    /// The word at a place, where there is one, and the place behind it.
+    /// Returns the word at index `at`, and the next index. `None` after the last word.
     pub fn next(&self, at: usize) -> Option<(&KeptWord, usize)>
         ensures { MatchOption result (drop at self.now ≡ []) (λ p. drop at self.now ≡ p.0.now ∷ drop p.1 self.now) }
     {
@@ -155,14 +157,14 @@ impl Words {
         }
     }
 
-    /// How many words there are.
+    /// Returns the number of words.
     pub fn len(&self) -> usize
         ensures { result ≡ length self.now }
     {
         self.kept.list.len()
     }
 
-    /// Their values, where each is one literal and a value can be as long as it.
+    /// Returns the values if each word is one literal no longer than a value may be.
     pub fn literals(&self) -> Option<&[Value]>
         ensures { IfSome result (λ values. AreLiterals self.now values.now) }
     {
@@ -172,7 +174,7 @@ impl Words {
         }
     }
 
-    /// Words that were kept, in their order.
+    /// Keeps words that are already parsed, in order.
     pub(crate) fn of(alloc: Global, list: Vec<KeptWord>) -> Result<Words, AllocError>
         ensures { IfOk result (λ w. w ≡ list.items) }
     {
@@ -182,7 +184,7 @@ impl Words {
         })
     }
 
-    /// Puts the words behind others. Their steps are shared.
+    /// Appends the words to a list. Their steps are shared.
     pub(crate) fn copy_to(&self, list: &mut Vec<KeptWord>) -> Result<(), AllocError>
         ensures { OnOk result (list.new.items ≡ list.old.items ++ self.now) }
     {
@@ -192,7 +194,7 @@ impl Words {
         Ok(())
     }
 
-    /// The same words. Nothing is copied.
+    /// Returns the same words for another owner, without copying them.
     pub fn shared(&self) -> Result<Words, AllocError>
         ensures { IfOk result (λ w. w ≡ self.now) }
     {
@@ -202,7 +204,8 @@ impl Words {
     }
 }
 
-/// The steps of a word. A word of several parts is no literal, so its literals are no lists.
+/// Returns the steps of a word. A word of several parts is no literal, so its literals are not
+/// parsed as lists.
 fn recipe_of(alloc: Global, word: &Word, as_list: bool) -> Result<Recipe, AllocError>
     ensures { IfOk result (λ r. r.steps.items ≡ steps_onto (word_view word.now).pieces []) }
 {
@@ -214,8 +217,8 @@ fn recipe_of(alloc: Global, word: &Word, as_list: bool) -> Result<Recipe, AllocE
     Recipe::of(alloc, word)
 }
 
-/// How many words of a command may be read as lists, from the first on, where that is the plain name of one that reads lists. Only the
-/// time of its turns depends on it, so no clause speaks of it.
+/// Returns how many of a command's first words may be read as lists, by the command's literal name.
+/// Only the running time depends on it, so it has no contract.
 fn lists_of(words: &[Word]) -> usize {
     let Some(first) = words.first() else {
         return 0;
@@ -230,7 +233,8 @@ fn lists_of(words: &[Word]) -> usize {
     }
 }
 
-/// How many of so many words a command of this name may read as lists. The last one of a `foreach` is its script.
+/// Returns how many of `count` words a command of this name may read as lists. The last word of a
+/// `foreach` is its script.
 fn lists_by(name: &[u8], count: usize) -> usize {
     match name {
         b"lindex" => count,
@@ -241,7 +245,7 @@ fn lists_by(name: &[u8], count: usize) -> usize {
     }
 }
 
-/// The values of words, where each is one literal.
+/// Returns the values of words if each word is one literal.
 fn literals(alloc: Global, words: &[KeptWord]) -> Result<Option<Vec<Value>>, AllocError>
     ensures { IfOk result (λ o. IfSome o (λ v. AreLiterals words.now v.items)) }
 {

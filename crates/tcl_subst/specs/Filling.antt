@@ -7,23 +7,23 @@ use Rattle.tcl_subst.specs.declared.faults.SubstFault.TheVariants.{TooLong}
 use Rattle.tcl_subst.specs.Faults.{is_too_long}
 use Rattle.tcl_subst.specs.Variables.{Variables, value_of, member_of}
 
--- What filling a word comes to.
+-- The result of the substitution of a word.
 pub data Fill : Type 0 where
-  -- the value
+  -- The value.
   Full : List ℕ → Fill
-  -- a script to evaluate, and what follows its value and the variables after it
+  -- A script to evaluate, and the rest of the substitution, given its value and the variables after it.
   Asks : List ℕ → (List ℕ → Variables → Fill) → Fill
-  -- a fault, and the variable that has it
+  -- An error, and the name of the variable that caused it.
   Failed : SubstFault → List ℕ → Fill
 
--- what follows a value
+-- The rest of a substitution after a value.
 abbrev pub Next : Type 0
 Next = List ℕ → Variables → Fill
 
 abbrev pub element_name : List ℕ → List ℕ → List ℕ
 element_name array index = array ++ (ascii.open_paren ∷ (index ++ ascii.close_paren ∷ []))
 
--- a value behind the others
+-- Appends a value to the text so far.
 abbrev pub behind : List ℕ → List ℕ → (List ℕ → Fill) → Fill
 behind text value k = if is_too_long (length (text ++ value)) then Failed TooLong [] else k (text ++ value)
 
@@ -39,11 +39,11 @@ abbrev mutual
       fill_pieces index [] (λ i vars. where_read (member_of array i vars) (element_name array i) k vars) vars
   fill_piece (script text) k vars = Asks text k
 
-  -- the values of the pieces behind a text, each read or evaluated in its turn
+  -- The values of the pieces after a text, each read or evaluated in order.
   pub fill_pieces : Pieces → List ℕ → Next → Variables → Fill
   fill_pieces no_pieces text k vars = k text vars
   fill_pieces (piece p more) text k vars = fill_piece p (λ value vars. behind text value (λ text. fill_pieces more text k vars)) vars
 
--- the value of a word
+-- The substitution of a word.
 abbrev pub fill : Pieces → Variables → Fill
 fill pieces vars = fill_pieces pieces [] (λ value vars. Full value) vars

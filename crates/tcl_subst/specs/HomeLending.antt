@@ -1,4 +1,4 @@
--- The variables once the scope of a name has been lent to be changed.
+-- The variables after the scope of a name was lent for a change.
 use Rattle.std.specs.Prelude.{ℕ, List, Option}
 use Rattle.std.specs.Borrow.{Fml, MutBor, LendsIf}
 use Rattle.tcl_subst.specs.contracts.names.Names as names
@@ -7,6 +7,6 @@ use Rattle.tcl_subst.specs.contracts.vars.Vars.{the_row}
 use Rattle.tcl_subst.specs.Slots.{Scope}
 use Rattle.tcl_subst.specs.Variables.{Variables, with_home}
 
--- what is written stands in the place of that scope, and all else stays
+-- The written scope replaces that scope. Everything else is unchanged.
 abbrev pub lends_home : List ℕ → MutBor Variables → Option (MutBor Scope) → Fml
 lends_home name vars r = LendsIf the_row (names.the_row slot.the_row) vars r (λ scope. with_home name scope vars.now) vars.now

@@ -1,4 +1,4 @@
--- A word as steps in one line, and what running them comes to.
+-- A word as a list of steps, and the result of running them.
 use Rattle.std.specs.Prelude.{◌≡◌, ◌≢◌, ℕ, ◌+◌, ◌<◌, ◌≤◌, Bool, true, false, List, [], ◌∷◌, ◌++◌, length, drop, slice_get, Option, Some, None, Result, Ok, Err, if◌then◌else◌}
 use Rattle.tcl_words.specs.Pieces.{Piece, Pieces, literal, variable, member, script, no_pieces, piece}
 use Rattle.tcl_subst.specs.declared.faults.SubstFault.{SubstFault}
@@ -21,12 +21,12 @@ abbrev mutual
   piece_onto (member array index) left = Open ∷ steps_onto index (Close array ∷ left)
   piece_onto (script text) left = Script text ∷ left
 
-  -- the steps of pieces before other steps
+  -- The steps of pieces, followed by other steps.
   pub steps_onto : Pieces → List Step → List Step
   steps_onto no_pieces left = left
   steps_onto (piece p more) left = piece_onto p (steps_onto more left)
 
--- the script of a step
+-- The script of a step, or `None`.
 abbrev pub script_of : Option Step → Option (List ℕ)
 script_of None = None
 script_of (Some (Text text)) = None
@@ -50,7 +50,7 @@ fault_of refusal.Memory = fault.Memory
 fault_of refusal.TooLong = fault.TooLong
 fault_of (refusal.Unread f name) = f
 
--- the variable that has the fault
+-- The name of the variable that caused the error.
 abbrev pub name_of : Refusal → List ℕ
 name_of refusal.Memory = []
 name_of refusal.TooLong = []
@@ -66,12 +66,12 @@ abbrev pub joined_if_read : Result (List ℕ) SubstFault → List ℕ → Joined
 joined_if_read (Ok value) name j = joined value j
 joined_if_read (Err f) name j = Err (refusal.Unread f name)
 
--- what stands around an index that is closed
+-- The text around an index after the index is closed.
 abbrev pub around : List (List ℕ) → Joined
 around [] = nothing
 around (text ∷ outer) = record { current = text; outer = outer }
 
--- what a step does that is no script
+-- The effect of a step that is no script.
 abbrev pub taken : Step → Joined → Variables → Result Joined Refusal
 taken (Text text) j vars = joined text j
 taken (Variable name) j vars = joined_if_read (value_of name vars) name j
@@ -79,14 +79,14 @@ taken (Script text) j vars = Ok j
 taken Open j vars = Ok (record { current = []; outer = j.current ∷ j.outer })
 taken (Close array) j vars = joined_if_read (member_of array j.current vars) (element_name array j.current) (around j.outer)
 
--- a word's steps, the place in them, what was joined up to there, and the fault that ended it
+-- The steps of a word, the index of the next step, the text so far, and the error that ended the substitution.
 pub record Filling : Type 0 where
   pub steps : List Step
   pub at : ℕ
   pub joined : Joined
   pub fault : Option Refusal
 
--- at a place
+-- The state at a step.
 abbrev pub placed : List Step → ℕ → Joined → Filling
 placed steps at j = record { steps = steps; at = at; joined = j; fault = None }
 
@@ -100,7 +100,7 @@ abbrev pub on_taken : List Step → ℕ → Result Joined Refusal → (Joined �
 on_taken steps at (Ok j) k = k j
 on_taken steps at (Err r) k = failed steps at r
 
--- the steps that are left, up to the first script
+-- Runs the steps left, up to the first script.
 abbrev pub run : List Step → ℕ → List Step → Joined → Variables → FillStep × Filling
 run steps at [] j vars = (Value j.current, placed steps at nothing)
 run steps at (s ∷ left) j vars =
@@ -114,11 +114,11 @@ abbrev pub unless_failed : Option Refusal → Filling → FillStep × Filling �
 unless_failed None f r = r
 unless_failed (Some r) f _ = (Fault (fault_of r), f)
 
--- what a filler answers over these variables, and how it stands then
+-- The result of a filler with these variables, and its state afterwards.
 unfoldable pub filling : Filling → Variables → FillStep × Filling
 filling f vars = unless_failed f.fault f (run_on f vars)
 
--- a script that is asked for stands before the place from then on
+-- A filler that asks for a script is past it afterwards.
 abbrev pub IsOnward : Filling → FillStep × Filling → Type 0
 IsOnward f r = (n : ℕ) → r.0 ≡ NeedScript n → (f.at ≤ n) × (r.1.at ≡ n + 1)
 
@@ -127,11 +127,11 @@ with_given None f (Ok j) = placed f.steps f.at j
 with_given None f (Err r) = record { steps = f.steps; at = f.at; joined = nothing; fault = Some r }
 with_given (Some refused) f r = f
 
--- with the value of the script that was asked for
+-- The state with the value of the script that was asked for.
 abbrev pub given : List ℕ → Filling → Filling
 given value f = with_given f.fault f (joined value f.joined)
 
--- A step did what is meant, or refused what is meant to be refused. Want of memory says nothing.
+-- The step had the meant effect, or returned the meant error. If memory is refused, nothing is claimed.
 abbrev pub Takes : {Y : Type 0} → Result Y Refusal → Result Joined Refusal → Joined → Type 0
 Takes (Ok y) meant new = meant ≡ Ok new
 Takes (Err r) meant new = r ≢ refusal.Memory → meant ≡ Err r
@@ -141,18 +141,18 @@ is_fault (Value value) = false
 is_fault (NeedScript n) = false
 is_fault (Fault f) = true
 
--- What one step did: on to the next, to an answer, or to a refusal. Want of memory says nothing.
+-- The effect of one step: on to the next step, a result, or an error. If memory is refused, nothing is claimed.
 abbrev pub Steps : Result (Option FillStep) Refusal → Filling → Filling → Variables → Type 0
 Steps (Ok None) old new vars = (run_on old vars ≡ run_on new vars) × (new.steps ≡ old.steps) × (new.fault ≡ None) × (new.at ≡ old.at + 1) × (old.at < length old.steps)
 Steps (Ok (Some step)) old new vars = run_on old vars ≡ (step, new)
 Steps (Err r) old new vars = (new.steps ≡ old.steps) × (r ≢ refusal.Memory → run_on old vars ≡ failed new.steps new.at r)
 
--- What all steps up to an answer did.
+-- The effect of all steps up to a result.
 abbrev pub Runs : Result FillStep Refusal → Filling → Filling → Variables → Type 0
 Runs (Ok step) old new vars = run_on old vars ≡ (step, new)
 Runs (Err r) old new vars = (new.steps ≡ old.steps) × (r ≢ refusal.Memory → run_on old vars ≡ failed new.steps new.at r)
 
--- the variable of the last fault
+-- The name of the variable that caused the last error.
 abbrev pub refused_name : Option Refusal → List ℕ
 refused_name None = []
 refused_name (Some r) = name_of r

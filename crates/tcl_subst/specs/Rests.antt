@@ -1,4 +1,4 @@
--- What a filler still comes to.
+-- The rest of a substitution.
 use Rattle.std.specs.Prelude.{List, [], ◌∷◌, drop, Option, Some, None, Result, Ok, Err, unwrap_or}
 use Rattle.tcl_subst.specs.declared.faults.SubstFault.{SubstFault}
 use Rattle.tcl_subst.specs.declared.joined.Joined.{Joined}
@@ -30,7 +30,7 @@ abbrev pub rest_unless_failed : Option Refusal → Filling → Variables → Fil
 rest_unless_failed None f vars = rest_of_steps (drop f.at f.steps) f.joined vars
 rest_unless_failed (Some r) f vars = Failed (fault_of r) (name_of r)
 
--- what a filler still comes to over these variables
+-- The substitution that a filler in this state still performs.
 abbrev pub rest : Filling → Variables → Fill
 rest f vars = rest_unless_failed f.fault f vars
 
@@ -38,7 +38,7 @@ abbrev pub failure : SubstFault → Option Refusal → Fill
 failure fault None = Failed fault []
 failure fault (Some r) = Failed fault (name_of r)
 
--- what it comes to by what it answered
+-- The substitution, given a filler's result.
 abbrev pub told : FillStep × Filling → Fill
 told (Value value, f) = Full value
 told (NeedScript n, f) = Asks (unwrap_or (script_at n f.steps) []) (λ value vars. rest (given value f) vars)

@@ -1,9 +1,9 @@
--- Short names as numbers that compare as the names do.
+-- Short names as numbers that compare like the names.
 use Rattle.std.specs.Prelude.{◌≡◌, ℕ, zero, suc, ◌<◌, ◌≤◌, List, [], ◌∷◌, length, take, slice_index}
 use Rattle.std.specs.Int.{w128, to_be_bytes}
 use Rattle.std.specs.Slice.Scan.{big_endian}
 
--- n places: a text, zeros behind it, and c in one place more
+-- n bytes: a text, padded with zeros. The byte c follows them.
 abbrev pub padded : ℕ → List ℕ → ℕ → List ℕ
 padded zero text c = c ∷ []
 padded (suc n) [] c = 0 ∷ padded n [] c
@@ -12,7 +12,7 @@ padded (suc n) (b ∷ text) c = b ∷ padded n text c
 abbrev pub text_in : List ℕ → List ℕ
 text_in bytes = take (slice_index bytes 15) bytes
 
--- the number of a text of at most 15 bytes, and the text of such a number
+-- The number of a text of at most 15 bytes, and the text of such a number.
 abbrev pub key_of : List ℕ → ℕ
 key_of text = big_endian 0 (padded 15 text (length text))
 

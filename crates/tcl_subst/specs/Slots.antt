@@ -1,4 +1,4 @@
--- What a scope's names name, and what reading and changing a scope means (Tcl(n): variables and arrays).
+-- The entries of a scope, and the meaning of reading and changing a scope (Tcl(n): variables and arrays).
 use Rattle.std.specs.Prelude.{ℕ, Bool, true, false, List, [], ◌+◌, ◌-◌, length, take, drop, Option, Some, None, Result, Ok, Err, is_some, position, ◌==◌, slice_index, if◌then◌else◌}
 use Rattle.tcl_words.specs.Bytes as ascii
 use Rattle.tcl_words.specs.Lists.{elements}
@@ -11,20 +11,22 @@ use Rattle.tcl_subst.specs.Entries.{Entries, find, without, with_entry}
 abbrev pub Scope : Type 0
 Scope = Entries Slot
 
--- the array and the index of a name array(index), by the bytes before its last one and by the place of the first parenthesis
+-- The array and the index of a name `array(index)`, given the bytes before its last one and the index of the first
+-- parenthesis.
 abbrev pub parted : List ℕ → Option ℕ → Option (List ℕ × List ℕ)
 parted front None = None
 parted front (Some paren) = Some (take paren front, drop (paren + 1) front)
 
--- The array and the index, where the last byte is `)` and there is a `(`: the array before the first one, the index between.
+-- The array and the index of a name whose last byte is `)` and that contains a `(`. The array stands before the first
+-- `(`, the index after it.
 unfoldable pub element : List ℕ → Option (List ℕ × List ℕ)
 element name =
     if slice_index name (length name - 1) == ascii.close_paren then parted (take (length name - 1) name) (position (λ b. b == ascii.open_paren) (take (length name - 1) name))
     else None
 
--- reading
+-- Reading.
 
--- a variable that isn't an array
+-- The value of a variable that isn't an array.
 abbrev pub text_in : Option Slot → Result (List ℕ) SubstFault
 text_in None = Err NoVariable
 text_in (Some (Text value)) = Ok value
@@ -35,7 +37,7 @@ abbrev pub there : {X : Type 0} → Option X → Result X SubstFault
 there None = Err NoVariable
 there (Some x) = Ok x
 
--- an element
+-- The value of an element.
 abbrev pub element_in : List ℕ → Option Slot → Result (List ℕ) SubstFault
 element_in index None = Err NoVariable
 element_in index (Some (Text value)) = Err NotArray
@@ -46,7 +48,7 @@ abbrev pub read_of : Option (List ℕ × List ℕ) → List ℕ → Scope → Re
 read_of None name scope = text_in (find name scope)
 read_of (Some e) name scope = element_in e.1 (find e.0 scope)
 
--- the value of a variable or an element
+-- The value of a variable or an element.
 abbrev pub read : List ℕ → Scope → Result (List ℕ) SubstFault
 read name scope = read_of (element name) name scope
 
@@ -66,7 +68,7 @@ abbrev pub exists_of : Option (List ℕ × List ℕ) → List ℕ → Scope → 
 exists_of None name scope = text_exists (find name scope)
 exists_of (Some e) name scope = element_exists e.1 (find e.0 scope)
 
--- whether there is a variable or an element
+-- The variable or element exists.
 abbrev pub is_there : List ℕ → Scope → Bool
 is_there name scope = exists_of (element name) name scope
 
@@ -78,7 +80,7 @@ abbrev pub as_array : Result (Entries (List ℕ)) SubstFault → Result Slot Sub
 as_array (Ok es) = Ok (Array es)
 as_array (Err f) = Err f
 
--- writing: g says what the old value becomes, where a missing one counts as empty
+-- Writing: g gives the new value for the old one. A missing value counts as empty.
 
 abbrev pub entered : {X : Type 0} → List ℕ → Entries X → Result X SubstFault → Result (Entries X) SubstFault
 entered name es (Ok x) = Ok (with_entry name x es)
@@ -108,11 +110,11 @@ module _ (g : List ℕ → Result (List ℕ) SubstFault) where
   written_of None name scope = entered name scope (text_written (find name scope))
   written_of (Some e) name scope = entered e.0 scope (element_written e.1 (find e.0 scope))
 
-  -- the scope with what g makes of a variable or an element
+  -- The scope after g was applied to a variable or an element.
   abbrev pub written : List ℕ → Scope → Result Scope SubstFault
   written name scope = written_of (element name) name scope
 
--- unsetting
+-- Unsetting.
 
 abbrev pub text_unset : Option Slot → List ℕ → Scope → Result Scope SubstFault
 text_unset slot name scope = if text_exists slot then Ok (without name scope) else Err NoVariable
@@ -131,11 +133,11 @@ abbrev pub unset_of : Option (List ℕ × List ℕ) → List ℕ → Scope → R
 unset_of None name scope = text_unset (find name scope) name scope
 unset_of (Some e) name scope = entered e.0 scope (element_unset e.1 (find e.0 scope))
 
--- the scope without a variable or an element
+-- The scope without a variable or an element.
 abbrev pub unset : List ℕ → Scope → Result Scope SubstFault
 unset name scope = unset_of (element name) name scope
 
--- linking
+-- Linking.
 
 abbrev pub link_over : Option Slot → List ℕ → Scope → Result Scope SubstFault
 link_over None name scope = Ok (with_entry name Link scope)
@@ -147,17 +149,17 @@ abbrev pub link_of : Option (List ℕ × List ℕ) → List ℕ → Scope → Re
 link_of None name scope = link_over (find name scope) name scope
 link_of (Some e) name scope = Ok scope
 
--- the scope with a link; no name of an element can be one
+-- The scope with a link. The name of an element can't be a link.
 abbrev pub link : List ℕ → Scope → Result Scope SubstFault
 link name scope = link_of (element name) name scope
 
--- lists
+-- Lists.
 
 abbrev pub some_list : Option (List (List ℕ)) → Result (List (List ℕ)) SubstFault
 some_list None = Err BadList
 some_list (Some l) = Ok l
 
--- the list that a value is, where it was read
+-- The list that a value is, if the value was read.
 abbrev pub list_in : Result (List ℕ) SubstFault → Result (List (List ℕ)) SubstFault
 list_in (Ok value) = some_list (elements value)
 list_in (Err f) = Err f

@@ -1,4 +1,4 @@
--- Variables: the outermost scope and those that stand over it.
+-- Variables: the outermost scope and the scopes over it.
 use Rattle.std.specs.Prelude.{ℕ, Bool, true, false, List, [], ◌∷◌, Option, Some, None, Result, Ok, Err, if◌then◌else◌}
 use Rattle.tcl_subst.specs.declared.faults.SubstFault.{SubstFault}
 use Rattle.tcl_subst.specs.declared.scope.Slot.{Slot}
@@ -7,12 +7,12 @@ use Rattle.tcl_subst.specs.Entries.{find}
 use Rattle.tcl_subst.specs.Slots.{Scope, element, element_in, read, is_there, written, unset, link, list_in}
 
 pub record Variables : Type 0 where
-  -- the outermost scope
+  -- The outermost scope.
   pub globals : Scope
-  -- the others, the innermost first
+  -- The other scopes, the innermost first.
   pub locals : List Scope
 
--- the name in a scope: of an element the array's
+-- The name to look up in a scope: for an element, the name of its array.
 abbrev pub base_of : Option (List ℕ × List ℕ) → List ℕ → List ℕ
 base_of None name = name
 base_of (Some e) name = e.0
@@ -30,7 +30,7 @@ abbrev pub global_in : List ℕ → List Scope → Bool
 global_in name [] = true
 global_in name (scope ∷ outer) = is_link (find name scope)
 
--- whether a name is looked up in the outermost scope
+-- The name is looked up in the outermost scope.
 abbrev pub is_global : List ℕ → Variables → Bool
 is_global name vars = global_in (base name) vars.locals
 
@@ -38,7 +38,7 @@ abbrev pub home_in : List ℕ → Scope → List Scope → Scope
 home_in name globals [] = globals
 home_in name globals (scope ∷ outer) = if is_link (find name scope) then globals else scope
 
--- the scope in which a name is looked up: the innermost one, or the outermost where there is a link
+-- The scope in which a name is looked up: the innermost one, or the outermost one if the name is a link.
 abbrev pub home : List ℕ → Variables → Scope
 home name vars = home_in (base name) vars.globals vars.locals
 
@@ -47,7 +47,7 @@ with_home_in name new globals [] = record { globals = new; locals = [] }
 with_home_in name new globals (scope ∷ outer) =
     if is_link (find name scope) then record { globals = new; locals = scope ∷ outer } else record { globals = globals; locals = new ∷ outer }
 
--- another scope in the place of that one
+-- The variables with another scope in its place.
 abbrev pub with_home : List ℕ → Scope → Variables → Variables
 with_home name new vars = with_home_in (base name) new vars.globals vars.locals
 
@@ -55,31 +55,31 @@ abbrev pub in_home : List ℕ → Variables → Result Scope SubstFault → Resu
 in_home name vars (Ok scope) = Ok (with_home name scope vars)
 in_home name vars (Err f) = Err f
 
--- no variables
+-- No variables.
 abbrev pub no_variables : Variables
 no_variables = record { globals = []; locals = [] }
 
--- the value of a variable or an element
+-- The value of a variable or an element.
 abbrev pub value_of : List ℕ → Variables → Result (List ℕ) SubstFault
 value_of name vars = read name (home name vars)
 
--- the value of an array's element
+-- The value of an array's element.
 abbrev pub member_of : List ℕ → List ℕ → Variables → Result (List ℕ) SubstFault
 member_of array index vars = element_in index (find array (home_in array vars.globals vars.locals))
 
--- the list that a variable or an element is
+-- The list that a variable or an element is.
 abbrev pub list_of : List ℕ → Variables → Result (List (List ℕ)) SubstFault
 list_of name vars = list_in (value_of name vars)
 
--- whether there is a variable or an element
+-- The variable or element exists.
 abbrev pub has : List ℕ → Variables → Bool
 has name vars = is_there name (home name vars)
 
--- the variables with what g makes of a variable or an element, where a missing one counts as empty
+-- The variables after g was applied to a variable or an element. A missing value counts as empty.
 abbrev pub with_value : (List ℕ → Result (List ℕ) SubstFault) → List ℕ → Variables → Result Variables SubstFault
 with_value g name vars = in_home name vars (written g name (home name vars))
 
--- the variables without a variable or an element
+-- The variables without a variable or an element.
 abbrev pub without_value : List ℕ → Variables → Result Variables SubstFault
 without_value name vars = in_home name vars (unset name (home name vars))
 
@@ -91,6 +91,6 @@ abbrev pub link_in : List ℕ → Variables → List Scope → Result Variables 
 link_in name vars [] = Ok vars
 link_in name vars (scope ∷ outer) = with_innermost vars outer (link name scope)
 
--- the variables with a link to the outermost scope in the innermost one
+-- The variables with a link from the innermost scope to the outermost one.
 abbrev pub linked : List ℕ → Variables → Result Variables SubstFault
 linked name vars = link_in name vars vars.locals

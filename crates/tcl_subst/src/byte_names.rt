@@ -1,4 +1,4 @@
-//! Entries by the bytes of their names.
+//! Entries, ordered by the bytes of their names.
 
 ghost use Rattle.std.specs.Prelude.{◌≡◌, [], map, IfNone, OnOk, OnErr};
 ghost use Rattle.std.specs.Option.{option_copied, option_copied_mut};
@@ -12,7 +12,8 @@ use std::collections::BTreeMap;
 use std::collections::btree_map::{IntoIter, Iter};
 use std::marker::Model;
 
-/// What names of any length name. A contract sees a list of names and what they name, in byte order of names.
+/// A map from names of any length to values. A contract sees a list of names and values, in byte
+/// order of names.
 #[derive(Drop)]
 pub struct ByteNames<V> {
     tree: BTreeMap<Vec<u8>, V>,
@@ -29,7 +30,7 @@ impl<V> Model for ByteNames<V> {
 impl<V> ByteNames<V> {
     ghost use Rattle.tcl_subst.specs.ByteLending.{lends_entry};
 
-    /// No names. It allocates nothing.
+    /// Creates an empty map without allocating.
     pub fn new(alloc: Global) -> ByteNames<V>
         ensures { result ≡ [] }
     {
@@ -38,7 +39,7 @@ impl<V> ByteNames<V> {
         }
     }
 
-    /// What a name names.
+    /// Returns the value of a name. `None` if the name is not present.
     #[inline(always)]
     pub fn get(&self, name: &[u8]) -> Option<&V>
         ensures { option_copied result ≡ find name.now self.now }
@@ -46,7 +47,7 @@ impl<V> ByteNames<V> {
         self.tree.get(name)
     }
 
-    /// The names and what they name, in order.
+    /// Returns the names and values, in order.
     pub fn entries(&self) -> Iter<'_, Vec<u8>, V>
         ensures entries { map (λ e. (e.0.items, e.1)) result ≡ self.now }
         ensures sorted { Sorted self.now }
@@ -54,7 +55,7 @@ impl<V> ByteNames<V> {
         self.tree.iter()
     }
 
-    /// The names and what they name, in order, by value.
+    /// Returns the names and values by value, in order.
     pub fn into_entries(self) -> IntoIter<Vec<u8>, V>
     where
         V: Drop,
@@ -63,7 +64,7 @@ impl<V> ByteNames<V> {
         self.tree.into_iter()
     }
 
-    /// What a name names, to be changed.
+    /// Returns the value of a name for a change. `None` if the name is not present.
     pub fn get_mut(&mut self, name: &[u8]) -> Option<&mut V>
         ensures* writes_back { sem 𝓛 (lends_entry V.row name.now self.entry result) }
         ensures value { option_copied_mut result ≡ find name.now self.old }
@@ -71,7 +72,7 @@ impl<V> ByteNames<V> {
         self.tree.get_mut(name)
     }
 
-    /// Takes a name out, and answers what it named.
+    /// Removes a name and returns its value. `None` if the name is not present.
     pub fn remove(&mut self, name: &[u8]) -> Option<V>
         ensures found { result ≡ find name.now self.old }
         ensures removed { self.new ≡ without name.now self.old }
@@ -82,7 +83,7 @@ impl<V> ByteNames<V> {
         self.tree.remove(name)
     }
 
-    /// Lets a name name a value. A refusal leaves the names as they were.
+    /// Sets the value of a name. On `AllocError` the map is unchanged.
     pub fn insert(&mut self, alloc: Global, name: &[u8], value: V) -> Result<(), AllocError>
     where
         V: Drop,
@@ -96,7 +97,7 @@ impl<V> ByteNames<V> {
         self.insert_new(alloc, name, value)
     }
 
-    /// Lets a name that names nothing name a value. A refusal leaves the names as they were.
+    /// Adds a name that is not present. On `AllocError` the map is unchanged.
     pub fn insert_new(&mut self, alloc: Global, name: &[u8], value: V) -> Result<(), AllocError>
     where
         V: Drop,

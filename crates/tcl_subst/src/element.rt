@@ -3,7 +3,8 @@
 ghost use Rattle.std.specs.Prelude.{◌≡◌, ◌<◌, ◌==◌, length, option_map, position, IfSome};
 ghost use Rattle.tcl_subst.specs.Slots.{element, parted};
 
-/// The array and the index of a name `array(index)`: the last byte is `)`, and the array stands before the first `(`.
+/// Splits a name `array(index)`: its last byte is `)`, and the array stands before the first `(`.
+/// `None` for other names.
 #[tactic(auto, unfolding(crate::specs::Slots::element))]
 pub fn element(name: &[u8]) -> Option<(&[u8], &[u8])>
     ensures { option_map (λ e. (e.0.now, e.1.now)) result ≡ element name.now }
@@ -19,7 +20,7 @@ pub fn element(name: &[u8]) -> Option<(&[u8], &[u8])>
     }
 }
 
-/// What stands before and behind the first `(`.
+/// Returns the bytes before and after the first `(`.
 fn parted(front: &[u8]) -> Option<(&[u8], &[u8])>
     ensures { option_map (λ e. (e.0.now, e.1.now)) result ≡ parted front.now (position (λ b. b == 40) front.now) }
 {

@@ -1,4 +1,4 @@
-//! Why a variable could not be read or changed.
+//! The errors of variables.
 
 ghost use Rattle.std.specs.Prelude.{◌≡◌};
 
@@ -6,7 +6,7 @@ use std::alloc::{AllocError, AllocFailed};
 use tcl_values::GrowFault;
 use tcl_words::ListFault;
 
-/// Why a variable could not be read or changed.
+/// Why a variable can't be read or changed.
 #[derive(Clone, Copy, PartialEq, Eq)]
 pub enum SubstFault {
     /// There is no such variable, or the array has no such element.
@@ -15,13 +15,13 @@ pub enum SubstFault {
     IsArray,
     /// The variable is no array.
     NotArray,
-    /// The value would have more bytes than are allowed.
+    /// The value would be longer than allowed, in bytes.
     TooLong,
-    /// No memory was left.
+    /// Memory was refused.
     Memory,
-    /// The name is a variable's already: of a link to be made alone.
+    /// The name of a new link is already the name of a variable.
     Exists,
-    /// The value is no list: where it is read as one alone.
+    /// The value is no list, but is read as one.
     BadList,
 }
 

@@ -1,4 +1,4 @@
-//! Filling a word.
+//! The substitution of a word.
 
 ghost use Rattle.std.specs.Prelude.{◌≡◌, ◌≢◌, false, option_map, Some, None, IfOk, IfSome, OnOk, OnErr};
 ghost use Rattle.tcl_subst.specs.Recipes.{Steps, Runs, is_fault, begun, filling, failed, fault_of, given, nothing, refused_name};
@@ -14,14 +14,15 @@ use std::mem;
 use std::rc::Rc;
 use tcl_values::Value;
 
-/// Fills a word: joins the values of its parts in order, and asks for the value of each script in its turn.
+/// Substitutes a word: joins the values of its parts in order, and asks for the value of each
+/// script when it is reached.
 #[derive(Drop)]
 pub struct Filler {
     recipe: Rc<Recipe>,
-    /// How many steps were taken.
+    /// The number of steps taken.
     at: usize,
     joined: Joined,
-    /// Why the filling ended, where it did.
+    /// The error that ended the substitution, if there is one.
     fault: Option<Refusal>,
 }
 
@@ -34,7 +35,7 @@ impl Model for Filler {
 }
 
 impl Filler {
-    /// A filler at the first step. It allocates nothing.
+    /// Creates a filler at the first step, without allocating.
     pub fn new(alloc: Global, recipe: Rc<Recipe>) -> Filler
         ensures { result ≡ begun recipe.value.steps.items }
     {
@@ -46,14 +47,15 @@ impl Filler {
         }
     }
 
-    /// The steps of the word.
+    /// Returns the steps of the word.
     pub fn recipe(&self) -> &Rc<Recipe>
         ensures { result.now.value.steps.items ≡ self.now.steps }
     {
         &self.recipe
     }
 
-    /// The variable of the last fault; an element as `array(index)`. No bytes where no variable has it.
+    /// Returns the name of the variable that caused the last error; for an element `array(index)`.
+    /// Empty if no variable did.
     pub fn name(&self) -> &[u8]
         ensures { result.now ≡ refused_name self.now.fault }
     {
@@ -63,7 +65,8 @@ impl Filler {
         }
     }
 
-    /// Goes on to the next script, the value or a fault. After a fault it answers that fault again.
+    /// Continues to the next script, the value, or an error. After an error it returns the same
+    /// error again.
     #[tactic(auto, unfolding(crate::specs::Recipes::filling))]
     pub fn advance(&mut self, alloc: Global, vars: &mut Vars) -> FillStep
         ensures told { result ≢ FillStep.Fault SubstFault.Memory → (result, self.new) ≡ filling self.old vars.old }
@@ -81,7 +84,8 @@ impl Filler {
         }
     }
 
-    /// Puts the value of the script that was asked for behind what was joined. A refused growth leaves it to be given again.
+    /// Appends the value of the script that was asked for. On `AllocError` the state is unchanged,
+    /// so the value can be given again.
     pub fn give(&mut self, alloc: Global, value: Value) -> Result<(), AllocError>
         ensures given { OnOk result (self.new ≡ given value self.old) }
         ensures kept { OnErr result (self.new ≡ self.old) }
@@ -108,7 +112,7 @@ impl Filler {
         FillStep::Fault(fault)
     }
 
-    /// Takes steps up to an answer.
+    /// Runs steps up to a result.
     fn run(&mut self, alloc: Global, vars: &mut Vars) -> Result<FillStep, Refusal>
         requires { self.old.fault ≡ None }
         ensures ran { Runs result self.old self.new vars.old }
@@ -122,7 +126,7 @@ impl Filler {
         }
     }
 
-    /// Takes one step, or answers what it or the end of the steps calls for.
+    /// Runs one step. Returns a result if the step or the end of the steps gives one.
     fn step(&mut self, alloc: Global, vars: &mut Vars) -> Result<Option<FillStep>, Refusal>
         requires { self.old.fault ≡ None }
         ensures ran { Steps result self.old self.new vars.old }
@@ -142,7 +146,7 @@ impl Filler {
         Ok(None)
     }
 
-    /// The value of the word.
+    /// Returns the value of the word.
     fn finish(&mut self, alloc: Global) -> Value
         ensures value { result ≡ self.old.joined.current }
         ensures left { self.new ≡ record self.old { joined = nothing } }

@@ -1,4 +1,4 @@
-//! What the values of a word's parts were joined to.
+//! The joined values of a word's parts.
 
 ghost use Rattle.std.specs.Prelude.{◌≡◌, ◌∷◌, [], Ok, Err, IfOk, IfSome, OnErr};
 ghost use Rattle.tcl_subst.specs.Filling.{element_name};
@@ -15,14 +15,14 @@ use std::mem;
 use tcl_values::Value;
 use tcl_words::Text;
 
-/// Why filling a word ended.
+/// Why the substitution of a word failed.
 #[derive(Drop)]
 pub enum Refusal {
-    /// No memory was left.
+    /// Memory was refused.
     Memory,
     /// A value would be too long.
     TooLong,
-    /// A variable or an element, by its name, could not be read.
+    /// The variable or element with this name can't be read.
     Unread(SubstFault, Text),
 }
 
@@ -47,7 +47,7 @@ impl<T: Drop> From<AllocFailed<T>> for Refusal {
 }
 
 impl Refusal {
-    /// The fault.
+    /// Returns the error.
     pub fn fault(&self) -> SubstFault
         ensures { result ≡ fault_of self.now }
     {
@@ -58,7 +58,7 @@ impl Refusal {
         }
     }
 
-    /// The variable that has the fault: no bytes where none has.
+    /// Returns the name of the variable that caused the error, or no bytes if none did.
     pub fn name(&self) -> &[u8]
         ensures { result.now ≡ name_of self.now }
     {
@@ -70,17 +70,18 @@ impl Refusal {
     }
 }
 
-/// The values of a word's parts, joined; within an index those of the index, and around it what was joined before.
+/// The joined values of a word's parts. Inside an index it is the index, and the text before the
+/// index is kept.
 #[derive(Drop)]
 pub struct Joined {
-    /// The word's value, or the innermost open index.
+    /// The value so far, or the innermost open index.
     pub current: Value,
-    /// What stands around it, the innermost first.
+    /// The texts around it, the innermost first.
     pub outer: LinkedList<Value>,
 }
 
 impl Joined {
-    /// Nothing was joined.
+    /// Creates an empty state.
     pub fn new(alloc: Global) -> Joined
         ensures { result ≡ nothing }
     {
@@ -90,7 +91,7 @@ impl Joined {
         }
     }
 
-    /// Puts a value behind what was joined. The first one is taken as it is.
+    /// Appends a value. The first value is taken without copying it.
     pub fn join(&mut self, alloc: Global, value: Value) -> Result<(), Refusal>
         ensures taken { Takes result (joined value self.old) self.new }
         ensures kept { OnErr result (self.new ≡ self.old) }
@@ -106,7 +107,7 @@ impl Joined {
         Ok(())
     }
 
-    /// The value of a read variable, or why it wasn't read.
+    /// Appends the value of a variable that was read, or returns why it couldn't be read.
     fn join_read(
         &mut self,
         alloc: Global,
@@ -140,7 +141,7 @@ impl Joined {
         Ok(())
     }
 
-    /// Ends an index, and joins the element's value to what stands around it.
+    /// Closes an index, and appends the element's value to the text around the index.
     fn close(&mut self, alloc: Global, array: &Text, vars: &mut Vars) -> Result<(), Refusal>
         ensures taken { Takes result (joined_if_read (member_of array.now self.old.current vars.old) (element_name array.now self.old.current) (around self.old.outer)) self.new }
         ensures same { vars.new ≡ vars.old }
@@ -149,7 +150,7 @@ impl Joined {
         self.member(alloc, array.as_slice(), index.as_slice(), vars)
     }
 
-    /// Ends an index and answers it.
+    /// Closes an index and returns it.
     fn leave_index(&mut self, alloc: Global) -> Value
         ensures index { result ≡ self.old.current }
         ensures left { self.new ≡ around self.old.outer }
@@ -176,7 +177,7 @@ impl Joined {
         self.join_read(alloc, read, name.as_slice())
     }
 
-    /// Takes a step that is no script.
+    /// Runs a step that is no script.
     pub fn take(&mut self, alloc: Global, step: &Step, vars: &mut Vars) -> Result<(), Refusal>
         ensures taken { Takes result (taken step.now self.old vars.old) self.new }
         ensures same { vars.new ≡ vars.old }
@@ -191,7 +192,8 @@ impl Joined {
     }
 }
 
-/// The value of an array's element, where there is one that no owner of its bytes read as a list since.
+/// Returns the value of an array's element, unless it is missing or another owner has since parsed
+/// it as a list.
 fn unread_member(array: &[u8], index: &[u8], vars: &Vars) -> Option<Value>
     ensures { IfSome result (λ value. member_of array.now index.now vars.now ≡ Ok value) }
 {
@@ -206,7 +208,7 @@ fn unread_member(array: &[u8], index: &[u8], vars: &Vars) -> Option<Value>
     }
 }
 
-/// The name `array(index)` of an element.
+/// Returns the name `array(index)` of an element.
 pub fn element_name(alloc: Global, array: &[u8], index: &[u8]) -> Result<Text, AllocError>
     ensures { IfOk result (λ t. t ≡ element_name array.now index.now) }
 {

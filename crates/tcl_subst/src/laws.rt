@@ -1,4 +1,4 @@
-//! What filling a word means.
+//! The meaning of a substitution.
 
 ghost use Rattle.std.specs.Prelude.{◌≡◌, []};
 ghost use Rattle.tcl_words.specs.Pieces.{Pieces};
@@ -7,10 +7,10 @@ ghost use Rattle.tcl_subst.specs.Recipes.{Filling, IsOnward, steps_onto, begun, 
 ghost use Rattle.tcl_subst.specs.Rests.{rest, told};
 ghost use Rattle.tcl_subst.specs.Variables.{Variables};
 
-/// A law, with nothing to run.
-///
-/// A filler that was just begun comes to what its word does; what it answers, with how it stands then, is what it comes to; and where
-/// it asks for a script, it stands behind that script from then on, so it asks for none again.
+/// States the laws of a filler. A new filler performs the substitution of its word. Each result,
+/// together with the state after it, stands for the rest of the substitution. A filler that asks
+/// for a script is past it afterwards, so it asks for each script once. It does nothing at run
+/// time.
 pub fn filling_is_fill()
     ensures begun { (ps : Pieces) (vars : Variables) → rest (begun (steps_onto ps [])) vars ≡ fill ps vars }
     ensures onward { (f : Filling) (vars : Variables) → IsOnward f (filling f vars) }

@@ -1,7 +1,8 @@
-//! The variables of a script, and the values of its words.
+//! The variables of a script, and the substitution of its words.
 //!
-//! `Vars` is a list of scopes, each a map from names to texts, arrays and links. A `Filler` joins the values of a word's parts,
-//! and asks for the value of each script in its turn; `filling_is_fill` says what that means.
+//! `Vars` is a list of scopes. A scope maps names to values, arrays and links. A `Filler` joins the
+//! values of a word's parts, and asks for the value of each script when it is reached.
+//! `filling_is_fill` states its meaning.
 #![tactic(auto)]
 
 mod byte_names;

@@ -1,4 +1,4 @@
-//! Reading a scope's values as lists.
+//! Parses values of a scope as lists.
 
 ghost use Rattle.std.specs.Prelude.{◌≡◌, Some};
 ghost use Rattle.tcl_subst.specs.Entries.{find};
@@ -13,7 +13,7 @@ use crate::scope::{Scope, Slot};
 use std::alloc::Global;
 use tcl_values::Value;
 
-/// Reads a variable or an element as a list, so that its elements are at hand from then on. No value changes.
+/// Parses a variable or an element as a list, and keeps its elements. Its value is unchanged.
 pub fn list(scope: &mut Scope, alloc: Global, name: &[u8]) -> Result<(), SubstFault>
     ensures same { scope.new ≡ scope.old }
     ensures told { Tells result (list_in (read name.now scope.old)) }

@@ -12,7 +12,7 @@ use std::alloc::{AllocError, Global};
 use std::collections::BTreeMap;
 use std::marker::Model;
 
-/// What names name. A contract sees a list of names and what they name, in byte order of names.
+/// A map from names to values. A contract sees a list of names and values, in byte order of names.
 #[derive(Drop)]
 pub struct Names<V> {
     short: ShortNames<V>,
@@ -31,7 +31,7 @@ impl<V> Model for Names<V> {
 impl<V> Names<V> {
     ghost use Rattle.tcl_subst.specs.Lending.{lends_entry};
 
-    /// No names. It allocates nothing.
+    /// Creates an empty map without allocating.
     pub fn new(alloc: Global) -> Names<V>
         ensures { result ≡ [] }
     {
@@ -41,7 +41,7 @@ impl<V> Names<V> {
         }
     }
 
-    /// What a name names.
+    /// Returns the value of a name. `None` if the name is not present.
     #[inline(always)]
     pub fn get(&self, name: &[u8]) -> Option<&V>
         ensures { option_copied result ≡ find name.now self.now }
@@ -52,7 +52,7 @@ impl<V> Names<V> {
         }
     }
 
-    /// The names and what they name, in order.
+    /// Returns the names and values, in order. It allocates a map of references.
     pub fn entries(&self, alloc: Global) -> Result<BTreeMap<Vec<u8>, &V>, AllocError>
         ensures { IfOk result (λ m. map (λ e. (e.0.items, e.1.now)) m.entries ≡ self.now) }
     {
@@ -68,7 +68,7 @@ impl<V> Names<V> {
         Ok(all)
     }
 
-    /// What a name names, to be changed.
+    /// Returns the value of a name for a change. `None` if the name is not present.
     pub fn get_mut(&mut self, name: &[u8]) -> Option<&mut V>
         ensures* writes_back { sem 𝓛 (lends_entry V.row name.now self.entry result) }
         ensures value { option_copied_mut result ≡ find name.now self.old }
@@ -79,7 +79,7 @@ impl<V> Names<V> {
         }
     }
 
-    /// Takes a name out, and answers what it named.
+    /// Removes a name and returns its value. `None` if the name is not present.
     pub fn remove(&mut self, name: &[u8]) -> Option<V>
         ensures found { result ≡ find name.now self.old }
         ensures removed { self.new ≡ without name.now self.old }
@@ -91,7 +91,7 @@ impl<V> Names<V> {
         }
     }
 
-    /// Lets a name name a value. A refusal leaves the names as they were.
+    /// Sets the value of a name. On `AllocError` the map is unchanged.
     pub fn insert(&mut self, alloc: Global, name: &[u8], value: V) -> Result<(), AllocError>
     where
         V: Drop,
@@ -105,7 +105,7 @@ impl<V> Names<V> {
         self.insert_new(alloc, name, value)
     }
 
-    /// Lets a name that names nothing name a value. A refusal leaves the names as they were.
+    /// Adds a name that is not present. On `AllocError` the map is unchanged.
     pub(crate) fn insert_new(
         &mut self,
         alloc: Global,

@@ -13,7 +13,8 @@ use std::alloc::{AllocError, Global};
 use tcl_values::Value;
 use tcl_words::{Part, Word};
 
-/// The value of a word that is one literal or one variable. `None` for another word, and where the word can't be filled.
+/// Returns the value of a word that is one literal or one variable. `None` for other words, and if
+/// the substitution fails.
 pub fn plain_value(alloc: Global, word: &Word, vars: &mut Vars) -> Result<Option<Value>, AllocError>
     ensures value { IfOk result (λ o. TellsValue o (is_plain (word_view word.now).pieces) (fill (word_view word.now).pieces vars.old)) }
     ensures same { vars.new ≡ vars.old }
@@ -24,7 +25,7 @@ pub fn plain_value(alloc: Global, word: &Word, vars: &mut Vars) -> Result<Option
     }
 }
 
-/// The value of a word of one part, where that is a literal or a variable.
+/// Returns the value of a word of one part, if this is a literal or a variable.
 fn part_value(alloc: Global, part: &Part, vars: &mut Vars) -> Result<Option<Value>, AllocError>
     ensures value { IfOk result (λ o. TellsValue o (is_plain_piece (part_view part.now)) (fill (piece (part_view part.now) no_pieces) vars.old)) }
     ensures same { vars.new ≡ vars.old }
@@ -39,7 +40,7 @@ fn part_value(alloc: Global, part: &Part, vars: &mut Vars) -> Result<Option<Valu
     }
 }
 
-/// The value of a word that is one literal.
+/// Returns the value of a word that is one literal. `None` if it is too long.
 #[inline(always)]
 pub fn literal_value(text: Value) -> Option<Value>
     ensures { (vars : Variables) → TellsValue result true (fill (piece (literal text) no_pieces) vars) }
@@ -50,7 +51,7 @@ pub fn literal_value(text: Value) -> Option<Value>
     Some(text)
 }
 
-/// The value of a word that is one variable.
+/// Returns the value of a word that is one variable. `None` if the substitution fails.
 #[inline(always)]
 pub fn variable_value(name: &[u8], vars: &mut Vars) -> Result<Option<Value>, AllocError>
     ensures value { IfOk result (λ o. TellsValue o true (fill (piece (variable name.now) no_pieces) vars.old)) }

@@ -1,4 +1,4 @@
-//! Reading a scope.
+//! Reads a scope.
 
 ghost use Rattle.std.specs.Prelude.{◌≡◌, Ok, Err, MatchResult};
 ghost use Rattle.tcl_subst.specs.Entries.{find};
@@ -9,7 +9,7 @@ use crate::faults::SubstFault;
 use crate::scope::{Scope, Slot};
 use tcl_values::Value;
 
-/// The value of a variable or an element.
+/// Returns the value of a variable or an element.
 #[inline(always)]
 pub fn read<'a>(scope: &'a Scope, name: &[u8]) -> Result<&'a Value, SubstFault>
     ensures { MatchResult result (λ v. read name.now scope.now ≡ Ok v.now) (λ f. read name.now scope.now ≡ Err f) }
@@ -32,7 +32,7 @@ fn text<'a>(scope: &'a Scope, name: &[u8]) -> Result<&'a Value, SubstFault>
     }
 }
 
-/// The value of an array's element.
+/// Returns the value of an array's element.
 pub fn member<'a>(scope: &'a Scope, array: &[u8], index: &[u8]) -> Result<&'a Value, SubstFault>
     ensures { MatchResult result (λ v. element_in index.now (find array.now scope.now) ≡ Ok v.now) (λ f. element_in index.now (find array.now scope.now) ≡ Err f) }
 {
@@ -47,7 +47,7 @@ pub fn member<'a>(scope: &'a Scope, array: &[u8], index: &[u8]) -> Result<&'a Va
     }
 }
 
-/// Whether there is a variable or an element.
+/// Returns whether a variable or an element exists.
 pub fn is_there(scope: &Scope, name: &[u8]) -> bool
     ensures { result ≡ is_there name.now scope.now }
 {

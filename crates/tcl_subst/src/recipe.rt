@@ -1,4 +1,4 @@
-//! A word as steps in one line.
+//! A word as a list of steps.
 
 ghost use Rattle.std.specs.Prelude.{◌≡◌, ◌++◌, [], IfOk, IfSome, IsTrue, OnOk};
 ghost use Rattle.std.specs.List.{list_any};
@@ -17,28 +17,28 @@ use std::alloc::{AllocError, Global};
 use tcl_values::Value;
 use tcl_words::{ListFault, Part, Text, Word};
 
-/// From this many bytes on a literal that is taken as a list is read as one with its word. At each use of a shorter one the list
-/// that was read of it is found by comparing so few bytes, which takes less time than what else is done there, and keeping the
-/// elements of every short literal would take memory for nothing.
+/// The least length, in bytes, of a literal that is parsed as a list together with its word. For a
+/// shorter literal, the list is found again by comparing these few bytes. That is cheap, while
+/// keeping the elements of every short literal would waste memory.
 const LONG: usize = 256;
 
-/// A step of filling a word.
+/// A step of the substitution of a word.
 #[derive(Drop)]
 pub enum Step {
     /// Bytes that stand for themselves.
     Text(Value),
-    /// A variable by its name.
+    /// A variable, given by its name.
     Variable(Text),
-    /// A script by its text.
+    /// A script, given by its text.
     Script(Text),
-    /// The begin of an array's index.
+    /// The start of an array's index.
     Open,
     /// The end of an array's index, with the array's name.
     Close(Text),
 }
 
 impl Step {
-    /// Whether it is a script.
+    /// Returns whether the step is a script.
     pub fn is_script(&self) -> bool
         ensures { result ≡ is_script self.now }
     {
@@ -52,7 +52,7 @@ impl Step {
     }
 }
 
-/// The steps of filling a word. A word is turned into them once, however often it is filled.
+/// The steps of the substitution of a word. They are computed once per word.
 #[derive(Drop)]
 pub struct Recipe {
     /// The steps, in order.
@@ -60,21 +60,23 @@ pub struct Recipe {
 }
 
 impl Recipe {
-    /// The steps of a word.
+    /// Returns the steps of a word.
     pub fn of(alloc: Global, word: &Word) -> Result<Recipe, AllocError>
         ensures { IfOk result (λ r. r.steps.items ≡ steps_onto (word_view word.now).pieces []) }
     {
         recipe_of(alloc, word, false)
     }
 
-    /// The steps of a word whose literal is read as a list. So a long one has its elements at hand at each use.
+    /// Returns the steps of a word whose literal is also parsed as a list. A long literal then has
+    /// its elements available at each use.
     pub fn of_list(alloc: Global, word: &Word) -> Result<Recipe, AllocError>
         ensures { IfOk result (λ r. r.steps.items ≡ steps_onto (word_view word.now).pieces []) }
     {
         recipe_of(alloc, word, true)
     }
 
-    /// The value of a word without a script. `None` where there is one, and where the word can't be filled.
+    /// Returns the value of a word without a script. `None` if there is a script, and if the
+    /// substitution fails.
     pub fn plain_value(&self, alloc: Global, vars: &mut Vars) -> Result<Option<Value>, AllocError>
         ensures value { (ps : Pieces) → self.now.steps.items ≡ steps_onto ps [] → IfOk result (λ o. TellsValue o (is_plain ps) (fill ps vars.old)) }
         ensures same { vars.new ≡ vars.old }
@@ -93,7 +95,8 @@ impl Recipe {
         }
     }
 
-    /// The value of a word that is one literal. `None` for another word, and where that is too long a value.
+    /// Returns the value of a word that is one literal. `None` for other words, and if the literal
+    /// is too long.
     pub fn literal(&self, alloc: Global) -> Result<Option<Value>, AllocError>
         ensures { (ps : Pieces) → self.now.steps.items ≡ steps_onto ps [] → IfOk result (λ o. IfSome o (λ value. (vars : Variables) → fill ps vars ≡ Full value)) }
     {
@@ -109,7 +112,8 @@ impl Recipe {
         }
     }
 
-    /// The script of a word that is one script alone. `None` for another word.
+    /// Returns the script of a word that is exactly one command substitution. `None` for other
+    /// words.
     pub fn only_script(&self) -> Option<&Text>
         ensures { (ps : Pieces) → self.now.steps.items ≡ steps_onto ps [] → IfSome result (λ text. (vars : Variables) → fill ps vars ≡ fill (piece (script text.now) no_pieces) vars) }
     {
@@ -125,7 +129,7 @@ impl Recipe {
         }
     }
 
-    /// The text of the script that is the step of a number.
+    /// Returns the text of the script at a step. `None` for other steps.
     pub fn script(&self, number: usize) -> Option<&Text>
         ensures { option_copied result ≡ script_at number self.now.steps.items }
     {
@@ -140,7 +144,8 @@ impl Recipe {
     }
 }
 
-/// The value of a word of these steps, joined part by part. `None` where one of them is a script, and where the word can't be filled.
+/// Returns the value of a word with these steps, joined part by part. `None` if one of them is a
+/// script, and if the substitution fails.
 fn joined_value(alloc: Global, steps: &[Step], vars: &mut Vars) -> Result<Option<Value>, AllocError>
     ensures value { IfOk result (λ o. IfSome o (λ value. rest_of_steps steps.now nothing vars.old ≡ Full value)) }
     ensures same { vars.new ≡ vars.old }
@@ -158,7 +163,7 @@ fn joined_value(alloc: Global, steps: &[Step], vars: &mut Vars) -> Result<Option
     Ok(Some(current))
 }
 
-/// Whether one of the steps is a script.
+/// Returns whether one of the steps is a script.
 fn has_script(steps: &[Step]) -> bool
     ensures { result ≡ list_any is_script steps.now }
 {
@@ -170,7 +175,7 @@ fn has_script(steps: &[Step]) -> bool
     false
 }
 
-/// Takes a step, where it is no script and can be taken; whether it was.
+/// Runs a step if it is no script and succeeds. Returns whether it did.
 fn joins(
     joined: &mut Joined,
     alloc: Global,
@@ -191,7 +196,7 @@ fn joins(
     }
 }
 
-/// The steps of a word. Whether its literals are read as lists is a matter of time alone.
+/// Returns the steps of a word. `as_list` affects only the running time.
 fn recipe_of(alloc: Global, word: &Word, as_list: bool) -> Result<Recipe, AllocError>
     ensures { IfOk result (λ r. r.steps.items ≡ steps_onto (word_view word.now).pieces []) }
 {
@@ -200,7 +205,7 @@ fn recipe_of(alloc: Global, word: &Word, as_list: bool) -> Result<Recipe, AllocE
     Ok(Recipe { steps })
 }
 
-/// The value of a literal, which is read as a list where that is asked for.
+/// Returns the value of a literal. It is also parsed as a list if `as_list` is true.
 fn literal(alloc: Global, text: &[u8], as_list: bool) -> Result<Value, AllocError>
     ensures { IfOk result (λ v. v ≡ text.now) }
 {
@@ -210,7 +215,8 @@ fn literal(alloc: Global, text: &[u8], as_list: bool) -> Result<Value, AllocErro
     Value::from_slice(alloc, text)
 }
 
-/// The value of a literal that is taken as a list. Where it is long, and reads as one, its elements are at hand from then on.
+/// Returns the value of a literal that is used as a list. A long literal that is a list keeps its
+/// elements.
 fn listed_literal(alloc: Global, text: &[u8]) -> Result<Value, AllocError>
     ensures { IfOk result (λ v. v ≡ text.now) }
 {
@@ -225,7 +231,7 @@ fn listed_literal(alloc: Global, text: &[u8]) -> Result<Value, AllocError>
     }
 }
 
-/// Puts the steps of a part behind others. A literal in an array's index is no list.
+/// Appends the steps of a part. A literal in an array's index is not parsed as a list.
 #[cycle(push)]
 fn push_part(
     steps: &mut Vec<Step>,
@@ -250,7 +256,7 @@ fn push_part(
     Ok(())
 }
 
-/// Puts the steps of parts behind others, in their order.
+/// Appends the steps of parts, in order.
 #[cycle(push)]
 fn push_parts(
     steps: &mut Vec<Step>,

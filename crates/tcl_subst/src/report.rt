@@ -68,7 +68,7 @@ fn add_elements(
     Ok(())
 }
 
-/// Names and what they name, as a list.
+/// Returns names and values as a list.
 pub fn listed_values(
     alloc: Global,
     values: ByteNames<Text>,

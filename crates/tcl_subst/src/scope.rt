@@ -3,14 +3,14 @@
 use crate::names::Names;
 use tcl_values::Value;
 
-/// What a name names in a scope.
+/// An entry of a scope.
 #[derive(Drop)]
 pub enum Slot {
     /// A variable.
     Text(Value),
     /// An array: elements by index.
     Array(Names<Value>),
-    /// The variable of that name in the outermost scope.
+    /// A link to the variable of that name in the outermost scope.
     Link,
 }
 

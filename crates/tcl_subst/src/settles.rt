@@ -1,4 +1,4 @@
-//! Taking up lists that were read from a scope's values.
+//! Adopts lists that other owners parsed.
 
 ghost use Rattle.std.specs.Prelude.{◌≡◌};
 
@@ -8,7 +8,8 @@ use crate::scope::{Scope, Slot};
 use std::alloc::Global;
 use tcl_values::Value;
 
-/// Takes up the list that another owner of the bytes of a variable or an element read. No value changes.
+/// Adopts the list that another owner parsed of the value of a variable or an element. No value
+/// changes.
 pub fn settle(scope: &mut Scope, alloc: Global, name: &[u8])
     ensures { scope.new ≡ scope.old }
 {

@@ -1,4 +1,4 @@
-//! A short name.
+//! Short names.
 
 ghost use Rattle.std.specs.Prelude.{◌≡◌, ◌<◌, ◌≤◌, length, nat_eq, refl, Some, IfSome, IfNone, IfOk};
 ghost use Rattle.std.specs.Ordering.{nat_cmp};
@@ -10,18 +10,18 @@ ghost use Rattle.tcl_subst.specs.Shorts.{text_of, IsKey};
 use std::alloc::{AllocError, Global};
 use std::cmp::Ordering;
 
-/// How many bytes a short name has at most.
+/// The most bytes in a short name.
 pub const SHORT: usize = 15;
 
-/// A name of at most 15 bytes, which takes no memory: the number that 16 bytes spell, which are its own, zeros behind them, and how many
-/// they are. So names compare as these numbers do.
+/// A name of at most 15 bytes that needs no allocation. It is the number of 16 bytes: those of the
+/// name, zeros, and the length. Names therefore compare like these numbers.
 #[derive(Clone, Copy, Drop)]
 pub struct Short {
     key: u128,
     ghost is_key: { IsKey key },
 }
 
-/// The number that bytes spell, the greatest first.
+/// Returns the number that bytes encode, the most significant byte first.
 #[inline(always)]
 fn spelt(bytes: &[u8]) -> u128
     requires { length bytes.now ≤ 15 }
@@ -35,7 +35,7 @@ fn spelt(bytes: &[u8]) -> u128
 }
 
 impl Short {
-    /// These bytes, where they are so few.
+    /// Creates a short name. `None` if the name has more than 15 bytes.
     #[inline(always)]
     pub fn of(name: &[u8]) -> Option<Short>
         ensures short { IfSome result (λ s. (text_of s.key ≡ name.now) × (length name.now ≤ 15)) }
@@ -51,7 +51,7 @@ impl Short {
         })
     }
 
-    /// The bytes, in order, copied.
+    /// Returns a copy of the bytes, in order.
     pub fn name(&self, alloc: Global) -> Result<Vec<u8>, AllocError>
         ensures { IfOk result (λ n. n.items ≡ text_of self.now.key) }
     {

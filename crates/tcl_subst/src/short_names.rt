@@ -14,7 +14,8 @@ use std::collections::BTreeMap;
 use std::collections::btree_map::Iter;
 use std::marker::Model;
 
-/// What short names name. A contract sees a list of names and what they name, in byte order of names.
+/// A map from short names to values. A contract sees a list of names and values, in byte order of
+/// names.
 #[derive(Drop)]
 pub struct ShortNames<V> {
     tree: BTreeMap<Short, V>,
@@ -32,7 +33,7 @@ impl<V> Model for ShortNames<V> {
 impl<V> ShortNames<V> {
     ghost use Rattle.tcl_subst.specs.ShortLending.{lends_entry};
 
-    /// No names. It allocates nothing.
+    /// Creates an empty map without allocating.
     pub fn new(alloc: Global) -> ShortNames<V>
         ensures { result ≡ [] }
     {
@@ -41,7 +42,7 @@ impl<V> ShortNames<V> {
         }
     }
 
-    /// What a name names.
+    /// Returns the value of a name. `None` if the name is not present.
     #[inline(always)]
     pub fn get(&self, name: &Short) -> Option<&V>
         ensures { option_copied result ≡ find (text_of name.now.key) self.now }
@@ -49,7 +50,7 @@ impl<V> ShortNames<V> {
         self.tree.get(name)
     }
 
-    /// The names and what they name, in order.
+    /// Returns the names and values, in order.
     pub fn entries(&self) -> Iter<'_, Short, V>
         ensures entries { map (λ e. (text_of e.0.key, e.1)) result ≡ self.now }
         ensures sorted { Sorted self.now }
@@ -57,7 +58,7 @@ impl<V> ShortNames<V> {
         self.tree.iter()
     }
 
-    /// What a name names, to be changed.
+    /// Returns the value of a name for a change. `None` if the name is not present.
     pub fn get_mut(&mut self, name: &Short) -> Option<&mut V>
         ensures* writes_back { sem 𝓛 (lends_entry V.row (text_of name.now.key) self.entry result) }
         ensures value { option_copied_mut result ≡ find (text_of name.now.key) self.old }
@@ -65,7 +66,7 @@ impl<V> ShortNames<V> {
         self.tree.get_mut(name)
     }
 
-    /// Takes a name out, and answers what it named.
+    /// Removes a name and returns its value. `None` if the name is not present.
     pub fn remove(&mut self, name: &Short) -> Option<V>
         ensures found { result ≡ find (text_of name.now.key) self.old }
         ensures removed { self.new ≡ without (text_of name.now.key) self.old }
@@ -76,7 +77,7 @@ impl<V> ShortNames<V> {
         self.tree.remove(name)
     }
 
-    /// Lets a name that names nothing name a value. A refusal leaves the names as they were.
+    /// Adds a name that is not present. On `AllocError` the map is unchanged.
     pub fn insert_new(&mut self, name: &Short, value: V) -> Result<(), AllocError>
     where
         V: Drop,

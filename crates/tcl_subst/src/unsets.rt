@@ -1,4 +1,4 @@
-//! Taking variables out of a scope, and links to another.
+//! Removes variables from a scope, and adds links to another one.
 
 ghost use Rattle.std.specs.Prelude.{◌≡◌, Some};
 ghost use Rattle.tcl_subst.specs.Entries.{find};
@@ -13,7 +13,7 @@ use crate::scope::{Scope, Slot};
 use std::alloc::Global;
 use tcl_values::Value;
 
-/// Takes a variable or an element out. A fault leaves the scope as it was.
+/// Removes a variable or an element. On an error the scope is unchanged.
 pub fn unset(scope: &mut Scope, name: &[u8]) -> Result<(), SubstFault>
     ensures { Changes result (unset name.now scope.old) scope.old scope.new }
 {
@@ -61,7 +61,8 @@ fn unset_entry(elements: &mut Names<Value>, index: &[u8]) -> Result<(), SubstFau
     }
 }
 
-/// Links a name to the variable of that name in the outermost scope. A fault leaves the scope as it was.
+/// Links a name to the variable of that name in the outermost scope. On an error the scope is
+/// unchanged.
 pub fn link(scope: &mut Scope, alloc: Global, name: &[u8]) -> Result<(), SubstFault>
     ensures { Changes result (link name.now scope.old) scope.old scope.new }
 {

@@ -26,21 +26,26 @@ use std::marker::Model;
 use tcl_values::Value;
 use tcl_words::{Packed, Text};
 
-/// The variables of a script: scopes, of which the innermost one is the current one (Tcl(n), proc(n), global(n)).
+/// The variables of a script: a list of scopes, the innermost of them being the current one
+/// (Tcl(n), proc(n), global(n)).
 ///
-/// A name is looked up in the current scope, and where it is linked there, in the outermost one. A name whose last byte is `)` and
-/// that has a `(` is that of an array's element: the array stands before the first `(`, the index behind it.
+/// A name is looked up in the current scope. If it is a link there, it is looked up in the
+/// outermost scope. A name whose last byte is `)` and that contains a `(` is the name of an array
+/// element: the array stands before the first `(`, the index after it.
 ///
-/// Reading answers `NoVariable` where there is no such variable or element, `IsArray` for the name of an array and `NotArray` for an
-/// element of a variable that is none. Writing answers `IsArray` and `NotArray` in the same cases, then `BadList`, then `TooLong` where
-/// the value would have more than `VALUE_LIMIT` bytes. A call takes time in the length of the name and the logarithm of the number of
-/// variables, and copies no value but a short one.
+/// Reading returns `NoVariable` if there is no such variable or element. It returns `IsArray` for
+/// the name of an array, and `NotArray` for an element of a variable that is no array. Writing
+/// returns `IsArray` and `NotArray` in the same cases, then `BadList`. It returns `TooLong` if the
+/// value would have more than `VALUE_LIMIT` bytes.
+///
+/// Time is linear in the length of the name and logarithmic in the number of variables. Only short
+/// values are copied.
 #[derive(Drop)]
 pub struct Vars {
     alloc: Global,
     /// The outermost scope.
     globals: Scope,
-    /// The others, the innermost first.
+    /// The other scopes, the innermost first.
     locals: LinkedList<Scope>,
 }
 
@@ -52,7 +57,7 @@ impl Model for Vars {
     ghost view = { λ v. record { globals = v.globals; locals = v.locals } };
 }
 
-/// The name that stands in a scope: of an element the array's.
+/// Returns the name to look up in a scope: for an element, the name of its array.
 fn base(name: &[u8]) -> &[u8]
     ensures { result.now ≡ base name.now }
 {
@@ -77,7 +82,7 @@ impl Vars {
     ghost use Rattle.std.specs.Borrow.{sem};
     ghost use Rattle.tcl_subst.specs.HomeLending.{lends_home};
 
-    /// No variables, and the outermost scope alone. It allocates nothing.
+    /// Creates an empty outermost scope without allocating.
     pub fn new(alloc: Global) -> Vars
         ensures { result ≡ no_variables }
     {
@@ -88,7 +93,7 @@ impl Vars {
         }
     }
 
-    /// Whether a name is looked up in the outermost scope.
+    /// Returns whether a name is looked up in the outermost scope.
     fn is_global(&self, name: &[u8]) -> bool
         ensures { result ≡ is_global name.now self.now }
     {
@@ -98,7 +103,7 @@ impl Vars {
         }
     }
 
-    /// The scope in which a name is looked up.
+    /// Returns the scope in which a name is looked up.
     #[inline(always)]
     fn home(&self, name: &[u8]) -> &Scope
         ensures { result.now ≡ home name.now self.now }
@@ -106,7 +111,7 @@ impl Vars {
         self.home_of(base(name))
     }
 
-    /// The scope in which a name, not of an element, is looked up.
+    /// Returns the scope in which a name is looked up. The name is not that of an element.
     #[inline(always)]
     fn home_of(&self, name: &[u8]) -> &Scope
         ensures { result.now ≡ home_in name.now self.now.globals self.now.locals }
@@ -122,7 +127,8 @@ impl Vars {
         }
     }
 
-    /// The current scope, where a name is looked up in it and it isn't the outermost one.
+    /// Returns the current scope for a change, if the name is looked up there and it isn't the
+    /// outermost scope.
     fn local_mut(&mut self, name: &[u8]) -> Option<&mut Scope>
         ensures* writes_back { sem 𝓛 (lends_home name.now self.entry result) }
         ensures value { IfSome result (λ s. s.now ≡ home name.now self.old) }
@@ -144,7 +150,8 @@ impl Vars {
         write(&mut self.globals, alloc, name, by)
     }
 
-    /// The value of a variable or an element, shared: `NoVariable`, `IsArray` or `NotArray` where there is none.
+    /// Returns the value of a variable or an element, shared. The errors are `NoVariable`,
+    /// `IsArray`, `NotArray` and `Memory`.
     #[inline(always)]
     pub fn get(&self, name: &[u8]) -> Result<Value, SubstFault>
         ensures { Gives result (value_of name.now self.now) }
@@ -153,7 +160,7 @@ impl Vars {
         Ok(value.shared(self.alloc)?)
     }
 
-    /// The value of an array's element, shared.
+    /// Returns the value of an array's element, shared.
     pub fn get_member(&self, array: &[u8], index: &[u8]) -> Result<Value, SubstFault>
         ensures { Gives result (member_of array.now index.now self.now) }
     {
@@ -161,7 +168,8 @@ impl Vars {
         Ok(value.shared(self.alloc)?)
     }
 
-    /// Takes up the list that another owner of the bytes of a variable or an element read. No value changes.
+    /// Adopts the list that another owner parsed of the value of a variable or an element. No value
+    /// changes.
     fn settle(&mut self, name: &[u8])
         ensures { self.new ≡ self.old }
     {
@@ -172,8 +180,9 @@ impl Vars {
         settle(&mut self.globals, alloc, name)
     }
 
-    /// The value of a variable or an element, shared, as `get` gives it. Where one that was given earlier, or an element that
-    /// was taken out of it, has been read as a list since, the elements are at hand from then on. No value changes.
+    /// Returns the value of a variable or an element, shared, as `get` does. If another owner
+    /// parsed it, or an element taken out of it, as a list, the elements are kept from then on. No
+    /// value changes.
     #[inline(always)]
     pub fn settled(&mut self, name: &[u8]) -> Result<Value, SubstFault>
         ensures same { self.new ≡ self.old }
@@ -188,7 +197,7 @@ impl Vars {
         Ok(value)
     }
 
-    /// The same of an array's element, which has the name `array(index)`.
+    /// Like `settled`, for an array's element. `name` must be `array(index)`.
     pub fn settled_member(
         &mut self,
         array: &[u8],
@@ -207,7 +216,7 @@ impl Vars {
         Ok(value)
     }
 
-    /// The value of a variable or an element of the outermost scope, shared.
+    /// Returns the value of a variable or an element of the outermost scope, shared.
     pub fn get_global(&self, name: &[u8]) -> Result<Value, SubstFault>
         ensures { Gives result (read name.now self.now.globals) }
     {
@@ -215,49 +224,52 @@ impl Vars {
         Ok(value.shared(self.alloc)?)
     }
 
-    /// The bytes of a variable or an element.
+    /// Returns the bytes of a variable or an element.
     pub fn peek(&self, name: &[u8]) -> Result<&[u8], SubstFault>
         ensures { MatchResult result (λ v. value_of name.now self.now ≡ Ok v.now) (λ f. value_of name.now self.now ≡ Err f) }
     {
         Ok(read(self.home(name), name)?.as_slice())
     }
 
-    /// Whether there is a variable or an element.
+    /// Returns whether a variable or an element exists.
     pub fn exists(&self, name: &[u8]) -> bool
         ensures { result ≡ has name.now self.now }
     {
         is_there(self.home(name), name)
     }
 
-    /// Gives a variable or an element a value: `IsArray`, `NotArray` or `TooLong` where it can't be. A fault changes nothing.
+    /// Sets the value of a variable or an element. The errors are `IsArray`, `NotArray`, `TooLong`
+    /// and `Memory`. On an error nothing changes.
     pub fn set(&mut self, name: &[u8], value: Value) -> Result<(), SubstFault>
         ensures { Changes result (with_value (set_to value) name.now self.old) self.old self.new }
     {
         self.write(name, Write::Set(value))
     }
 
-    /// Puts bytes behind the value of a variable or an element, where a missing one counts as empty: `IsArray`, `NotArray` or
-    /// `TooLong` where it can't be. A fault changes nothing.
+    /// Appends bytes to the value of a variable or an element. A missing value counts as empty. The
+    /// errors are `IsArray`, `NotArray`, `TooLong` and `Memory`. On an error nothing changes.
     ///
-    /// Takes amortised constant time for a byte, where the value isn't shared.
+    /// Amortised constant time per byte, if the value isn't shared.
     pub fn append(&mut self, name: &[u8], bytes: &[u8]) -> Result<(), SubstFault>
         ensures { Changes result (with_value (appended bytes.now) name.now self.old) self.old self.new }
     {
         self.write(name, Write::Append(bytes))
     }
 
-    /// Puts elements behind those of the list that a variable or an element is, where a missing one counts as empty, and makes it
-    /// the written text of them all: `IsArray`, `NotArray`, `BadList` or `TooLong` where it can't be. A fault changes nothing.
+    /// Appends elements to the list that a variable or an element is, and makes it the written form
+    /// of all of them. A missing value counts as empty. The errors are `IsArray`, `NotArray`,
+    /// `BadList`, `TooLong` and `Memory`. On an error nothing changes.
     ///
-    /// Takes time in the length of what is added, where the value isn't shared and got its elements in this way.
+    /// Time is linear in the length of the added elements, if the value isn't shared and got its
+    /// elements by this function.
     pub fn append_elements(&mut self, name: &[u8], more: &Packed) -> Result<(), SubstFault>
         ensures { Changes result (with_value (elements_appended more.now) name.now self.old) self.old self.new }
     {
         self.write(name, Write::Elements(more))
     }
 
-    /// Reads a variable or an element as a list, so that its elements are at hand from then on: `NoVariable`, `IsArray`, `NotArray` or
-    /// `BadList` where it is none. No value changes.
+    /// Parses a variable or an element as a list, and keeps its elements. The errors are
+    /// `NoVariable`, `IsArray`, `NotArray`, `BadList` and `Memory`. No value changes.
     pub fn listed(&mut self, name: &[u8]) -> Result<(), SubstFault>
         ensures same { self.new ≡ self.old }
         ensures told { Tells result (list_of name.now self.old) }
@@ -269,7 +281,8 @@ impl Vars {
         list(&mut self.globals, alloc, name)
     }
 
-    /// The variables and elements of the outermost scope that have a value, with their values, in byte order of names.
+    /// Returns the variables and elements of the outermost scope that have a value, with their
+    /// values, in byte order of names.
     pub fn globals(&self) -> Result<Vec<(Text, Text)>, AllocError>
         ensures { IfOk result (λ v. v.items ≡ values_of self.now.globals) }
     {
@@ -278,8 +291,9 @@ impl Vars {
         listed_values(self.alloc, values)
     }
 
-    /// Takes a variable, an array or an element out: `NoVariable` where there is none, `NotArray` for an element of a variable that
-    /// is no array. A link stays, and an array without elements too. A fault changes nothing.
+    /// Removes a variable, an array or an element. `NoVariable` if there is none, `NotArray` for an
+    /// element of a variable that is no array. A link stays, and so does an array without elements.
+    /// On an error nothing changes.
     pub fn unset(&mut self, name: &[u8]) -> Result<(), SubstFault>
         ensures { Changes result (without_value name.now self.old) self.old self.new }
     {
@@ -289,8 +303,9 @@ impl Vars {
         unset(&mut self.globals, name)
     }
 
-    /// Links a name of the current scope to the variable of that name in the outermost one; in the outermost one nothing happens,
-    /// nor with the name of an element. `Exists` where the name is a variable's. A fault changes nothing.
+    /// Links a name of the current scope to the variable of that name in the outermost scope. Does
+    /// nothing in the outermost scope, or for the name of an element. `Exists` if the name is
+    /// already the name of a variable. On an error nothing changes.
     pub fn link_global(&mut self, name: &[u8]) -> Result<(), SubstFault>
         ensures { Changes result (linked name.now self.old) self.old self.new }
     {
@@ -301,7 +316,8 @@ impl Vars {
         }
     }
 
-    /// Begins a scope without variables, which is the current one from then on. A fault changes nothing.
+    /// Begins a scope without variables, which becomes the current one. On an error nothing
+    /// changes.
     pub fn push_scope(&mut self) -> Result<(), SubstFault>
         ensures { Changes result (Ok (record self.old { locals = [] ∷ self.old.locals })) self.old self.new }
     {
@@ -309,14 +325,14 @@ impl Vars {
         Ok(())
     }
 
-    /// Whether the current scope is the outermost one.
+    /// Returns whether the current scope is the outermost one.
     pub fn is_outermost(&self) -> bool
         ensures { result ≡ (length self.now.locals == 0) }
     {
         self.locals.is_empty()
     }
 
-    /// Ends the current scope, which isn't the outermost one.
+    /// Ends the current scope. Requires that it isn't the outermost one.
     pub fn pop_scope(&mut self)
         requires { 0 < length self.old.locals }
         ensures { self.new ≡ record self.old { locals = drop 1 self.old.locals } }

@@ -1,4 +1,4 @@
-//! How a value is written.
+//! The ways to write a value.
 
 ghost use Rattle.tcl_subst.specs.Faults.{Changes};
 ghost use Rattle.tcl_subst.specs.Writes.{write_of, set_to, appended, elements_appended};
@@ -12,15 +12,15 @@ use tcl_words::Packed;
 /// A way to write a value.
 #[derive(Drop)]
 pub enum Write<'a> {
-    /// In the place of the old value.
+    /// Replaces the old value.
     Set(Value),
-    /// Bytes behind the old value.
+    /// Appends bytes to the old value.
     Append(&'a [u8]),
-    /// Elements behind those of the list that the old value is.
+    /// Appends elements to the list that the old value is.
     Elements(&'a Packed),
 }
 
-/// Writes a value. A fault leaves it as it was.
+/// Writes a value. On an error it is unchanged.
 pub fn write_value(value: &mut Value, alloc: Global, write: Write<'_>) -> Result<(), SubstFault>
     ensures { Changes result (write_of write.entry value.old) value.old value.new }
 {

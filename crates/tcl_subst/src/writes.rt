@@ -1,4 +1,4 @@
-//! Changing a scope.
+//! Changes a scope.
 
 ghost use Rattle.std.specs.Prelude.{Some};
 ghost use Rattle.tcl_subst.specs.Entries.{find};
@@ -14,7 +14,8 @@ use crate::write::{Write, write_value};
 use std::alloc::Global;
 use tcl_values::Value;
 
-/// Writes a variable or an element, where a missing one counts as empty. A fault leaves the scope as it was.
+/// Writes a variable or an element. A missing value counts as empty. On an error the scope is
+/// unchanged.
 pub fn write(
     scope: &mut Scope,
     alloc: Global,

@@ -1,4 +1,4 @@
--- The bytes of a value, however they are held.
+-- The bytes of a value, whatever its form.
 use Rattle.std.specs.Prelude.{ℕ, List}
 use Rattle.tcl_values.specs.declared.value.Form.{Form}
 use Rattle.tcl_values.specs.Fews.{few_bytes}

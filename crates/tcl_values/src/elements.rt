@@ -1,4 +1,4 @@
-//! The elements of a list, shared.
+//! The elements of a list, shared between owners.
 
 ghost use Rattle.std.specs.Prelude.{◌≡◌, All, drop, take, length, slice_get, Some, IfOk, IfSome};
 ghost use Rattle.tcl_values.specs.Lists.{elements_of};
@@ -14,12 +14,12 @@ use std::marker::Model;
 use std::rc::Rc;
 use tcl_words::{Packed, Texts};
 
-/// The elements of a list. A contract sees them as a list of byte lists.
+/// The elements of a list. A contract sees a list of byte lists.
 #[derive(Drop)]
 pub struct Elements {
-    /// The list that they are the elements of.
+    /// The list.
     list: Rc<Listed>,
-    /// What was taken out of the list, where it is kept.
+    /// The elements taken out of the list, if they are kept.
     rows: Option<Rc<Rows>>,
 }
 
@@ -36,7 +36,7 @@ impl Model for Elements {
 }
 
 impl Elements {
-    /// The elements of a list of which nothing that is taken out is kept.
+    /// Creates the elements of a list without keeping those that are taken out.
     pub(crate) fn new(list: Rc<Listed>) -> Elements
         ensures { ReadsAs list.value result }
     {
@@ -44,7 +44,7 @@ impl Elements {
         Elements { list, rows: None }
     }
 
-    /// The elements of a list, with what was taken out of it.
+    /// Creates the elements of a list, with those that were taken out.
     pub(crate) fn with_rows(list: Rc<Listed>, rows: Rc<Rows>) -> Elements
         requires { All (IsRow (elements_of list.value)) rows.value }
         ensures { ReadsAs list.value result }
@@ -56,39 +56,39 @@ impl Elements {
         }
     }
 
-    /// How many elements there are.
+    /// Returns the number of elements.
     pub fn len(&self) -> usize
         ensures { result ≡ length self.now }
     {
         self.list.elements().len()
     }
 
-    /// The element at an index from 0.
+    /// Returns the element at an index, counted from 0. `None` if there is none.
     pub fn get(&self, index: usize) -> Option<&[u8]>
         ensures { option_copied result ≡ slice_get self.now index }
     {
         self.list.elements().get(index)
     }
 
-    /// The elements, each copied on its own.
+    /// Copies each element into a text of its own.
     pub fn texts(&self, alloc: Global) -> Result<Texts, AllocError>
         ensures { IfOk result (λ ts. ts ≡ self.now) }
     {
         self.list.elements().texts(alloc)
     }
 
-    /// The elements from an index up to another, copied, as far as there are any.
+    /// Copies the elements from index `from` up to but not including `to`, as far as they exist.
     pub fn part(&self, alloc: Global, from: usize, to: usize) -> Result<Packed, AllocError>
         ensures { IfOk result (λ p. p ≡ drop from (take to self.now)) }
     {
         self.list.elements().part(alloc, from, to)
     }
 
-    /// The element at an index from 0 as a value.
+    /// Returns the element at an index, counted from 0, as a value. `None` if there is none.
     ///
-    /// Where the list lies in a variable, all who take out the same long element share its bytes, and find the list that one of them
-    /// read them as; from the variable's next use on that list is at hand. It copies an element that is short, and one that isn't taken
-    /// out yet.
+    /// If the list is in a variable, long elements are shared: each taker gets the same bytes. A
+    /// list that one taker parsed is available to all takers from the variable's next use on. A
+    /// short element is copied, and so is a long one when it is first taken.
     pub fn value(&self, alloc: Global, index: usize) -> Result<Option<Value>, AllocError>
         ensures { IfOk result (λ v. v ≡ slice_get self.now index) }
     {
@@ -104,7 +104,7 @@ impl Elements {
         }
     }
 
-    /// The element at an index, where it is a list that is at hand.
+    /// Returns the element at an index if it is already parsed as a list.
     fn at_hand(&self, alloc: Global, index: usize) -> Result<Option<Value>, AllocError>
         ensures { IfOk result (λ o. IfSome o (λ v. slice_get self.now index ≡ Some v)) }
     {

@@ -1,18 +1,18 @@
-//! Why elements could not be put behind a list.
+//! The errors of appending elements to a list.
 
 ghost use Rattle.std.specs.Prelude.{◌≡◌};
 
 use std::alloc::{AllocError, AllocFailed};
 use tcl_words::ListFault;
 
-/// Why elements could not be put behind a list.
+/// Why elements can't be appended to a list.
 #[derive(Clone, Copy, PartialEq, Eq)]
 pub enum GrowFault {
     /// The value is no list.
     BadList,
-    /// The list would have more bytes than are allowed.
+    /// The list would be longer than allowed, in bytes.
     TooLong,
-    /// No memory was left.
+    /// Memory was refused.
     Memory,
 }
 

@@ -1,15 +1,15 @@
-//! A short text.
+//! Short texts.
 
 ghost use Rattle.std.specs.Prelude.{◌≡◌, ◌++◌, [], slice_index, IfSome};
 ghost use Rattle.std.specs.Bool.{OnTrue, OnFalse};
 ghost use Rattle.tcl_values.specs.Rooms.{IsRoom};
 
-/// How many bytes a short text has at most.
+/// The most bytes in a short text.
 const SHORT: usize = 15;
 
-/// A text of at most 15 bytes, which takes no memory: its bytes, what is left of their room, and how many they are.
+/// A text of at most 15 bytes that needs no allocation: its bytes, unused space, and their number.
 ///
-/// Its bytes begin where a word of the machine begins, so that a value is moved by whole words, whichever form it has.
+/// The bytes are aligned to a machine word, so that a value of any form is moved by whole words.
 #[derive(Clone, Copy, Drop)]
 pub struct Few {
     bytes: [u8; 16],
@@ -20,7 +20,7 @@ pub struct Few {
 impl Few {
     ghost use Rattle.tcl_values.specs.Fews.{few_bytes};
 
-    /// No bytes.
+    /// Creates an empty text.
     #[inline(always)]
     pub(crate) fn new() -> Few
         ensures { few_bytes result ≡ [] }
@@ -31,7 +31,7 @@ impl Few {
         }
     }
 
-    /// These bytes, where they are so few.
+    /// Creates a text of these bytes. `None` if they are too many.
     #[inline(always)]
     pub(crate) fn of(bytes: &[u8]) -> Option<Few>
         ensures { IfSome result (λ f. few_bytes f ≡ bytes.now) }
@@ -43,7 +43,7 @@ impl Few {
         None
     }
 
-    /// How many bytes there are.
+    /// Returns the number of bytes.
     #[inline(always)]
     fn len(&self) -> usize
         ensures { result ≡ slice_index self.now.bytes 15 }
@@ -51,7 +51,7 @@ impl Few {
         usize::from(self.bytes[SHORT])
     }
 
-    /// The bytes, in order.
+    /// Returns the bytes, in order.
     #[inline(always)]
     pub(crate) fn as_slice(&self) -> &[u8]
         ensures { result.now ≡ few_bytes self.now }
@@ -59,7 +59,8 @@ impl Few {
         &self.bytes[..self.len()]
     }
 
-    /// Puts bytes behind the others where there is room, and says whether there is. Where there is none, nothing changes.
+    /// Appends bytes if there is space for them, and returns whether there is. Otherwise nothing
+    /// changes.
     #[inline(always)]
     pub(crate) fn extend(&mut self, more: &[u8]) -> bool
         ensures extended { OnTrue result (few_bytes self.new ≡ few_bytes self.old ++ more.now) }

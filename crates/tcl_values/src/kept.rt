@@ -1,4 +1,4 @@
-//! A text that keeps the list that it was read as.
+//! Texts that remember the list that they were parsed as.
 
 ghost use Rattle.std.specs.Prelude.{◌≡◌, ◌++◌, None, IfOk, IfSome, OnOk, OnErr};
 ghost use Rattle.tcl_words.specs.Lists.{ReadsAs, elements};
@@ -11,15 +11,16 @@ use std::marker::Model;
 use std::rc::Rc;
 use tcl_words::{ListFault, Text};
 
-/// A text with several owners, of whom each may read it as a list, and finds what another one read. A contract sees the text.
+/// A text with several owners. Each owner may parse it as a list, and all owners share the result.
+/// A contract sees the text.
 ///
-/// No contract knows what a cell holds. So what was read is taken only where its text is this one: comparing the two takes a small
-/// part of the time in which the list would be read again.
+/// No contract knows what a cell contains. The parsed list is therefore used only if its text is
+/// this one. Comparing the two takes much less time than parsing the list again.
 #[derive(Drop)]
 pub struct Kept {
     /// The text.
     text: Text,
-    /// The list that it was read as, where it was.
+    /// The list that the text was parsed as, if it was.
     list: OnceCell<Rc<Listed>>,
 }
 
@@ -32,7 +33,7 @@ impl Model for Kept {
 }
 
 impl Kept {
-    /// A text that wasn't read as a list.
+    /// Creates a text that is not parsed as a list yet.
     pub fn new(text: Text) -> Kept
         ensures { result ≡ text }
     {
@@ -40,14 +41,14 @@ impl Kept {
         Kept { text, list }
     }
 
-    /// The bytes of the text.
+    /// Returns the bytes of the text.
     pub fn as_slice(&self) -> &[u8]
         ensures { result.now ≡ self.now }
     {
         self.text.as_slice()
     }
 
-    /// The text, without its list.
+    /// Returns the text without its list.
     pub fn into_text(self) -> Text
         ensures { result ≡ self }
     {
@@ -55,7 +56,7 @@ impl Kept {
         text
     }
 
-    /// Puts bytes behind the text, and forgets its list. Refused ones leave the text as it was.
+    /// Appends bytes and drops the parsed list. On `AllocError` the text is unchanged.
     pub fn extend(&mut self, bytes: &[u8]) -> Result<(), AllocError>
         ensures appended { OnOk result (self.new ≡ self.old ++ bytes.now) }
         ensures kept { OnErr result (self.new ≡ self.old) }
@@ -64,12 +65,12 @@ impl Kept {
         self.text.extend(bytes)
     }
 
-    /// Whether an owner read the text as a list.
+    /// Returns whether an owner parsed the text as a list.
     pub fn was_read(&self) -> bool {
         self.list.get().is_some()
     }
 
-    /// The list that the text was read as, where it was.
+    /// Returns the list that the text was parsed as. `None` if it wasn't.
     pub fn found(&self) -> Option<&Rc<Listed>>
         ensures { IfSome result (λ l. l.now.value ≡ self.now) }
     {
@@ -80,9 +81,10 @@ impl Kept {
         None
     }
 
-    /// The text as a list with its elements. It reads the text only where no owner did.
+    /// Returns the text as a list with its elements. It parses the text only if no owner did
+    /// before.
     ///
-    /// `BadList` exactly where it reads as no list.
+    /// `BadList` means that the text is no list.
     pub fn list(&self, alloc: Global) -> Result<Rc<Listed>, ListFault>
         ensures same { IfOk result (λ l. l.value ≡ self.now) }
         ensures found { OnOk result (ReadsAs self.now (elements_of self.now)) }

@@ -1,6 +1,6 @@
-//! Values: texts that are shared where they are long, and lists that keep their elements.
+//! Values: texts that are shared if they are long, and lists that keep their elements.
 //!
-//! A contract sees a value as the list of its bytes. Neither the sharing nor the kept elements show in it.
+//! A contract sees the bytes of a value. It sees neither the sharing nor the kept elements.
 #![tactic(auto)]
 
 mod elements;

@@ -1,4 +1,4 @@
-//! A text that is a list, with its elements beside it.
+//! Texts that are lists, with their elements.
 
 ghost use Rattle.std.specs.Prelude.{◌≡◌, ◌≢◌, ◌+◌, ◌∷◌, [], nat_lt, ℕ, List, Ok, Err, IfOk, IfErr, OnOk, OnErr, IsTrue, IsFalse};
 ghost use Rattle.tcl_words.specs.Lists.{ReadsAs, written};
@@ -11,14 +11,14 @@ use tcl_words::{
     ListFault, Packed, Text, one_list, read_list, stands_bare, write_behind, write_list,
 };
 
-/// A text that reads as a list, and the elements that it reads as. A contract sees the text.
+/// A text that is a list, with its elements. A contract sees the text.
 #[derive(Drop)]
 pub struct Listed {
     /// The text.
     text: Text,
-    /// The elements that the text reads as.
+    /// The elements of the text.
     elements: Packed,
-    /// Whether the text is the written text of the elements.
+    /// Whether the text is the written form of the elements.
     is_written: bool,
 }
 
@@ -33,7 +33,8 @@ impl Model for Listed {
     ghost invariant = { λ l. ReadsAs l.text l.elements × (l.is_written ≡ true → l.text ≡ written l.elements) };
 }
 
-/// Whether a text that reads as these elements is known to be their written text: a word with nothing to quote.
+/// Returns true only if the text is the written form of these elements: a single word that needs no
+/// quoting.
 fn is_bare(text: &[u8], elements: &Packed) -> bool
     requires { ReadsAs text.now elements.now }
     ensures { IsTrue result → text.now ≡ written elements.now }
@@ -46,9 +47,9 @@ fn is_bare(text: &[u8], elements: &Packed) -> bool
 }
 
 impl Listed {
-    /// The text with its elements, where it is a list.
+    /// Parses a text as a list.
     ///
-    /// `BadList` exactly where the text reads as no list.
+    /// `BadList` means that the text is no list.
     pub fn read(alloc: Global, text: &[u8]) -> Result<Listed, ListFault>
         ensures same { IfOk result (λ l. l ≡ text.now) }
         ensures bad { result ≡ Err ListFault.BadList → (l : List (List ℕ)) → ¬ ReadsAs text.now l }
@@ -62,7 +63,7 @@ impl Listed {
         })
     }
 
-    /// The written text of elements, with them.
+    /// Creates the written form of elements, and keeps the elements.
     pub fn write(alloc: Global, elements: Packed) -> Result<Listed, AllocError>
         ensures { IfOk result (λ l. l ≡ written elements) }
     {
@@ -75,21 +76,22 @@ impl Listed {
         })
     }
 
-    /// The bytes of the text.
+    /// Returns the bytes of the text.
     pub fn as_slice(&self) -> &[u8]
         ensures { result.now ≡ self.now }
     {
         self.text.as_slice()
     }
 
-    /// The elements that the text reads as.
+    /// Returns the elements of the text.
     pub fn elements(&self) -> &Packed
         ensures { ReadsAs self.now result.now }
     {
         &self.elements
     }
 
-    /// Whether the text is known to be the written text of the list that has it alone. Takes constant time.
+    /// Returns true only if the text is also the written form of a list with the text as its one
+    /// element. Constant time.
     pub fn is_word(&self) -> bool
         ensures { IsTrue result → written (self.now ∷ []) ≡ self.now }
     {
@@ -105,7 +107,7 @@ impl Listed {
         }
     }
 
-    /// The text, without its elements.
+    /// Returns the text without its elements.
     pub fn into_text(self) -> Text
         ensures { result ≡ self }
     {
@@ -117,7 +119,8 @@ impl Listed {
         text
     }
 
-    /// The written text of the elements with more behind them, where it has `limit` bytes at most.
+    /// Returns the written form of the elements with more appended. `TooLong` if it would have more
+    /// than `limit` bytes.
     pub fn with_more(&self, alloc: Global, more: &Packed, limit: usize) -> Result<Listed, GrowFault>
         ensures grown { IfOk result (λ m. with_elements limit self.now more.now ≡ Ok m) }
         ensures refused { IfErr result (λ f. f ≢ GrowFault.Memory → with_elements limit self.now more.now ≡ Err f) }
@@ -131,10 +134,10 @@ impl Listed {
         Ok(list)
     }
 
-    /// Puts more elements behind the others, and makes the text the written one of them all, where it then has `limit` bytes
-    /// at most. A refusal leaves it as it was.
+    /// Appends elements, and makes the text the written form of all of them. `TooLong` if it would
+    /// have more than `limit` bytes. On an error nothing changes.
     ///
-    /// Takes time in the length of what is added, where the text is a written one already.
+    /// Time is linear in the length of the added elements if the text is in written form already.
     pub fn push_all(&mut self, alloc: Global, more: &Packed, limit: usize) -> Result<(), GrowFault>
         ensures grown { OnOk result (with_elements limit self.old more.now ≡ Ok self.new) }
         ensures refused { IfErr result (λ f. f ≢ GrowFault.Memory → with_elements limit self.old more.now ≡ Err f) }
@@ -146,7 +149,8 @@ impl Listed {
         Ok(())
     }
 
-    /// The same, where there are elements already and the text is their written one; whether it is.
+    /// Does the same if the list is not empty and its text is in written form. Returns whether it
+    /// is; otherwise nothing changes.
     fn push_behind(&mut self, alloc: Global, more: &Packed, limit: usize) -> Result<bool, GrowFault>
         ensures grown { IfOk result (λ done. IsTrue done → with_elements limit self.old more.now ≡ Ok self.new) }
         ensures left { IfOk result (λ done. IsFalse done → self.new ≡ self.old) }
@@ -176,7 +180,7 @@ impl Listed {
     }
 }
 
-/// Whether two numbers together are more than the limit.
+/// Returns whether the sum of two numbers exceeds the limit.
 fn exceeds(limit: usize, one: usize, other: usize) -> bool
     ensures { result ≡ nat_lt limit (one + other) }
 {

@@ -15,25 +15,26 @@ use tcl_words::Text;
 /// An element of a list that is a list itself.
 #[derive(Drop)]
 pub struct Row {
-    /// Its index.
+    /// The index of the element.
     index: usize,
-    /// The list that it was read as.
+    /// The list that the element was parsed as.
     list: Rc<Listed>,
 }
 
-/// The elements of a list that were taken out as values and take memory, and those of them that are at hand as lists. A contract sees
-/// the latter, the rows.
+/// The long elements of a list that were taken out as values, and the rows: those of them that are
+/// parsed as lists. A contract sees the rows.
 ///
-/// Whoever takes an element out again gets the text that was made then, and so finds the list that it was read as. No contract knows
-/// what a cell holds, so what is found there is taken only where it has the element's bytes. An element that was read becomes a row at the
-/// next use of the variable that holds the list (`Sheet::settle`), and of a row nothing is compared.
+/// Taking an element again gives the same text, with the list that it was parsed as. No contract
+/// knows what a cell contains, so a text is used only if it has the element's bytes. A parsed
+/// element becomes a row at the next use of the list's variable (`Sheet::settle`). A row needs no
+/// comparison.
 #[derive(Drop)]
 pub struct Rows {
-    /// The texts that were taken out, each at its index, as far as the last.
+    /// The texts that were taken out, each at its index, up to the last one.
     texts: RefCell<Vec<Option<Rc<Kept>>>>,
-    /// The index of the one that was taken out last.
+    /// The index of the element that was taken out last.
     last: Cell<usize>,
-    /// The rows, each at its index.
+    /// The rows, by their indexes.
     rows: BTreeMap<usize, Row>,
 }
 
@@ -48,7 +49,7 @@ impl Model for Rows {
 }
 
 impl Rows {
-    /// None that was taken out.
+    /// Creates an empty collection without rows.
     pub fn new(alloc: Global) -> Rows
         ensures { result ≡ [] }
     {
@@ -59,14 +60,14 @@ impl Rows {
         }
     }
 
-    /// Whether there is no row.
+    /// Returns true only if there is no row.
     pub fn has_none(&self) -> bool
         ensures { IsTrue result → self.now ≡ [] }
     {
         self.rows.is_empty()
     }
 
-    /// The list that the element at an index is, where it is a row.
+    /// Returns the list that the element at an index is. `None` if it is no row.
     pub fn row(&self, index: usize) -> Option<&Rc<Listed>>
         ensures { (es : List (List ℕ)) → All (IsRow es) self.now → IfSome result (λ l. slice_get es index ≡ Some l.now.value) }
     {
@@ -77,7 +78,7 @@ impl Rows {
         None
     }
 
-    /// Keeps the list that the element at an index is. Where memory is refused, it is no row.
+    /// Adds a row: the list that the element at an index is. On `AllocError` it is not added.
     pub fn keep_row(&mut self, index: usize, list: Rc<Listed>) -> Result<(), AllocError>
         ensures { (es : List (List ℕ)) → All (IsRow es) self.old → slice_get es index ≡ Some list.value → All (IsRow es) self.new }
     {
@@ -85,8 +86,8 @@ impl Rows {
         Ok(())
     }
 
-    /// The text that was taken out last, and its index, where an owner read it as a list and it is no row yet. Takes constant time but
-    /// for a look at the rows.
+    /// Returns the text that was taken out last, with its index, if an owner parsed it as a list
+    /// and it is no row yet. Constant time, except for a lookup in the rows.
     pub fn read_last(&self) -> Option<(usize, Rc<Kept>)> {
         let index = self.last.get();
         if self.rows.get(&index).is_some() {
@@ -102,7 +103,7 @@ impl Rows {
         None
     }
 
-    /// What was taken out at an index, where it has these bytes.
+    /// Returns the text that was taken out at an index, if it has these bytes.
     pub fn found(&self, index: usize, bytes: &[u8]) -> Option<Rc<Kept>>
         ensures { IfSome result (λ t. t.value ≡ bytes.now) }
     {
@@ -116,7 +117,7 @@ impl Rows {
         None
     }
 
-    /// Keeps what was taken out at an index.
+    /// Keeps the text that was taken out at an index.
     fn keep(&self, index: usize, text: &Rc<Kept>) -> Result<(), AllocError> {
         let Ok(mut texts) = self.texts.try_borrow_mut() else {
             return Ok(());
@@ -130,7 +131,8 @@ impl Rows {
         Ok(())
     }
 
-    /// The text of these bytes, which are the element at an index. It copies them only where they weren't taken out.
+    /// Returns a text of these bytes, which are the element at an index. It copies them only if
+    /// they weren't taken out before.
     pub fn text(&self, alloc: Global, index: usize, bytes: &[u8]) -> Result<Rc<Kept>, AllocError>
         ensures { IfOk result (λ t. t.value ≡ bytes.now) }
     {

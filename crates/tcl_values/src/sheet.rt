@@ -1,4 +1,4 @@
-//! A list that several values share, with its elements that were taken out.
+//! Lists that several values share, with the elements that were taken out.
 
 ghost use Rattle.std.specs.Prelude.{◌≡◌, ◌≢◌, ◌∷◌, ℕ, List, [], All, slice_get, Some, Ok, Err, IfOk, IfErr, OnOk, OnErr, IsTrue, IsFalse};
 ghost use Rattle.tcl_words.specs.Lists.{ReadsAs, written};
@@ -14,12 +14,13 @@ use std::marker::Model;
 use std::rc::Rc;
 use tcl_words::{Packed, Text};
 
-/// A list that may have several owners, with its elements that were taken out, and those that are lists. A contract sees the text.
+/// A list that may have several owners, with its elements that were taken out and its rows. A
+/// contract sees the text.
 #[derive(Drop)]
 pub struct Sheet {
     /// The list.
     list: Rc<Listed>,
-    /// Its elements that were taken out.
+    /// The elements that were taken out.
     rows: Rc<Rows>,
 }
 
@@ -35,7 +36,8 @@ impl Model for Sheet {
     ghost invariant = { λ s. All (IsRow (elements_of s.list.value)) s.rows.value };
 }
 
-/// Lets go of all rows, and of what was taken out with them. Where there are none nothing happens.
+/// Drops all rows and the other elements that were taken out. Does nothing if there is no row. On
+/// `AllocError` nothing changes.
 fn let_go(alloc: Global, rows: &mut Rc<Rows>) -> Result<(), AllocError>
     ensures gone { OnOk result (rows.new.value ≡ []) }
     ensures kept { OnErr result (rows.new ≡ rows.old) }
@@ -47,7 +49,7 @@ fn let_go(alloc: Global, rows: &mut Rc<Rows>) -> Result<(), AllocError>
     Ok(())
 }
 
-/// A row alone.
+/// Creates rows with one row.
 fn one_row(alloc: Global, index: usize, list: Rc<Listed>) -> Result<Rc<Rows>, AllocError>
     ensures { (es : List (List ℕ)) → slice_get es index ≡ Some list.value → IfOk result (λ r. All (IsRow es) r.value) }
 {
@@ -56,7 +58,7 @@ fn one_row(alloc: Global, index: usize, list: Rc<Listed>) -> Result<Rc<Rows>, Al
     Ok(Rc::new(alloc, rows)?)
 }
 
-/// Whether the element at an index has these bytes.
+/// Returns true only if the element at an index has these bytes.
 fn has_bytes(elements: &Packed, index: usize, bytes: &[u8]) -> bool
     ensures { IsTrue result → slice_get elements.now index ≡ Some bytes.now }
 {
@@ -72,7 +74,7 @@ fn has_bytes(elements: &Packed, index: usize, bytes: &[u8]) -> bool
 }
 
 impl Sheet {
-    /// A list of which nothing was taken out.
+    /// Creates a list from which nothing was taken out.
     pub fn new(alloc: Global, list: Rc<Listed>) -> Result<Sheet, AllocError>
         ensures { IfOk result (λ s. s ≡ list.value) }
     {
@@ -80,14 +82,14 @@ impl Sheet {
         Ok(Sheet { list, rows })
     }
 
-    /// The bytes of the text.
+    /// Returns the bytes of the text.
     pub fn as_slice(&self) -> &[u8]
         ensures { result.now ≡ self.now }
     {
         self.list.as_slice()
     }
 
-    /// An equal one: the same list, and what was taken out of it.
+    /// Returns the same list and rows for another owner.
     pub fn shared(&self) -> Result<Sheet, AllocError>
         ensures { IfOk result (λ s. s ≡ self.now) }
     {
@@ -96,21 +98,22 @@ impl Sheet {
         Ok(Sheet { list, rows })
     }
 
-    /// Whether the text is known to be the written text of the list that has it alone. Takes constant time.
+    /// Returns true only if the text is also the written form of a list with the text as its one
+    /// element. Constant time.
     pub fn is_word(&self) -> bool
         ensures { IsTrue result → written (self.now ∷ []) ≡ self.now }
     {
         self.list.is_word()
     }
 
-    /// The list alone.
+    /// Returns the list without the rows.
     pub fn list(&self) -> Result<Rc<Listed>, AllocError>
         ensures same { IfOk result (λ l. l.value ≡ self.now) }
     {
         self.list.clone()
     }
 
-    /// The elements.
+    /// Returns the elements.
     pub fn elements(&self) -> Result<Elements, AllocError>
         ensures { IfOk result (λ e. ReadsAs self.now e) }
     {
@@ -119,13 +122,14 @@ impl Sheet {
         Ok(Elements::with_rows(list, rows))
     }
 
-    /// Whether an element that was taken out was read as a list, so that `settle` may have something to do. Takes constant time but for
-    /// a look at the rows.
+    /// Returns whether an element that was taken out was parsed as a list, so that `settle` may
+    /// have work. Constant time, except for a lookup in the rows.
     pub fn was_read(&self) -> bool {
         self.rows.read_last().is_some()
     }
 
-    /// Makes the element that was taken out last a row, where an owner read it as a list. The text stays the same.
+    /// Makes the element that was taken out last a row, if an owner parsed it as a list. The text
+    /// is unchanged.
     pub fn settle(&mut self, alloc: Global)
         ensures { self.new ≡ self.old }
     {
@@ -136,7 +140,8 @@ impl Sheet {
         }
     }
 
-    /// Makes an element a row, where it has this list's bytes. Where others share the rows, it is the first of rows of its own.
+    /// Makes an element a row if it has the bytes of this list. If the rows are shared, it begins
+    /// new rows with this one. The text is unchanged.
     fn settle_row(&mut self, alloc: Global, index: usize, list: &Rc<Listed>)
         ensures { self.new ≡ self.old }
     {
@@ -158,7 +163,7 @@ impl Sheet {
         }
     }
 
-    /// The text. It copies one that has other owners.
+    /// Returns the text. It is copied if it has other owners.
     pub fn into_text(self, alloc: Global) -> Result<Text, AllocError>
         ensures { IfOk result (λ t. t ≡ self) }
     {
@@ -168,8 +173,8 @@ impl Sheet {
         }
     }
 
-    /// Puts more elements behind the others, as `Listed::push_all` does, where the list has no other owner; whether it has none.
-    /// No element is a row then.
+    /// Appends elements as `Listed::push_all` does and returns true, if the list isn't shared.
+    /// Otherwise returns false and leaves the text unchanged. Drops the rows.
     pub fn push_all(
         &mut self,
         alloc: Global,

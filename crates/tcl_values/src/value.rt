@@ -1,4 +1,5 @@
-//! A value of a variable or a word: a short text that lies in it, or a longer one that is shared.
+//! Values of variables and words: short texts that need no allocation, and longer ones that are
+//! shared.
 
 ghost use Rattle.std.specs.Prelude.{◌≡◌, ◌≢◌, ◌++◌, ◌∷◌, [], length, None, Ok, Err, IfOk, IfErr, IfSome, OnOk, OnErr, IsTrue};
 ghost use Rattle.tcl_words.specs.Lists.{ReadsAs, elements, written};
@@ -17,10 +18,10 @@ use std::marker::Model;
 use std::rc::Rc;
 use tcl_words::{ListFault, Packed, Text, stands_bare};
 
-/// How the bytes of a value are held.
+/// The storage of a value's bytes.
 #[derive(Drop)]
 pub enum Form {
-    /// A short text, which lies in the value and takes no memory.
+    /// A short text, stored in the value itself.
     Short(Few),
     /// A text that may have several owners.
     Shared(Rc<Kept>),
@@ -28,10 +29,10 @@ pub enum Form {
     Listed(Sheet),
 }
 
-/// A value: bytes of any kind and number. A contract sees it as the list of its bytes.
+/// A value: any number of arbitrary bytes. A contract sees the list of its bytes.
 #[derive(Drop)]
 pub struct Value {
-    /// How the bytes are held.
+    /// The storage of the bytes.
     form: Form,
 }
 
@@ -45,7 +46,7 @@ impl Model for Value {
     ghost view = { λ v. bytes_of v.form };
 }
 
-/// The form of bytes that a value holds itself, where these are so few.
+/// Returns the short form of these bytes. `None` if they are too many.
 #[inline(always)]
 fn short(bytes: &[u8]) -> Option<Form>
     ensures { IfSome result (λ f. bytes_of f ≡ bytes.now) }
@@ -56,7 +57,7 @@ fn short(bytes: &[u8]) -> Option<Form>
     }
 }
 
-/// The list that another owner of a value's bytes read, for the value itself.
+/// Returns the list that another owner of the bytes parsed, for use by this value.
 fn taken_up(alloc: Global, list: &Rc<Listed>) -> Result<Sheet, AllocError>
     ensures { IfOk result (λ s. s ≡ list.now.value) }
 {
@@ -64,7 +65,7 @@ fn taken_up(alloc: Global, list: &Rc<Listed>) -> Result<Sheet, AllocError>
 }
 
 impl Value {
-    /// The value without bytes. It allocates nothing.
+    /// Creates an empty value without allocating.
     pub fn new(alloc: Global) -> Value
         ensures { result ≡ [] }
     {
@@ -73,7 +74,7 @@ impl Value {
         }
     }
 
-    /// The value of a text's bytes.
+    /// Creates a value of a text's bytes.
     pub fn from_text(alloc: Global, text: Text) -> Result<Value, AllocError>
         ensures { IfOk result (λ v. v ≡ text) }
     {
@@ -85,7 +86,7 @@ impl Value {
         })
     }
 
-    /// The value of these bytes, copied. Short ones take no memory.
+    /// Creates a value from a copy of these bytes. Short ones need no allocation.
     #[inline(always)]
     pub fn from_slice(alloc: Global, bytes: &[u8]) -> Result<Value, AllocError>
         ensures { IfOk result (λ v. v ≡ bytes.now) }
@@ -96,14 +97,14 @@ impl Value {
         Value::from_text(alloc, Text::from_slice(alloc, bytes)?)
     }
 
-    /// The written text of elements, which are at hand from then on.
+    /// Creates the written form of elements, and keeps the elements.
     pub fn written(alloc: Global, elements: Packed) -> Result<Value, AllocError>
         ensures { IfOk result (λ v. v ≡ written elements) }
     {
         Value::of_list(alloc, Rc::new(alloc, Listed::write(alloc, elements)?)?)
     }
 
-    /// The value that a list is.
+    /// Creates the value of a list.
     pub(crate) fn of_list(alloc: Global, list: Rc<Listed>) -> Result<Value, AllocError>
         ensures { IfOk result (λ v. v ≡ list.value) }
     {
@@ -112,7 +113,7 @@ impl Value {
         })
     }
 
-    /// The value of these bytes, which are a list's element at an index.
+    /// Creates a value of these bytes, which are a list's element at an index.
     pub(crate) fn element(
         alloc: Global,
         rows: &Option<Rc<Rows>>,
@@ -132,7 +133,7 @@ impl Value {
         }
     }
 
-    /// The bytes, in order.
+    /// Returns the bytes, in order.
     #[inline(always)]
     pub fn as_slice(&self) -> &[u8]
         ensures { result.now ≡ self.now }
@@ -144,14 +145,14 @@ impl Value {
         }
     }
 
-    /// How many bytes there are.
+    /// Returns the number of bytes.
     pub fn len(&self) -> usize
         ensures { result ≡ length self.now }
     {
         self.as_slice().len()
     }
 
-    /// An equal value. It copies at most a short text, and takes no memory.
+    /// Returns the same value for another owner. It copies at most a short text.
     #[inline(always)]
     pub fn shared(&self, alloc: Global) -> Result<Value, AllocError>
         ensures { IfOk result (λ v. v ≡ self.now) }
@@ -164,7 +165,7 @@ impl Value {
         Ok(Value { form })
     }
 
-    /// The bytes as a text. It copies a short one, and one that has other owners.
+    /// Returns the bytes as a text. A short text is copied, and so is one with other owners.
     pub fn into_text(self, alloc: Global) -> Result<Text, AllocError>
         ensures { IfOk result (λ t. t ≡ self) }
     {
@@ -178,9 +179,9 @@ impl Value {
         }
     }
 
-    /// Puts bytes behind the value. Refused ones leave it as it was.
+    /// Appends bytes. On `AllocError` the value is unchanged.
     ///
-    /// Takes amortised constant time for a byte, where the value isn't shared and wasn't read as a list.
+    /// Amortised constant time per byte, if the value isn't shared and wasn't parsed as a list.
     pub fn append(&mut self, alloc: Global, bytes: &[u8]) -> Result<(), AllocError>
         ensures appended { OnOk result (self.new ≡ self.old ++ bytes.now) }
         ensures kept { OnErr result (self.new ≡ self.old) }
@@ -204,11 +205,14 @@ impl Value {
         Ok(())
     }
 
-    /// Puts elements behind those of the list that the value is, and makes it the written text of them all.
-    /// A refusal leaves it as it was: `BadList` exactly where it reads as no list, `TooLong` exactly where it would have more
-    /// than `limit` bytes then.
+    /// Appends elements to the list that the value is, and makes the value the written form of all
+    /// of them.
     ///
-    /// Takes time in the length of what is added, where the value isn't shared and got its elements in this way.
+    /// `BadList` means that the value is no list. `TooLong` means that it would have more than
+    /// `limit` bytes. On an error the value is unchanged.
+    ///
+    /// Time is linear in the length of the added elements, if the value isn't shared and got its
+    /// elements by this function.
     pub fn append_elements(
         &mut self,
         alloc: Global,
@@ -229,8 +233,9 @@ impl Value {
         Ok(())
     }
 
-    /// Whether the value is known to be the written text of the list that has it alone. Takes constant time: of a long value it is known
-    /// once the value was read as a list.
+    /// Returns true only if the value is also the written form of a list with the value as its one
+    /// element. Constant time. For a long value it is known only after the value was parsed as a
+    /// list.
     pub fn is_word(&self) -> bool
         ensures { IsTrue result → written (self.now ∷ []) ≡ self.now }
     {
@@ -241,7 +246,8 @@ impl Value {
         }
     }
 
-    /// Whether an owner of the value's bytes read them as a list, so that `settle` may have something to take up. Takes constant time.
+    /// Returns whether an owner of the bytes parsed them as a list, so that `settle` may have work.
+    /// Constant time.
     pub fn was_read(&self) -> bool {
         match &self.form {
             Form::Short(_) => false,
@@ -250,8 +256,8 @@ impl Value {
         }
     }
 
-    /// Takes up the list that another owner of the value's bytes, or of an element's that was taken out, read, where one did, so that its
-    /// elements are at hand from then on. The value stays the same.
+    /// Adopts the list that another owner parsed of the value's bytes, or of an element that was
+    /// taken out. Its elements are then available without parsing. The bytes are unchanged.
     pub fn settle(&mut self, alloc: Global)
         ensures { self.new ≡ self.old }
     {
@@ -262,7 +268,7 @@ impl Value {
         }
     }
 
-    /// Takes up the list that another owner of the value's bytes read.
+    /// Adopts the list that another owner parsed of the value's bytes.
     fn take_up(&mut self, alloc: Global)
         ensures { self.new ≡ self.old }
     {
@@ -275,9 +281,9 @@ impl Value {
         }
     }
 
-    /// Reads the value as a list, so that its elements are at hand from then on. The value stays the same.
+    /// Parses the value as a list and keeps the elements. The bytes are unchanged.
     ///
-    /// `BadList` exactly where it reads as no list.
+    /// `BadList` means that the value is no list.
     pub fn listed(&mut self, alloc: Global) -> Result<(), ListFault>
         ensures same { self.new ≡ self.old }
         ensures found { OnOk result (ReadsAs self.old (elements_of self.old)) }
@@ -291,9 +297,10 @@ impl Value {
         Ok(())
     }
 
-    /// The elements of the list that the value is. It copies nothing where the value was read as a list already.
+    /// Returns the elements of the list that the value is. Copies nothing if the value was parsed
+    /// as a list before.
     ///
-    /// `BadList` exactly where it reads as no list.
+    /// `BadList` means that the value is no list.
     pub fn elements(&self, alloc: Global) -> Result<Elements, ListFault>
         ensures found { IfOk result (λ e. ReadsAs self.now e) }
         ensures bad { result ≡ Err ListFault.BadList → elements self.now ≡ None }
@@ -304,7 +311,8 @@ impl Value {
         Ok(Elements::new(self.list(alloc)?))
     }
 
-    /// The value as a list with its elements. It copies nothing where the value was read as one already.
+    /// Returns the value as a list with its elements. Copies nothing if it was parsed as a list
+    /// before.
     fn list(&self, alloc: Global) -> Result<Rc<Listed>, ListFault>
         ensures same { IfOk result (λ l. l.value ≡ self.now) }
         ensures found { OnOk result (ReadsAs self.now (elements_of self.now)) }

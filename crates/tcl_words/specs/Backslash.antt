@@ -1,10 +1,11 @@
--- What a backslash stands for: a byte, and how many bytes behind the backslash belong to it.
--- As in Tcl(n), but without `\u` and `\U`, which are letters here.
+-- Backslash escapes: the byte that one stands for, and the number of bytes after the backslash that belong to it. As in
+-- Tcl(n), but `\u` and `\U` are just letters.
 use Rattle.std.specs.Prelude.{ℕ, zero, suc, ◌+◌, ◌-◌, ◌*◌, ◌&&◌, ◌||◌, List, [], ◌∷◌, Option, Some, None, nat_lt, nat_le, ◌==◌, if◌then◌else◌}
 use Rattle.std.specs.List.{prefix_len}
 use Rattle.tcl_words.specs.Bytes as ascii
 
--- \a \b \f \n \r \t \v; another byte is itself
+-- The escapes `\a \b \f
+--  \r \t \v`. Any other byte stands for itself.
 abbrev pub escaped : ℕ → ℕ
 escaped b =
     if b == ascii.letter_a then ascii.bell
@@ -15,14 +16,14 @@ escaped b =
     else (if b == ascii.letter_t then ascii.tab
     else (if b == ascii.letter_v then ascii.vertical_tab else b))))))
 
--- the value of a digit in base 16
+-- The value of a digit in base 16.
 abbrev pub hex_digit : ℕ → Option ℕ
 hex_digit b =
     if nat_le ascii.digit_0 b && nat_le b ascii.digit_9 then Some (b - ascii.digit_0)
     else (if nat_le ascii.letter_a b && nat_le b ascii.letter_f then Some (b - (ascii.letter_a - 10))
     else (if nat_le ascii.capital_a b && nat_le b ascii.capital_f then Some (b - (ascii.capital_a - 10)) else None))
 
--- the value of a digit in a base, at most 16
+-- The value of a digit in a base, which is at most 16.
 abbrev pub below : ℕ → Option ℕ → Option ℕ
 below base None = None
 below base (Some d) = if nat_lt d base then Some d else None
@@ -30,7 +31,7 @@ below base (Some d) = if nat_lt d base then Some d else None
 unfoldable pub digit : ℕ → ℕ → Option ℕ
 digit base b = below base (hex_digit b)
 
--- a value and a count, with one more byte counted
+-- The value, with a count one higher.
 abbrev pub one_more : ℕ × ℕ → ℕ × ℕ
 one_more p = (p.0, suc p.1)
 
@@ -38,17 +39,18 @@ abbrev pub digit_step : (ℕ → ℕ × ℕ) → ℕ → ℕ → Option ℕ → 
 digit_step more base value None = (value, 0)
 digit_step more base value (Some d) = if nat_lt (base * value + d) 256 then one_more (more (base * value + d)) else (value, 0)
 
--- A number after at most `most` further digits, and how many there were. A digit that leads above 255 isn't read.
+-- The number after at most `most` further digits, and how many digits were read. A digit that would exceed 255 isn't
+-- read.
 unfoldable pub digits : ℕ → ℕ → ℕ → List ℕ → ℕ × ℕ
 digits base zero value bytes = (value, 0)
 digits base (suc most) value [] = (value, 0)
 digits base (suc most) value (b ∷ bytes) = digit_step (λ v. digits base most v bytes) base value (digit base b)
 
--- how many blanks and tabs a text begins with
+-- The number of leading spaces and tabs.
 unfoldable pub blanks : List ℕ → ℕ
 blanks bytes = prefix_len (λ b. b == ascii.space || b == ascii.tab) bytes
 
--- behind `\x`: one or two hexadecimal digits, or none, and then it is `x`
+-- The escape `\x` with one or two hexadecimal digits. Without digits it stands for `x`.
 abbrev pub hex_escape : ℕ × ℕ → ℕ × ℕ
 hex_escape (value, zero) = (ascii.letter_x, 1)
 hex_escape (value, suc n) = (value, suc (suc n))
@@ -57,7 +59,7 @@ abbrev pub octal_escape : ℕ → List ℕ → Option ℕ → ℕ × ℕ
 octal_escape b bytes None = (escaped b, 1)
 octal_escape b bytes (Some d) = one_more (digits 8 2 d bytes)
 
--- the byte that a backslash gives with these bytes behind it, and how many of them belong to it
+-- The byte that a backslash with these bytes after it stands for, and how many of them belong to it.
 unfoldable pub backslash : List ℕ → ℕ × ℕ
 backslash [] = (ascii.backslash, 0)
 backslash (b ∷ bytes) =

@@ -1,7 +1,8 @@
--- The bytes that mean something in a script, a pattern, a log or a terminal's input, by their names in ASCII; to a terminal `delete` is ERASE.
+-- The bytes with a meaning in a script, a pattern, a log or a terminal's input, by their names in ASCII. `delete` is a
+-- terminal's ERASE.
 use Rattle.std.specs.Prelude.{ℕ}
 
--- a terminal's EOF
+-- The EOF of a terminal.
 abbrev pub end_of_file : ℕ
 end_of_file = 4
 
@@ -26,7 +27,7 @@ form_feed = 12
 abbrev pub carriage_return : ℕ
 carriage_return = 13
 
--- a terminal's KILL
+-- The KILL of a terminal.
 abbrev pub kill : ℕ
 kill = 21
 

@@ -1,4 +1,4 @@
--- The operands of an expression that are read as words and their parts are: `$..`, `[..]`, `".."` and `{..}` of expr(n).
+-- Operands of an expression that are read like words and their parts: `$..`, `[..]`, `".."` and `{..}` of expr(n).
 use Rattle.std.specs.Prelude.{ℕ, ◌+◌, false, ◌||◌, List, [], ◌∷◌, take, Option, Some, None, Result, Ok, Err, ◌==◌, if◌then◌else◌}
 use Rattle.tcl_words.specs.Bytes as ascii
 use Rattle.tcl_words.specs.declared.faults.WordFault.{WordFault}
@@ -8,11 +8,11 @@ use Rattle.tcl_words.specs.Lists.{closing}
 use Rattle.tcl_words.specs.Pieces.{literal, Pieces, no_pieces, piece, Spelled}
 use Rattle.tcl_words.specs.Commands.{Read, Token, byte, substitution, inside_of, deepest, token_at, parts, joined}
 
--- an operand and how many bytes it takes, none, or a fault
+-- An operand and the number of bytes it takes, `None`, or an error.
 abbrev pub Operand : Type 0
 Operand = Result (Option (Spelled × ℕ)) WordFault
 
--- an operand of these parts that takes n bytes
+-- An operand with these parts, which takes n bytes.
 abbrev pub operand_of : Pieces → ℕ → Operand
 operand_of ps n = Ok (Some (record { expand = false; pieces = ps }, n))
 
@@ -22,17 +22,17 @@ substituted (Err e) = Err e
 substituted (Ok (byte b, n)) = Ok None
 substituted (Ok (substitution p, n)) = operand_of (piece p no_pieces) (1 + n)
 
--- `".."`, by the parts behind the opening quote
+-- `".."`, given the parts after the opening quote.
 abbrev pub quoted : Read Pieces → Operand
 quoted (Err e) = Err e
 quoted (Ok p) = operand_of p.0 (1 + p.1)
 
--- `{..}`: the bytes behind the opening brace, and how many stand before the closing one
+-- `{..}`, given the bytes after the opening brace and the number of bytes before the closing one.
 abbrev pub braced : List ℕ → Option ℕ → Operand
 braced bytes None = Err MissingBrace
 braced bytes (Some n) = operand_of (piece (literal (joined (take n bytes))) no_pieces) (2 + n)
 
--- the operand at the front of a text, whatever stands behind it
+-- The operand at the front of a text, whatever follows it.
 unfoldable pub operand : List ℕ → Operand
 operand [] = Ok None
 operand (b ∷ bytes) =

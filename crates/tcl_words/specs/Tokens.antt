@@ -1,4 +1,4 @@
--- What the reader hands on at one place, without where it lies in memory.
+-- The tokens of the reader as plain data.
 use Rattle.tcl_words.specs.declared.token.Token.{Token}
 use Rattle.tcl_words.specs.declared.token.Token.TheVariants.{Byte, Substitution}
 use Rattle.tcl_words.specs.Pieces.{part_view}

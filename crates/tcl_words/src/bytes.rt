@@ -21,7 +21,7 @@ impl Model for Text {
 }
 
 impl Text {
-    /// The text without bytes. It allocates nothing.
+    /// Creates an empty text without allocating.
     pub fn new(alloc: Global) -> Text
         ensures { result ≡ [] }
     {
@@ -30,7 +30,7 @@ impl Text {
         }
     }
 
-    /// A text of these bytes, copied.
+    /// Creates a text from a copy of these bytes.
     pub fn from_slice(alloc: Global, bytes: &[u8]) -> Result<Text, AllocError>
         ensures { IfOk result (λ t. t ≡ bytes.now) }
     {
@@ -39,21 +39,21 @@ impl Text {
         })
     }
 
-    /// The bytes, in order.
+    /// Returns the bytes, in order.
     pub fn as_slice(&self) -> &[u8]
         ensures { result.now ≡ self.now }
     {
         self.bytes.as_slice()
     }
 
-    /// How many bytes the text has.
+    /// Returns the number of bytes.
     pub fn len(&self) -> usize
         ensures { result ≡ length self.now }
     {
         self.bytes.len()
     }
 
-    /// Puts a byte behind the text. A refused one leaves the text as it was.
+    /// Appends a byte. On `AllocError` the text is unchanged.
     pub fn push(&mut self, byte: u8) -> Result<(), AllocError>
         ensures pushed { OnOk result (self.new ≡ self.old ++ byte ∷ []) }
         ensures kept { OnErr result (self.new ≡ self.old) }
@@ -62,7 +62,7 @@ impl Text {
         Ok(())
     }
 
-    /// Puts bytes behind the text. Refused ones leave the text as it was.
+    /// Appends bytes. On `AllocError` the text is unchanged.
     pub fn extend(&mut self, bytes: &[u8]) -> Result<(), AllocError>
         ensures extended { OnOk result (self.new ≡ self.old ++ bytes.now) }
         ensures kept { OnErr result (self.new ≡ self.old) }
@@ -71,14 +71,14 @@ impl Text {
         Ok(())
     }
 
-    /// Whether another text has the same bytes.
+    /// Returns whether another text has the same bytes.
     pub fn is_same(&self, other: &Text) -> bool
         ensures { IsTrue result ↔ (self.now ≡ other.now) }
     {
         self.as_slice() == other.as_slice()
     }
 
-    /// An equal text.
+    /// Returns a copy.
     pub fn copied(&self, alloc: Global) -> Result<Text, AllocError>
         ensures { IfOk result (λ t. t ≡ self.now) }
     {
@@ -86,7 +86,7 @@ impl Text {
     }
 }
 
-/// Texts in order. A contract sees them as a list of byte lists.
+/// A list of texts, in order. A contract sees a list of byte lists.
 #[derive(Drop)]
 pub struct Texts {
     /// The texts, in order.
@@ -102,7 +102,7 @@ impl Model for Texts {
 }
 
 impl Texts {
-    /// No texts. It allocates nothing.
+    /// Creates an empty list without allocating.
     pub fn new(alloc: Global) -> Texts
         ensures { result ≡ [] }
     {
@@ -111,21 +111,21 @@ impl Texts {
         }
     }
 
-    /// The texts, in order.
+    /// Returns the texts, in order.
     pub fn as_slice(&self) -> &[Text]
         ensures { result.now ≡ self.now }
     {
         self.list.as_slice()
     }
 
-    /// How many texts there are.
+    /// Returns the number of texts.
     pub fn len(&self) -> usize
         ensures { result ≡ length self.now }
     {
         self.list.len()
     }
 
-    /// Puts a text behind the others. A refused one leaves the list as it was.
+    /// Appends a text. On `AllocError` the list is unchanged.
     pub fn push(&mut self, text: Text) -> Result<(), AllocError>
         ensures pushed { OnOk result (self.new ≡ self.old ++ text ∷ []) }
         ensures kept { OnErr result (self.new ≡ self.old) }
@@ -134,7 +134,7 @@ impl Texts {
         Ok(())
     }
 
-    /// Whether another list has the same texts in the same order.
+    /// Returns whether another list has the same texts in the same order.
     pub fn is_same(&self, other: &Texts) -> bool
         ensures { IsTrue result ↔ (self.now ≡ other.now) }
     {
@@ -149,7 +149,7 @@ impl Texts {
         true
     }
 
-    /// Equal texts in the same order.
+    /// Returns a copy.
     pub fn copied(&self, alloc: Global) -> Result<Texts, AllocError>
         ensures { IfOk result (λ t. t ≡ self.now) }
     {
@@ -157,7 +157,7 @@ impl Texts {
     }
 }
 
-/// Equal texts in the same order.
+/// Returns a copy of texts.
 pub fn copied_texts(alloc: Global, texts: &[Text]) -> Result<Texts, AllocError>
     ensures { IfOk result (λ t. t ≡ texts.now) }
 {

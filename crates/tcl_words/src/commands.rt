@@ -1,4 +1,4 @@
-//! The next command of a text.
+//! Reads the next command of a text.
 
 ghost use Rattle.std.specs.Prelude.{◌≡◌, ◌≤◌, ◌<◌, IfOk, IfSome, length, option_map};
 ghost use Rattle.tcl_words.specs.Pieces.{parts_view, word_view, words_view, command_view};
@@ -14,7 +14,7 @@ use crate::shapes::{Command, Part, Word};
 use crate::stop::Stop;
 use std::alloc::Global;
 
-/// The parts of a word, but for `{*}` before it.
+/// Reads a word without a leading `{*}`. Returns its parts and the number of bytes read.
 #[tactic(auto, unfolding(crate::specs::Commands::plain_word))]
 fn plain_word(alloc: Global, bytes: &[u8]) -> Result<(Vec<Part>, usize), WordFault>
     ensures value { Gives (λ x. (parts_view x.0.items, x.1)) result (plain_word (inside_of deepest) Gap bytes.now) }
@@ -42,7 +42,7 @@ fn plain_word(alloc: Global, bytes: &[u8]) -> Result<(Vec<Part>, usize), WordFau
     }
 }
 
-/// The word at the front of a text that begins with no white space.
+/// Reads the word at the front of a text that doesn't begin with white space.
 #[tactic(auto, unfolding(crate::specs::Commands::word))]
 fn word(alloc: Global, bytes: &[u8]) -> Result<(Word, usize), WordFault>
     ensures value { Gives (λ x. (word_view x.0, x.1)) result (word (inside_of deepest) Gap bytes.now) }
@@ -54,7 +54,7 @@ fn word(alloc: Global, bytes: &[u8]) -> Result<(Word, usize), WordFault>
     Ok((Word { expand, parts }, prefix + n))
 }
 
-/// The words up to the command's end, and how many bytes they take.
+/// Reads the words up to the end of the command. Returns them and the number of bytes read.
 fn words(alloc: Global, bytes: &[u8]) -> Result<(Vec<Word>, usize), WordFault>
     ensures value { Gives (λ x. (words_view x.0.items, x.1)) result (words (inside_of deepest) bytes.now) }
     ensures within { IfOk result (λ x. x.1 ≤ length bytes.now) }
@@ -79,7 +79,7 @@ fn words(alloc: Global, bytes: &[u8]) -> Result<(Vec<Word>, usize), WordFault>
     Ok((list, at))
 }
 
-/// How many bytes stand before the next command, where there is one.
+/// Returns the number of bytes before the next command. `None` if there is no command.
 fn start(bytes: &[u8]) -> Option<usize>
     ensures value { result ≡ start bytes.now }
     ensures within { IfSome result (λ n. n < length bytes.now) }
@@ -94,10 +94,10 @@ fn start(bytes: &[u8]) -> Option<usize>
     None
 }
 
-/// The next command of a text from a place on, and the place behind it and the newline or `;` that ends it.
-/// `None` where only white space, ends of commands and comments are left.
+/// Reads the next command of a text from index `at` on. Returns it with the index after the newline
+/// or `;` that ends it. `None` if only white space, ends of commands and comments are left.
 ///
-/// A fault inside a bracket is a fault of the command around it.
+/// An error inside brackets is an error of the command around them.
 #[tactic(auto, unfolding(crate::specs::Commands::next_command))]
 pub fn next_command(
     alloc: Global,

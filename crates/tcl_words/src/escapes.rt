@@ -1,9 +1,10 @@
-//! What a backslash and the bytes behind it stand for.
+//! Reads backslash escapes.
 
 ghost use Rattle.std.specs.Prelude.{◌≡◌, ◌≤◌, length};
 ghost use Rattle.tcl_words.specs.Backslash.{escaped, digits, blanks, backslash, digit};
 
-/// The byte that a letter behind a backslash names: itself, but for seven.
+/// Returns the byte that a letter after a backslash names. Seven letters name a control character,
+/// all other bytes themselves.
 fn named(b: u8) -> u8
     ensures { result ≡ escaped b }
 {
@@ -19,7 +20,7 @@ fn named(b: u8) -> u8
     }
 }
 
-/// The value of a digit in a base, at most 16.
+/// Returns the value of a digit in a base, which is at most 16.
 #[tactic(auto, unfolding(crate::specs::Backslash::digit))]
 fn digit(base: u8, b: u8) -> Option<u8>
     ensures { result ≡ digit base b }
@@ -33,7 +34,7 @@ fn digit(base: u8, b: u8) -> Option<u8>
     if value < base { Some(value) } else { None }
 }
 
-/// A number after at most so many further digits, and how many there were.
+/// Returns the number after at most `most` further digits, and how many digits were read.
 #[tactic(auto, unfolding(crate::specs::Backslash::digits))]
 fn digits(base: u8, most: u8, value: u8, bytes: &[u8]) -> (u8, usize)
     ensures value { result ≡ digits base most value bytes.now }
@@ -56,7 +57,8 @@ fn digits(base: u8, most: u8, value: u8, bytes: &[u8]) -> (u8, usize)
     }
 }
 
-/// How many spaces and tabs a text begins with. Behind a backslash and a newline they belong to the backslash.
+/// Returns the number of leading spaces and tabs. After a backslash and a newline they belong to
+/// the escape.
 #[tactic(auto, unfolding(crate::specs::Backslash::blanks))]
 pub fn blanks(bytes: &[u8]) -> usize
     ensures value { result ≡ blanks bytes.now }
@@ -68,8 +70,8 @@ pub fn blanks(bytes: &[u8]) -> usize
         .count()
 }
 
-/// The byte that a backslash gives with these bytes behind it, and how many of them belong to it.
-/// With no byte behind it a backslash stands for itself.
+/// Returns the byte that a backslash with these bytes after it stands for, and how many of them
+/// belong to it. At the end of the text a backslash stands for itself.
 #[tactic(auto, unfolding(crate::specs::Backslash::backslash))]
 pub fn backslash(bytes: &[u8]) -> (u8, usize)
     ensures value { result ≡ backslash bytes.now }

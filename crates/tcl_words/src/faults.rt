@@ -1,36 +1,37 @@
-//! Why a command or a list could not be read.
+//! The errors of commands and lists.
 
 ghost use Rattle.std.specs.Prelude.{◌≡◌};
 
 use std::alloc::{AllocError, AllocFailed};
 
-/// Why a command could not be read. Of several constructs that are left open, the innermost one's fault is given.
+/// Why a command can't be read. If several constructs are open, the error is that of the innermost
+/// one.
 #[derive(Clone, Copy, PartialEq, Eq)]
 pub enum WordFault {
     /// A `{` or a `${` without its `}`.
     MissingBrace,
     /// A `[` without its `]`.
     MissingBracket,
-    /// A word that begins with `"` and has no closing one.
+    /// A word that begins with `"` and has no closing quote.
     MissingQuote,
-    /// Something else than white space or the command's end behind a closing quote.
+    /// A closing quote that isn't followed by white space or the end of the command.
     ExtraAfterQuote,
-    /// Something else than white space or the command's end behind a closing brace.
+    /// A closing brace that isn't followed by white space or the end of the command.
     ExtraAfterBrace,
-    /// More than 200 brackets and indexes in one another.
+    /// Brackets and indexes that nest more than 200 deep.
     TooDeep,
-    /// No memory was left.
+    /// Memory was refused.
     Memory,
-    /// The index of an array's element without its `)`.
+    /// An index of an array without its `)`.
     MissingParen,
 }
 
-/// Why a list could not be read.
+/// Why a list can't be read.
 #[derive(Clone, Copy, PartialEq, Eq)]
 pub enum ListFault {
     /// The text is no list.
     BadList,
-    /// No memory was left.
+    /// Memory was refused.
     Memory,
 }
 

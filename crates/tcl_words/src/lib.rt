@@ -1,6 +1,8 @@
-//! The syntax of a Tcl subset: commands with their words and parts, operands of expressions, backslashes and lists.
+//! The syntax of a Tcl subset: commands with their words and parts, operands of expressions,
+//! escapes and lists.
 //!
-//! Texts are bytes. What is read is defined in `specs/`: `Commands`, `Operands`, `Backslash` and `Lists`, with the rules of lists beside it in `ListRules`.
+//! Texts are bytes. `Commands`, `Operands`, `Backslash` and `Lists` in `specs/` define how they are
+//! read. `ListRules` gives the rules of lists.
 #![tactic(auto)]
 
 mod bytes;

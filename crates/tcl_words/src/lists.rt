@@ -1,4 +1,4 @@
-//! Lists as text.
+//! Reads lists.
 
 ghost use Rattle.std.specs.Prelude.{◌≡◌, ℕ, List, Err, ◌<◌, ◌≤◌, length, take, drop, IfOk, IfSome, IsTrue};
 ghost use Rattle.tcl_words.specs.Lists.{GivesOption, stops_element, is_white, begins_white, content, closing, element, elements, with_text, put_behind, ReadsAs};
@@ -11,14 +11,14 @@ use crate::places::{after, before};
 use crate::scan::is_blank;
 use std::alloc::{AllocError, Global};
 
-/// White space between the elements of a list: the bytes 09 to 0D and 20.
+/// Returns whether a byte is white space between the elements of a list: 09 to 0D or 20.
 pub fn is_white(b: u8) -> bool
     ensures { result ≡ is_white b }
 {
     is_blank(b) || b == b'\n'
 }
 
-/// Whether an element in braces or quotes may end before these bytes.
+/// Returns whether an element in braces or quotes may end before these bytes.
 fn begins_white(bytes: &[u8]) -> bool
     ensures { result ≡ begins_white bytes.now }
 {
@@ -28,14 +28,15 @@ fn begins_white(bytes: &[u8]) -> bool
     }
 }
 
-/// Whether a byte ends an element, in quotes or not.
+/// Returns whether a byte ends an element, in quotes or not.
 fn stops_element(quoted: bool, b: u8) -> bool
     ensures { result ≡ stops_element quoted b }
 {
     if quoted { b == b'"' } else { is_white(b) }
 }
 
-/// The bytes up to the end of an element, backslashes replaced, and how many they are.
+/// Reads the bytes up to the end of an element, with escapes replaced. Returns the value and the
+/// number of bytes read.
 fn content(alloc: Global, bytes: &[u8], quoted: bool) -> Result<(Text, usize), ListFault>
     ensures value { GivesOption (λ x. (x.0, x.1)) result (content quoted bytes.now) }
     ensures within { IfOk result (λ x. x.1 ≤ length bytes.now) }
@@ -63,7 +64,7 @@ fn content(alloc: Global, bytes: &[u8], quoted: bool) -> Result<(Text, usize), L
     Ok((Text { bytes: text }, at))
 }
 
-/// How many bytes stand before one that ends an element or is a backslash.
+/// Returns the number of leading bytes that neither end an element nor are a backslash.
 fn plain_len(bytes: &[u8], quoted: bool) -> usize
     ensures within { result ≤ length bytes.now }
     ensures read { with_text (take result bytes.now) result (content quoted (drop result bytes.now)) ≡ content quoted bytes.now }
@@ -79,8 +80,8 @@ fn plain_len(bytes: &[u8], quoted: bool) -> usize
     at
 }
 
-/// Puts the bytes up to the end of an element behind other elements, and how many they are. Those without a backslash are copied as
-/// they stand.
+/// Appends the value of the bytes up to the end of an element. Returns the number of bytes read.
+/// Bytes without escapes are copied as a block.
 fn push_content(
     list: &mut Packed,
     alloc: Global,
@@ -105,7 +106,7 @@ fn push_content(
     Ok(n)
 }
 
-/// How many bytes stand before the brace that closes.
+/// Returns the number of bytes before the closing brace.
 pub(crate) fn closing(bytes: &[u8]) -> Option<usize>
     ensures value { result ≡ closing bytes.now 0 }
     ensures within { IfSome result (λ n. n < length bytes.now) }
@@ -132,7 +133,7 @@ pub(crate) fn closing(bytes: &[u8]) -> Option<usize>
     None
 }
 
-/// Puts the element at the front of a text behind others, and how many bytes it takes.
+/// Appends the element at the front of a text. Returns the number of bytes it takes.
 #[tactic(auto, unfolding(crate::specs::Lists::element))]
 fn push_element(list: &mut Packed, alloc: Global, bytes: &[u8]) -> Result<usize, ListFault>
     ensures value { GivesOption (λ n. (list.new, n)) result (put_behind list.old (element bytes.now)) }
@@ -164,9 +165,9 @@ fn push_element(list: &mut Packed, alloc: Global, bytes: &[u8]) -> Result<usize,
     }
 }
 
-/// The elements of a text in order, where it is a list.
+/// Reads the elements of a list, in order.
 ///
-/// `BadList` exactly where the text reads as no list.
+/// `BadList` means that the text is no list.
 pub fn read_list(alloc: Global, text: &[u8]) -> Result<Packed, ListFault>
     ensures found { IfOk result (λ l. ReadsAs text.now l) }
     ensures bad { result ≡ Err ListFault.BadList → (l : List (List ℕ)) → ¬ ReadsAs text.now l }
@@ -174,7 +175,7 @@ pub fn read_list(alloc: Global, text: &[u8]) -> Result<Packed, ListFault>
     split(alloc, text)
 }
 
-/// The elements of a text, by the definition that the crate's laws are about.
+/// Reads the elements of a text, by the definition that the laws of this crate use.
 fn split(alloc: Global, text: &[u8]) -> Result<Packed, ListFault>
     ensures { GivesOption (λ l. l) result (elements text.now) }
 {

@@ -1,4 +1,4 @@
-//! Operands of an expression that are read as words and their parts are.
+//! Reads operands of an expression that are written like words and their parts.
 
 ghost use Rattle.std.specs.Prelude.{◌≡◌, ◌≤◌, ◌<◌, false, IfOk, IfSome, length, option_map};
 ghost use Rattle.tcl_words.specs.Commands.{Gives};
@@ -14,7 +14,7 @@ use crate::stop::Stop;
 use crate::token::Token;
 use std::alloc::{AllocError, Global};
 
-/// A word that is one part.
+/// Makes a word of one part.
 fn word_of(alloc: Global, part: Part) -> Result<Word, AllocError>
     ensures { IfOk result (λ w. word_view w ≡ record { expand = false; pieces = piece (part_view part) no_pieces }) }
 {
@@ -26,9 +26,11 @@ fn word_of(alloc: Global, part: Part) -> Result<Word, AllocError>
     })
 }
 
-/// The operand at the front of an expression's text, and how many bytes it takes: a `$`-part, a script in brackets,
-/// or what stands in quotes or braces. `None` where the text begins with none of these, as with a `$` that stands for itself.
-/// What follows the operand is not looked at.
+/// Reads the operand at the front of an expression, and returns it with the number of bytes it
+/// takes. An operand is a `$` substitution, a script in brackets, or a text in quotes or braces.
+///
+/// `None` if the text begins with none of these, for example with a `$` that stands for itself. The
+/// bytes after the operand are not checked.
 #[tactic(auto, unfolding(crate::specs::Operands::operand))]
 pub fn operand(alloc: Global, bytes: &[u8]) -> Result<Option<(Word, usize)>, WordFault>
     ensures value { Gives (λ found. option_map (λ x. (word_view x.0, x.1)) found) result (operand bytes.now) }

@@ -1,4 +1,4 @@
-//! Texts that stand one behind another.
+//! Texts that are stored one after another.
 
 ghost use Rattle.std.specs.Prelude.{◌≡◌, ◌++◌, ◌∷◌, ◌≤◌, [], take, drop, length, get_or, slice_get, IfOk, OnOk, OnErr};
 ghost use Rattle.std.specs.Option.{option_copied};
@@ -8,13 +8,13 @@ use crate::bytes::{Text, Texts};
 use std::alloc::{AllocError, Global};
 use std::marker::Model;
 
-/// Texts, one behind another in one run of bytes, so that a short one takes little more than its bytes. A contract sees them as a list of
-/// byte lists.
+/// Texts, stored one after another in one array, so that a short text takes little more than its
+/// bytes. A contract sees a list of byte lists.
 #[derive(Drop)]
 pub struct Packed {
     /// The bytes of all texts, in order.
     bytes: Vec<u8>,
-    /// Where each text ends.
+    /// The position after each text.
     ends: Vec<usize>,
 }
 
@@ -29,7 +29,8 @@ impl Model for Packed {
     ghost invariant = { λ p. Rise 0 p.ends.items (length p.bytes.items) };
 }
 
-/// Where the text at an index begins, of texts that end at these places; behind all of them where the last one ends.
+/// Returns the position of the text with this index. Past the last text it is the end of the last
+/// one.
 fn begin(ends: &[usize], index: usize) -> usize
     ensures { index ≤ length ends.now → result ≡ begin 0 ends.now index }
 {
@@ -42,7 +43,7 @@ fn begin(ends: &[usize], index: usize) -> usize
     }
 }
 
-/// The text at an index from 0, of texts in these bytes that end at these places.
+/// Returns the text with this index, counted from 0.
 fn piece<'a>(bytes: &'a [u8], ends: &[usize], index: usize) -> Option<&'a [u8]>
     requires { Rise 0 ends.now (length bytes.now) }
     ensures { option_copied result ≡ slice_get (cut 0 ends.now bytes.now) index }
@@ -53,7 +54,7 @@ fn piece<'a>(bytes: &'a [u8], ends: &[usize], index: usize) -> Option<&'a [u8]>
 }
 
 impl Packed {
-    /// No texts.
+    /// Creates an empty list.
     pub fn new(alloc: Global) -> Packed
         ensures { result ≡ [] }
     {
@@ -63,14 +64,14 @@ impl Packed {
         }
     }
 
-    /// How many there are.
+    /// Returns the number of texts.
     pub fn len(&self) -> usize
         ensures { result ≡ length self.now }
     {
         self.ends.len()
     }
 
-    /// Puts a text behind the others. A refused one leaves them as they were.
+    /// Appends a text. On `AllocError` the list is unchanged.
     pub fn push(&mut self, text: &[u8]) -> Result<(), AllocError>
         ensures pushed { OnOk result (self.new ≡ self.old ++ text.now ∷ []) }
         ensures kept { OnErr result (self.new ≡ self.old) }
@@ -81,7 +82,7 @@ impl Packed {
         Ok(())
     }
 
-    /// Puts texts behind the others, as far as memory is there for them.
+    /// Appends texts. On `AllocError` some of them may be appended.
     fn push_each(&mut self, texts: &Packed) -> Result<(), AllocError>
         ensures pushed { OnOk result (self.new ≡ self.old ++ texts.now) }
         ensures front { take (length self.old) self.new ≡ self.old }
@@ -92,7 +93,7 @@ impl Packed {
         Ok(())
     }
 
-    /// Puts texts behind the others. Where one is refused they stay as they were.
+    /// Appends texts. On `AllocError` the list is unchanged.
     pub fn push_all(&mut self, texts: &Packed) -> Result<(), AllocError>
         ensures pushed { OnOk result (self.new ≡ self.old ++ texts.now) }
         ensures kept { OnErr result (self.new ≡ self.old) }
@@ -105,7 +106,7 @@ impl Packed {
         pushed
     }
 
-    /// Keeps so many of them at most, the first ones.
+    /// Drops all but the first `count` texts.
     pub fn truncate(&mut self, count: usize)
         ensures { self.new ≡ take count self.old }
     {
@@ -117,14 +118,14 @@ impl Packed {
         self.bytes.truncate(end);
     }
 
-    /// The text at an index from 0.
+    /// Returns the text with this index, counted from 0. `None` if there is none.
     pub fn get(&self, index: usize) -> Option<&[u8]>
         ensures { option_copied result ≡ slice_get self.now index }
     {
         piece(self.bytes.as_slice(), self.ends.as_slice(), index)
     }
 
-    /// The text at an index from 0, empty where there is none.
+    /// Returns the text with this index, counted from 0, or an empty text.
     pub(crate) fn at(&self, index: usize) -> &[u8]
         ensures { result.now ≡ get_or self.now index [] }
     {
@@ -134,7 +135,7 @@ impl Packed {
         }
     }
 
-    /// The texts, each copied on its own.
+    /// Copies each text into a text of its own.
     pub fn texts(&self, alloc: Global) -> Result<Texts, AllocError>
         ensures { IfOk result (λ ts. ts ≡ self.now) }
     {
@@ -145,7 +146,7 @@ impl Packed {
         Ok(texts)
     }
 
-    /// The texts from an index up to another, copied, as far as there are any.
+    /// Copies the texts from index `from` up to but not including `to`, as far as they exist.
     pub fn part(&self, alloc: Global, from: usize, to: usize) -> Result<Packed, AllocError>
         ensures { IfOk result (λ p. p ≡ drop from (take to self.now)) }
     {

@@ -1,6 +1,6 @@
-//! The parts of a word.
+//! Reads the parts of a word.
 //!
-//! `depth` is how many more brackets and indexes may open in one another.
+//! `depth` is how many more brackets and indexes may nest.
 
 ghost use Rattle.std.specs.Prelude.{◌≡◌, ◌≤◌, IfOk, OnOk, length};
 ghost use Rattle.tcl_words.specs.Tokens.{token_view};
@@ -18,10 +18,10 @@ use crate::stop::Stop;
 use crate::token::Token;
 use std::alloc::{AllocError, Global};
 
-/// Brackets and indexes may stand in one another so deep.
+/// The greatest nesting of brackets and indexes.
 pub(crate) const DEEPEST: u8 = 200;
 
-/// What stands at a byte, and how many bytes behind it belong to it.
+/// Reads the token at a byte. Returns it and the number of later bytes that belong to it.
 #[cycle(read)]
 #[tactic(auto, unfolding(crate::specs::Commands::token_at))]
 pub(crate) fn token_at(
@@ -48,7 +48,7 @@ pub(crate) fn token_at(
     }
 }
 
-/// What a `$` gives with these bytes behind it.
+/// Reads what follows a `$`.
 #[cycle(read)]
 fn variable(alloc: Global, rest: &[u8], depth: u8) -> Result<(Token, usize), WordFault>
     ensures value { Gives (λ x. (token_view x.0, x.1)) result (dollar (inside_of depth) (name_len rest.now) rest.now) }
@@ -75,7 +75,7 @@ fn variable(alloc: Global, rest: &[u8], depth: u8) -> Result<(Token, usize), Wor
     Ok((Token::Substitution(Part::Var(name, None)), n))
 }
 
-/// The parts of an index, up to the `)`.
+/// Reads the parts of an index, up to the `)`.
 #[cycle(read)]
 #[tactic(auto, unfolding(crate::specs::Commands::inside_of))]
 fn index(alloc: Global, rest: &[u8], depth: u8) -> Result<(Vec<Part>, usize), WordFault>
@@ -88,7 +88,7 @@ fn index(alloc: Global, rest: &[u8], depth: u8) -> Result<(Vec<Part>, usize), Wo
     parts(alloc, rest, Stop::Paren, depth - 1)
 }
 
-/// Puts the bytes at the end of the parts, as a literal.
+/// Appends the bytes to the parts, as a literal.
 fn flush(list: &mut Vec<Part>, text: Vec<u8>) -> Result<(), AllocError>
     ensures { OnOk result (parts_view list.new.items ≡ append (parts_view list.old.items) (literal_of text.items)) }
 {
@@ -98,7 +98,7 @@ fn flush(list: &mut Vec<Part>, text: Vec<u8>) -> Result<(), AllocError>
     Ok(())
 }
 
-/// The parts up to where a run ends, and how many bytes it takes.
+/// Reads the parts up to the end of a run. Returns them and the number of bytes read.
 #[cycle(read)]
 pub(crate) fn parts(
     alloc: Global,
@@ -139,7 +139,7 @@ pub(crate) fn parts(
     }
 }
 
-/// The text of a word in braces.
+/// Returns the text of a word in braces.
 fn joined(alloc: Global, bytes: &[u8]) -> Result<Vec<u8>, AllocError>
     ensures { IfOk result (λ v. v.items ≡ joined bytes.now) }
 {
@@ -163,7 +163,7 @@ fn joined(alloc: Global, bytes: &[u8]) -> Result<Vec<u8>, AllocError>
     Ok(text)
 }
 
-/// The parts of a word in braces: a literal, which may be empty.
+/// Returns the parts of a word in braces: one literal, which may be empty.
 pub(crate) fn braced(alloc: Global, bytes: &[u8]) -> Result<Vec<Part>, AllocError>
     ensures { IfOk result (λ list. parts_view list.items ≡ piece (literal (joined bytes.now)) no_pieces) }
 {

@@ -1,4 +1,4 @@
-//! Where words, brackets and comments end.
+//! Finds the ends of words, brackets and comments.
 
 ghost use Rattle.std.specs.Prelude.{◌≡◌, ◌≤◌, ◌<◌, IfSome, IsTrue, length};
 ghost use Rattle.tcl_words.specs.Lists.{begins_with};
@@ -9,14 +9,14 @@ use crate::faults::WordFault;
 use crate::places::after;
 use crate::stop::Stop;
 
-/// White space between the words of a command: the bytes 09, 0B, 0C, 0D and 20.
+/// Returns whether a byte is white space between the words of a command: 09, 0B, 0C, 0D or 20.
 pub fn is_blank(b: u8) -> bool
     ensures { result ≡ is_blank b }
 {
     b == b' ' || b == b'\t' || b == 0x0b || b == 0x0c || b == b'\r'
 }
 
-/// Whether a byte ends a command: newline and `;`.
+/// Returns whether a byte ends a command: a newline or `;`.
 pub fn ends_command(b: u8) -> bool
     ensures { result ≡ ends_command b }
 {
@@ -33,7 +33,7 @@ pub(crate) fn begins_with(c: u8, bytes: &[u8]) -> bool
     }
 }
 
-/// Whether a byte is a backslash with a newline behind it, which is white space between words.
+/// Returns whether a byte is a backslash followed by a newline, which is white space between words.
 pub fn is_continued(b: u8, rest: &[u8]) -> bool
     ensures { result ≡ is_continued b rest.now }
 {
@@ -46,7 +46,7 @@ fn is_gap(b: u8, rest: &[u8]) -> bool
     is_blank(b) || ends_command(b) || is_continued(b, rest)
 }
 
-/// Whether a run of parts ends before this byte.
+/// Returns whether a run of parts ends before this byte.
 pub(crate) fn stops(stop: Stop, b: u8, rest: &[u8]) -> bool
     ensures { result ≡ stops stop b rest.now }
 {
@@ -58,7 +58,7 @@ pub(crate) fn stops(stop: Stop, b: u8, rest: &[u8]) -> bool
     }
 }
 
-/// How many bytes close a run.
+/// Returns the number of bytes that close a run.
 pub(crate) fn stop_len(stop: Stop) -> usize
     ensures value { result ≡ stop_len stop }
     ensures small { result ≤ 1 }
@@ -69,7 +69,7 @@ pub(crate) fn stop_len(stop: Stop) -> usize
     }
 }
 
-/// The fault of a run that ends with the text, where a byte has to close it.
+/// Returns the error if the text ends inside a run that needs a closing byte.
 pub(crate) fn unclosed(stop: Stop) -> Option<WordFault>
     ensures { result ≡ unclosed stop }
 {
@@ -80,7 +80,7 @@ pub(crate) fn unclosed(stop: Stop) -> Option<WordFault>
     }
 }
 
-/// Whether a word may end before these bytes.
+/// Returns whether a word may end before these bytes.
 pub(crate) fn may_end(stop: Stop, bytes: &[u8]) -> bool
     ensures { result ≡ may_end stop bytes.now }
 {
@@ -96,7 +96,7 @@ fn is_name_byte(b: u8) -> bool
     matches!(b, b'a'..=b'z' | b'A'..=b'Z' | b'0'..=b'9' | b'_')
 }
 
-/// How many bytes of a variable's name stand here.
+/// Returns the number of leading bytes of a variable's name.
 #[tactic(auto, unfolding(crate::specs::Commands::name_len))]
 pub(crate) fn name_len(bytes: &[u8]) -> usize
     ensures value { result ≡ name_len bytes.now }
@@ -105,7 +105,7 @@ pub(crate) fn name_len(bytes: &[u8]) -> usize
     bytes.iter().take_while(|b| is_name_byte(**b)).count()
 }
 
-/// How many bytes stand before the first closing brace.
+/// Returns the number of bytes before the first closing brace.
 #[tactic(auto, unfolding(crate::specs::Commands::brace_at))]
 pub(crate) fn brace_at(bytes: &[u8]) -> Option<usize>
     ensures value { result ≡ brace_at bytes.now }
@@ -114,7 +114,7 @@ pub(crate) fn brace_at(bytes: &[u8]) -> Option<usize>
     bytes.iter().position(|b| *b == b'}')
 }
 
-/// A comment up to the newline that ends it.
+/// Returns the length of a comment, up to and including the newline that ends it.
 fn comment_len(bytes: &[u8]) -> usize
     ensures value { result ≡ comment_len bytes.now }
     ensures within { result ≤ length bytes.now }
@@ -134,7 +134,8 @@ fn comment_len(bytes: &[u8]) -> usize
     at
 }
 
-/// White space, a command's end or a comment: how many bytes behind its first one, and whether a command begins behind it.
+/// Reads white space, the end of a command or a comment. Returns the number of bytes after its
+/// first one, and whether a command begins after it.
 pub(crate) fn gap_at(b: u8, rest: &[u8], first: bool) -> Option<(usize, bool)>
     ensures value { result ≡ gap_at b rest.now first }
     ensures within { IfSome result (λ g. g.0 ≤ length rest.now) }
@@ -154,7 +155,7 @@ pub(crate) fn gap_at(b: u8, rest: &[u8], first: bool) -> Option<(usize, bool)>
     None
 }
 
-/// Whether `{*}` stands directly before a word.
+/// Returns whether `{*}` stands directly before a word.
 pub(crate) fn is_expansion(stop: Stop, bytes: &[u8]) -> bool
     ensures value { result ≡ is_expansion stop bytes.now }
     ensures room { IsTrue result → 3 < length bytes.now }

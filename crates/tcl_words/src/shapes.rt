@@ -1,4 +1,4 @@
-//! What a command is made of.
+//! Commands, words and their parts.
 
 ghost use Rattle.std.specs.Prelude.{◌≡◌, IfOk};
 ghost use Rattle.tcl_words.specs.Pieces.{part_view, parts_view, word_view};
@@ -9,20 +9,22 @@ use std::alloc::{AllocError, Global};
 /// A part of a word.
 #[derive(Drop)]
 pub enum Part {
-    /// Bytes that stand for themselves, backslashes already replaced.
+    /// Bytes that stand for themselves. Escapes are already replaced.
     Lit(Text),
-    /// A variable by its name, or an array's element by the array's name and the parts of the index. It stands for the value.
+    /// A variable with its name, or an element of an array with the array's name and the parts of
+    /// the index. It stands for the value.
     Var(Text, Option<Vec<Part>>),
-    /// A script by its text, without the brackets. It stands for the value of its last command.
+    /// A script, given without its brackets. It stands for the value of its last command.
     Script(Text),
 }
 
-/// A word. Its value is the values of its parts, joined.
+/// A word. Its value is the concatenation of the values of its parts.
 #[derive(Drop)]
 pub struct Word {
-    /// Whether the word stands behind `{*}`: its value is then split as a list, and each element is a word.
+    /// Whether `{*}` stands before the word. Its value is then split as a list, and each element is
+    /// a word.
     pub expand: bool,
-    /// The parts in order. The readers put no two literals side by side.
+    /// The parts, in order. The readers never put two literals side by side.
     pub parts: Vec<Part>,
 }
 
@@ -33,7 +35,7 @@ pub struct Command {
     pub words: Vec<Word>,
 }
 
-/// An equal part.
+/// Returns a copy of a part.
 #[cycle(copy)]
 pub fn copied_part(alloc: Global, part: &Part) -> Result<Part, AllocError>
     ensures { IfOk result (λ p. part_view p ≡ part_view part.now) }
@@ -51,7 +53,7 @@ pub fn copied_part(alloc: Global, part: &Part) -> Result<Part, AllocError>
     }
 }
 
-/// Equal parts in the same order.
+/// Returns a copy of parts.
 #[cycle(copy)]
 pub fn copied_parts(alloc: Global, parts: &[Part]) -> Result<Vec<Part>, AllocError>
     ensures { IfOk result (λ ps. parts_view ps.items ≡ parts_view parts.now) }
@@ -64,7 +66,7 @@ pub fn copied_parts(alloc: Global, parts: &[Part]) -> Result<Vec<Part>, AllocErr
 }
 
 impl Word {
-    /// An equal word.
+    /// Returns a copy.
     pub fn copied(&self, alloc: Global) -> Result<Word, AllocError>
         ensures { IfOk result (λ w. word_view w ≡ word_view self.now) }
     {

@@ -1,6 +1,6 @@
-//! Where a bracket ends. The text in it is read as commands, and nothing is kept of them.
+//! Finds the end of a bracket. The text in it is read as commands, but not kept.
 //!
-//! `depth` is how many more brackets and indexes may open in one another.
+//! `depth` is how many more brackets and indexes may nest.
 
 ghost use Rattle.std.specs.Prelude.{◌≡◌, ◌≤◌, ◌<◌, true, IfOk, length};
 ghost use Rattle.tcl_words.specs.Commands.{count_of, token_at, dollar, name_len, parts, plain_word, word, nested_script, inside_of};
@@ -14,7 +14,7 @@ use crate::scan::{
 };
 use crate::stop::Stop;
 
-/// How many bytes behind a byte belong to what stands there.
+/// Returns the number of bytes after a byte that belong to its token.
 #[cycle(skip)]
 #[tactic(auto, unfolding(crate::specs::Commands::token_at))]
 fn skip_token(b: u8, rest: &[u8], depth: u8) -> Result<usize, WordFault>
@@ -29,7 +29,7 @@ fn skip_token(b: u8, rest: &[u8], depth: u8) -> Result<usize, WordFault>
     }
 }
 
-/// How many bytes behind a `$` belong to it.
+/// Returns the number of bytes after a `$` that belong to it.
 #[cycle(skip)]
 fn skip_dollar(rest: &[u8], depth: u8) -> Result<usize, WordFault>
     ensures value { result ≡ count_of (dollar (inside_of depth) (name_len rest.now) rest.now) }
@@ -49,7 +49,7 @@ fn skip_dollar(rest: &[u8], depth: u8) -> Result<usize, WordFault>
     Ok(n)
 }
 
-/// How many bytes behind a `[` belong to it, with the `]`.
+/// Returns the number of bytes after a `[` that belong to it, with the `]`.
 #[cycle(skip)]
 #[tactic(auto, unfolding(crate::specs::Commands::inside_of))]
 pub(crate) fn bracket(rest: &[u8], depth: u8) -> Result<usize, WordFault>
@@ -63,7 +63,7 @@ pub(crate) fn bracket(rest: &[u8], depth: u8) -> Result<usize, WordFault>
     skip_script(rest, depth - 1)
 }
 
-/// How many bytes an index takes, with the `)`.
+/// Returns the length of an index, with the `)`.
 #[cycle(skip)]
 #[tactic(auto, unfolding(crate::specs::Commands::inside_of))]
 fn skip_index(rest: &[u8], depth: u8) -> Result<usize, WordFault>
@@ -76,7 +76,7 @@ fn skip_index(rest: &[u8], depth: u8) -> Result<usize, WordFault>
     skip_parts(rest, Stop::Paren, depth - 1)
 }
 
-/// How many bytes a run of parts takes.
+/// Returns the length of a run of parts.
 #[cycle(skip)]
 fn skip_parts(bytes: &[u8], stop: Stop, depth: u8) -> Result<usize, WordFault>
     ensures value { result ≡ count_of (parts (inside_of depth) stop bytes.now) }
@@ -98,7 +98,7 @@ fn skip_parts(bytes: &[u8], stop: Stop, depth: u8) -> Result<usize, WordFault>
     }
 }
 
-/// How many bytes a word takes, but for `{*}` before it.
+/// Returns the length of a word without a leading `{*}`.
 #[cycle(skip)]
 #[tactic(auto, unfolding(crate::specs::Commands::plain_word))]
 fn skip_plain_word(bytes: &[u8], stop: Stop, depth: u8) -> Result<usize, WordFault>
@@ -127,7 +127,7 @@ fn skip_plain_word(bytes: &[u8], stop: Stop, depth: u8) -> Result<usize, WordFau
     }
 }
 
-/// How many bytes a word takes.
+/// Returns the length of a word.
 #[cycle(skip)]
 #[tactic(auto, unfolding(crate::specs::Commands::word))]
 fn skip_word(bytes: &[u8], stop: Stop, depth: u8) -> Result<usize, WordFault>
@@ -139,7 +139,7 @@ fn skip_word(bytes: &[u8], stop: Stop, depth: u8) -> Result<usize, WordFault>
     Ok(prefix + n)
 }
 
-/// How many bytes a script in brackets takes, with the `]`.
+/// Returns the length of a script in brackets, with the `]`.
 #[cycle(skip)]
 fn skip_script(bytes: &[u8], depth: u8) -> Result<usize, WordFault>
     ensures value { result ≡ nested_script (inside_of depth) bytes.now true }

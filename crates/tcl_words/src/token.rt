@@ -1,11 +1,11 @@
-//! What stands at one place in a word.
+//! The units of a word.
 
 use crate::shapes::Part;
 
-/// A byte, which joins the bytes around it, or a part of its own.
+/// A unit of a word: a byte, which joins the bytes around it, or a part of its own.
 #[derive(Drop)]
 pub(crate) enum Token {
-    /// A byte that stands for itself, or that a backslash gives.
+    /// A byte that stands for itself, or the value of an escape.
     Byte(u8),
     /// A variable or a script.
     Substitution(Part),

@@ -1,4 +1,4 @@
-//! The one written text of a list.
+//! Writes lists.
 
 ghost use Rattle.std.specs.Prelude.{◌≡◌, ◌↔◌, ◌∷◌, Ok, Some, map, length, drop, ℕ, List, [], ◌++◌, ◌==◌, IfOk, OnOk, IsTrue};
 ghost use Rattle.std.specs.List.{list_any};
@@ -13,14 +13,15 @@ use crate::packed::Packed;
 use crate::scan::begins_with;
 use std::alloc::{AllocError, Global};
 
-/// A byte that doesn't stand for itself where it is read.
+/// Returns whether a byte may not occur unquoted in a written element.
 fn is_special(b: u8) -> bool
     ensures { result ≡ is_special b }
 {
     is_white(b) || matches!(b, b'"' | b'{' | b'}' | b'[' | b']' | b'$' | b';' | b'\\')
 }
 
-/// Looks at each byte, so that many are looked at together: an element with one is looked at and written as a whole anyway.
+/// Returns whether an element has a special byte. It checks every byte, so that several bytes can
+/// be checked together. An element with a special byte is read as a whole anyway.
 fn has_special(e: &[u8]) -> bool
     ensures { result ≡ list_any is_special e.now }
 {
@@ -37,7 +38,7 @@ fn has_slash(e: &[u8]) -> bool
     e.iter().any(|b| *b == b'\\')
 }
 
-/// Whether an element can't be written as it is.
+/// Returns whether an element can't be written as it is.
 fn needs_quoting(first: bool, e: &[u8]) -> bool
     ensures { result ≡ needs_quoting first e.now }
 {
@@ -47,14 +48,14 @@ fn needs_quoting(first: bool, e: &[u8]) -> bool
     first && begins_with(b'#', e)
 }
 
-/// Whether bytes are the written text of the list that has them alone.
+/// Returns true only if the bytes are the written form of the list with this one element.
 pub fn stands_bare(e: &[u8]) -> bool
     ensures { IsTrue result → written (e.now ∷ []) ≡ e.now }
 {
     !needs_quoting(true, e)
 }
 
-/// Whether each brace has its other one.
+/// Returns whether the braces are balanced.
 fn balances(e: &[u8]) -> bool
     ensures { result ≡ balances 0 e.now }
 {
@@ -72,14 +73,14 @@ fn balances(e: &[u8]) -> bool
     open == 0
 }
 
-/// Whether an element can be written in braces.
+/// Returns whether an element can be written in braces.
 fn fits_braces(e: &[u8]) -> bool
     ensures { result ≡ fits_braces e.now }
 {
     !has_slash(e) && balances(e)
 }
 
-/// What stands behind the backslash that quotes a byte.
+/// Returns the letter that follows the backslash of an escaped byte.
 fn letter(b: u8) -> u8
     ensures { result ≡ letter b }
 {
@@ -93,7 +94,7 @@ fn letter(b: u8) -> u8
     }
 }
 
-/// Writes an element with a backslash before each special byte.
+/// Appends an element with each special byte escaped.
 fn push_escaped(out: &mut Vec<u8>, e: &[u8]) -> Result<(), AllocError>
     ensures { OnOk result (out.new.items ≡ out.old.items ++ escape e.now) }
 {
@@ -108,7 +109,7 @@ fn push_escaped(out: &mut Vec<u8>, e: &[u8]) -> Result<(), AllocError>
     Ok(())
 }
 
-/// Writes an element at the end.
+/// Appends a written element.
 fn push_element(out: &mut Vec<u8>, first: bool, e: &[u8]) -> Result<(), AllocError>
     ensures { OnOk result (out.new.items ≡ out.old.items ++ written_element first e.now) }
 {
@@ -128,7 +129,7 @@ fn push_element(out: &mut Vec<u8>, first: bool, e: &[u8]) -> Result<(), AllocErr
     push_escaped(out, e)
 }
 
-/// Writes the elements from an index on at the end, with a space before each.
+/// Appends the written elements from an index on, each with a space before it.
 fn push_from(out: &mut Vec<u8>, list: &Packed, from: usize) -> Result<(), AllocError>
     ensures { OnOk result (out.new.items ≡ out.old.items ++ written_rest (drop from list.now)) }
 {
@@ -139,7 +140,7 @@ fn push_from(out: &mut Vec<u8>, list: &Packed, from: usize) -> Result<(), AllocE
     Ok(())
 }
 
-/// The list as text, which reads as the list.
+/// Writes a list as text. Reading the text gives the list.
 pub fn write_list(alloc: Global, list: &Packed) -> Result<Text, AllocError>
     ensures { IfOk result (λ t. t ≡ written list.now) }
 {
@@ -151,7 +152,8 @@ pub fn write_list(alloc: Global, list: &Packed) -> Result<Text, AllocError>
     Ok(Text { bytes: out })
 }
 
-/// What stands behind the elements of a written list once these are put behind them: a space before each.
+/// Returns the text to append to a written, non-empty list in order to add these elements: each has
+/// a space before it.
 pub fn write_behind(alloc: Global, list: &Packed) -> Result<Text, AllocError>
     ensures { IfOk result (λ t. t ≡ written_rest list.now) }
 {
@@ -160,18 +162,21 @@ pub fn write_behind(alloc: Global, list: &Packed) -> Result<Text, AllocError>
     Ok(Text { bytes: out })
 }
 
-/// A law, with nothing to run: what is written reads as the list that was written, and a text reads as one list at most.
+/// States laws: a written list reads as that list, and a text reads as at most one list. It does
+/// nothing at run time.
 pub fn one_list()
     ensures round { (l : List (List ℕ)) → ReadsAs (written l) l }
     ensures one { (text : List ℕ) (l m : List (List ℕ)) → ReadsAs text l → ReadsAs text m → l ≡ m }
 {}
 
-/// A law, with nothing to run: the elements of a text are those that the rules of lists give it.
+/// States a law: the elements of a text are those that the rules of lists give. It does nothing at
+/// run time.
 pub fn list_rules()
     ensures { (text : List ℕ) (l : List (List ℕ)) → ReadsAs text l ↔ IsList text l }
 {}
 
-/// A law, with nothing to run: a written list with an element at least is a command, and its words are the elements.
+/// States a law: a written list with at least one element is a command whose words are the
+/// elements. It does nothing at run time.
 pub fn list_is_command()
     ensures { (e : List ℕ) (es : List (List ℕ)) → next_command (written (e ∷ es)) 0
         ≡ Ok (Some (map word_of (e ∷ es), length (written (e ∷ es)))) }

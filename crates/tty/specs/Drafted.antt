@@ -1,7 +1,7 @@
 -- A line while bytes are sent to it.
 use Rattle.std.specs.Prelude.{ℕ, List}
 
--- what waited before, and the text now
+-- The text before the send, and the text now.
 pub record Drafted : Type 0 where
   pub before : List ℕ
   pub text : List ℕ

@@ -1,4 +1,5 @@
--- A terminal's modes as words of stty(1) set them (POSIX.1-2017, XCU stty and XBD chapter 11), of which these words are known.
+-- The modes of a terminal, as words of stty(1) set them (POSIX.1-2017, XCU stty and XBD chapter 11). Only the words
+-- listed here are known.
 use Rattle.std.specs.Prelude.{ℕ, ◌+◌, ◌==◌, List, [], ◌∷◌, codes, Bool, true, false, not, ◌||◌, if◌then◌else◌, Option, Some, None, Result, Ok, Err, is_some}
 use Rattle.std.specs.Str.{bytes_eq}
 use Rattle.tcl_words.specs.Bytes as ascii
@@ -6,15 +7,15 @@ use Rattle.tty.specs.declared.modes.Modes.{Modes}
 use Rattle.tty.specs.declared.modes.BadMode.{BadMode}
 use Rattle.tcl_expr.specs.Number.{number_of}
 
--- as a terminal begins: all on
+-- The initial modes: all on.
 abbrev pub sane : Modes
 sane = record { icanon = true; echo = true; icrnl = true; opost = true; onlcr = true }
 
--- `cooked`, or with `false` its opposite `raw`
+-- The modes after `cooked`, or with `false` after its opposite `raw`.
 abbrev pub cooked : Bool → Modes → Modes
 cooked on m = record m { icanon = on; icrnl = on; opost = on }
 
--- The modes with what a name stands for set, or with `false` cleared; none where the name is unknown.
+-- The modes after a name is set, or with `false` cleared. `None` if the name is unknown.
 abbrev pub switched : List ℕ → Bool → Modes → Option Modes
 switched name on m =
     if bytes_eq name (codes "icanon") then Some (record m { icanon = on })
@@ -25,7 +26,7 @@ switched name on m =
     else if bytes_eq name (codes "raw") then Some (cooked (not on) m)
     else None
 
--- The modes behind a word that stands alone; none where it is bad. A minus clears.
+-- The modes after a single word. `None` if the word is bad. A minus sign clears a mode.
 abbrev pub set_by : List ℕ → Modes → Option Modes
 set_by [] m = None
 set_by (b ∷ bs) m =
@@ -34,21 +35,21 @@ set_by (b ∷ bs) m =
     else if bytes_eq (b ∷ bs) (codes "sane") then Some sane
     else switched (b ∷ bs) true m
 
--- a word behind which a number has to stand; both change nothing
+-- The word must be followed by a number. Both change no mode.
 abbrev pub names_size : List ℕ → Bool
 names_size w = bytes_eq w (codes "rows") || bytes_eq w (codes "cols") || bytes_eq w (codes "columns")
 
--- the word with this index is bad
+-- The word with this index is bad.
 abbrev pub bad : ℕ → Result Modes BadMode
 bad at = Err (record { at = at })
 
--- what further words make of the modes that one word gave
+-- Applies further words to the modes after one word.
 abbrev pub then_words : ℕ → Option Modes → (Modes → Result Modes BadMode) → Result Modes BadMode
 then_words at None more = bad at
 then_words at (Some m) more = more m
 
--- The modes that words leave, or the index of the first bad one. The first of these words has index `at`;
--- `size` is the index of a word that names a size, where its number is due.
+-- The modes after these words, or the index of the first bad one. `at` is the index of the first of these words. `size`
+-- is the index of a word that still needs its number.
 abbrev pub read_words : Option ℕ → ℕ → List (List ℕ) → Modes → Result Modes BadMode
 read_words None at [] m = Ok m
 read_words None at (w ∷ ws) m =
@@ -57,6 +58,6 @@ read_words None at (w ∷ ws) m =
 read_words (Some size) at [] m = bad size
 read_words (Some size) at (w ∷ ws) m = if is_some (number_of w) then read_words None (at + 1) ws m else bad size
 
--- the words from the left, from a terminal as it begins
+-- Applies the words from left to right to the initial modes.
 abbrev pub read : List (List ℕ) → Result Modes BadMode
 read words = read_words None 0 words sane

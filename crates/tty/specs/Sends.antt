@@ -1,4 +1,4 @@
--- A terminal's line, and what a send does to it.
+-- The input side of a terminal, and how a send changes it.
 use Rattle.std.specs.Prelude.{◌≡◌, ℕ, ◌==◌, List, [], ◌∷◌, ◌++◌, Bool, not, ◌||◌}
 use Rattle.std.specs.List.{list_all, concat}
 use Rattle.tcl_words.specs.Bytes as ascii
@@ -8,31 +8,31 @@ use Rattle.tty.specs.Editing.{ends_line}
 use Rattle.tty.specs.Handed.{Handed, handed}
 use Rattle.tty.specs.Echo.{echo_text}
 
--- the modes, the text of the line that isn't ended, and whether the end of the input was given
+-- The modes, the text of the unfinished line, and whether the input has ended.
 pub record Waits : Type 0 where
   pub modes : Modes
   pub waiting : List ℕ
   pub ended : Bool
 
--- a byte that neither ends a line nor edits it
+-- A byte that neither ends a line nor edits it.
 abbrev pub is_plain : ℕ → Bool
 is_plain b = not (ends_line b || b == ascii.kill || b == ascii.delete)
 
 abbrev pub all_plain : List ℕ → Bool
 all_plain t = list_all is_plain t
 
--- what is handed over where these bytes are sent
+-- What a send of these bytes hands over.
 abbrev pub handed_by : Waits → List ℕ → Handed
 handed_by l x = handed l.modes l.waiting l.ended x
 
--- the line behind that
+-- The line after this send.
 abbrev pub line_after : Waits → List ℕ → Waits
 line_after l x = record l { waiting = (handed_by l x).waiting; ended = (handed_by l x).ended }
 
 abbrev pub echo_of : Waits → List ℕ → List ℕ
 echo_of l x = echo_text l.modes l.waiting x
 
--- the same of sends, one after the other
+-- The line after several sends, one after another.
 abbrev pub line_after_all : Waits → List (List ℕ) → Waits
 line_after_all l [] = l
 line_after_all l (x ∷ xs) = line_after_all (line_after l x) xs
@@ -45,7 +45,7 @@ abbrev pub echo_of_all : Waits → List (List ℕ) → List ℕ
 echo_of_all l [] = []
 echo_of_all l (x ∷ xs) = echo_of l x ++ echo_of_all (line_after l x) xs
 
--- sends, and all their bytes sent at once, come to the same
+-- Several sends are equivalent to one send of all their bytes.
 pub record SameAsJoined (l : Waits) (xs : List (List ℕ)) : Type 0 where
   pub actions : actions_of_all l xs ≡ (handed_by l (concat xs)).actions
   pub echo : echo_of_all l xs ≡ echo_of l (concat xs)

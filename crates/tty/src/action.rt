@@ -15,7 +15,7 @@ pub enum Action {
     End,
 }
 
-/// Actions in order. A contract sees a list.
+/// A list of actions, in order. A contract sees a list.
 #[derive(Drop)]
 pub struct Actions {
     /// The actions, in order.
@@ -32,7 +32,7 @@ impl Model for Actions {
 }
 
 impl Actions {
-    /// No actions. It allocates nothing.
+    /// Creates an empty list without allocating.
     pub fn new(alloc: Global) -> Actions
         ensures { result ≡ [] }
     {
@@ -41,21 +41,21 @@ impl Actions {
         }
     }
 
-    /// The actions, in order.
+    /// Returns the actions, in order.
     pub fn as_slice(&self) -> &[Action]
         ensures { result.now ≡ self.now }
     {
         self.list.as_slice()
     }
 
-    /// How many actions there are.
+    /// Returns the number of actions.
     pub fn len(&self) -> usize
         ensures { result ≡ length self.now }
     {
         self.list.len()
     }
 
-    /// Puts an action behind the others. A refused one leaves the list as it was.
+    /// Appends an action. On `AllocError` the list is unchanged.
     pub fn push(&mut self, action: Action) -> Result<(), AllocError>
         ensures pushed { OnOk result (self.new ≡ self.old ++ action ∷ []) }
         ensures kept { OnErr result (self.new ≡ self.old) }

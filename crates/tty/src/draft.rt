@@ -9,14 +9,14 @@ use std::alloc::{AllocError, Global};
 use std::marker::Model;
 use tcl_words::Text;
 
-/// A line while bytes are sent to it: the first bytes that waited before, and new ones behind them.
+/// A line while bytes are sent to it: the kept front of the waiting text, followed by new bytes.
 ///
-/// What waited stays as it is, so a send that is given up leaves the line unchanged, and none of it
-/// is copied. A contract sees what waited, and the text.
+/// The waiting text is neither changed nor copied, so a failed send leaves the line unchanged. A
+/// contract sees the waiting text and the new text.
 #[derive(Drop)]
 pub(crate) struct Draft<'a> {
     before: &'a [u8],
-    /// How many of the bytes that waited are left.
+    /// The number of waiting bytes that are kept.
     kept: usize,
     fresh: Vec<u8>,
 }
@@ -33,7 +33,7 @@ impl<'a> Model for Draft<'a> {
 }
 
 impl<'a> Draft<'a> {
-    /// The line that waits. It allocates nothing.
+    /// Begins a send to a waiting line, without allocating.
     pub(crate) fn new(alloc: Global, before: &'a [u8]) -> Draft<'a>
         ensures { result ≡ record { before = before.now; text = before.now } }
     {
@@ -50,7 +50,7 @@ impl<'a> Draft<'a> {
         self.kept == 0 && self.fresh.is_empty()
     }
 
-    /// The text, copied.
+    /// Returns a copy of the text.
     pub(crate) fn copied(&self, alloc: Global) -> Result<Text, AllocError>
         ensures { IfOk result (λ t. t ≡ self.now.text) }
     {
@@ -84,7 +84,7 @@ impl<'a> Draft<'a> {
         Ok(())
     }
 
-    /// A byte more.
+    /// Adds a byte, which may edit or end the line.
     pub(crate) fn put(&mut self, b: u8) -> Result<(), AllocError>
         ensures { OnOk result (self.new ≡ record self.old { text = text_after b self.old.text }) }
     {
@@ -99,7 +99,7 @@ impl<'a> Draft<'a> {
         self.push(b)
     }
 
-    /// How many of the bytes that waited are left, and the bytes behind them.
+    /// Returns the number of waiting bytes that are kept, and the bytes after them.
     pub(crate) fn into_parts(self) -> (usize, Vec<u8>)
         ensures { take result.0 self.entry.before ++ result.1.items ≡ self.entry.text }
     {
@@ -112,7 +112,7 @@ impl<'a> Draft<'a> {
     }
 }
 
-/// Cuts a text to its first bytes and puts others behind them. A refused one leaves the text as it was.
+/// Truncates a text and appends bytes. On `AllocError` the text is unchanged.
 pub(crate) fn replace_end(text: &mut Text, kept: usize, end: &[u8]) -> Result<(), AllocError>
     ensures replaced { OnOk result (text.new ≡ take kept text.old ++ end.now) }
     ensures same { OnErr result (text.new ≡ text.old) }

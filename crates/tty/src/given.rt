@@ -19,12 +19,12 @@ use tcl_words::Text;
 #[derive(Drop)]
 pub(crate) struct Given {
     pub(crate) actions: Actions,
-    /// The end of the input was given, and nothing is handed over behind it.
+    /// The input has ended. Nothing is handed over after that.
     pub(crate) ended: bool,
     pub(crate) echo: Text,
 }
 
-/// What a line that a byte ends gives.
+/// Returns the action for a line that a byte ends.
 fn line_action(alloc: Global, end: u8, draft: &Draft<'_>) -> Result<Action, AllocError>
     ensures { IfOk result (λ a. a ≡ line_action end draft.now.text) }
 {
@@ -39,7 +39,7 @@ fn line_action(alloc: Global, end: u8, draft: &Draft<'_>) -> Result<Action, Allo
 }
 
 impl Given {
-    /// Nothing so far. It allocates nothing.
+    /// Creates an empty result without allocating.
     pub(crate) fn new(alloc: Global, ended: bool) -> Given
         ensures { result ≡ record { actions = []; ended = ended; echo = [] } }
     {
@@ -50,7 +50,7 @@ impl Given {
         }
     }
 
-    /// Hands a line over that a byte ends.
+    /// Hands over a line that a byte ends.
     fn hand_over(&mut self, alloc: Global, end: u8, draft: &Draft<'_>) -> Result<(), AllocError>
         ensures { OnOk result (self.new ≡ handing end draft.now.text self.old) }
     {
@@ -62,7 +62,7 @@ impl Given {
         Ok(())
     }
 
-    /// Hands a line over where a byte ends it.
+    /// Hands over the line if the byte ends it.
     fn end_line(&mut self, alloc: Global, b: u8, draft: &Draft<'_>) -> Result<(), AllocError>
         ensures { OnOk result (self.new ≡ with_line b draft.now.text self.old) }
     {
@@ -72,7 +72,7 @@ impl Given {
         Ok(())
     }
 
-    /// Echoes a byte, where the line so far has no text, or has some.
+    /// Echoes a byte. `is_empty` is true if the line has no text so far.
     fn echo(&mut self, is_empty: bool, b: u8) -> Result<(), AllocError>
         ensures { OnOk result (self.new ≡ record self.old { echo = self.old.echo ++ echo_by is_empty b }) }
     {
@@ -91,7 +91,7 @@ impl Given {
         self.echo.push(b)
     }
 
-    /// What a byte more gives.
+    /// Adds the action and the echo of one byte.
     fn put(&mut self, alloc: Global, echo: bool, b: u8, draft: &Draft<'_>) -> Result<(), AllocError>
         ensures { OnOk result (self.new ≡ given_after echo b draft.now.text self.old) }
     {
@@ -122,7 +122,8 @@ fn put_all(
     Ok(())
 }
 
-/// Sends bytes to a line that is edited: what it gives. Where memory is refused, the line is as it was.
+/// Sends bytes to a line that is edited. Returns what it hands over and echoes. On `AllocError` the
+/// line is unchanged.
 pub(crate) fn send_to(
     alloc: Global,
     modes: Modes,

@@ -13,7 +13,7 @@ use tcl_words::Text;
 pub(crate) const NL: u8 = 0x0a;
 /// Becomes `NL` under `icrnl`.
 const CR: u8 = 0x0d;
-/// Ends a line, or the input, and is handed over to nobody.
+/// Ends a line, or the input. It is not handed over.
 pub(crate) const EOF: u8 = 0x04;
 /// Removes the last byte of the line.
 pub(crate) const ERASE: u8 = 0x7f;
@@ -26,21 +26,21 @@ pub(crate) fn ends_line(b: u8) -> bool
     b == NL || b == EOF
 }
 
-/// Whether no text of the line is left behind this byte.
+/// Returns whether the line is empty after this byte.
 pub(crate) fn clears(b: u8) -> bool
     ensures { result ≡ clears b }
 {
     ends_line(b) || b == KILL
 }
 
-/// A byte as the terminal reads it.
+/// Returns a byte as the terminal reads it.
 pub(crate) fn read_byte(modes: Modes, b: u8) -> u8
     ensures { result ≡ read_byte modes b }
 {
     if b == CR && modes.icrnl { NL } else { b }
 }
 
-/// Bytes as the terminal reads them.
+/// Returns bytes as the terminal reads them.
 pub(crate) fn received(alloc: Global, modes: Modes, bytes: &[u8]) -> Result<Text, AllocError>
     ensures { IfOk result (λ t. t ≡ received modes bytes.now) }
 {

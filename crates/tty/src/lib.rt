@@ -1,8 +1,11 @@
-//! A terminal: its modes, what they do to the output of a program, and what becomes of bytes that are typed.
+//! A terminal: its modes, how it changes a program's output, and how it handles typed bytes.
 //!
-//! The rules are those of POSIX.1-2017, XBD chapter 11 (General Terminal Interface). `specs/Modes` says what words of stty(1) set, `specs/Output`
-//! what becomes of output. `specs/Segments`, `specs/Editing`, `specs/Handed` and `specs/Echo` say what is handed over and echoed, in terms of the
-//! whole text that was typed; `specs/Buffer` says what the code does byte by byte, and `specs/Sends` has the law of sends.
+//! The rules are those of POSIX.1-2017, XBD chapter 11 (General Terminal Interface). `specs/Modes`
+//! defines the words of stty(1), and `specs/Output` the changes to output.
+//!
+//! `specs/Segments`, `specs/Editing`, `specs/Handed` and `specs/Echo` define what is handed over
+//! and echoed, for the whole text typed. `specs/Buffer` describes the code, byte by byte.
+//! `specs/Sends` states the law of sends.
 #![tactic(auto)]
 
 mod action;

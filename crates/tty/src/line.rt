@@ -1,4 +1,4 @@
-//! The line of a terminal.
+//! The input side of a terminal.
 
 ghost use Rattle.std.specs.Prelude.{◌≡◌, [], ℕ, List, true, false, IfOk, OnOk, OnErr};
 ghost use Rattle.tty.specs.Handed.{at_once, received};
@@ -12,8 +12,8 @@ use std::alloc::{AllocError, Global};
 use std::marker::Model;
 use tcl_words::Text;
 
-/// The input side of a terminal: its modes, the text of the line that isn't ended, and whether the
-/// end of the input was given.
+/// The input side of a terminal: its modes, the text of the unfinished line, and whether the input
+/// has ended.
 #[derive(Drop)]
 pub struct Line {
     alloc: Global,
@@ -33,7 +33,7 @@ impl Model for Line {
     ghost invariant = { λ l. all_plain l.waiting ≡ true };
 }
 
-/// What is handed over and echoed of bytes where input isn't edited.
+/// Returns the echo and the actions of bytes that are not edited.
 fn pass_on(alloc: Global, modes: Modes, bytes: &[u8]) -> Result<(Text, Actions), AllocError>
     ensures echo { IfOk result (λ r. modes.icanon ≡ false → r.0 ≡ echo_text modes [] bytes.now) }
     ensures actions { IfOk result (λ r. r.1 ≡ at_once (received modes bytes.now)) }
@@ -54,7 +54,7 @@ impl Line {
     ghost use Rattle.std.specs.Prelude.{◌≡◌, [], true, false, IfOk, OnOk, OnErr};
     ghost use Rattle.tty.specs.Sends.{all_plain, handed_by, echo_of, line_after};
 
-    /// A line on which nothing was typed. It allocates nothing.
+    /// Creates a line without text. It does not allocate.
     pub fn new(alloc: Global, modes: Modes) -> Line
         ensures { result ≡ record { modes = modes; waiting = []; ended = false } }
     {
@@ -66,18 +66,20 @@ impl Line {
         }
     }
 
-    /// The terminal's modes.
+    /// Returns the modes of the terminal.
     pub fn modes(&self) -> Modes
         ensures { result ≡ self.now.modes }
     {
         self.modes
     }
 
-    /// Sends bytes to the terminal: what it echoes, and what it hands over.
+    /// Sends bytes to the terminal. Returns what it echoes and what it hands over.
     ///
-    /// Under `icanon` bytes are handed over line by line; the bytes 7F and 15 edit the line, and 04
-    /// hands it over as it stands or, where it is empty, ends the input. Behind the end bytes are
-    /// echoed and handed over to nobody. Where memory is refused, the line is as it was.
+    /// Under `icanon` bytes are handed over line by line. The bytes 7F and 15 edit the line. The
+    /// byte 04 hands over the line without a newline, or ends the input if the line is empty. After
+    /// the end, bytes are echoed but not handed over.
+    ///
+    /// On `AllocError` the line is unchanged.
     pub fn send(&mut self, bytes: &[u8]) -> Result<(Text, Actions), AllocError>
         ensures sent { IfOk result (λ r. r ≡ (echo_of self.old bytes.now, (handed_by self.old bytes.now).actions)) }
         ensures line { OnOk result (self.new ≡ line_after self.old bytes.now) }
@@ -95,7 +97,8 @@ impl Line {
 
 ghost use Rattle.tty.specs.Sends.{Waits, all_plain, SameAsJoined};
 
-/// A law, with nothing to run: under `icanon` the actions and the echo of sends are those of all their bytes at once, and so is the line behind them.
+/// States a law: under `icanon`, several sends give the same actions, echo and line as one send of
+/// all their bytes. It does nothing at run time.
 pub fn sends_join()
     ensures { (l : Waits) (xs : List (List ℕ)) → l.modes.icanon ≡ true → all_plain l.waiting ≡ true → SameAsJoined l xs }
 {}

@@ -10,19 +10,19 @@ use tcl_words::Text;
 /// The modes of a terminal, as POSIX.1-2017 XBD chapter 11 names them.
 #[derive(Clone, Copy, PartialEq, Eq)]
 pub struct Modes {
-    /// Input is handed over line by line, and can be edited before.
+    /// Input is handed over line by line, and can be edited before that.
     pub icanon: bool,
     /// Input is echoed.
     pub echo: bool,
     /// A carriage return in the input becomes a newline.
     pub icrnl: bool,
-    /// Output is mapped at all.
+    /// Output is mapped. If this is off, `onlcr` has no effect.
     pub opost: bool,
     /// A newline in the output becomes a carriage return and a newline.
     pub onlcr: bool,
 }
 
-/// A word that sets no mode.
+/// The error for a word that sets no mode.
 #[derive(Clone, Copy, PartialEq, Eq)]
 pub struct BadMode {
     /// The index of the first bad word, from 0.
@@ -35,7 +35,7 @@ fn is(word: &[u8], name: &[u8]) -> bool
     word == name
 }
 
-/// Whether a word names a size, whose number has to stand behind it.
+/// Returns whether a word must be followed by a number.
 fn names_size(word: &[u8]) -> bool
     ensures { result ≡ names_size word.now }
 {
@@ -43,7 +43,7 @@ fn names_size(word: &[u8]) -> bool
 }
 
 impl Modes {
-    /// All modes on, as a terminal begins.
+    /// Returns the initial modes: all on.
     pub fn sane() -> Modes
         ensures { result ≡ sane }
     {
@@ -56,7 +56,7 @@ impl Modes {
         }
     }
 
-    /// `cooked`, or its opposite `raw`.
+    /// Returns the modes after `cooked`, or after its opposite `raw`.
     fn cooked(self, on: bool) -> Modes
         ensures { result ≡ cooked on self }
     {
@@ -68,7 +68,7 @@ impl Modes {
         }
     }
 
-    /// The modes with what a name stands for set or cleared; `None` where the name is unknown.
+    /// Returns the modes after a name is set or cleared. `None` if the name is unknown.
     fn switched(self, name: &[u8], on: bool) -> Option<Modes>
         ensures { result ≡ switched name.now on self }
     {
@@ -89,7 +89,7 @@ impl Modes {
         }
     }
 
-    /// The modes behind a word that stands alone; `None` where it is bad.
+    /// Returns the modes after a single word. `None` if the word is bad.
     fn set_by(self, word: &[u8]) -> Option<Modes>
         ensures { result ≡ set_by word.now self }
     {
@@ -108,14 +108,15 @@ impl Modes {
         }
     }
 
-    /// The modes that words of stty(1) leave, read from the left; a terminal begins with all modes on.
+    /// Returns the modes that words of stty(1) set, applied from left to right to the initial
+    /// modes.
     ///
-    /// Known are `icanon`, `echo`, `icrnl`, `opost` and `onlcr`, which set a mode, with `-` before them
-    /// clear it; `raw`, which clears `icanon`, `icrnl` and `opost`; `-raw` and `cooked`, which set
-    /// these three; `sane`, which sets all; and `rows`, `cols` and `columns` with a number behind
-    /// them, which change nothing.
+    /// The words `icanon`, `echo`, `icrnl`, `opost` and `onlcr` set a mode, and with `-` before
+    /// them clear it. `raw` clears `icanon`, `icrnl` and `opost`. `-raw` and `cooked` set these
+    /// three, and `sane` sets all modes. `rows`, `cols` and `columns`, each followed by a number,
+    /// change nothing.
     ///
-    /// `BadMode` names the first word that is none of these.
+    /// `BadMode` contains the index of the first other word.
     pub fn read(words: &[Text]) -> Result<Modes, BadMode>
         ensures { result ≡ read words.now }
     {

@@ -1,4 +1,4 @@
-//! Output on its way through the terminal.
+//! How the terminal changes a program's output.
 
 ghost use Rattle.std.specs.Prelude.{◌≡◌, ◌<◌, ◌≤◌, ◌++◌, ◌∷◌, [], length, take, true, false, IfOk, OnOk, MatchOption};
 ghost use Rattle.tty.specs.Output.{convert, maps_newlines, is_plain as is_plain_of, ArePlain};
@@ -10,7 +10,7 @@ use std::marker::Model;
 use tcl_words::Text;
 
 impl Modes {
-    /// Whether a newline in the output becomes a carriage return and a newline.
+    /// Returns whether a newline in the output becomes a carriage return and a newline.
     fn maps_newlines(self) -> bool
         ensures { result ≡ maps_newlines self }
     {
@@ -18,7 +18,7 @@ impl Modes {
     }
 }
 
-/// Output, of which the front was given up as it is seen. A contract sees what is seen of the rest.
+/// The visible form of output, read run by run. A contract sees the visible form of the rest.
 #[derive(Drop)]
 pub struct Seen<'a> {
     /// Whether NUL bytes are removed.
@@ -36,14 +36,14 @@ impl<'a> Model for Seen<'a> {
     ghost view = { λ s. convert s.remove s.modes s.rest.now };
 }
 
-/// Whether a byte is seen as it is: it is neither a newline nor NUL.
+/// Returns whether no mode changes the byte: it is neither a newline nor NUL.
 fn is_plain(b: u8) -> bool
     ensures { result ≡ is_plain_of b }
 {
     b != b'\n' && b != 0
 }
 
-/// How many bytes stand in front of the first newline or NUL.
+/// Returns the number of bytes before the first newline or NUL.
 fn plain_len(bytes: &[u8]) -> usize
     ensures within { result ≤ length bytes.now }
     ensures plain { ArePlain (take result bytes.now) }
@@ -54,7 +54,7 @@ fn plain_len(bytes: &[u8]) -> usize
     }
 }
 
-/// What is seen of a newline or NUL, where anything is.
+/// Returns the visible form of a newline or NUL. `None` if it is removed.
 fn seen_alone(remove: bool, modes: Modes, b: u8) -> Option<&'static [u8]>
     requires { is_plain_of b ≡ false }
     ensures { MatchOption result (convert remove modes (b ∷ []) ≡ []) (λ run. (convert remove modes (b ∷ []) ≡ run.now) × (0 < length run.now)) }
@@ -73,7 +73,8 @@ fn seen_alone(remove: bool, modes: Modes, b: u8) -> Option<&'static [u8]>
 }
 
 impl<'a> Seen<'a> {
-    /// Output as it is seen: without NUL bytes where they are removed, and with a carriage return before each newline where `opost` and `onlcr` are on.
+    /// Converts output to its visible form. NUL bytes are removed if `remove` is true. Each newline
+    /// gets a carriage return before it if `opost` and `onlcr` are on.
     pub fn new(remove: bool, modes: Modes, bytes: &'a [u8]) -> Seen<'a>
         ensures { result ≡ convert remove modes bytes.now }
     {
@@ -84,7 +85,7 @@ impl<'a> Seen<'a> {
         }
     }
 
-    /// The next bytes that are seen, in one run. None where nothing more is seen.
+    /// Returns the next run of visible bytes, which is not empty. `None` at the end.
     pub fn next(&mut self) -> Option<&'a [u8]>
         ensures { MatchOption result (self.old ≡ []) (λ run. (self.old ≡ run.now ++ self.new) × (0 < length run.now)) }
     {
@@ -103,7 +104,7 @@ impl<'a> Seen<'a> {
     }
 }
 
-/// Puts output at the end as it is seen.
+/// Appends output in its visible form.
 fn put_seen(out: &mut Vec<u8>, seen: Seen<'_>) -> Result<(), AllocError>
     ensures { OnOk result (out.new.items ≡ out.old.items ++ seen.entry) }
 {
@@ -114,7 +115,7 @@ fn put_seen(out: &mut Vec<u8>, seen: Seen<'_>) -> Result<(), AllocError>
     Ok(())
 }
 
-/// A text with output behind it as it is seen.
+/// Returns a text with output appended in its visible form.
 pub fn convert_behind(
     text: Text,
     remove: bool,
@@ -128,7 +129,7 @@ pub fn convert_behind(
     Ok(seen)
 }
 
-/// Output as it is seen.
+/// Returns output in its visible form.
 pub fn convert(alloc: Global, remove: bool, modes: Modes, bytes: &[u8]) -> Result<Text, AllocError>
     ensures { IfOk result (λ t. t ≡ convert remove modes bytes.now) }
 {

@@ -80,7 +80,10 @@ abbrev pub decreases-body : goal.decreases-body
 decreases-body l = 32 * l.depth + 2
 
 abbrev pub decreases-other : goal.decreases-other
-decreases-other l = 32 * l.depth + 3
+decreases-other l = 32 * l.depth + 16
+
+abbrev pub decreases-not_called : goal.decreases-not_called
+decreases-not_called l = 32 * l.depth + 15
 
 abbrev pub decreases-if_command : goal.decreases-if_command
 decreases-if_command l = 32 * l.depth + 13
@@ -107,19 +110,19 @@ abbrev pub decreases-verb : goal.decreases-verb
 decreases-verb l = 32 * l.depth + 14
 
 abbrev pub decreases-carry_out : goal.decreases-carry_out
-decreases-carry_out l = 32 * l.depth + 16
+decreases-carry_out l = 32 * l.depth + 17
 
 abbrev pub decreases-begun : goal.decreases-begun
-decreases-begun l = 32 * l.depth + 17
+decreases-begun l = 32 * l.depth + 18
 
 abbrev pub decreases-command : goal.decreases-command
-decreases-command l = 32 * l.depth + 18
+decreases-command l = 32 * l.depth + 19
 
 abbrev pub decreases-step : goal.decreases-step
-decreases-step l = 32 * l.depth + 19
+decreases-step l = 32 * l.depth + 20
 
 abbrev pub decreases-sequence : goal.decreases-sequence
-decreases-sequence l = 32 * l.depth + 20
+decreases-sequence l = 32 * l.depth + 21
 
 abbrev pub invariant-sequence-commands : goal.invariant-sequence-commands
 invariant-sequence-commands l = record {

@@ -1,0 +1,46 @@
+-- The flags of value commands. They come before the last arguments: string(n), lsearch(n), lsort(n).
+use Rattle.std.specs.Prelude.{ℕ, Bool, true, false, List, codes, Option, Some, None, bytes_eq, if◌then◌else◌}
+use Rattle.command_table.specs.declared.switches.Switch.{Switch}
+use Rattle.command_table.specs.declared.switches.Switch.TheVariants as switch
+use Rattle.command_table.specs.declared.switches.Switches.{Switches}
+use Rattle.command_table.specs.declared.switches.Switches.TheVariants as switches
+
+-- ?-exact|-glob? ?-all? ?-inline? ?-not? ?-nocase? ?-start index?
+abbrev pub search_switch : List ℕ → Option Switch
+search_switch word =
+    if bytes_eq word (codes "-exact") then Some switch.Exact
+    else if bytes_eq word (codes "-glob") then Some switch.Glob
+    else if bytes_eq word (codes "-all") then Some switch.All
+    else if bytes_eq word (codes "-inline") then Some switch.Inline
+    else if bytes_eq word (codes "-not") then Some switch.Not
+    else if bytes_eq word (codes "-nocase") then Some switch.Nocase
+    else if bytes_eq word (codes "-start") then Some switch.Start
+    else None
+
+-- ?-integer? ?-decreasing? ?-unique? ?-nocase? ?-index index?
+abbrev pub sort_switch : List ℕ → Option Switch
+sort_switch word =
+    if bytes_eq word (codes "-integer") then Some switch.Integer
+    else if bytes_eq word (codes "-decreasing") then Some switch.Decreasing
+    else if bytes_eq word (codes "-unique") then Some switch.Unique
+    else if bytes_eq word (codes "-nocase") then Some switch.Nocase
+    else if bytes_eq word (codes "-index") then Some switch.Index
+    else None
+
+-- The allowed flag that a word is.
+abbrev pub switch_of : Switches → List ℕ → Option Switch
+switch_of switches.Case word = if bytes_eq word (codes "-nocase") then Some switch.Nocase else None
+switch_of switches.Strict word = if bytes_eq word (codes "-strict") then Some switch.Strict else None
+switch_of switches.Search word = search_switch word
+switch_of switches.Sort word = sort_switch word
+
+-- The next word is the value of the flag.
+abbrev pub takes_value : Switch → Bool
+takes_value switch.Index = true
+takes_value switch.Start = true
+takes_value other = false
+
+-- The number of words before the flags. `string is` has its class there.
+abbrev pub words_before : Switches → ℕ
+words_before switches.Strict = 1
+words_before other = 0

@@ -1,0 +1,124 @@
+//! The flags of value commands. They come before the last arguments.
+
+ghost use Rattle.std.specs.Prelude.{◌≡◌};
+ghost use Rattle.command_table.specs.Switches.{search_switch, sort_switch, switch_of, takes_value, words_before};
+
+use crate::commands::is;
+
+/// A flag of a value command.
+#[derive(Clone, Copy, PartialEq, Eq)]
+pub enum Switch {
+    All,
+    Decreasing,
+    Exact,
+    Glob,
+    /// `-index` and an index.
+    Index,
+    Inline,
+    Integer,
+    Nocase,
+    Not,
+    /// `-start` and an index.
+    Start,
+    Strict,
+    Unique,
+}
+
+/// The flags that a command or an option allows.
+#[derive(Clone, Copy, PartialEq, Eq)]
+pub enum Switches {
+    /// `-nocase`
+    Case,
+    /// `-strict`
+    Strict,
+    /// The flags of `lsearch`.
+    Search,
+    /// The flags of `lsort`.
+    Sort,
+}
+
+/// Returns the flag of `lsearch` that a word is, or `None`.
+fn search_switch(word: &[u8]) -> Option<Switch>
+    ensures { result ≡ search_switch word.now }
+{
+    if is(word, b"-exact") {
+        Some(Switch::Exact)
+    } else if is(word, b"-glob") {
+        Some(Switch::Glob)
+    } else if is(word, b"-all") {
+        Some(Switch::All)
+    } else if is(word, b"-inline") {
+        Some(Switch::Inline)
+    } else if is(word, b"-not") {
+        Some(Switch::Not)
+    } else if is(word, b"-nocase") {
+        Some(Switch::Nocase)
+    } else if is(word, b"-start") {
+        Some(Switch::Start)
+    } else {
+        None
+    }
+}
+
+/// Returns the flag of `lsort` that a word is, or `None`.
+fn sort_switch(word: &[u8]) -> Option<Switch>
+    ensures { result ≡ sort_switch word.now }
+{
+    if is(word, b"-integer") {
+        Some(Switch::Integer)
+    } else if is(word, b"-decreasing") {
+        Some(Switch::Decreasing)
+    } else if is(word, b"-unique") {
+        Some(Switch::Unique)
+    } else if is(word, b"-nocase") {
+        Some(Switch::Nocase)
+    } else if is(word, b"-index") {
+        Some(Switch::Index)
+    } else {
+        None
+    }
+}
+
+/// Returns the allowed flag that a word is, or `None`.
+pub fn switch_of(allowed: Switches, word: &[u8]) -> Option<Switch>
+    ensures { result ≡ switch_of allowed word.now }
+{
+    match allowed {
+        Switches::Case => {
+            if is(word, b"-nocase") {
+                Some(Switch::Nocase)
+            } else {
+                None
+            }
+        }
+        Switches::Strict => {
+            if is(word, b"-strict") {
+                Some(Switch::Strict)
+            } else {
+                None
+            }
+        }
+        Switches::Search => search_switch(word),
+        Switches::Sort => sort_switch(word),
+    }
+}
+
+/// Returns whether the next word is the value of the flag.
+pub fn takes_value(switch: Switch) -> bool
+    ensures { result ≡ takes_value switch }
+{
+    match switch {
+        Switch::Index | Switch::Start => true,
+        _ => false,
+    }
+}
+
+/// Returns the number of words before the flags. `string is` has its class there.
+pub fn words_before(switches: Switches) -> usize
+    ensures { result ≡ words_before switches }
+{
+    match switches {
+        Switches::Strict => 1,
+        _ => 0,
+    }
+}

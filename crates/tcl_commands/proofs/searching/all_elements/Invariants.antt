@@ -1,0 +1,8 @@
+use Rattle.std.proofs.Common.{◌≡◌, ◌++◌, drop, map}
+use Rattle.std.specs.List.{position_from, filter}
+use Rattle.tcl_commands.specs.Searching.{is_sought, places_from}
+use Rattle.tcl_commands.specs.Strings.{count_text}
+use Rattle.tcl_commands.proofs.searching.all_elements.Given as goal
+
+abbrev pub invariant-loop-at : goal.invariant-loop-at
+invariant-loop-at l = l.made ++ filter (is_sought l.given l.pattern) (drop l.at l.elements) ≡ filter (is_sought l.given l.pattern) (drop l.from l.elements)

@@ -1,0 +1,220 @@
+//! Searches lists (`lsearch`).
+
+ghost use Rattle.std.specs.Prelude.{◌≡◌, [], drop, filter, find, map, min, unwrap_or, length, IfOk};
+ghost use Rattle.std.specs.List.{position_from};
+ghost use Rattle.exp_glob.specs.Whole.{whole_of};
+ghost use Rattle.tcl_commands.specs.Indices.{before};
+ghost use Rattle.tcl_commands.specs.Says.{Says};
+ghost use Rattle.tcl_commands.specs.Searching.{fits_pattern, is_sought, places_from, first_found, all_found, found, start_of, searched, lsearch};
+ghost use Rattle.tcl_commands.specs.Strings.{count_text};
+
+use crate::cases::are_same;
+use crate::complaint::Complaint;
+use crate::given::{arg, behind};
+use crate::indices::{before, element, index_of};
+use crate::lists::list_text;
+use crate::strings::place_text;
+use crate::switches::{Given, flags_of};
+use crate::values::{count_text, list_of};
+use command_table::Switches;
+use exp_glob::Glob;
+use std::alloc::{AllocError, Global};
+use tcl_values::{Elements, Value};
+use tcl_words::Packed;
+
+/// Returns whether an element matches the pattern, as an exact text or as a glob.
+#[tactic(auto, using(exp_glob::proofs::Wholes::whole_is))]
+fn fits_pattern(given: Given, glob: &Glob, pattern: &[u8], element: &[u8]) -> bool
+    requires { glob.now ≡ whole_of pattern.now }
+    ensures { result ≡ fits_pattern given pattern.now element.now }
+{
+    if given.exact {
+        return are_same(given.nocase, element, pattern);
+    }
+    glob.is_found(element, given.nocase)
+}
+
+/// Returns whether the search accepts an element. `-not` inverts the match.
+fn is_sought(given: Given, glob: &Glob, pattern: &[u8], element: &[u8]) -> bool
+    requires { glob.now ≡ whole_of pattern.now }
+    ensures { result ≡ is_sought given pattern.now element.now }
+{
+    if given.not {
+        return !fits_pattern(given, glob, pattern, element);
+    }
+    fits_pattern(given, glob, pattern, element)
+}
+
+/// Returns the index of the first accepted element, from an index on.
+#[tactic(auto, using(crate::proofs::Found::place_on, crate::proofs::Found::place_at, crate::proofs::Found::place_end))]
+fn first_place(
+    given: Given,
+    glob: &Glob,
+    pattern: &[u8],
+    from: usize,
+    elements: &Elements,
+) -> Option<usize>
+    requires { glob.now ≡ whole_of pattern.now }
+    ensures { result ≡ position_from (is_sought given pattern.now) from (drop from elements.now) }
+{
+    for at in from..elements.len() {
+        if is_sought(given, glob, pattern, element(elements, at)) {
+            return Some(at);
+        }
+    }
+    None
+}
+
+/// Returns the indexes of all accepted elements from an index on, as texts.
+#[tactic(auto, using(crate::proofs::Found::places_on, crate::proofs::Found::places_at, crate::proofs::Found::places_end))]
+fn all_places(
+    alloc: Global,
+    given: Given,
+    glob: &Glob,
+    pattern: &[u8],
+    from: usize,
+    elements: &Elements,
+) -> Result<Packed, AllocError>
+    requires { glob.now ≡ whole_of pattern.now }
+    ensures { IfOk result (λ p. p ≡ map count_text (places_from (is_sought given pattern.now) from (drop from elements.now))) }
+{
+    let mut made = Packed::new(alloc);
+    for at in from..elements.len() {
+        if !is_sought(given, glob, pattern, element(elements, at)) {
+            continue;
+        }
+        made.push(count_text(alloc, at)?.as_slice())?;
+    }
+    Ok(made)
+}
+
+/// Returns all accepted elements from an index on.
+#[tactic(auto, using(crate::proofs::Found::elements_on, crate::proofs::Found::elements_at, crate::proofs::Found::elements_end))]
+fn all_elements(
+    alloc: Global,
+    given: Given,
+    glob: &Glob,
+    pattern: &[u8],
+    from: usize,
+    elements: &Elements,
+) -> Result<Packed, AllocError>
+    requires { glob.now ≡ whole_of pattern.now }
+    ensures { IfOk result (λ p. p ≡ filter (is_sought given pattern.now) (drop from elements.now)) }
+{
+    let mut made = Packed::new(alloc);
+    for at in from..elements.len() {
+        let element = element(elements, at);
+        if !is_sought(given, glob, pattern, element) {
+            continue;
+        }
+        made.push(element)?;
+    }
+    Ok(made)
+}
+
+/// Returns the first accepted element, or its index: -1 if there is none.
+fn first_found(
+    alloc: Global,
+    inline: bool,
+    place: Option<usize>,
+    elements: &Elements,
+) -> Result<Value, AllocError>
+    ensures { IfOk result (λ v. v ≡ first_found inline place elements.now) }
+{
+    if !inline {
+        return place_text(alloc, place);
+    }
+    match place {
+        None => Ok(Value::new(alloc)),
+        Some(at) => match elements.value(alloc, at)? {
+            None => Ok(Value::new(alloc)),
+            Some(element) => Ok(element),
+        },
+    }
+}
+
+/// Returns the list of all accepted elements from an index on, or of their indexes.
+fn all_found(
+    alloc: Global,
+    given: Given,
+    glob: &Glob,
+    pattern: &[u8],
+    from: usize,
+    elements: &Elements,
+) -> Result<Value, Complaint>
+    requires { glob.now ≡ whole_of pattern.now }
+    ensures { Says result (all_found given.inline (is_sought given pattern.now) from elements.now) }
+{
+    if given.inline {
+        return list_text(
+            alloc,
+            all_elements(alloc, given, glob, pattern, from, elements)?,
+        );
+    }
+    list_text(
+        alloc,
+        all_places(alloc, given, glob, pattern, from, elements)?,
+    )
+}
+
+/// Returns the result of the search from an index on.
+fn found(
+    alloc: Global,
+    given: Given,
+    pattern: &[u8],
+    from: usize,
+    elements: &Elements,
+) -> Result<Value, Complaint>
+    ensures { Says result (found given (is_sought given pattern.now) from elements.now) }
+{
+    let glob = Glob::whole(alloc, pattern)?;
+    if given.all {
+        return all_found(alloc, given, &glob, pattern, from, elements);
+    }
+    let place = first_place(given, &glob, pattern, from, elements);
+    Ok(first_found(alloc, given.inline, place, elements)?)
+}
+
+/// Returns the index at which a search begins, at most `count`.
+fn start_of(
+    alloc: Global,
+    start: Option<usize>,
+    args: &[Value],
+    count: usize,
+) -> Result<usize, Complaint>
+    ensures { Says result (start_of start args.now count) }
+{
+    match start {
+        None => Ok(0),
+        Some(at) => {
+            let place = index_of(alloc, count, arg(args, at))?;
+            Ok(before(place, count))
+        }
+    }
+}
+
+/// Returns the value of `lsearch ?flags? list pattern`.
+pub(crate) fn lsearch(alloc: Global, command: &[u8], args: &[Value]) -> Result<Value, Complaint>
+    ensures { Says result (lsearch command.now args.now) }
+{
+    let (given, count) = flags_of(alloc, Switches::Search, 2, command, args)?;
+    let words = behind(args, count);
+    match words {
+        [] => searched(alloc, given, args, &Value::new(alloc), &[]),
+        [list, ..] => searched(alloc, given, args, list, arg(words, 1)),
+    }
+}
+
+fn searched(
+    alloc: Global,
+    given: Given,
+    args: &[Value],
+    list: &Value,
+    pattern: &[u8],
+) -> Result<Value, Complaint>
+    ensures { Says result (searched given args.now list.now pattern.now) }
+{
+    let elements = list_of(alloc, list)?;
+    let from = start_of(alloc, given.start, args, elements.len())?;
+    found(alloc, given, pattern, from, &elements)
+}

@@ -1,0 +1,186 @@
+//! Reads the flags before the last arguments of a command.
+
+ghost use Rattle.std.specs.Prelude.{◌≡◌};
+ghost use Rattle.tcl_commands.specs.Says.{Says};
+ghost use Rattle.tcl_commands.specs.Switches.{nothing, with_switch, if_switch, flag_step, flags_from, flags_of};
+
+use crate::complaint::Complaint;
+use crate::given::behind;
+use crate::texts::{bad_flag, wrong};
+use command_table::{Switch, Switches, begins_with_minus, switch_of};
+use std::alloc::Global;
+use tcl_values::Value;
+
+/// The flags of a call. The last one of `-exact` and `-glob` counts.
+#[derive(Clone, Copy)]
+pub(crate) struct Given {
+    pub(crate) all: bool,
+    pub(crate) decreasing: bool,
+    /// The next argument is the value of the last flag.
+    pub(crate) due: bool,
+    pub(crate) exact: bool,
+    /// The index of the argument that is the value of `-index`.
+    pub(crate) index: Option<usize>,
+    pub(crate) inline: bool,
+    pub(crate) integer: bool,
+    pub(crate) nocase: bool,
+    pub(crate) not: bool,
+    /// The index of the argument that is the value of `-start`.
+    pub(crate) start: Option<usize>,
+    pub(crate) strict: bool,
+    pub(crate) unique: bool,
+}
+
+/// Returns an empty set of flags.
+fn nothing() -> Given
+    ensures { result ≡ nothing }
+{
+    Given {
+        all: false,
+        decreasing: false,
+        due: false,
+        exact: false,
+        index: None,
+        inline: false,
+        integer: false,
+        nocase: false,
+        not: false,
+        start: None,
+        strict: false,
+        unique: false,
+    }
+}
+
+/// Returns the flags with one added. `next` is the index of the argument after it.
+fn with_switch(switch: Switch, next: usize, given: Given) -> Given
+    ensures { result ≡ with_switch switch next given }
+{
+    match switch {
+        Switch::All => Given { all: true, ..given },
+        Switch::Decreasing => Given {
+            decreasing: true,
+            ..given
+        },
+        Switch::Exact => Given {
+            exact: true,
+            ..given
+        },
+        Switch::Glob => Given {
+            exact: false,
+            ..given
+        },
+        Switch::Index => Given {
+            index: Some(next),
+            due: true,
+            ..given
+        },
+        Switch::Inline => Given {
+            inline: true,
+            ..given
+        },
+        Switch::Integer => Given {
+            integer: true,
+            ..given
+        },
+        Switch::Nocase => Given {
+            nocase: true,
+            ..given
+        },
+        Switch::Not => Given { not: true, ..given },
+        Switch::Start => Given {
+            start: Some(next),
+            due: true,
+            ..given
+        },
+        Switch::Strict => Given {
+            strict: true,
+            ..given
+        },
+        Switch::Unique => Given {
+            unique: true,
+            ..given
+        },
+    }
+}
+
+fn if_switch(
+    alloc: Global,
+    word: &[u8],
+    switch: Option<Switch>,
+    next: usize,
+    given: Given,
+) -> Result<Option<Given>, Complaint>
+    ensures { Says result (if_switch word.now switch next given) }
+{
+    match switch {
+        None => Err(Complaint::Said(bad_flag(alloc, word)?)),
+        Some(switch) => Ok(Some(with_switch(switch, next, given))),
+    }
+}
+
+/// Reads an argument as a flag, or as the value of the last flag. `None` if it is neither. It can
+/// be a flag only if `more`. `next` is the index of the argument after it.
+fn flag_step(
+    alloc: Global,
+    allowed: Switches,
+    word: &[u8],
+    more: bool,
+    next: usize,
+    given: Given,
+) -> Result<Option<Given>, Complaint>
+    ensures { Says result (flag_step allowed word.now more next given) }
+{
+    if given.due {
+        return Ok(Some(Given {
+            due: false,
+            ..given
+        }));
+    }
+    if more && begins_with_minus(word) {
+        return if_switch(alloc, word, switch_of(allowed, word), next, given);
+    }
+    Ok(None)
+}
+
+/// Returns the flags at the front of the arguments, and how many arguments they take. At least
+/// `tail` arguments follow each flag.
+fn flags_from(
+    alloc: Global,
+    allowed: Switches,
+    tail: usize,
+    args: &[Value],
+) -> Result<(Given, usize), Complaint>
+    ensures { Says result (flags_from allowed tail nothing 0 args.now) }
+{
+    let mut given = nothing();
+    let mut at = 0;
+    let mut rest = args;
+    while let [word, others @ ..] = rest {
+        let more = tail < rest.len();
+        match flag_step(alloc, allowed, word.as_slice(), more, at + 1, given)? {
+            None => return Ok((given, at)),
+            Some(next) => given = next,
+        }
+        at += 1;
+        rest = others;
+    }
+    Ok((given, at))
+}
+
+/// Does the same, and requires exactly `tail` arguments after the flags. Otherwise the error is
+/// `wrong # args`.
+pub(crate) fn flags_of(
+    alloc: Global,
+    allowed: Switches,
+    tail: usize,
+    command: &[u8],
+    args: &[Value],
+) -> Result<(Given, usize), Complaint>
+    ensures { Says result (flags_of allowed tail command.now args.now) }
+{
+    let (given, words) = flags_from(alloc, allowed, tail, args)?;
+    if behind(args, words).len() == tail {
+        return Ok((given, words));
+    }
+    Err(wrong(alloc, command))
+}
