@@ -12,7 +12,7 @@ waiting word =
 
 abbrev pub choosing : List ℕ → List ℕ
 choosing word =
-    if bytes_eq word (codes "switch") || bytes_eq word (codes "case") then codes "use if and elseif"
+    if bytes_eq word (codes "case") then codes "use switch"
     else if bytes_eq word (codes "apply") then codes "use proc"
     else if bytes_eq word (codes "try") then codes "use catch"
     else if bytes_eq word (codes "throw") then codes "use error"

@@ -68,9 +68,17 @@ redefinable_value word =
     else if bytes_eq word (codes "lsort") then Some value.Lsort
     else None
 
+-- The command that a word names, if it evaluates a script and a procedure can have its name.
+abbrev pub redefinable_control : List ℕ → Option TclCommand
+redefinable_control word = if bytes_eq word (codes "switch") then Some tcl.Switch else None
+
+abbrev pub value_or_redefinable : Option ValueCommand → List ℕ → Option TclCommand
+value_or_redefinable (Some c) word = Some (tcl.Value c)
+value_or_redefinable None word = redefinable_control word
+
 -- The command of Tcl that a word names, if a procedure can have its name. Such a procedure is called instead.
 abbrev pub redefinable_command : List ℕ → Option TclCommand
-redefinable_command word = option_map tcl.Value (redefinable_value word)
+redefinable_command word = value_or_redefinable (redefinable_value word) word
 
 abbrev pub or_redefinable : Option TclCommand → List ℕ → Option TclCommand
 or_redefinable (Some c) word = Some c

@@ -41,8 +41,8 @@ value_row value.Break = plain (exactly 0) texts
 value_row value.Concat = plain (at_least 0) texts
 -- continue
 value_row value.Continue = plain (exactly 0) texts
--- error message
-value_row value.Error = plain (exactly 1) texts
+-- error message ?info? ?code?
+value_row value.Error = plain (between 1 3) texts
 -- global ?varname ...?
 value_row value.Global = plain (at_least 0) (Each Name Name Name Name)
 -- incr varName ?increment?
@@ -106,6 +106,8 @@ tcl_row tcl.Foreach = plain (exactly 3) (Each Name Text Script Text)
 tcl_row tcl.If = plain (at_least 2) Test
 -- proc name args body
 tcl_row tcl.Proc = plain (exactly 3) (Each Text Text Script Text)
+-- switch ?-exact|-glob? ?--? string {pattern body ?pattern body ...?}
+tcl_row tcl.Switch = plain (at_least 2) texts
 -- while test body
 tcl_row tcl.While = plain (exactly 2) (Each Expression Script Text Text)
 

@@ -1,9 +1,17 @@
--- The flags of value commands. They come before the last arguments: string(n), lsearch(n), lsort(n).
+-- The flags of value commands. They come before the last arguments: string(n), lsearch(n), lsort(n), switch(n).
 use Rattle.std.specs.Prelude.{ℕ, Bool, true, false, List, codes, Option, Some, None, bytes_eq, if◌then◌else◌}
 use Rattle.command_table.specs.declared.switches.Switch.{Switch}
 use Rattle.command_table.specs.declared.switches.Switch.TheVariants as switch
 use Rattle.command_table.specs.declared.switches.Switches.{Switches}
 use Rattle.command_table.specs.declared.switches.Switches.TheVariants as switches
+
+-- ?-exact|-glob? ?--?
+abbrev pub case_switch : List ℕ → Option Switch
+case_switch word =
+    if bytes_eq word (codes "--") then Some switch.End
+    else if bytes_eq word (codes "-exact") then Some switch.Exact
+    else if bytes_eq word (codes "-glob") then Some switch.Glob
+    else None
 
 -- ?-exact|-glob? ?-all? ?-inline? ?-not? ?-nocase? ?-start index?
 abbrev pub search_switch : List ℕ → Option Switch
@@ -30,6 +38,7 @@ sort_switch word =
 -- The allowed flag that a word is.
 abbrev pub switch_of : Switches → List ℕ → Option Switch
 switch_of switches.Case word = if bytes_eq word (codes "-nocase") then Some switch.Nocase else None
+switch_of switches.Choice word = case_switch word
 switch_of switches.Strict word = if bytes_eq word (codes "-strict") then Some switch.Strict else None
 switch_of switches.Search word = search_switch word
 switch_of switches.Sort word = sort_switch word

@@ -26,8 +26,8 @@ fn waiting(word: &[u8]) -> &'static [u8]
 fn choosing(word: &[u8]) -> &'static [u8]
     ensures { result.now ≡ choosing word.now }
 {
-    if is(word, b"switch") || is(word, b"case") {
-        b"use if and elseif"
+    if is(word, b"case") {
+        b"use switch"
     } else if is(word, b"apply") {
         b"use proc"
     } else if is(word, b"try") {

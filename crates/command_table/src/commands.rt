@@ -2,7 +2,7 @@
 
 ghost use Rattle.std.specs.Prelude.{◌≡◌};
 ghost use Rattle.std.specs.Str.{bytes_eq};
-ghost use Rattle.command_table.specs.Commands.{value_command, control_command, tcl_command, redefinable_value, redefinable_command, expect_command, language_command, command_of};
+ghost use Rattle.command_table.specs.Commands.{value_command, control_command, tcl_command, redefinable_value, redefinable_control, redefinable_command, expect_command, language_command, command_of};
 
 /// A value command: it evaluates no script.
 #[derive(Clone, Copy, PartialEq, Eq)]
@@ -49,6 +49,7 @@ pub enum TclCommand {
     Foreach,
     If,
     Proc,
+    Switch,
     While,
 }
 
@@ -194,6 +195,17 @@ fn redefinable_value(word: &[u8]) -> Option<ValueCommand>
     }
 }
 
+/// Returns the command that a word names, if it evaluates a script and a procedure can have its name.
+fn redefinable_control(word: &[u8]) -> Option<TclCommand>
+    ensures { result ≡ redefinable_control word.now }
+{
+    if is(word, b"switch") {
+        Some(TclCommand::Switch)
+    } else {
+        None
+    }
+}
+
 /// Returns the command of Tcl that a word names, if a procedure can have its name. Such a procedure
 /// is called instead.
 pub fn redefinable_command(word: &[u8]) -> Option<TclCommand>
@@ -201,7 +213,7 @@ pub fn redefinable_command(word: &[u8]) -> Option<TclCommand>
 {
     match redefinable_value(word) {
         Some(command) => Some(TclCommand::Value(command)),
-        None => None,
+        None => redefinable_control(word),
     }
 }
 

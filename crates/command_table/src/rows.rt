@@ -69,7 +69,7 @@ pub fn value_row(command: ValueCommand) -> Row
         ValueCommand::Break => plain(exactly(0), texts()),
         ValueCommand::Concat => plain(at_least(0), texts()),
         ValueCommand::Continue => plain(exactly(0), texts()),
-        ValueCommand::Error => plain(exactly(1), texts()),
+        ValueCommand::Error => plain(between(1, 3), texts()),
         ValueCommand::Global => plain(at_least(0), Each(Name, Name, Name, Name)),
         ValueCommand::Incr => plain(between(1, 2), Each(Name, Text, Text, Text)),
         ValueCommand::Info => plain(at_least(1), Choice),
@@ -109,6 +109,7 @@ pub fn tcl_row(command: TclCommand) -> Row
         TclCommand::Foreach => plain(exactly(3), Each(Name, Text, Script, Text)),
         TclCommand::If => plain(at_least(2), Test),
         TclCommand::Proc => plain(exactly(3), Each(Text, Text, Script, Text)),
+        TclCommand::Switch => plain(at_least(2), texts()),
         TclCommand::While => plain(exactly(2), Each(Expression, Script, Text, Text)),
     }
 }

@@ -1,7 +1,7 @@
 //! The flags of value commands. They come before the last arguments.
 
 ghost use Rattle.std.specs.Prelude.{◌≡◌};
-ghost use Rattle.command_table.specs.Switches.{search_switch, sort_switch, switch_of, takes_value, words_before};
+ghost use Rattle.command_table.specs.Switches.{case_switch, search_switch, sort_switch, switch_of, takes_value, words_before};
 
 use crate::commands::is;
 
@@ -10,6 +10,8 @@ use crate::commands::is;
 pub enum Switch {
     All,
     Decreasing,
+    /// `--`: no further argument is a flag.
+    End,
     Exact,
     Glob,
     /// `-index` and an index.
@@ -29,12 +31,29 @@ pub enum Switch {
 pub enum Switches {
     /// `-nocase`
     Case,
+    /// The flags of `switch`.
+    Choice,
     /// `-strict`
     Strict,
     /// The flags of `lsearch`.
     Search,
     /// The flags of `lsort`.
     Sort,
+}
+
+/// Returns the flag of `switch` that a word is, or `None`.
+fn case_switch(word: &[u8]) -> Option<Switch>
+    ensures { result ≡ case_switch word.now }
+{
+    if is(word, b"--") {
+        Some(Switch::End)
+    } else if is(word, b"-exact") {
+        Some(Switch::Exact)
+    } else if is(word, b"-glob") {
+        Some(Switch::Glob)
+    } else {
+        None
+    }
 }
 
 /// Returns the flag of `lsearch` that a word is, or `None`.
@@ -91,6 +110,7 @@ pub fn switch_of(allowed: Switches, word: &[u8]) -> Option<Switch>
                 None
             }
         }
+        Switches::Choice => case_switch(word),
         Switches::Strict => {
             if is(word, b"-strict") {
                 Some(Switch::Strict)

@@ -1,11 +1,11 @@
 -- The pattern that ends with the end of the text is found where the whole text matches.
-use Rattle.std.proofs.Common.{◌≡◌, ℕ, ◌+◌, ◌≤◌, Bool, true, false, List, [], ◌∷◌, ◌++◌, length, Option, Some, None, is_some, refl, sym, ap, subst, ◌∙◌, arith}
+use Rattle.std.proofs.Common.{◌≡◌, ℕ, ◌+◌, Bool, true, false, List, [], ◌∷◌, ◌++◌, length, Option, Some, None, is_some, refl, sym, ap, subst, ◌∙◌, arith}
 use Rattle.std.proofs.lemmas.Bool.{false≢true}
 use Rattle.exp_glob.specs.declared.element.Element.{Element}
 use Rattle.exp_glob.specs.declared.element.Element.TheVariants.{Star, One, End}
 use Rattle.exp_glob.specs.Matching.{Spans}
 use Rattle.exp_glob.specs.Search.{first_span}
-use Rattle.exp_glob.specs.Spans.{GlobSpan, FindsFirst}
+use Rattle.exp_glob.specs.Spans.{FindsFirst}
 use Rattle.exp_glob.specs.Whole.{matches, plain_elements, whole_of}
 use Rattle.exp_glob.proofs.Found.{spans_decides, is_first_span}
 

@@ -1,4 +1,4 @@
--- Patterns that match a whole text, as `string match` of Tcl(n) does. `^` and `$` are bytes like others in them.
+-- Patterns that match whole texts, as `string match` does (string(n)). `^` and `$` in them are ordinary bytes.
 use Rattle.std.specs.Prelude.{ℕ, Bool, true, List, [], ◌∷◌, ◌++◌, length, map}
 use Rattle.tcl_words.specs.Bytes as ascii
 use Rattle.exp_glob.specs.declared.element.Element.{Element}
@@ -8,7 +8,7 @@ use Rattle.exp_glob.specs.declared.pattern.Glob.{Glob}
 use Rattle.exp_glob.specs.Elements.{elements_of}
 use Rattle.exp_glob.specs.Search.{spans}
 
--- a `$` at the end is the byte
+-- A `$` at the end of a pattern is the byte.
 abbrev pub plain : Element → Element
 plain Star = Star
 plain (One single) = One single
@@ -17,10 +17,10 @@ plain End = One (Byte ascii.dollar)
 abbrev pub plain_elements : List ℕ → List Element
 plain_elements pattern = map plain (elements_of pattern)
 
--- a pattern matches a whole text
+-- The pattern matches the whole text.
 unfoldable pub matches : Bool → List ℕ → List ℕ → Bool
 matches nocase pattern text = spans nocase (plain_elements pattern) text 0 (length text)
 
--- the pattern that a search finds where the whole text matches
+-- The pattern that a search finds if the whole text matches.
 abbrev pub whole_of : List ℕ → Glob
 whole_of pattern = record { anchored = true; elements = plain_elements pattern ++ End ∷ [] }

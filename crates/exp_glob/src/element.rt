@@ -86,6 +86,15 @@ impl Elements {
         }
     }
 
+    /// Creates an empty list with room for `count` elements.
+    pub(crate) fn with_room(alloc: Global, count: usize) -> Result<Elements, AllocError>
+        ensures { IfOk result (λ es. es ≡ []) }
+    {
+        Ok(Elements {
+            list: Vec::with_capacity(alloc, count)?,
+        })
+    }
+
     /// Appends an element. On `AllocError` the list is unchanged.
     pub fn push(&mut self, element: Element) -> Result<(), AllocError>
         ensures pushed { OnOk result (self.new ≡ self.old ++ element ∷ []) }

@@ -1,17 +1,18 @@
 //! Decides by a few bytes that a pattern cannot match text that has arrived since an earlier
 //! search.
 
-ghost use Rattle.std.specs.Prelude.{◌≡◌, ◌≤◌, ◌<◌, ◌+◌, ℕ, true, drop, length, IfOk};
+ghost use Rattle.std.specs.Prelude.{◌≡◌, ◌≤◌, ◌<◌, ◌+◌, ℕ, Bool, List, true, drop, length, IfOk};
 ghost use Rattle.memchr.specs.Find.{OccursAt};
 ghost use Rattle.exp_glob.specs.Endings.{IsEnding, AreStars, HasNoStar};
 ghost use Rattle.exp_glob.specs.Spans.{Spans};
+ghost use Rattle.exp_glob.specs.declared.element.Element.{Element as ElementOf};
 
 use crate::element::Element;
 use crate::literal::Literal;
 use crate::matching::takes;
 use crate::places::after;
 use crate::plan::literal;
-use crate::runs::is_star;
+use crate::runs::{is_star, star_end};
 use memchr::memmem;
 use std::alloc::{AllocError, Global};
 
@@ -54,7 +55,18 @@ fn run_from(elements: &[Element]) -> usize
     from
 }
 
-/// Returns the literal of the last run that is not empty. It allocates only if there are elements.
+/// Returns no literal. It fits all elements.
+pub(crate) fn no_ending(alloc: Global) -> Ending
+    ensures { (nocase : Bool) → (es : List ElementOf) → IsEnding nocase es result.back result.bytes.items }
+{
+    Ending {
+        back: 0,
+        bytes: Vec::new(alloc),
+    }
+}
+
+/// Returns the literal of the last run that is not empty, or none if there is no star. Only searches
+/// for patterns with a star use it. It allocates only if there are elements.
 pub(crate) fn ending_of(
     alloc: Global,
     elements: &[Element],
@@ -62,6 +74,9 @@ pub(crate) fn ending_of(
 ) -> Result<Ending, AllocError>
     ensures { IfOk result (λ e. IsEnding nocase elements.now e.back e.bytes.items) }
 {
+    if star_end(elements).is_none() {
+        return Ok(no_ending(alloc));
+    }
     let (sought, _) = elements.split_at(stars_from(elements));
     let run = after(sought, run_from(sought));
     let Literal { offset, bytes } = literal(alloc, run, nocase)?;

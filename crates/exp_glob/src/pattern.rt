@@ -26,13 +26,13 @@ pub struct Glob {
 }
 
 impl Glob {
-    /// Parses a pattern. Every text is a pattern.
-    pub fn new(alloc: Global, pattern: &[u8]) -> Result<Glob, AllocError>
+    /// Parses a pattern. Every text is a pattern. Searches with this `nocase` are fast.
+    pub fn new(alloc: Global, pattern: &[u8], nocase: bool) -> Result<Glob, AllocError>
         ensures { IfOk result (λ g. g ≡ glob_of pattern.now) }
     {
         match pattern {
             [] => {
-                let elements = Plan::new(alloc, Elements::new(alloc))?;
+                let elements = Plan::new(alloc, Elements::new(alloc), nocase)?;
                 Ok(Glob {
                     anchored: false,
                     elements,
@@ -40,13 +40,13 @@ impl Glob {
             }
             [first, rest @ ..] => {
                 if *first == b'^' {
-                    let elements = Plan::new(alloc, elements(alloc, rest)?)?;
+                    let elements = Plan::new(alloc, elements(alloc, rest)?, nocase)?;
                     return Ok(Glob {
                         anchored: true,
                         elements,
                     });
                 }
-                let elements = Plan::new(alloc, elements(alloc, pattern)?)?;
+                let elements = Plan::new(alloc, elements(alloc, pattern)?, nocase)?;
                 Ok(Glob {
                     anchored: false,
                     elements,

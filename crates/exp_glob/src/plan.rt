@@ -1,12 +1,12 @@
 //! The elements of a pattern, with the literals that a search looks for.
 
-ghost use Rattle.std.specs.Prelude.{◌≡◌, ◌≤◌, ◌+◌, ◌∷◌, ℕ, List, drop, length, IfOk};
+ghost use Rattle.std.specs.Prelude.{◌≡◌, ◌≤◌, ◌+◌, ◌∷◌, ℕ, Bool, List, drop, length, IfOk};
 ghost use Rattle.exp_glob.specs.Endings.{IsEnding, IsSoughtBy};
 ghost use Rattle.exp_glob.specs.Literals.{only_byte as only_byte_of, byte_at, IsLiteral, AreLiterals};
 ghost use Rattle.exp_glob.specs.declared.element.Element.{Element as ElementOf};
 
 use crate::element::{Element, Elements, Single};
-use crate::ending::ending_of;
+use crate::ending::{ending_of, no_ending};
 use crate::literal::{Literal, Literals};
 use crate::places::after;
 use crate::runs::{is_star, star_end};
@@ -36,16 +36,23 @@ impl Model for Plan {
 }
 
 impl Plan {
-    /// Computes the literals of these elements. It allocates only if there are elements.
-    pub(crate) fn new(alloc: Global, elements: Elements) -> Result<Plan, AllocError>
+    /// Computes the literals of these elements for searches with or without case. Other searches
+    /// have no literals. It allocates only if there are elements.
+    pub(crate) fn new(alloc: Global, elements: Elements, nocase: bool) -> Result<Plan, AllocError>
         ensures { IfOk result (λ p. p ≡ elements) }
     {
-        let cased = literals(alloc, elements.as_slice(), false)?;
-        let caseless = literals(alloc, elements.as_slice(), true)?;
+        let sought = literals(alloc, elements.as_slice(), nocase)?;
+        if nocase {
+            return Ok(Plan {
+                elements,
+                cased: no_literals(alloc),
+                caseless: sought,
+            });
+        }
         Ok(Plan {
             elements,
-            cased,
-            caseless,
+            cased: sought,
+            caseless: no_literals(alloc),
         })
     }
 
@@ -184,6 +191,17 @@ fn empty_runs(elements: &[Element]) -> usize {
     match elements.iter().position(|element| !is_star(element)) {
         Some(n) => n,
         None => elements.len(),
+    }
+}
+
+/// Returns no literals. They fit all elements.
+fn no_literals(alloc: Global) -> Literals
+    ensures { (nocase : Bool) → (es : List ElementOf) → IsSoughtBy nocase es result }
+{
+    Literals {
+        runs: Vec::new(alloc),
+        ahead: 0,
+        ending: no_ending(alloc),
     }
 }
 

@@ -94,7 +94,7 @@ fn element_at(
 pub(crate) fn elements(alloc: Global, bytes: &[u8]) -> Result<Elements, AllocError>
     ensures { IfOk result (λ es. es ≡ elements_of bytes.now) }
 {
-    let mut made = Elements::new(alloc);
+    let mut made = Elements::with_room(alloc, bytes.len())?;
     let closed = behind_last_close(bytes);
     let mut at = 0;
     while at < bytes.len() {

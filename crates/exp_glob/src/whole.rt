@@ -1,4 +1,4 @@
-//! Patterns that match a whole text.
+//! Patterns that match whole texts (`string match`).
 
 ghost use Rattle.std.specs.Prelude.{◌≡◌, ◌++◌, ◌∷◌, [], map, is_some, IfOk};
 ghost use Rattle.exp_glob.specs.Search.{first_span};
@@ -10,7 +10,7 @@ use crate::plan::Plan;
 use crate::reading::elements;
 use std::alloc::{AllocError, Global};
 
-/// An element, where a `$` at the end is the byte.
+/// Returns an element. A `$` at the end of the pattern becomes the byte.
 fn plain(element: Element) -> Element
     ensures { result ≡ plain element }
 {
@@ -21,7 +21,7 @@ fn plain(element: Element) -> Element
     }
 }
 
-/// The elements, where a `$` at the end is the byte, and behind them the end of the text.
+/// Returns the elements, followed by the end of the text. A `$` at the end of the pattern becomes the byte.
 fn to_the_end(alloc: Global, elements: Elements) -> Result<Elements, AllocError>
     ensures { IfOk result (λ es. es ≡ map plain elements ++ Element.End ∷ []) }
 {
@@ -34,18 +34,19 @@ fn to_the_end(alloc: Global, elements: Elements) -> Result<Elements, AllocError>
 }
 
 impl Glob {
-    /// The pattern that a text writes, to match a whole text. `^` and `$` are bytes like others in it.
-    pub fn whole(alloc: Global, pattern: &[u8]) -> Result<Glob, AllocError>
+    /// Reads a pattern that matches whole texts. `^` and `$` in it are ordinary bytes. Searches with
+    /// this `nocase` are fast.
+    pub fn whole(alloc: Global, pattern: &[u8], nocase: bool) -> Result<Glob, AllocError>
         ensures { IfOk result (λ g. g ≡ whole_of pattern.now) }
     {
         let elements = to_the_end(alloc, elements(alloc, pattern)?)?;
         Ok(Glob {
             anchored: true,
-            elements: Plan::new(alloc, elements)?,
+            elements: Plan::new(alloc, elements, nocase)?,
         })
     }
 
-    /// Whether there is a match.
+    /// Returns whether the pattern matches. `nocase` ignores the case of ASCII letters.
     pub fn is_found(&self, text: &[u8], nocase: bool) -> bool
         ensures { result ≡ is_some (first_span self.now nocase text.now) }
     {

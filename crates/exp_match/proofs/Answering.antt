@@ -11,6 +11,7 @@ use Rattle.regex_syntax.specs.Brackets.{Nested}
 use Rattle.regex_syntax.specs.Grammar.{Names, read}
 use Rattle.exp_glob.proofs.Found.{first_none, first_some}
 use Rattle.exp_match.specs.Exact.{alike, StandsAt, FindsExact, begins, text_at, find_text}
+use Rattle.exp_match.specs.Translation.{translated}
 use Rattle.exp_match.specs.Written.{Written, Seen, Shows, AreGroupsOf, FindsAsWritten, config_of, seen_of, groups_from, groups_of, find_written}
 
 -- exact texts
@@ -110,4 +111,4 @@ pub is_find_written : (w : Written) (bytes : List ℕ) (found : Option (List (Op
     → FindsAsWritten w bytes found → found ≡ find_written w bytes
 unfolding find_written
 is_find_written w bytes found ten is =
-    by_reading (λ (p : Nested Re × Names). option_map seen_of (find p.0.value bytes 0)) found ten (read (config_of w.nocase) (chars w.source)) is
+    by_reading (λ (p : Nested Re × Names). option_map seen_of (find p.0.value bytes 0)) found ten (read (config_of w.nocase) (translated (chars w.source))) is

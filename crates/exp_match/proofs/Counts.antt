@@ -3,9 +3,9 @@ use Rattle.std.proofs.Common.{◌≡◌, ◌≢◌, ℕ, ◌+◌, ◌-◌, ◌*�
 use Rattle.std.proofs.lemmas.Bool.{eqb-true}
 use Rattle.std.proofs.lemmas.List.{drop-drop, get_or-drop}
 use Rattle.tcl_words.specs.Lists.{plus}
-use Rattle.exp_match.specs.Grammar.{Number, Repeat, one_digit, two_digits, exactly, at_least, between}
+use Rattle.exp_match.specs.Grammar.{Number, Times, Repeat, one_digit, two_digits, exactly, at_least, between, greedy, lazy}
 use Rattle.exp_match.specs.Grammar as grammar
-use Rattle.exp_match.specs.Scan.{is_digit, three_digits, number, count_to, count_on, count_from, count}
+use Rattle.exp_match.specs.Scan.{is_digit, three_digits, number, count_to, count_on, count_from, count, with_lazy}
 use Rattle.exp_match.proofs.Accepting.{both_of}
 use Rattle.exp_match.proofs.Tokens.{by_test, front, front_two, leb_le}
 
@@ -90,33 +90,40 @@ at_place s k c some t =
     let here : k + 0 ≡ k = omega arith in
     front (drop k s) c some (get_or-drop k s 0 0 ∙ ap (λ (i : ℕ). get_or s i 0) here ∙ eqb-true _ c t) ∙ ap (λ (x : List ℕ). c ∷ x) (drop-drop 1 k s)
 
-count_to_is : (m : ℕ) (s u : List ℕ) → Number m s (44 ∷ u) → (o : Option (ℕ × ℕ)) → IfSome o (IsNumber u) → IfSome (count_to m u o) (λ (k : ℕ). Repeat (123 ∷ s) (drop k u))
+count_to_is : (m : ℕ) (s u : List ℕ) → Number m s (44 ∷ u) → (o : Option (ℕ × ℕ)) → IfSome o (IsNumber u) → IfSome (count_to m u o) (λ (k : ℕ). Times (123 ∷ s) (drop k u))
 count_to_is m s u low None h = tt
 count_to_is m s u low (Some q) h =
-    by_test (λ (o : Option ℕ). IfSome o (λ (k : ℕ). Repeat (123 ∷ s) (drop k u))) (eqb (get_or u q.1 0) 125 && nat_le m q.0) _ _
+    by_test (λ (o : Option ℕ). IfSome o (λ (k : ℕ). Times (123 ∷ s) (drop k u))) (eqb (get_or u q.1 0) 125 && nat_le m q.0) _ _
     (λ t. let p = both_of _ _ t in
     between m q.0 s u (drop (q.1 + 1) u) low (subst (Number q.0 u) (at_place u q.1 125 (λ z. omega arith) p.0) h) (leb_le m q.0 p.1))
     (λ t. tt)
 
-count_on_is : (m : ℕ) (s u : List ℕ) → Number m s (44 ∷ u) → IfSome (count_on m u) (λ (k : ℕ). Repeat (123 ∷ s) (drop k u))
+count_on_is : (m : ℕ) (s u : List ℕ) → Number m s (44 ∷ u) → IfSome (count_on m u) (λ (k : ℕ). Times (123 ∷ s) (drop k u))
 count_on_is m s u low =
-    by_test (λ (o : Option ℕ). IfSome o (λ (k : ℕ). Repeat (123 ∷ s) (drop k u))) (eqb (get_or u 0 0) 125) _ _
+    by_test (λ (o : Option ℕ). IfSome o (λ (k : ℕ). Times (123 ∷ s) (drop k u))) (eqb (get_or u 0 0) 125) _ _
     (λ t. at_least m s (drop 1 u) (subst (λ (x : List ℕ). Number m s (44 ∷ x)) (front u 125 (λ z. omega arith) (eqb-true _ 125 t)) low))
     (λ t. count_to_is m s u low (number u) (number_is u))
 
-further : (s : List ℕ) (n : ℕ) (o : Option ℕ) → IfSome o (λ (k : ℕ). Repeat (123 ∷ s) (drop k (drop n s))) → IfSome (plus n o) (λ (k : ℕ). Repeat (123 ∷ s) (drop k s))
+further : (s : List ℕ) (n : ℕ) (o : Option ℕ) → IfSome o (λ (k : ℕ). Times (123 ∷ s) (drop k (drop n s))) → IfSome (plus n o) (λ (k : ℕ). Times (123 ∷ s) (drop k s))
 further s n None h = tt
-further s n (Some k) h = subst (Repeat (123 ∷ s)) (drop-drop k n s) h
+further s n (Some k) h = subst (Times (123 ∷ s)) (drop-drop k n s) h
 
-count_from_is : (s : List ℕ) (o : Option (ℕ × ℕ)) → IfSome o (IsNumber s) → IfSome (count_from s o) (λ (k : ℕ). Repeat (123 ∷ s) (drop k s))
+count_from_is : (s : List ℕ) (o : Option (ℕ × ℕ)) → IfSome o (IsNumber s) → IfSome (count_from s o) (λ (k : ℕ). Times (123 ∷ s) (drop k s))
 count_from_is s None h = tt
 count_from_is s (Some p) h =
-    by_test (λ (o : Option ℕ). IfSome o (λ (k : ℕ). Repeat (123 ∷ s) (drop k s))) (eqb (get_or s p.1 0) 125) _ _
+    by_test (λ (o : Option ℕ). IfSome o (λ (k : ℕ). Times (123 ∷ s) (drop k s))) (eqb (get_or s p.1 0) 125) _ _
     (λ t. exactly p.0 s (drop (p.1 + 1) s) (subst (Number p.0 s) (at_place s p.1 125 (λ z. omega arith) t) h))
-    (λ t. by_test (λ (o : Option ℕ). IfSome o (λ (k : ℕ). Repeat (123 ∷ s) (drop k s))) (eqb (get_or s p.1 0) 44) _ _
+    (λ t. by_test (λ (o : Option ℕ). IfSome o (λ (k : ℕ). Times (123 ∷ s) (drop k s))) (eqb (get_or s p.1 0) 44) _ _
     (λ u. further s (p.1 + 1) (count_on p.0 (drop (p.1 + 1) s)) (count_on_is p.0 s (drop (p.1 + 1) s) (subst (Number p.0 s) (at_place s p.1 44 (λ z. omega arith) u) h)))
     (λ u. tt))
 
-pub count_is : (s : List ℕ) → IfSome (count s) (λ (k : ℕ). Repeat (123 ∷ s) (drop k s))
+pub count_is : (s : List ℕ) → IfSome (count s) (λ (k : ℕ). Times (123 ∷ s) (drop k s))
 unfolding count
 count_is s = count_from_is s (number s) (number_is s)
+
+-- a `?` behind a repetition belongs to it
+pub lazy_is : (c : ℕ) (s : List ℕ) (n : ℕ) → Times (c ∷ s) (drop n s) → Repeat (c ∷ s) (drop (with_lazy s n) s)
+lazy_is c s n h =
+    by_test (λ (k : ℕ). Repeat (c ∷ s) (drop k s)) (eqb (get_or s n 0) 63) (n + 1) n
+    (λ t. lazy (c ∷ s) (drop (n + 1) s) (subst (Times (c ∷ s)) (at_place s n 63 (λ z. omega arith) t) h))
+    (λ t. greedy (c ∷ s) (drop n s) h)

@@ -19,3 +19,4 @@ pub mod Beginning
 pub mod Reaching
 pub mod Lasting
 pub mod Unbuilding
+pub mod Translating

@@ -40,8 +40,13 @@ number_head m s t (one_digit a s' small) = no_brace a small
 number_head m s t (two_digits a b s' some small next) = no_brace a small
 number_head m s t (grammar.three_digits a b c s' some small next after le) = no_brace a small
 
+pub number_digit : (m : ℕ) (s t : List ℕ) → Number m s t → is_digit (get_or s 0 0) ≡ true
+number_digit m s t (one_digit a s' small) = digit_true a small
+number_digit m s t (two_digits a b s' some small next) = digit_true a small
+number_digit m s t (grammar.three_digits a b c s' some small next after le) = digit_true a small
+
 -- what stands at a place, by what is left there
-standing : (s : List ℕ) (k c : ℕ) (t : List ℕ) → c ∷ t ≡ drop k s → (get_or s k 0 ≡ c) × (t ≡ drop (k + 1) s)
+pub standing : (s : List ℕ) (k c : ℕ) (t : List ℕ) → c ∷ t ≡ drop k s → (get_or s k 0 ≡ c) × (t ≡ drop (k + 1) s)
 standing s k c t e =
     let here : k + 0 ≡ k = omega arith in (
       sym (ap (λ (i : ℕ). get_or s i 0) here) ∙ sym (get_or-drop k s 0 0) ∙ sym (ap (λ (x : List ℕ). get_or x 0 0) e),

@@ -1,5 +1,5 @@
 -- As many bytes decide whether a match of a text begins as of the tree that is read of it.
-use Rattle.std.proofs.Common.{◌≡◌, ℕ, List, Bool, Option, Some, None, IfSome, IsSomeAnd}
+use Rattle.std.proofs.Common.{◌≡◌, ℕ, List, Bool, Option, Some, None, IfSome, IsSomeAnd, subst}
 use Rattle.std.specs.Str.{chars}
 use Rattle.regex_hir.specs.Meaning.{meaning}
 use Rattle.regex_hir.specs.declared.hir.Hir.{Hir}
@@ -9,6 +9,7 @@ use Rattle.regex_syntax.specs.Grammar.{Names, read}
 use Rattle.regex_syntax.specs.Verdict.{Reads}
 use Rattle.regex_hir.specs.Re.{Re}
 use Rattle.exp_match.specs.Reach.{HasOpening, IsReach, Opens, beginning, reach}
+use Rattle.exp_match.specs.Unbuilt.{IsGivenFor}
 use Rattle.exp_match.specs.Written.{config_of}
 
 by_reading : (a : Re) (m : ℕ) → reach (beginning a) ≡ Some m → (Q : Nested Re × Names → Type 0) → ((x : Nested Re × Names) → Q x → SameCaptures a x.0.value)
@@ -16,9 +17,10 @@ by_reading : (a : Re) (m : ℕ) → reach (beginning a) ≡ Some m → (Q : Nest
 by_reading a m is Q same None q = absurd q
 by_reading a m is Q same (Some x) q = (a, same x q, is)
 
-pub text_opens : (source : List ℕ) (nocase : Bool) (hir : Hir) (names : Names) → Reads (config_of nocase) source hir names
-    → (known : Option ℕ) → IsReach known (beginning (meaning hir)) → IfSome known (Opens (record { source = source; nocase = nocase }))
+pub text_opens : (given : List ℕ) (nocase : Bool) (hir : Hir) (names : Names) → Reads (config_of nocase) given hir names
+    → (known : Option ℕ) → IsReach known (beginning (meaning hir)) → (source : List ℕ) → IsGivenFor source given → IfSome known (Opens (record { source = source; nocase = nocase }))
 unfolding Reads
-text_opens source nocase hir names reads None is = tt
-text_opens source nocase hir names reads (Some m) is =
-    by_reading (meaning hir) m is _ (λ x q. q.1) (read (config_of nocase) (chars source)) reads
+text_opens given nocase hir names reads None is source for = tt
+text_opens given nocase hir names reads (Some m) is source for =
+    subst (λ (text : List ℕ). IsSomeAnd (read (config_of nocase) text) (λ p. HasOpening m p.0.value)) for
+    (by_reading (meaning hir) m is _ (λ x q. q.1) (read (config_of nocase) (chars given)) reads)

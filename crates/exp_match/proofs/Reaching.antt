@@ -26,6 +26,7 @@ use Rattle.regex_syntax.specs.Captures.{SameCaptures}
 use Rattle.regex_syntax.specs.Grammar.{Names, read}
 use Rattle.regex_syntax.proofs.CapturesLemmas.{find_alike}
 use Rattle.exp_match.specs.Reach.{of_both, look_reach, reach, beginning, HasOpening, Opens, IsBounded}
+use Rattle.exp_match.specs.Translation.{translated}
 use Rattle.exp_match.specs.Written.{Written, Seen, Shows, FindsAsWritten, config_of, seen_of}
 use Rattle.exp_match.proofs.Beginning.{sooner, later}
 
@@ -252,7 +253,7 @@ module _ (a b : Re) (alike : SameCaptures a b) (m : ℕ) (is : reach (beginning 
 
 -- what a pattern finds from a place on shows these spans
 abbrev pub FindsFrom : Written → List ℕ → ℕ → Option (List (Option (ℕ × ℕ))) → Type 0
-FindsFrom w bytes start found = IsSomeAnd (read (config_of w.nocase) (chars w.source)) (λ p. Shows (seen_from p.0.value bytes start) found)
+FindsFrom w bytes start found = IsSomeAnd (read (config_of w.nocase) (translated (chars w.source))) (λ p. Shows (seen_from p.0.value bytes start) found)
 
 module _ (m : ℕ) (hay : List ℕ) (bytes : AreBytes hay) where
   reading_behind : (o : Option (Nested Re × Names)) → IsSomeAnd o (λ p. HasOpening m p.0.value) → (n start : ℕ) → ((i : ℕ) → i < start → i + m ≤ n)
@@ -271,7 +272,7 @@ module _ (m : ℕ) (hay : List ℕ) (bytes : AreBytes hay) where
 pub found_from : (w : Written) (m : ℕ) → Opens w m → (bytes : List ℕ) → AreBytes bytes → (n start : ℕ) → ((i : ℕ) → i < start → i + m ≤ n)
     → FindsAsWritten w (take n bytes) None → (found : Option (List (Option (ℕ × ℕ)))) → FindsFrom w bytes start found → FindsAsWritten w bytes found
 found_from w m opens bytes are n start before none found shows =
-    reading_behind m bytes are (read (config_of w.nocase) (chars w.source)) opens n start before none found shows
+    reading_behind m bytes are (read (config_of w.nocase) (translated (chars w.source))) opens n start before none found shows
 
 -- the same where a search begins by what is known of the pattern's opening
 pub found_by_opening : (w : Written) (known : Option ℕ) → IfSome known (Opens w) → (bytes : List ℕ) → AreBytes bytes → (n start : ℕ)
@@ -289,4 +290,4 @@ found_by_opening w (Some m) opens bytes are n start is none found shows =
 -- what it finds nowhere it doesn't find in the last of the bytes
 pub bounded_in_rest : (w : Written) → IsBounded w → (bytes : List ℕ) → AreBytes bytes → (d : ℕ) → FindsAsWritten w bytes None → FindsAsWritten w (drop d bytes) None
 bounded_in_rest w bound bytes are d none =
-    reading_in_rest bound.0 bytes are (read (config_of w.nocase) (chars w.source)) bound.1 d none
+    reading_in_rest bound.0 bytes are (read (config_of w.nocase) (translated (chars w.source))) bound.1 d none

@@ -2,29 +2,31 @@
 use Rattle.std.proofs.Common.{◌≡◌, inl, inr, ℕ, Bool, true, List, Option, Some, refl, sym, subst}
 use Rattle.std.specs.Prelude.{IsSomeAnd}
 use Rattle.std.specs.List.{slice_get}
-use Rattle.regex.specs.Failures.{IsPattern, IsRightKind}
-use Rattle.regex.specs.Patterns.{Config, Refuses}
+use Rattle.regex.specs.Failures.{IsRightKind}
+use Rattle.regex.specs.Patterns.{Config}
 use Rattle.regex.specs.Sources.{IsRefusal}
 use Rattle.regex.specs.declared.error.Error.{Error}
 use Rattle.regex.specs.declared.error.Error.TheVariants as error
 use Rattle.exp_match.specs.Scan.{is_pattern}
-use Rattle.exp_match.specs.Unbuilt.{IsOfOne, IsOfText, IsOfWord, IsUnbuilt, refusal_of}
+use Rattle.exp_match.specs.Unbuilt.{IsGivenFor, IsOfOne, IsOfText, IsOfWord, IsUnbuilt, refusal_of}
 use Rattle.exp_match.specs.declared.faults.PatternFault.{PatternFault}
 use Rattle.exp_match.specs.declared.faults.PatternFault.TheVariants as fault
 use Rattle.exp_match.specs.Written.{config_of}
 
-pub tells_of_text : (nocase : Bool) (text : List ℕ) (e : Error) → is_pattern text ≡ true → IsRefusal (config_of nocase) text e → IsRightKind (config_of nocase) text e → IsOfText text (refusal_of e)
-tells_of_text nocase text (error.Syntax e) is refused kind = (is, nocase, inr (e.kind, kind, refused e refl))
-tells_of_text nocase text error.CompiledTooBig is refused kind = (is, nocase, inl kind)
-tells_of_text nocase text error.Internal is refused kind = tt
-tells_of_text nocase text error.OutOfMemory is refused kind = tt
+pub tells_of_text : (nocase : Bool) (text given : List ℕ) (e : Error) → is_pattern text ≡ true → IsGivenFor text given → IsRefusal (config_of nocase) given e
+    → IsRightKind (config_of nocase) given e → IsOfText text (refusal_of e)
+tells_of_text nocase text given (error.Syntax e) is for refused kind = (is, nocase, given, for, inr (e.kind, kind, refused e refl))
+tells_of_text nocase text given error.CompiledTooBig is for refused kind = (is, nocase, given, for, inl kind)
+tells_of_text nocase text given error.Internal is for refused kind = tt
+tells_of_text nocase text given error.OutOfMemory is for refused kind = tt
 
 -- the same, where the builder's settings are these
-pub tells_of_entry : (nocase : Bool) (made : Config) (text entry : List ℕ) (e : Error) → made ≡ config_of nocase → entry ≡ text → is_pattern text ≡ true → IsRefusal made entry e → IsRightKind made entry e → IsOfText text (refusal_of e)
-tells_of_entry nocase made text entry e same written is refused kind =
-    tells_of_text nocase text e is
-    (subst (λ (c : Config). IsRefusal c text e) same (subst (λ (s : List ℕ). IsRefusal made s e) written refused))
-    (subst (λ (c : Config). IsRightKind c text e) same (subst (λ (s : List ℕ). IsRightKind made s e) written kind))
+pub tells_of_entry : (nocase : Bool) (made : Config) (text given entry : List ℕ) (e : Error) → made ≡ config_of nocase → entry ≡ given → is_pattern text ≡ true → IsGivenFor text given
+    → IsRefusal made entry e → IsRightKind made entry e → IsOfText text (refusal_of e)
+tells_of_entry nocase made text given entry e same written is for refused kind =
+    tells_of_text nocase text given e is for
+    (subst (λ (c : Config). IsRefusal c given e) same (subst (λ (s : List ℕ). IsRefusal made s e) written refused))
+    (subst (λ (c : Config). IsRightKind c given e) same (subst (λ (s : List ℕ). IsRightKind made s e) written kind))
 
 -- what is told of a word is told of the arguments among which it stands
 pub tells_of_one : (args : List (List ℕ)) (at : ℕ) (word : List ℕ) (f : PatternFault) → slice_get args at ≡ Some word → IsOfWord word f → IsOfOne args f

@@ -2,6 +2,7 @@ pub mod Written
 pub mod Reach
 pub mod Exact
 pub mod Scan
+pub mod Translation
 pub mod Grammar
 pub mod Unbuilt
 pub mod Arguments

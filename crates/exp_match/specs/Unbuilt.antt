@@ -1,5 +1,5 @@
 -- Patterns of the grammar that `regex` doesn't compile, for a reason other than memory.
-use Rattle.std.specs.Prelude.{◌≡◌, ◌≢◌, ◌⊎◌, ℕ, Bool, true, List, IsSomeAnd}
+use Rattle.std.specs.Prelude.{◌≡◌, ◌≢◌, ◌⊎◌, ℕ, Bool, true, List, IsSomeAnd, chars}
 use Rattle.std.specs.List.{slice_get}
 use Rattle.regex.specs.Failures.{IsPattern}
 use Rattle.regex.specs.declared.error.Error.{Error}
@@ -8,17 +8,23 @@ use Rattle.regex_syntax.specs.Verdict.{Refuses}
 use Rattle.regex_syntax.specs.declared.error.ErrorKind.{ErrorKind}
 use Rattle.regex_syntax.specs.declared.error.ErrorKind.TheVariants.{OutOfMemory}
 use Rattle.exp_match.specs.Scan.{is_pattern}
+use Rattle.exp_match.specs.Translation.{translated}
 use Rattle.exp_match.specs.Written.{config_of}
 use Rattle.exp_match.specs.declared.faults.PatternFault.{PatternFault}
 use Rattle.exp_match.specs.declared.faults.PatternFault.TheVariants as fault
 use Rattle.exp_match.specs.declared.faults.Refusal.{Refusal}
 use Rattle.exp_match.specs.declared.faults.Refusal.TheVariants as refusal
 
--- The program would be too big, or `regex` doesn't accept the text.
+-- The bytes are the text that `regex` gets for a pattern.
+abbrev pub IsGivenFor : List ℕ → List ℕ → Type 0
+IsGivenFor text given = chars given ≡ translated (chars text)
+
+-- The program would be too big, or `regex` doesn't accept the text that it gets.
 abbrev pub IsUnbuilt : List ℕ → Type 0
 IsUnbuilt text =
     (is_pattern text ≡ true)
-    × (nocase : Bool) × (IsPattern (config_of nocase) text ⊎ ((kind : ErrorKind) × (kind ≢ OutOfMemory) × Refuses (config_of nocase) text kind))
+    × (nocase : Bool) × (given : List ℕ) × IsGivenFor text given
+    × (IsPattern (config_of nocase) given ⊎ ((kind : ErrorKind) × (kind ≢ OutOfMemory) × Refuses (config_of nocase) given kind))
 
 -- The meaning of a compile error. `regex` is proved not to return `Internal`.
 abbrev pub refusal_of : Error → Refusal

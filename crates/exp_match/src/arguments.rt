@@ -158,7 +158,7 @@ fn want_of(
             Ok(Want::Exact { text, nocase })
         }
         Way::Glob => {
-            let glob = Glob::new(alloc, word)?;
+            let glob = Glob::new(alloc, word, nocase)?;
             Ok(Want::Glob { glob, nocase })
         }
         Way::Regular => regular(alloc, compiled, nocase, at, word),

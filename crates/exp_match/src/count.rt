@@ -6,7 +6,7 @@ ghost use Rattle.exp_match.specs.Scan.{is_digit as is_digit_of, three_digits as 
 use crate::places::{after, char_at, is_at};
 
 /// Returns whether a character is an ASCII digit.
-fn is_digit(c: char) -> bool
+pub(crate) fn is_digit(c: char) -> bool
     ensures value { result ≡ is_digit_of c }
     ensures range { IsTrue result → (48 ≤ c) × (c ≤ 57) }
 {

@@ -1,11 +1,12 @@
 //! Decides whether a text is a regular pattern.
 
-ghost use Rattle.std.specs.Prelude.{◌≡◌, ◌↔◌, ◌+◌, ◌^◌, ◌<◌, ◌≤◌, List, ℕ, true, false, IfOk, IfSome, MatchOption, length, option_map, chars};
-ghost use Rattle.exp_match.specs.Scan.{opening as opening_of, escape as escape_of, token_at as token_of, behind as behind_of, accepts as accepts_of, outermost, is_pattern};
+ghost use Rattle.std.specs.Prelude.{◌≡◌, ◌↔◌, ◌+◌, ◌^◌, ◌<◌, ◌≤◌, List, ℕ, true, false, IfOk, IfSome, MatchOption, IsTrue, length, option_map, chars, slice_index};
+ghost use Rattle.exp_match.specs.Scan.{opening as opening_of, escape as escape_of, is_set as is_set_of, with_lazy as with_lazy_of, brace as brace_of, token_at as token_of, behind as behind_of, accepts as accepts_of, outermost, is_pattern};
 ghost use Rattle.exp_match.specs.Grammar.{RePattern};
 
-use crate::class::{class, is_set, quoted};
-use crate::count::count;
+use crate::class::class;
+use crate::count::{count, is_digit};
+use crate::escapes::{escaped, is_set};
 use crate::places::{after, char_at, is_at};
 use crate::token::{Nesting, Token};
 use std::alloc::{AllocError, Global};
@@ -26,22 +27,52 @@ fn opening(rest: &[char]) -> Option<(Token, usize)>
     }
 }
 
-/// Returns the token of a backslash and the next character.
+/// Returns the token of an escape or a set, given the characters after its backslash.
 fn escape(rest: &[char]) -> Option<(Token, usize)>
     ensures value { result ≡ escape_of rest.now }
     ensures within { IfSome result (λ t. t.1 ≤ length rest.now) }
 {
+    if begins_set(rest) {
+        return Some((Token::Atom, 1));
+    }
+    match escaped(rest) {
+        Some((_, n)) => Some((Token::Atom, n)),
+        None => None,
+    }
+}
+
+/// Returns whether the characters begin with the letter of a set.
+fn begins_set(rest: &[char]) -> bool
+    ensures value { result ≡ is_set_of (slice_index rest.now 0) }
+    ensures within { IsTrue result → 1 ≤ length rest.now }
+{
     match rest {
-        [] => None,
-        [c, ..] => {
-            if is_set(*c) {
-                return Some((Token::Atom, 1));
-            }
-            match quoted(*c) {
-                Some(_) => Some((Token::Atom, 1)),
-                None => None,
-            }
-        }
+        [] => false,
+        [c, ..] => is_set(*c),
+    }
+}
+
+/// Returns how many characters of a repetition follow its first: n, and one more if a `?` makes it
+/// lazy.
+fn with_lazy(rest: &[char], n: usize) -> usize
+    requires { n ≤ length rest.now }
+    ensures value { result ≡ with_lazy_of rest.now n }
+    ensures within { result ≤ length rest.now }
+{
+    if is_at(rest, n, '?') { n + 1 } else { n }
+}
+
+/// Returns the token that a `{` begins: a count before a digit, otherwise a character.
+fn brace(rest: &[char]) -> Option<(Token, usize)>
+    ensures value { result ≡ brace_of rest.now }
+    ensures within { IfSome result (λ t. t.1 ≤ length rest.now) }
+{
+    if !is_digit(char_at(rest, 0)) {
+        return Some((Token::Atom, 0));
+    }
+    match count(rest) {
+        Some(n) => Some((Token::Repeat, with_lazy(rest, n))),
+        None => None,
     }
 }
 
@@ -53,13 +84,12 @@ fn token_at(c: char, rest: &[char]) -> Option<(Token, usize)>
 {
     match c {
         '|' | '^' | '$' => Some((Token::Bound, 0)),
-        '*' | '+' | '?' => Some((Token::Repeat, 0)),
-        '{' => with_token(Token::Repeat, count(rest)),
+        '*' | '+' | '?' => Some((Token::Repeat, with_lazy(rest, 0))),
+        '{' => brace(rest),
         '(' => opening(rest),
         ')' => Some((Token::Close, 0)),
         '[' => with_token(Token::Atom, class(rest)),
         '\\' => escape(rest),
-        ']' | '}' => None,
         _ => Some((Token::Atom, 0)),
     }
 }
@@ -166,7 +196,7 @@ pub(crate) fn pattern_text(alloc: Global, text: &[u8]) -> Result<Option<&str>, A
 }
 
 /// Returns the characters of a text.
-fn characters(alloc: Global, text: &str) -> Result<Vec<char>, AllocError>
+pub(crate) fn characters(alloc: Global, text: &str) -> Result<Vec<char>, AllocError>
     ensures { IfOk result (λ v. v.items ≡ chars text.now) }
 {
     text.chars().collect(alloc)

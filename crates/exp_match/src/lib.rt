@@ -2,7 +2,8 @@
 //! as in expect(1).
 //!
 //! `specs/Arguments.antt` defines how arguments are read. `specs/Grammar.antt` defines which texts
-//! are regular patterns. `specs/Choice.antt` defines which pattern is chosen.
+//! are regular patterns, and `specs/Translation.antt` the text that `regex` gets for one.
+//! `specs/Choice.antt` defines which pattern is chosen.
 #![tactic(auto)]
 
 mod arguments;
@@ -12,6 +13,7 @@ mod class;
 mod compiled;
 mod count;
 mod entry;
+mod escapes;
 mod exact;
 mod faults;
 mod grammar;
@@ -24,6 +26,7 @@ mod reach;
 mod readers;
 mod regular;
 mod token;
+mod translation;
 
 pub use chosen::{Chosen, Picked};
 pub use compiled::Compiled;

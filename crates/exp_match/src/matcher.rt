@@ -10,7 +10,7 @@ ghost use Rattle.exp_match.specs.Written.{FindsAsWritten, Shows, find_written, s
 
 use crate::reach::start_behind;
 use crate::regular::Regular;
-use regex::bytes::{Captures, Match, Matcher, Regex};
+use regex::bytes::{Captures, Match, Matcher};
 use std::alloc::{AllocError, Global};
 use std::marker::Model;
 
@@ -20,8 +20,8 @@ pub type Spans = [Option<(usize, usize)>; 10];
 /// The state of a search for a pattern, which later searches reuse. A contract sees the pattern.
 #[derive(Drop)]
 pub(crate) struct RegularMatcher<'r> {
-    /// The compiled pattern.
-    regex: &'r Regex,
+    /// The text of the pattern.
+    source: &'r [u8],
     /// Whether letters match in either case.
     nocase: bool,
     /// The number of bytes that decide whether a match begins at an index, if it is known.
@@ -31,16 +31,16 @@ pub(crate) struct RegularMatcher<'r> {
 }
 
 impl<'r> Model for RegularMatcher<'r> {
-    ghost use Rattle.std.specs.Prelude.{◌≡◌, IfSome};
-    ghost use Rattle.regex.specs.Bytes.{IsReadFromSource, matcher_pattern, regex_config, regex_pattern, regex_source};
+    ghost use Rattle.std.specs.Prelude.{IfSome};
+    ghost use Rattle.regex.specs.Bytes.{matcher_pattern};
     ghost use Rattle.exp_match.specs.Reach.{Opens};
-    ghost use Rattle.exp_match.specs.Written.{Written, config_of};
+    ghost use Rattle.exp_match.specs.Written.{Written, IsReadAs};
 
     ghost Value = { Written };
 
-    ghost view = { λ m. record { source = regex_source m.regex.now; nocase = m.nocase } };
+    ghost view = { λ m. record { source = m.source.now; nocase = m.nocase } };
 
-    ghost invariant = { λ m. (regex_config m.regex.now ≡ config_of m.nocase) × IsReadFromSource m.regex.now × (matcher_pattern m.matcher ≡ regex_pattern m.regex.now) × IfSome m.opening (Opens (record { source = regex_source m.regex.now; nocase = m.nocase })) };
+    ghost invariant = { λ m. IsReadAs (record { source = m.source.now; nocase = m.nocase }) (matcher_pattern m.matcher) × IfSome m.opening (Opens (record { source = m.source.now; nocase = m.nocase })) };
 }
 
 impl<'r> RegularMatcher<'r> {
@@ -48,12 +48,11 @@ impl<'r> RegularMatcher<'r> {
     pub(crate) fn new(alloc: Global, regular: &'r Regular) -> Result<RegularMatcher<'r>, AllocError>
         ensures { IfOk result (λ m. m ≡ regular.now) }
     {
-        let regex = regular.regex();
         Ok(RegularMatcher {
-            regex,
+            source: regular.source(),
             nocase: regular.nocase(),
             opening: regular.opening(),
-            matcher: regex.matcher(alloc)?,
+            matcher: regular.regex().matcher(alloc)?,
         })
     }
 
@@ -61,7 +60,7 @@ impl<'r> RegularMatcher<'r> {
     pub(crate) fn is_for(&self, regular: &Regular) -> bool
         ensures { IsTrue result → self.now ≡ regular.now }
     {
-        self.nocase == regular.nocase() && self.regex.as_str() == regular.regex().as_str()
+        self.nocase == regular.nocase() && self.source == regular.source()
     }
 
     /// Returns whether there is a match in these bytes, and writes the spans of the first one,

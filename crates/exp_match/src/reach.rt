@@ -1,9 +1,10 @@
 //! Computes how many bytes decide whether a match of a regular pattern begins at an index.
 
-ghost use Rattle.std.specs.Prelude.{◌≡◌, ℕ, ◌-◌, Bool, false, map, Option, IfSome, MatchOption};
+ghost use Rattle.std.specs.Prelude.{◌≡◌, ℕ, ◌-◌, Bool, false, List, map, Option, IfSome, MatchOption};
 ghost use Rattle.regex.specs.Patterns.{Re, empty, cat, alt, repeat, cat_all, alt_all};
 ghost use Rattle.regex_hir.specs.Meaning.{copies, meaning};
 ghost use Rattle.exp_match.specs.Reach.{IsExtent, IsReach, Opens, beginning, is_nullable, look_reach};
+ghost use Rattle.exp_match.specs.Unbuilt.{IsGivenFor};
 ghost use Rattle.exp_match.specs.Written.{config_of};
 
 use regex_hir::{Hir, Look};
@@ -11,14 +12,14 @@ use regex_syntax::{Config, Flags, parse};
 use std::alloc::Global;
 
 /// Returns how many bytes decide whether a match of a pattern begins at an index, if earlier bytes
-/// don't matter. `None` if this isn't known.
+/// don't matter. `None` if this isn't known. `given` is the text that `regex` gets for the pattern.
 ///
-/// It parses the text once more, because a compiled pattern doesn't contain this. Without memory
+/// It parses that text once more, because a compiled pattern doesn't contain this. Without memory
 /// for that, the result is `None`.
-pub(crate) fn opening_of_text(alloc: Global, source: &str, nocase: bool) -> Option<usize>
-    ensures { IfSome result (Opens (record { source = source.now; nocase = nocase })) }
+pub(crate) fn opening_of_text(alloc: Global, given: &str, nocase: bool) -> Option<usize>
+    ensures { (source : List ℕ) → IsGivenFor source given.now → IfSome result (Opens (record { source = source; nocase = nocase })) }
 {
-    let parsed = parse(alloc, source, &config(nocase)).ok()?;
+    let parsed = parse(alloc, given, &config(nocase)).ok()?;
     let known = extent_of(&parsed.hir);
     drop(parsed);
     known.opening

@@ -1,26 +1,36 @@
 //! Compiled regular patterns.
 
-ghost use Rattle.std.specs.Prelude.{◌≡◌, true, IsTrue, IfErr, IfOk, IfSome};
-ghost use Rattle.regex.specs.Bytes.{IsReadFromSource, regex_config, regex_source};
+ghost use Rattle.std.specs.Prelude.{◌≡◌, ℕ, List, true, IsTrue, IfErr, IfOk, IfSome};
+ghost use Rattle.regex.specs.Bytes.{IsReadFromSource, regex_config, regex_pattern, regex_source};
 ghost use Rattle.exp_match.specs.Reach.{Opens};
 ghost use Rattle.exp_match.specs.Scan.{is_pattern};
-ghost use Rattle.exp_match.specs.Unbuilt.{IsOfText, refusal_of};
-ghost use Rattle.exp_match.specs.Written.{config_of};
+ghost use Rattle.exp_match.specs.Unbuilt.{IsGivenFor, IsOfText, refusal_of};
+ghost use Rattle.exp_match.specs.Written.{IsReadAs, config_of};
 
 use crate::faults::Refusal;
 use crate::reach::opening_of_text;
+use crate::translation::translated;
 use regex::bytes::Regex;
 use regex::{Error, RegexBuilder};
 use std::alloc::{AllocError, Global};
 use std::marker::Model;
 use std::rc::Rc;
 
+/// A compiled pattern with its text.
+#[derive(Drop)]
+struct Kept {
+    /// The text of the pattern.
+    source: String,
+    /// The compiled pattern. Its text is the translated one.
+    regex: Regex,
+}
+
 /// A compiled regular pattern, possibly with several owners. A contract sees its text and whether
 /// case is ignored.
 #[derive(Drop)]
 pub struct Regular {
     /// The compiled pattern.
-    regex: Rc<Regex>,
+    kept: Rc<Kept>,
     /// Whether letters match in either case.
     nocase: bool,
     /// The number of bytes that decide whether a match begins at an index, if it is known.
@@ -29,16 +39,17 @@ pub struct Regular {
 
 impl Model for Regular {
     ghost use Rattle.std.specs.Prelude.{◌≡◌, true, IfSome};
-    ghost use Rattle.regex.specs.Bytes.{regex_source, regex_config, IsReadFromSource};
+    ghost use Rattle.std.specs.String.{string_bytes};
+    ghost use Rattle.regex.specs.Bytes.{regex_pattern};
     ghost use Rattle.exp_match.specs.Reach.{Opens};
     ghost use Rattle.exp_match.specs.Scan.{is_pattern};
-    ghost use Rattle.exp_match.specs.Written.{Written, config_of};
+    ghost use Rattle.exp_match.specs.Written.{Written, IsReadAs};
 
     ghost Value = { Written };
 
-    ghost view = { λ r. record { source = regex_source r.regex.value; nocase = r.nocase } };
+    ghost view = { λ r. record { source = string_bytes r.kept.value.source; nocase = r.nocase } };
 
-    ghost invariant = { λ r. (regex_config r.regex.value ≡ config_of r.nocase) × IsReadFromSource r.regex.value × (is_pattern (regex_source r.regex.value) ≡ true) × IfSome r.opening (Opens (record { source = regex_source r.regex.value; nocase = r.nocase })) };
+    ghost invariant = { λ r. IsReadAs (record { source = string_bytes r.kept.value.source; nocase = r.nocase }) (regex_pattern r.kept.value.regex) × (is_pattern (string_bytes r.kept.value.source) ≡ true) × IfSome r.opening (Opens (record { source = string_bytes r.kept.value.source; nocase = r.nocase })) };
 }
 
 /// Returns the meaning of a compile error.
@@ -51,43 +62,54 @@ fn refusal_for(error: &Error) -> Refusal
     }
 }
 
+/// Compiles a text that `regex` gets for a pattern.
+fn regex_of(alloc: Global, given: &str, nocase: bool) -> Result<Regex, Refusal>
+    ensures built { IfOk result (λ r. (regex_config r ≡ config_of nocase) × IsReadFromSource r × (regex_source r ≡ given.now)) }
+    ensures refused { IfErr result (λ e. (source : List ℕ) → is_pattern source ≡ true → IsGivenFor source given.now → IsOfText source e) }
+{
+    let builder = RegexBuilder::new(given)
+        .dot_matches_new_line(true)
+        .case_insensitive(nocase);
+    match builder.build_bytes(alloc) {
+        Ok(regex) => Ok(regex),
+        Err(error) => Err(refusal_for(&error)),
+    }
+}
+
 impl Regular {
     /// Compiles a text of the grammar. `.` matches a newline too.
     ///
     /// `Refused` means that `regex` doesn't compile it, for example because its program would be
     /// too big.
+    #[tactic(auto, using(crate::proofs::Shown::read_as))]
     pub(crate) fn build(alloc: Global, source: &str, nocase: bool) -> Result<Regular, Refusal>
         requires { is_pattern source.now ≡ true }
         ensures built { IfOk result (λ r. r ≡ record { source = source.now; nocase = nocase }) }
         ensures refused { IfErr result (IsOfText source.now) }
     {
-        let builder = RegexBuilder::new(source)
-            .dot_matches_new_line(true)
-            .case_insensitive(nocase);
-        match builder.build_bytes(alloc) {
-            Ok(regex) => {
-                let opening = opening_of_text(alloc, source, nocase);
-                Ok(Regular::owned(alloc, regex, nocase, opening)?)
-            }
-            Err(error) => Err(refusal_for(&error)),
-        }
+        let text = translated(alloc, source)?;
+        let given = text.as_str();
+        let regex = regex_of(alloc, given, nocase)?;
+        let opening = opening_of_text(alloc, given, nocase);
+        Ok(Regular::owned(alloc, source, regex, nocase, opening)?)
     }
 
     /// Wraps a compiled pattern for its first owner.
     fn owned(
         alloc: Global,
+        source: &str,
         regex: Regex,
         nocase: bool,
         opening: Option<usize>,
     ) -> Result<Regular, AllocError>
-        requires config { regex_config regex ≡ config_of nocase }
-        requires read { IsReadFromSource regex }
-        requires pattern { is_pattern (regex_source regex) ≡ true }
-        requires opening { IfSome opening (Opens (record { source = regex_source regex; nocase = nocase })) }
-        ensures { IfOk result (λ r. r ≡ record { source = regex_source regex; nocase = nocase }) }
+        requires read { IsReadAs (record { source = source.now; nocase = nocase }) (regex_pattern regex) }
+        requires pattern { is_pattern source.now ≡ true }
+        requires opening { IfSome opening (Opens (record { source = source.now; nocase = nocase })) }
+        ensures { IfOk result (λ r. r ≡ record { source = source.now; nocase = nocase }) }
     {
+        let source = String::from_str(alloc, source)?;
         Ok(Regular {
-            regex: Rc::new(alloc, regex)?,
+            kept: Rc::new(alloc, Kept { source, regex })?,
             nocase,
             opening,
         })
@@ -98,7 +120,7 @@ impl Regular {
         ensures { IfOk result (λ r. r ≡ self.now) }
     {
         Ok(Regular {
-            regex: self.regex.clone()?,
+            kept: self.kept.clone()?,
             nocase: self.nocase,
             opening: self.opening,
         })
@@ -108,7 +130,7 @@ impl Regular {
     pub fn source(&self) -> &[u8]
         ensures { result.now ≡ self.now.source }
     {
-        self.regex.as_str().as_bytes()
+        self.kept.source.as_bytes()
     }
 
     /// Returns true only if the pattern has this text and case. The text is then one of the
@@ -121,11 +143,9 @@ impl Regular {
 
     /// Returns the compiled pattern.
     pub(crate) fn regex(&self) -> &Regex
-        ensures source { regex_source result.now ≡ self.now.source }
-        ensures config { regex_config result.now ≡ config_of self.now.nocase }
-        ensures read { IsReadFromSource result.now }
+        ensures { IsReadAs self.now (regex_pattern result.now) }
     {
-        &self.regex
+        &self.kept.regex
     }
 
     /// Returns whether letters match in either case.

@@ -1,5 +1,5 @@
 -- `regex` reads the counts of the grammar, and what they repeat.
-use Rattle.std.proofs.Common.{◌≡◌, ℕ, suc, ◌+◌, ◌-◌, ◌^◌, ◌<◌, ◌≤◌, nat_lt, Bool, true, false, List, [], ◌∷◌, length, Option, Some, None, refl, ap, ◌∙◌, le_refl, cond, drop, eqb, ne_eqb, arith}
+use Rattle.std.proofs.Common.{◌≡◌, ℕ, suc, ◌+◌, ◌-◌, ◌*◌, ◌^◌, ◌<◌, ◌≤◌, nat_lt, Bool, true, false, List, [], ◌∷◌, length, get_or, Option, Some, None, refl, sym, subst, ap, ◌∙◌, le_refl, cond, drop, eqb, ne_eqb, arith}
 use Rattle.std.specs.Char.{is_digit, is_whitespace, digit_value}
 use Rattle.std.proofs.lemmas.Bool.{agree_below_at, lt-ltb, le-leb, or_parts}
 use Rattle.std.proofs.lemmas.Bool.Decides.{nat_tests}
@@ -9,22 +9,77 @@ use Rattle.regex_syntax.specs.Brackets.{Nested}
 use Rattle.regex_syntax.specs.Grammar.{upper_bound, counted_bounds, bounds, repetitions}
 use Rattle.regex_syntax.specs.Reading.{Text, first, is_at, is_empty, skip, take_run, value, decimal, ◌>>=◌}
 use Rattle.regex_hir.specs.Re.{Re}
-use Rattle.exp_match.specs.Grammar.{Number, Repeat, one_digit, two_digits, three_digits, star, plus, optional, exactly, at_least, between}
+use Rattle.exp_match.specs.Grammar.{Number, Times, Repeat, one_digit, two_digits, three_digits, star, plus, optional, exactly, at_least, between, greedy, lazy}
+use Rattle.exp_match.specs.Scan.{is_digit as is_decimal}
+use Rattle.exp_match.specs.Translation.{text_from}
 use Rattle.exp_match.specs.Written.{config_of}
-use Rattle.expect_grammar.proofs.TextClasses.{not_empty}
+use Rattle.exp_match.specs.declared.translation.Context.TheVariants as context
+use Rattle.expect_grammar.proofs.TextClasses.{given, not_empty}
 
 number_takes : (m : ℕ) (s t : List ℕ) → Number m s t → length t < length s
 number_takes m s t (one_digit a s' small) = omega arith
 number_takes m s t (two_digits a b s' some small next) = omega arith
 number_takes m s t (three_digits a b c s' some small next after le) = omega arith
 
+times_take : (s t : List ℕ) → Times s t → length t < length s
+times_take s t (star s') = omega arith
+times_take s t (plus s') = omega arith
+times_take s t (optional s') = omega arith
+times_take s t (exactly m s' t' n) = omega (arith, number_takes m s' (125 ∷ t) n)
+times_take s t (at_least m s' t' n) = omega (arith, number_takes m s' (44 ∷ 125 ∷ t) n)
+times_take s t (between m n s' t' u low high le) = omega (arith, number_takes m s' (44 ∷ t') low, number_takes n t' (125 ∷ t) high)
+
 pub repeat_takes : (s t : List ℕ) → Repeat s t → length t < length s
-repeat_takes s t (star s') = omega arith
-repeat_takes s t (plus s') = omega arith
-repeat_takes s t (optional s') = omega arith
-repeat_takes s t (exactly m s' t' n) = omega (arith, number_takes m s' (125 ∷ t) n)
-repeat_takes s t (at_least m s' t' n) = omega (arith, number_takes m s' (44 ∷ 125 ∷ t) n)
-repeat_takes s t (between m n s' t' u low high le) = omega (arith, number_takes m s' (44 ∷ t') low, number_takes n t' (125 ∷ t) high)
+repeat_takes s t (greedy s' t' x) = times_take s t x
+repeat_takes s t (lazy s' t' x) = omega (arith, times_take s (63 ∷ t) x)
+
+-- the text of a count is its own
+abbrev in_count : Text → Text
+in_count = text_from context.Count
+
+no_close : (a : ℕ) → a < 10 → eqb (48 + a) 125 ≡ false
+no_close a h = ne_eqb (48 + a) 125 (omega arith)
+
+digit_text : (a : ℕ) (s : List ℕ) → a < 10 → in_count ((48 + a) ∷ s) ≡ (48 + a) ∷ in_count s
+digit_text a s h = rw (no_close a h) refl
+
+number_text : (m : ℕ) (s t : List ℕ) → Number m s t → Number m (in_count s) (in_count t)
+number_text m s t (one_digit a s' small) = subst (λ (x : Text). Number a x (in_count t)) (sym (digit_text a t small)) (one_digit a (in_count t) small)
+number_text m s t (two_digits a b s' some small next) =
+    subst (λ (x : Text). Number (10 * a + b) x (in_count t))
+    (sym (digit_text a ((48 + b) ∷ t) small ∙ ap (λ (x : Text). (48 + a) ∷ x) (digit_text b t next))) (two_digits a b (in_count t) some small next)
+number_text m s t (three_digits a b c s' some small next after le) =
+    subst (λ (x : Text). Number (100 * a + 10 * b + c) x (in_count t))
+    (sym (digit_text a ((48 + b) ∷ (48 + c) ∷ t) small ∙ ap (λ (x : Text). (48 + a) ∷ x) (digit_text b ((48 + c) ∷ t) next ∙ ap (λ (x : Text). (48 + b) ∷ x) (digit_text c t after))))
+    (three_digits a b c (in_count t) some small next after le)
+
+digit_holds : (a : ℕ) → a < 10 → is_decimal (48 + a) ≡ true
+digit_holds a h = grind (arith, nat_tests)
+
+number_begins : (m : ℕ) (s t : List ℕ) → Number m s t → is_decimal (get_or s 0 0) ≡ true
+number_begins m s t (one_digit a s' small) = digit_holds a small
+number_begins m s t (two_digits a b s' some small next) = digit_holds a small
+number_begins m s t (three_digits a b c s' some small next after le) = digit_holds a small
+
+count_text : (s : List ℕ) → is_decimal (get_or s 0 0) ≡ true → given (123 ∷ s) ≡ 123 ∷ in_count s
+count_text s is = rw is refl
+
+times_text : (s t : List ℕ) → Times s t → Times (given s) (given t)
+times_text s t (star s') = star (given t)
+times_text s t (plus s') = plus (given t)
+times_text s t (optional s') = optional (given t)
+times_text s t (exactly m s' t' n) =
+    subst (λ (x : Text). Times x (given t)) (sym (count_text s' (number_begins m s' (125 ∷ t) n))) (exactly m (in_count s') (given t) (number_text m s' (125 ∷ t) n))
+times_text s t (at_least m s' t' n) =
+    subst (λ (x : Text). Times x (given t)) (sym (count_text s' (number_begins m s' (44 ∷ 125 ∷ t) n))) (at_least m (in_count s') (given t) (number_text m s' (44 ∷ 125 ∷ t) n))
+times_text s t (between m n s' t' u low high le) =
+    subst (λ (x : Text). Times x (given t)) (sym (count_text s' (number_begins m s' (44 ∷ t') low)))
+    (between m n (in_count s') (in_count t') (given t) (number_text m s' (44 ∷ t') low) (number_text n t' (125 ∷ t) high) le)
+
+-- and so is that of a repetition
+pub repeat_text : (s t : List ℕ) → Repeat s t → Repeat (given s) (given t)
+repeat_text s t (greedy s' t' x) = greedy (given s) (given t) (times_text s t x)
+repeat_text s t (lazy s' t' x) = lazy (given s) (given t) (times_text s (63 ∷ t) x)
 
 digit : (a : ℕ) → a < 10 → is_digit (48 + a) 10 ≡ true
 digit a h = agree_below_at (λ a. is_digit (48 + a) 10) (λ _. true) 10 a refl h
@@ -98,7 +153,7 @@ module _ (nocase : Bool) where
     most : Option ℕ
     are : bounds (config_of nocase) t ≡ Some (least, most, u)
 
-  bounds_are : (t u : Text) → Repeat t u → AreBounds t u
+  bounds_are : (t u : Text) → Times t u → AreBounds t u
   unfolding bounds first counted_bounds upper_bound skip
   bounds_are t u (star s') = record { least = 0; most = None; are = refl }
   bounds_are t u (plus s') = record { least = 1; most = None; are = refl }
@@ -109,14 +164,14 @@ module _ (nocase : Bool) where
   bounds_are t u (between m n s' t' u' low high le) =
       record { least = m; most = Some n; are = rw (number_is m 44 s' t' low refl refl, number_head n t' (125 ∷ u) high, number_is n 125 t' u high refl refl, le-leb m n le) refl }
 
-  repeat_head : (t u : Text) → Repeat t u → is_at "?*+{" t ≡ true
+  times_head : (t u : Text) → Times t u → is_at "?*+{" t ≡ true
   unfolding first
-  repeat_head t u (star s') = refl
-  repeat_head t u (plus s') = refl
-  repeat_head t u (optional s') = refl
-  repeat_head t u (exactly m s' t' n) = refl
-  repeat_head t u (at_least m s' t' n) = refl
-  repeat_head t u (between m n s' t' u' low high le) = refl
+  times_head t u (star s') = refl
+  times_head t u (plus s') = refl
+  times_head t u (optional s') = refl
+  times_head t u (exactly m s' t' n) = refl
+  times_head t u (at_least m s' t' n) = refl
+  times_head t u (between m n s' t' u' low high le) = refl
 
   -- what no operator follows isn't repeated
   pub once : (sub : Nested Re) (t : Text) → is_at "?*+{" t ≡ false → repetitions (config_of nocase) (length t + 1) sub t ≡ Some (sub, t)
@@ -128,18 +183,24 @@ module _ (nocase : Bool) where
     pub is : repetitions (config_of nocase) (length t + 1) sub t ≡ Some (part, u)
     pub depth : part.depth ≤ sub.depth + 1
 
-  -- and what one operator follows is repeated by it alone
-  pub repeated : (sub : Nested Re) (t u : Text) → Repeat t u → is_at "?*+{" u ≡ false → IsRepeated sub t u
+  -- one operator repeats by itself, with or without a `?` behind it
+  times_repeat : (sub : Nested Re) (t u w : Text) → Times t u → (is_lazy : Bool) → is_at "?" u ≡ is_lazy → cond is_lazy (drop 1 u) u ≡ w → is_at "?*+{" w ≡ false → IsRepeated sub t w
   unfolding skip
-  repeated sub t u r h =
+  times_repeat sub t u w r is_lazy mark left h =
       let b = bounds_are t u r in
-      let some : length t ≡ suc (length t - 1) = omega (arith, repeat_takes t u r) in
+      let some : length t ≡ suc (length t - 1) = omega (arith, times_take t u r) in
       let part = repeated_by (config_of nocase) sub (b.least, b.most, u) in
       record {
         part = part;
-        is = repetitions_go (config_of nocase) (length t + 1) (length t) sub t t (omega arith) refl (repeat_head t u r)
+        is = repetitions_go (config_of nocase) (length t + 1) (length t) sub t t (omega arith) refl (times_head t u r)
             ∙ ap (λ o. o >>= more_repetitions (config_of nocase) (length t) sub) b.are
-            ∙ ap (λ (lazy : Bool). repetitions (config_of nocase) (length t) part (cond lazy (drop 1 u) u)) (no_lazy u h)
-            ∙ repetitions_end (config_of nocase) (length t) (length t - 1) part u u some refl h;
+            ∙ ap (λ (l : Bool). repetitions (config_of nocase) (length t) part (cond l (drop 1 u) u)) mark
+            ∙ ap (λ (x : Text). repetitions (config_of nocase) (length t) part x) left
+            ∙ repetitions_end (config_of nocase) (length t) (length t - 1) part w w some refl h;
         depth = omega arith;
       }
+
+  pub repeated : (sub : Nested Re) (t u : Text) → Repeat t u → is_at "?*+{" u ≡ false → IsRepeated sub t u
+  unfolding first
+  repeated sub t u (greedy t' u' r) h = times_repeat sub t u u r false (no_lazy u h) refl h
+  repeated sub t u (lazy t' u' r) h = times_repeat sub t (63 ∷ u) u r true refl refl h

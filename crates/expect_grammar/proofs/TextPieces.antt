@@ -8,11 +8,11 @@ use Rattle.regex_hir.specs.Re as Meaning
 use Rattle.regex_syntax.specs.Brackets.{Nested, deepest, join}
 use Rattle.regex_syntax.specs.Grammar.{Names, Place, opening, capture, set_flags, with_repetitions, item, items, branches, join_parts}
 use Rattle.regex_syntax.specs.Reading.{Text, first, is_at, begins, skip}
-use Rattle.exp_match.specs.Grammar.{Re, Seq, Piece, Atom, Repeat, alone, either, empty, next, start, end, once, repeated, any, group, plain_group, class, class_without, character, set, literal}
+use Rattle.exp_match.specs.Grammar.{Re, Seq, Piece, Atom, Repeat, alone, either, empty, next, start, end, once, repeated, any, group, plain_group, class, class_without, character, set, literal, brace}
 use Rattle.exp_match.specs.Written.{config_of}
-use Rattle.expect_grammar.proofs.TextAtoms.{Begins, special_begins, literal_begins, IsAtom, any_is, start_is, end_is, class_is, class_without_is, set_reads, quoted_reads, literal_reads}
-use Rattle.expect_grammar.proofs.TextClasses.{class_takes, not_empty}
-use Rattle.expect_grammar.proofs.TextCounts.{repeat_takes}
+use Rattle.expect_grammar.proofs.TextAtoms.{Begins, special_begins, IsAtom, any_is, start_is, end_is, class_is, class_without_is, set_reads, escape_reads, literal_reads, brace_reads}
+use Rattle.expect_grammar.proofs.TextClasses.{given, not_empty}
+use Rattle.expect_grammar.proofs.TextCounts.{repeat_takes, repeat_text}
 use Rattle.expect_grammar.proofs.TextCounts as counts
 
 -- what may stand behind a sequence
@@ -43,32 +43,32 @@ ends_operator t (Ends.close t') = refl
 
 -- how each begins
 
-atom_begins : (d : ℕ) (s t : Text) → Atom d s t → Begins s
+atom_begins : (d : ℕ) (s t : List ℕ) → Atom d s t → Begins (given s)
 unfolding first
-atom_begins d s t (any d' s') = special_begins 46 s' refl refl
-atom_begins d s t (group d' s' t' r) = special_begins 40 s' refl refl
-atom_begins d s t (plain_group d' s' t' r) = special_begins 40 (63 ∷ 58 ∷ s') refl refl
-atom_begins d s t (class d' s' t' c) = special_begins 91 s' refl refl
-atom_begins d s t (class_without d' s' t' c) = special_begins 91 (94 ∷ s') refl refl
-atom_begins d s t (character d' c v s' q) = special_begins 92 (c ∷ s') refl refl
-atom_begins d s t (set d' c s' is) = special_begins 92 (c ∷ s') refl refl
-atom_begins d s t (literal d' c s' isnt) = literal_begins c s' isnt
+atom_begins d s t (any d' s') = (any_is false s').begins
+atom_begins d s t (group d' s' t' r) = special_begins 40 (given s') refl refl
+atom_begins d s t (plain_group d' s' t' r) = special_begins 40 (63 ∷ 58 ∷ given s') refl refl
+atom_begins d s t (class d' s' t' q c) = (class_is false s' t q c).begins
+atom_begins d s t (class_without d' s' t' c) = (class_without_is false s' t c).begins
+atom_begins d s t (character d' v s' t' e) = (escape_reads false v s' t e).begins
+atom_begins d s t (set d' c s' is) = (set_reads false c s' is).begins
+atom_begins d s t (literal d' c s' isnt) = (literal_reads false c s' isnt).begins
+atom_begins d s t (brace d' s' isnt) = (brace_reads false s' isnt).begins
 
-piece_begins : (d : ℕ) (s t : Text) → Piece d s t → Begins s
-unfolding first
-piece_begins d s t (start d' s') = special_begins 94 s' refl refl
-piece_begins d s t (end d' s') = special_begins 36 s' refl refl
+piece_begins : (d : ℕ) (s t : List ℕ) → Piece d s t → Begins (given s)
+piece_begins d s t (start d' s') = (start_is false s').begins
+piece_begins d s t (end d' s') = (end_is false s').begins
 piece_begins d s t (once d' s' t' a) = atom_begins d s t a
 piece_begins d s t (repeated d' s' u t' a r) = atom_begins d s u a
 
 -- no sequence begins with an operator
-no_operator : (d : ℕ) (s t : Text) → Seq d s t → Ends t → is_at "?*+{" s ≡ false
-no_operator d s t (empty d' s') e = ends_operator s e
+no_operator : (d : ℕ) (s t : List ℕ) → Seq d s t → Ends (given t) → is_at "?*+{" (given s) ≡ false
+no_operator d s t (empty d' s') e = ends_operator (given s) e
 no_operator d s t (next d' s' u t' p q) e = (piece_begins d s u p).no_operator
 
-alternatives_begin : (d : ℕ) (s t : Text) → Re d s t → Closes t → is_at "?*+{" s ≡ false
-alternatives_begin d s t (alone d' s' t' q) c = no_operator d s t q (ends t c)
-alternatives_begin d s t (either d' s' u t' q r) c = no_operator d s (124 ∷ u) q (Ends.bar u)
+alternatives_begin : (d : ℕ) (s t : List ℕ) → Re d s t → Closes (given t) → is_at "?*+{" (given s) ≡ false
+alternatives_begin d s t (alone d' s' t' q) c = no_operator d s t q (ends (given t) c)
+alternatives_begin d s t (either d' s' u t' q r) c = no_operator d s (124 ∷ u) q (Ends.bar (given u))
 
 -- a group that does is none with a name or flags
 no_mark : (s : Text) → is_at "?*+{" s ≡ false → (begins "?P<" s ≡ false) × (begins "?<" s ≡ false) × (is_at "?" s ≡ false)
@@ -81,29 +81,30 @@ no_mark (c ∷ s) h =
 
 -- each but an empty sequence takes some of the text
 mutual
-  re_takes : (d : ℕ) (s t : Text) → Re d s t → length t ≤ length s
+  re_takes : (d : ℕ) (s t : List ℕ) → Re d s t → length (given t) ≤ length (given s)
   re_takes d s t (alone d' s' t' q) = seq_takes d s t q
   re_takes d s t (either d' s' u t' q r) = omega (arith, seq_takes d s (124 ∷ u) q, re_takes d u t r)
 
-  seq_takes : (d : ℕ) (s t : Text) → Seq d s t → length t ≤ length s
+  seq_takes : (d : ℕ) (s t : List ℕ) → Seq d s t → length (given t) ≤ length (given s)
   seq_takes d s t (empty d' s') = omega arith
   seq_takes d s t (next d' s' u t' p q) = omega (arith, piece_takes d s u p, seq_takes d u t q)
 
-  piece_takes : (d : ℕ) (s t : Text) → Piece d s t → length t < length s
-  piece_takes d s t (start d' s') = omega arith
-  piece_takes d s t (end d' s') = omega arith
+  piece_takes : (d : ℕ) (s t : List ℕ) → Piece d s t → length (given t) < length (given s)
+  piece_takes d s t (start d' s') = (start_is false s').takes
+  piece_takes d s t (end d' s') = (end_is false s').takes
   piece_takes d s t (once d' s' t' a) = atom_takes d s t a
-  piece_takes d s t (repeated d' s' u t' a r) = omega (arith, atom_takes d s u a, repeat_takes u t r)
+  piece_takes d s t (repeated d' s' u t' a r) = omega (arith, atom_takes d s u a, repeat_takes (given u) (given t) (repeat_text u t r))
 
-  atom_takes : (d : ℕ) (s t : Text) → Atom d s t → length t < length s
-  atom_takes d s t (any d' s') = omega arith
+  atom_takes : (d : ℕ) (s t : List ℕ) → Atom d s t → length (given t) < length (given s)
+  atom_takes d s t (any d' s') = (any_is false s').takes
   atom_takes d s t (group d' s' t' r) = omega (arith, re_takes d' s' (41 ∷ t) r)
   atom_takes d s t (plain_group d' s' t' r) = omega (arith, re_takes d' s' (41 ∷ t) r)
-  atom_takes d s t (class d' s' t' c) = omega (arith, class_takes s' t c)
-  atom_takes d s t (class_without d' s' t' c) = omega (arith, class_takes s' t c)
-  atom_takes d s t (character d' c v s' q) = omega arith
-  atom_takes d s t (set d' c s' is) = omega arith
-  atom_takes d s t (literal d' c s' isnt) = omega arith
+  atom_takes d s t (class d' s' t' q c) = (class_is false s' t q c).takes
+  atom_takes d s t (class_without d' s' t' c) = (class_without_is false s' t c).takes
+  atom_takes d s t (character d' v s' t' e) = (escape_reads false v s' t e).takes
+  atom_takes d s t (set d' c s' is) = (set_reads false c s' is).takes
+  atom_takes d s t (literal d' c s' isnt) = (literal_reads false c s' isnt).takes
+  atom_takes d s t (brace d' s' isnt) = (brace_reads false s' isnt).takes
 
 module _ (nocase : Bool) where
   abbrev pub at : Names → Text → Place
@@ -112,9 +113,9 @@ module _ (nocase : Bool) where
   abbrev Found : Type 0 → Type 0
   Found A = Option (A × Place)
 
-  -- as few names as that: a text in a list of patterns has at most 4,096 bytes
+  -- as few names as that: a pattern has at most 4,096 bytes, and its translated text at most thrice as many characters
   abbrev pub Fits : Names → Text → Type 0
-  Fits names s = length names + length s ≤ 4097
+  Fits names s = length names + length s ≤ 12289
 
   -- parts are found up to t, each at most so deep
   pub record AreParts (found : Found (List (Nested Meant))) (most : ℕ) (t : Text) : Type 0 where
@@ -173,17 +174,17 @@ module _ (nocase : Bool) where
   abbrev inside : ℕ → Place → Found (Nested Meant)
   inside n p = join_parts alt_all (branches n p)
 
-  atom_item : (n most : ℕ) (names : Names) (s t : Text) → IsAtom nocase s t → 2 ≤ most → Fits names s → length t < length s → IsRepeatable (item (inside n) (at names s)) most t
+  atom_item : (n most : ℕ) (names : Names) (s t : Text) → IsAtom nocase s t → 2 ≤ most → Fits names s → IsRepeatable (item (inside n) (at names s)) most t
   unfolding item
-  atom_item n most names s t a le fits shorter = record {
+  atom_item n most names s t a le fits = record {
     part = a.part;
     names = names;
     is = rw (a.no_group, a.is) refl;
     depth = omega (arith, a.depth);
-    fits = omega (arith, fits);
+    fits = omega (arith, fits, a.takes);
   }
 
-  few : (names : Names) → length names ≤ 4097 → nat_lt (length names) (2 ^ 32) ≡ true
+  few : (names : Names) → length names ≤ 12289 → nat_lt (length names) (2 ^ 32) ≡ true
   few names le = lt-ltb (length names) (2 ^ 32) (omega arith)
 
   group_item : (n most : ℕ) (names : Names) (s t : Text) → is_at "?*+{" s ≡ false → Fits names (40 ∷ s)
@@ -264,50 +265,50 @@ module _ (nocase : Bool) where
 
   -- With enough calls each is read. An operator behind a piece would be read as the piece's own.
   mutual
-    pub re_reads : (d : ℕ) (s t : Text) → Re d s t → Closes t → (n : ℕ) → 2 * length s + 2 ≤ n → (names : Names) → Fits names s
-        → AreParts (branches n (at names s)) (atom_depth d + 1 + 1) t
+    pub re_reads : (d : ℕ) (s t : List ℕ) → Re d s t → Closes (given t) → (n : ℕ) → 2 * length (given s) + 2 ≤ n → (names : Names) → Fits names (given s)
+        → AreParts (branches n (at names (given s))) (atom_depth d + 1 + 1) (given t)
     re_reads d s t r c zero le names fits = absurd (omega arith)
     re_reads d s t (alone d' s' t' q) c (suc n) le names fits =
-        last_branch n (atom_depth d + 1) names s t (seq_reads d s t q (ends t c) n (omega arith) names fits) (no_bar t c)
+        last_branch n (atom_depth d + 1) names (given s) (given t) (seq_reads d s t q (ends (given t) c) n (omega arith) names fits) (no_bar (given t) c)
     re_reads d s t (either d' s' u t' q r) c (suc n) le names fits =
-        let first_one = seq_reads d s (124 ∷ u) q (Ends.bar u) n (omega arith) names fits in
-        more_branches n (atom_depth d + 1) names s u t first_one
+        let first_one = seq_reads d s (124 ∷ u) q (Ends.bar (given u)) n (omega arith) names fits in
+        more_branches n (atom_depth d + 1) names (given s) (given u) (given t) first_one
         (re_reads d u t r c n (omega (arith, seq_takes d s (124 ∷ u) q)) first_one.names (omega (arith, first_one.fits)))
 
-    seq_reads : (d : ℕ) (s t : Text) → Seq d s t → Ends t → (n : ℕ) → 2 * length s + 1 ≤ n → (names : Names) → Fits names s
-        → AreParts (items n (at names s)) (atom_depth d + 1) t
+    seq_reads : (d : ℕ) (s t : List ℕ) → Seq d s t → Ends (given t) → (n : ℕ) → 2 * length (given s) + 1 ≤ n → (names : Names) → Fits names (given s)
+        → AreParts (items n (at names (given s))) (atom_depth d + 1) (given t)
     seq_reads d s t q e zero le names fits = absurd (omega arith)
-    seq_reads d s t (empty d' s') e (suc n) le names fits = no_items n (atom_depth d + 1) names s e fits
+    seq_reads d s t (empty d' s') e (suc n) le names fits = no_items n (atom_depth d + 1) names (given s) e fits
     seq_reads d s t (next d' s' u t' p q) e (suc n) le names fits =
         let first_one = piece_reads d s u p (no_operator d u t q e) n (omega arith) names fits in
-        more_items n (atom_depth d + 1) names s u t (piece_begins d s u p) first_one
+        more_items n (atom_depth d + 1) names (given s) (given u) (given t) (piece_begins d s u p) first_one
         (seq_reads d u t q e n (omega (arith, piece_takes d s u p)) first_one.names first_one.fits)
 
-    piece_reads : (d : ℕ) (s t : Text) → Piece d s t → is_at "?*+{" t ≡ false → (n : ℕ) → 2 * length s ≤ n → (names : Names) → Fits names s
-        → IsPart (item (inside n) (at names s)) (atom_depth d + 1) t
+    piece_reads : (d : ℕ) (s t : List ℕ) → Piece d s t → is_at "?*+{" (given t) ≡ false → (n : ℕ) → 2 * length (given s) ≤ n → (names : Names) → Fits names (given s)
+        → IsPart (item (inside n) (at names (given s))) (atom_depth d + 1) (given t)
     piece_reads d s t (start d' s') h n le names fits =
-        once_part (item (inside n) (at names s)) (atom_depth d) t (atom_item n (atom_depth d) names s t (start_is nocase t) (omega arith) fits (omega arith)) h
+        once_part (item (inside n) (at names (given s))) (atom_depth d) (given t) (atom_item n (atom_depth d) names (given s) (given t) (start_is nocase t) (omega arith) fits) h
     piece_reads d s t (end d' s') h n le names fits =
-        once_part (item (inside n) (at names s)) (atom_depth d) t (atom_item n (atom_depth d) names s t (end_is nocase t) (omega arith) fits (omega arith)) h
-    piece_reads d s t (once d' s' t' a) h n le names fits = once_part (item (inside n) (at names s)) (atom_depth d) t (atom_reads d s t a n le names fits) h
+        once_part (item (inside n) (at names (given s))) (atom_depth d) (given t) (atom_item n (atom_depth d) names (given s) (given t) (end_is nocase t) (omega arith) fits) h
+    piece_reads d s t (once d' s' t' a) h n le names fits = once_part (item (inside n) (at names (given s))) (atom_depth d) (given t) (atom_reads d s t a n le names fits) h
     piece_reads d s t (repeated d' s' u t' a r) h n le names fits =
-        repeated_part (item (inside n) (at names s)) (atom_depth d) u t (atom_reads d s u a n le names fits) r h
+        repeated_part (item (inside n) (at names (given s))) (atom_depth d) (given u) (given t) (atom_reads d s u a n le names fits) (repeat_text u t r) h
 
-    atom_reads : (d : ℕ) (s t : Text) → Atom d s t → (n : ℕ) → 2 * length s ≤ n → (names : Names) → Fits names s
-        → IsRepeatable (item (inside n) (at names s)) (atom_depth d) t
+    atom_reads : (d : ℕ) (s t : List ℕ) → Atom d s t → (n : ℕ) → 2 * length (given s) ≤ n → (names : Names) → Fits names (given s)
+        → IsRepeatable (item (inside n) (at names (given s))) (atom_depth d) (given t)
     atom_reads d s t (group d' s' t' r) n le names fits =
-        deeper (item (inside n) (at names s)) (atom_depth d' + 1 + 1 + 2) (atom_depth d) t
-        (group_item n (atom_depth d' + 1 + 1) names s' t (alternatives_begin d' s' (41 ∷ t) r (Closes.close t)) fits
-        (re_reads d' s' (41 ∷ t) r (Closes.close t) n (omega arith) (names ++ None ∷ []) (one_name_more names s' fits)))
+        deeper (item (inside n) (at names (given s))) (atom_depth d' + 1 + 1 + 2) (atom_depth d) (given t)
+        (group_item n (atom_depth d' + 1 + 1) names (given s') (given t) (alternatives_begin d' s' (41 ∷ t) r (Closes.close (given t))) fits
+        (re_reads d' s' (41 ∷ t) r (Closes.close (given t)) n (omega arith) (names ++ None ∷ []) (one_name_more names (given s') fits)))
         (omega arith)
     atom_reads d s t (plain_group d' s' t' r) n le names fits =
-        deeper (item (inside n) (at names s)) (atom_depth d' + 1 + 1 + 2) (atom_depth d) t
-        (plain_group_item n (atom_depth d' + 1 + 1) names s' t (re_reads d' s' (41 ∷ t) r (Closes.close t) n (omega arith) names (omega (arith, fits))))
+        deeper (item (inside n) (at names (given s))) (atom_depth d' + 1 + 1 + 2) (atom_depth d) (given t)
+        (plain_group_item n (atom_depth d' + 1 + 1) names (given s') (given t) (re_reads d' s' (41 ∷ t) r (Closes.close (given t)) n (omega arith) names (omega (arith, fits))))
         (omega arith)
-    atom_reads d s t (any d' s') n le names fits = atom_item n (atom_depth d) names s t (any_is nocase t) (omega arith) fits (omega arith)
-    atom_reads d s t (class d' s' t' c) n le names fits = atom_item n (atom_depth d) names s t (class_is nocase s' t c) (omega arith) fits (omega (arith, class_takes s' t c))
-    atom_reads d s t (class_without d' s' t' c) n le names fits =
-        atom_item n (atom_depth d) names s t (class_without_is nocase s' t c) (omega arith) fits (omega (arith, class_takes s' t c))
-    atom_reads d s t (character d' c v s' q) n le names fits = atom_item n (atom_depth d) names s t (quoted_reads nocase c v s' q) (omega arith) fits (omega arith)
-    atom_reads d s t (set d' c s' is) n le names fits = atom_item n (atom_depth d) names s t (set_reads nocase c s' is) (omega arith) fits (omega arith)
-    atom_reads d s t (literal d' c s' isnt) n le names fits = atom_item n (atom_depth d) names s t (literal_reads nocase c s' isnt) (omega arith) fits (omega arith)
+    atom_reads d s t (any d' s') n le names fits = atom_item n (atom_depth d) names (given s) (given t) (any_is nocase t) (omega arith) fits
+    atom_reads d s t (class d' s' t' q c) n le names fits = atom_item n (atom_depth d) names (given s) (given t) (class_is nocase s' t q c) (omega arith) fits
+    atom_reads d s t (class_without d' s' t' c) n le names fits = atom_item n (atom_depth d) names (given s) (given t) (class_without_is nocase s' t c) (omega arith) fits
+    atom_reads d s t (character d' v s' t' e) n le names fits = atom_item n (atom_depth d) names (given s) (given t) (escape_reads nocase v s' t e) (omega arith) fits
+    atom_reads d s t (set d' c s' is) n le names fits = atom_item n (atom_depth d) names (given s) (given t) (set_reads nocase c s' is) (omega arith) fits
+    atom_reads d s t (literal d' c s' isnt) n le names fits = atom_item n (atom_depth d) names (given s) (given t) (literal_reads nocase c s' isnt) (omega arith) fits
+    atom_reads d s t (brace d' s' isnt) n le names fits = atom_item n (atom_depth d) names (given s) (given t) (brace_reads nocase s' isnt) (omega arith) fits

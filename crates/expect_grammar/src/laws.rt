@@ -8,7 +8,7 @@ ghost use Rattle.regex_syntax.specs.declared.error.ErrorKind.TheVariants.{OutOfM
 ghost use Rattle.exp_match.specs.Arguments.{patterns_of};
 ghost use Rattle.exp_match.specs.Grammar.{RePattern};
 ghost use Rattle.exp_match.specs.Scan.{is_pattern};
-ghost use Rattle.exp_match.specs.Unbuilt.{IsUnbuilt};
+ghost use Rattle.exp_match.specs.Unbuilt.{IsGivenFor, IsUnbuilt};
 ghost use Rattle.exp_match.specs.Written.{config_of};
 ghost use Rattle.exp_match.specs.declared.faults.PatternFault.{PatternFault};
 ghost use Rattle.exp_match.specs.declared.list.PatternList.{PatternList};
@@ -59,12 +59,12 @@ pub fn flag_rules()
     ensures always { (name : List ℕ) (takes : Takes) (words : List (List ℕ)) → ((f : Flags) × (rest : List (List ℕ)) × Say takes words f rest) ⊎ ((text : List ℕ) × Fail name takes words text) }
 {}
 
-/// States the law of regular patterns. `regex` parses the text of each pattern, with or without
-/// case, and the text nests no deeper than `regex` allows. It therefore refuses none, except for
+/// States the law of regular patterns. `regex` parses the text that it gets for each pattern, with
+/// or without case, and the text nests no deeper than `regex` allows. It therefore refuses none, except for
 /// memory. A build that fails for another reason fails because the program would be too big.
 pub fn patterns_are_read()
     ensures rules { (text : List ℕ) (nocase : Bool) → RePattern text → IsRead nocase text }
     ensures read { (text : List ℕ) (nocase : Bool) → is_pattern text ≡ true → IsRead nocase text }
-    ensures memory { (text : List ℕ) (nocase : Bool) (kind : ErrorKind) → is_pattern text ≡ true → Refuses (config_of nocase) text kind → kind ≡ OutOfMemory }
-    ensures refused { (text : List ℕ) → IsUnbuilt text → (nocase : Bool) × IsPattern (config_of nocase) text }
+    ensures memory { (text given : List ℕ) (nocase : Bool) (kind : ErrorKind) → is_pattern text ≡ true → IsGivenFor text given → Refuses (config_of nocase) given kind → kind ≡ OutOfMemory }
+    ensures refused { (text : List ℕ) → IsUnbuilt text → (nocase : Bool) × (given : List ℕ) × IsGivenFor text given × IsPattern (config_of nocase) given }
 {}

@@ -9,7 +9,7 @@ use tcl_words::Text;
 /// Appends a line for a pattern in a text: the start and the end of the match, or `none`.
 fn push_span(text: &mut Text, pattern: &Text, data: &Text, nocase: bool) -> Result<(), AllocError> {
     let alloc = alloc_of(text);
-    let glob = Glob::new(alloc, pattern.as_slice())?;
+    let glob = Glob::new(alloc, pattern.as_slice(), nocase)?;
     let span = glob.find(data.as_slice(), nocase);
     drop(glob);
     match span {

@@ -8,7 +8,7 @@ use Rattle.command_table.specs.declared.commands.Command.{Command}
 use Rattle.command_table.specs.declared.commands.Command.TheVariants.{Tcl, Expect}
 use Rattle.command_table.specs.declared.commands.ExpectCommand.{ExpectCommand}
 use Rattle.command_table.specs.declared.commands.TclCommand.{TclCommand}
-use Rattle.command_table.specs.declared.commands.TclCommand.TheVariants.{Value, If, Foreach, Expr, Eval as EvalCommand, Exit, While, For, Proc, Catch}
+use Rattle.command_table.specs.declared.commands.TclCommand.TheVariants.{Value, If, Foreach, Expr, Eval as EvalCommand, Exit, While, For, Proc, Catch, Switch as SwitchCommand}
 use Rattle.command_table.specs.declared.commands.ValueCommand.{ValueCommand}
 use Rattle.command_table.specs.declared.commands.ValueCommand.TheVariants.{String, Info, Lsearch, Lsort}
 use Rattle.command_table.specs.declared.counts.Count.{Count}
@@ -40,6 +40,7 @@ use Rattle.tcl_commands.specs.Classes.{classed}
 use Rattle.tcl_commands.specs.Strings.{string_by, string_named, string}
 use Rattle.tcl_commands.specs.Arms.{arms_of, with_arm, only_body, tests, bodies, body, ends, or_wrong}
 use Rattle.tcl_commands.specs.Groups.{each_of}
+use Rattle.tcl_commands.specs.Choosing.{body_of_switch}
 use Rattle.tcl_commands.specs.Joining.{expr_text, eval_text}
 use Rattle.tcl_commands.specs.Verbs.{as_verb, exit_status}
 use Rattle.tcl_subst.specs.Entries.{find}
@@ -88,6 +89,9 @@ unfit c name words said is = ap (λ (b : Bool). if b then said else Err (wrong_a
 
 one_fits : (n : ℕ) → nat_le 1 (suc n) ≡ true
 one_fits n = grind (arith, nat_tests)
+
+two_fit : (n : ℕ) → nat_le 2 (suc (suc n)) ≡ true
+two_fit n = grind (arith, nat_tests)
 
 -- ---- flags before the last arguments
 
@@ -413,6 +417,11 @@ catch_wrong name (a ∷ []) is ev k st = absurd (true≢false is)
 catch_wrong name (a ∷ b ∷ []) is ev k st = absurd (true≢false is)
 catch_wrong name (a ∷ b ∷ c ∷ more) is ev k st = refl
 
+switch_wrong : (name : List ℕ) (words : List (List ℕ)) → fits (tcl_row SwitchCommand).count (length words) ≡ false → body_of_switch name words ≡ Err (wrong_args name)
+switch_wrong name [] is = refl
+switch_wrong name (a ∷ []) is = refl
+switch_wrong name (a ∷ b ∷ more) is = absurd (true≢false (sym (two_fit (length more)) ∙ is))
+
 said_ends : {X : Type 0} (said : Said X) (text : List ℕ) (k : Next) (go : X → State → Tree) (st : State) → said ≡ Err text → on_said said k go st ≡ k code.Error text st
 said_ends {X = X} said text k go st is = ap (λ (s : Said X). on_said s k go st) is
 
@@ -434,6 +443,7 @@ foretold EvalCommand name args words are = counts_foretold EvalCommand name args
 foretold While name args words are = counts_foretold While name args words are (while_wrong name words)
 foretold For name args words are = counts_foretold For name args words are (for_wrong name words)
 foretold Proc name args words are = counts_foretold Proc name args words are (proc_wrong name words)
+foretold SwitchCommand name args words are = counts_foretold SwitchCommand name args words are (λ is ev k st. said_ends (body_of_switch name words) (wrong_args name) k _ st (switch_wrong name words is))
 foretold Catch name args words are = counts_foretold Catch name args words are (catch_wrong name words)
 
 -- ---- names

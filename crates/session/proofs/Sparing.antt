@@ -16,13 +16,14 @@ use Rattle.tcl_subst.specs.Writes.{set_to}
 use Rattle.tcl_commands.specs.declared.code.Code.{Code}
 use Rattle.tcl_commands.specs.declared.code.Code.TheVariants.{Ok, Error, Return, Break, Continue, Again, AgainLater}
 use Rattle.tcl_commands.specs.declared.verbs.Verb.{Verb}
-use Rattle.tcl_commands.specs.declared.verbs.Verb.TheVariants.{Plain, If, While, For, Foreach, Proc, Expr, Eval as EvalCommand, Catch, Exit}
+use Rattle.tcl_commands.specs.declared.verbs.Verb.TheVariants.{Plain, If, While, For, Foreach, Proc, Expr, Eval as EvalCommand, Catch, Exit, Switch}
 use Rattle.tcl_commands.specs.Texts.{wrong_args, expected_number, not_read, word_fault, expr_fault, too_deep}
 use Rattle.tcl_commands.specs.Said.{Said, Outcome as Carried}
 use Rattle.tcl_commands.specs.Plain.{plain}
 use Rattle.tcl_commands.specs.Verbs.{verb_of, redefinable_verb, exit_status}
 use Rattle.tcl_commands.specs.Joining.{expr_text, eval_text}
 use Rattle.tcl_commands.specs.Arms.{arms_of}
+use Rattle.tcl_commands.specs.Choosing.{body_of_switch}
 use Rattle.tcl_commands.specs.Groups.{each_of, assigned}
 use Rattle.tcl_commands.specs.Procs.{formals_of, entered, or_not_set}
 use Rattle.tcl_scripts.specs.declared.script.Reading.{Reading}
@@ -373,6 +374,7 @@ module _ (ev : Eval) (evaluates : SparedEval ev) where
       (λ t st. expression-spared t k (λ v st. k Ok v st) st h (λ v st. h Ok v st)))
   invoked-spared EvalCommand name args k st h = on_said-spared (eval_text name args) k (λ text st. ev text k st) st h (λ text st. evaluates text k st h)
   invoked-spared Catch name args k st h = catch-spared name args k st h
+  invoked-spared Switch name args k st h = on_said-spared (body_of_switch name args) k (λ body st. otherwise ev body k st) st h (λ body st. otherwise-spared body k st h)
   invoked-spared Exit name args k st h = on_said-spared (exit_status name args) k (λ n st. Over (end.Stopped (ending.Exit n)) st) st h (λ n st. tt)
 
   redefinable-spared : (o : Option Verb) (name : List ℕ) (args : List (List ℕ)) (k : Next) (st : State) → SparedNext k → SparedTree (redefinable_or_begun ev o name args k st)

@@ -10,3 +10,5 @@ pub mod Mapped
 pub mod Found
 pub mod Sorts
 pub mod Ordered
+mod Chosen
+mod Fronts

@@ -1,6 +1,6 @@
 -- A text cut at its first separator, and elements put together one by one.
 use Rattle.std.proofs.Common.{◌≡◌, ℕ, zero, suc, ◌+◌, ◌<◌, ◌≤◌, Bool, true, false, cond, not, nat_lt, ◌==◌, List, [], ◌∷◌, ◌++◌, length, take, drop, get_or, Option, Some, None, Err, position, if◌then◌else◌, refl, sym, ap, ◌∙◌, arith, length-append, append_assoc, append-nil, drop-drop}
-use Rattle.std.specs.List.{slice_split, onto_first, position_or_len, join_by, flat_map, sum_by}
+use Rattle.std.specs.List.{slice_split, onto_first, position_or_len, flat_map}
 use Rattle.std.proofs.lemmas.Bool.{ltb-true}
 use Rattle.std.proofs.lemmas.Bool.Decides.{nat_tests}
 use Rattle.std.proofs.lemmas.Grind.{flat_map-append}

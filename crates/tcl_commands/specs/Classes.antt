@@ -1,5 +1,5 @@
 -- The classes of `string is` (string(n)). Characters are bytes. Bytes outside ASCII are in no class.
-use Rattle.std.specs.Prelude.{ℕ, Bool, true, false, not, ◌&&◌, ◌||◌, ◌==◌, List, drop, codes, Option, Some, None, is_some, Ok, Err, bytes_eq, if◌then◌else◌}
+use Rattle.std.specs.Prelude.{ℕ, Bool, false, not, ◌&&◌, ◌||◌, ◌==◌, List, drop, codes, Option, Some, None, is_some, Ok, Err, bytes_eq, if◌then◌else◌}
 use Rattle.std.specs.Char.{is_ascii, is_ascii_digit, is_ascii_uppercase, is_ascii_lowercase, is_ascii_graphic, is_ascii_alphabetic, is_ascii_control, is_ascii_alphanumeric, is_ascii_hexdigit, is_ascii_punctuation}
 use Rattle.std.specs.List.{list_all}
 use Rattle.tcl_words.specs.Bytes as ascii

@@ -4,6 +4,7 @@ pub mod Given
 pub mod Sets
 pub mod Says
 pub mod Switches
+pub mod Front
 pub mod Indices
 pub mod Cases
 pub mod Classes
@@ -18,6 +19,7 @@ pub mod Plain
 pub mod Verbs
 pub mod Joining
 pub mod Arms
+pub mod Choosing
 pub mod Groups
 pub mod Procs
 pub mod Scopes

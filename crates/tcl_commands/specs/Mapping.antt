@@ -1,5 +1,5 @@
 -- The replacement of keys in texts (string(n): map).
-use Rattle.std.specs.Prelude.{ℕ, zero, suc, ◌+◌, ◌-◌, ◌%◌, ◌==◌, nat_lt, Bool, ◌&&◌, List, [], ◌∷◌, ◌++◌, length, take, drop, Option, Some, None, Ok, Err, if◌then◌else◌}
+use Rattle.std.specs.Prelude.{ℕ, zero, suc, ◌-◌, ◌%◌, ◌==◌, nat_lt, Bool, ◌&&◌, List, [], ◌∷◌, ◌++◌, length, take, drop, Option, Some, None, Ok, Err, if◌then◌else◌}
 use Rattle.command_table.specs.declared.switches.Switches.TheVariants as switches
 use Rattle.tcl_commands.specs.Cases.{are_same}
 use Rattle.tcl_commands.specs.Given.{arg}

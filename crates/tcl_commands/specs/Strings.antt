@@ -1,5 +1,5 @@
 -- The options of `string` (string(n)). Characters are bytes. Only ASCII letters have case.
-use Rattle.std.specs.Prelude.{ℕ, suc, Bool, true, false, List, [], ◌∷◌, length, map, drop, take, ◌-◌, reverse, Option, Some, None, option_map, Ok, Err, pos, bytes_eq, if◌then◌else◌}
+use Rattle.std.specs.Prelude.{ℕ, suc, Bool, true, false, List, [], ◌∷◌, length, map, drop, take, ◌-◌, reverse, Option, Some, None, option_map, Ok, Err, pos, if◌then◌else◌}
 use Rattle.std.specs.List.{prefix_len}
 use Rattle.std.specs.Option.{option_or}
 use Rattle.std.specs.Ordering.{nat_cmp}

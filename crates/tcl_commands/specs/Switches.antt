@@ -1,7 +1,7 @@
 -- Flags before the last `tail` arguments of a command. An argument is a flag only if at least `tail` others follow.
 use Rattle.std.specs.Prelude.{ℕ, ◌+◌, nat_lt, Bool, true, false, ◌&&◌, List, [], ◌∷◌, length, drop, Option, Some, None, Ok, Err, if◌then◌else◌}
 use Rattle.command_table.specs.declared.switches.Switch.{Switch}
-use Rattle.command_table.specs.declared.switches.Switch.TheVariants.{All, Decreasing, Exact, Glob, Index, Inline, Integer, Nocase, Not, Start, Strict, Unique}
+use Rattle.command_table.specs.declared.switches.Switch.TheVariants.{All, Decreasing, End, Exact, Glob, Index, Inline, Integer, Nocase, Not, Start, Strict, Unique}
 use Rattle.command_table.specs.declared.switches.Switches.{Switches}
 use Rattle.command_table.specs.Counts.{exactly}
 use Rattle.command_table.specs.Flags.{begins_with_minus}
@@ -32,6 +32,7 @@ nothing = record {
 abbrev pub with_switch : Switch → ℕ → Given → Given
 with_switch All n g = record g { all = true }
 with_switch Decreasing n g = record g { decreasing = true }
+with_switch End n g = g
 with_switch Exact n g = record g { exact = true }
 with_switch Glob n g = record g { exact = false }
 with_switch Index n g = record g { index = Some n; due = true }

@@ -5,7 +5,7 @@ use Rattle.command_table.specs.declared.commands.TclCommand.{TclCommand}
 use Rattle.command_table.specs.declared.commands.TclCommand.TheVariants as tcl
 use Rattle.command_table.specs.Commands.{tcl_command, redefinable_command}
 use Rattle.tcl_commands.specs.declared.verbs.Verb.{Verb}
-use Rattle.tcl_commands.specs.declared.verbs.Verb.TheVariants.{Plain, If, While, For, Foreach, Proc, Expr, Eval, Catch, Exit}
+use Rattle.tcl_commands.specs.declared.verbs.Verb.TheVariants.{Plain, If, While, For, Foreach, Proc, Expr, Eval, Catch, Exit, Switch}
 use Rattle.tcl_commands.specs.Texts.{quoted, wrong_args}
 use Rattle.tcl_commands.specs.Said.{Said}
 
@@ -20,6 +20,7 @@ as_verb tcl.Expr = Expr
 as_verb tcl.Eval = Eval
 as_verb tcl.Catch = Catch
 as_verb tcl.Exit = Exit
+as_verb tcl.Switch = Switch
 
 -- A command that no procedure can have the name of.
 abbrev pub verb_of : List ℕ → Option Verb

@@ -1,6 +1,6 @@
 //! Reads the arguments of a command. Their number fits the command's row.
 
-ghost use Rattle.std.specs.Prelude.{◌≡◌, drop};
+ghost use Rattle.std.specs.Prelude.{◌≡◌, drop, take};
 ghost use Rattle.tcl_commands.specs.Given.{arg, arg_or};
 
 use tcl_values::Value;
@@ -30,6 +30,16 @@ pub(crate) fn others(args: &[Value]) -> &[Value]
         [] => args,
         [_, rest @ ..] => rest,
     }
+}
+
+/// Returns the first n arguments.
+pub(crate) fn before(args: &[Value], n: usize) -> &[Value]
+    ensures { result.now ≡ take n args.now }
+{
+    if args.len() < n {
+        return args;
+    }
+    args.split_at(n).0
 }
 
 /// Returns the arguments from an index on.

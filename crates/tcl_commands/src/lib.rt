@@ -5,6 +5,7 @@
 mod arms;
 mod calls;
 mod cases;
+mod choosing;
 mod classes;
 mod code;
 mod commands;
@@ -12,6 +13,7 @@ mod complaint;
 mod editing;
 mod ends;
 mod formals;
+mod front;
 mod given;
 mod groups;
 mod indices;
@@ -35,6 +37,7 @@ mod white;
 
 pub use arms::{Arms, arms_of};
 pub use calls::enter;
+pub use choosing::body_of_switch;
 pub use code::Code;
 pub use commands::plain;
 pub use complaint::Complaint;

@@ -167,7 +167,7 @@ fn found(
 ) -> Result<Value, Complaint>
     ensures { Says result (found given (is_sought given pattern.now) from elements.now) }
 {
-    let glob = Glob::whole(alloc, pattern)?;
+    let glob = Glob::whole(alloc, pattern, given.nocase)?;
     if given.all {
         return all_found(alloc, given, &glob, pattern, from, elements);
     }

@@ -96,10 +96,15 @@ fn compared(alloc: Global, command: &[u8], args: &[Value]) -> Result<Value, Comp
 }
 
 /// Returns whether a pattern matches a whole text.
-fn matches(alloc: Global, nocase: bool, pattern: &[u8], text: &[u8]) -> Result<bool, AllocError>
+pub(crate) fn matches(
+    alloc: Global,
+    nocase: bool,
+    pattern: &[u8],
+    text: &[u8],
+) -> Result<bool, AllocError>
     ensures { IfOk result (λ t. t ≡ matches nocase pattern.now text.now) }
 {
-    let glob = Glob::whole(alloc, pattern)?;
+    let glob = Glob::whole(alloc, pattern, nocase)?;
     Ok(glob.is_found(text, nocase))
 }
 

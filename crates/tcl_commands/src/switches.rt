@@ -55,52 +55,29 @@ fn nothing() -> Given
 fn with_switch(switch: Switch, next: usize, given: Given) -> Given
     ensures { result ≡ with_switch switch next given }
 {
+    let mut given = given;
     match switch {
-        Switch::All => Given { all: true, ..given },
-        Switch::Decreasing => Given {
-            decreasing: true,
-            ..given
-        },
-        Switch::Exact => Given {
-            exact: true,
-            ..given
-        },
-        Switch::Glob => Given {
-            exact: false,
-            ..given
-        },
-        Switch::Index => Given {
-            index: Some(next),
-            due: true,
-            ..given
-        },
-        Switch::Inline => Given {
-            inline: true,
-            ..given
-        },
-        Switch::Integer => Given {
-            integer: true,
-            ..given
-        },
-        Switch::Nocase => Given {
-            nocase: true,
-            ..given
-        },
-        Switch::Not => Given { not: true, ..given },
-        Switch::Start => Given {
-            start: Some(next),
-            due: true,
-            ..given
-        },
-        Switch::Strict => Given {
-            strict: true,
-            ..given
-        },
-        Switch::Unique => Given {
-            unique: true,
-            ..given
-        },
+        Switch::All => given.all = true,
+        Switch::Decreasing => given.decreasing = true,
+        Switch::End => {}
+        Switch::Exact => given.exact = true,
+        Switch::Glob => given.exact = false,
+        Switch::Index => {
+            given.index = Some(next);
+            given.due = true;
+        }
+        Switch::Inline => given.inline = true,
+        Switch::Integer => given.integer = true,
+        Switch::Nocase => given.nocase = true,
+        Switch::Not => given.not = true,
+        Switch::Start => {
+            given.start = Some(next);
+            given.due = true;
+        }
+        Switch::Strict => given.strict = true,
+        Switch::Unique => given.unique = true,
     }
+    given
 }
 
 fn if_switch(

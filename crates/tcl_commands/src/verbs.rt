@@ -19,6 +19,7 @@ pub enum Verb {
     Eval,
     Catch,
     Exit,
+    Switch,
 }
 
 /// Returns the command of the language for its entry in the table.
@@ -36,6 +37,7 @@ fn as_verb(command: TclCommand) -> Verb
         TclCommand::Eval => Verb::Eval,
         TclCommand::Catch => Verb::Catch,
         TclCommand::Exit => Verb::Exit,
+        TclCommand::Switch => Verb::Switch,
     }
 }
 

@@ -16,13 +16,14 @@ use Rattle.tcl_subst.specs.Writes.{set_to}
 use Rattle.tcl_commands.specs.declared.code.Code.{Code}
 use Rattle.tcl_commands.specs.declared.code.Code.TheVariants.{Ok, Error, Return, Break, Continue, Again, AgainLater}
 use Rattle.tcl_commands.specs.declared.verbs.Verb.{Verb}
-use Rattle.tcl_commands.specs.declared.verbs.Verb.TheVariants.{Plain, If, While, For, Foreach, Proc, Expr, Eval as EvalCommand, Catch, Exit}
+use Rattle.tcl_commands.specs.declared.verbs.Verb.TheVariants.{Plain, If, While, For, Foreach, Proc, Expr, Eval as EvalCommand, Catch, Exit, Switch}
 use Rattle.tcl_commands.specs.Texts.{wrong_args, expected_number, not_read, word_fault, expr_fault, too_deep}
 use Rattle.tcl_commands.specs.Said.{Said, Outcome}
 use Rattle.tcl_commands.specs.Plain.{plain}
 use Rattle.tcl_commands.specs.Verbs.{verb_of, redefinable_verb, exit_status}
 use Rattle.tcl_commands.specs.Joining.{expr_text, eval_text}
 use Rattle.tcl_commands.specs.Arms.{arms_of}
+use Rattle.tcl_commands.specs.Choosing.{body_of_switch}
 use Rattle.tcl_commands.specs.Groups.{each_of, assigned}
 use Rattle.tcl_commands.specs.Procs.{formals_of, entered, or_not_set}
 use Rattle.tcl_scripts.specs.declared.script.Reading.{Reading}
@@ -467,6 +468,9 @@ module _ (ev : Eval) (bounded : IsBounded ev) where
       on_said-agree (eval_text name args) k k' (λ text st. ev text k st) (λ text st. ev text k' st) st (with_cost st.left k k' h)
       (λ text. bounded text k k' st (with_cost st.left k k' h))
   invoked-agree Catch name args k k' st h = catch-agree name args k k' st h
+  invoked-agree Switch name args k k' st h =
+      on_said-agree (body_of_switch name args) k k' (λ body st. otherwise ev body k st) (λ body st. otherwise ev body k' st) st (with_cost st.left k k' h)
+      (λ body. otherwise-agree body k k' st (with_cost st.left k k' h))
   invoked-agree Exit name args k k' st h =
       on_said-agree (exit_status name args) k k' (λ n st. Over (Stopped (ending.Exit n)) st) (λ n st. Over (Stopped (ending.Exit n)) st) st (with_cost st.left k k' h) (λ n. refl)
 

@@ -17,13 +17,14 @@ use Rattle.tcl_subst.specs.Writes.{set_to}
 use Rattle.tcl_commands.specs.declared.code.Code.{Code}
 use Rattle.tcl_commands.specs.declared.code.Code.TheVariants.{Ok, Error, Return, Break, Continue, Again, AgainLater}
 use Rattle.tcl_commands.specs.declared.verbs.Verb.{Verb}
-use Rattle.tcl_commands.specs.declared.verbs.Verb.TheVariants.{Plain, If, While, For, Foreach, Proc, Expr, Eval as EvalCommand, Catch, Exit}
+use Rattle.tcl_commands.specs.declared.verbs.Verb.TheVariants.{Plain, If, While, For, Foreach, Proc, Expr, Eval as EvalCommand, Catch, Exit, Switch}
 use Rattle.tcl_commands.specs.Texts.{quoted, wrong_args, expected_number, not_read, word_fault, expr_fault, too_deep}
 use Rattle.tcl_commands.specs.Said.{Said, Outcome, list_of}
 use Rattle.tcl_commands.specs.Plain.{plain}
 use Rattle.tcl_commands.specs.Verbs.{verb_of, redefinable_verb, exit_status}
 use Rattle.tcl_commands.specs.Joining.{expr_text, eval_text}
 use Rattle.tcl_commands.specs.Arms.{arms_of}
+use Rattle.tcl_commands.specs.Choosing.{body_of_switch}
 use Rattle.tcl_commands.specs.Groups.{each_of, assigned}
 use Rattle.tcl_commands.specs.Procs.{formals_of, entered, or_not_set}
 use Rattle.tcl_scripts.specs.declared.script.Reading.{Reading}
@@ -405,6 +406,7 @@ invoked ev Expr name args k st =
     on_said (expr_text name args) k (λ text st. on_said (tree_of text) k (λ t st. expression ev t k (λ v st. k Ok v st) st) st) st
 invoked ev EvalCommand name args k st = on_said (eval_text name args) k (λ text st. ev text k st) st
 invoked ev Catch name args k st = catch_command ev name args k st
+invoked ev Switch name args k st = on_said (body_of_switch name args) k (λ body st. otherwise ev body k st) st
 invoked ev Exit name args k st = on_said (exit_status name args) k (λ n st. Over (Stopped (ending.Exit n)) st) st
 
 -- A command of the language whose name a procedure can have. Otherwise a command of the host.

@@ -17,7 +17,8 @@ use crate::procs::reserved;
 use crate::stops::{onward_below, stopped};
 use std::alloc::Global;
 use tcl_commands::{
-    Verb, arms_of, each_of, eval_text, exit_status, expr_text, plain, verb_of, wrong_args,
+    Verb, arms_of, body_of_switch, each_of, eval_text, exit_status, expr_text, plain, verb_of,
+    wrong_args,
 };
 use tcl_host::Ending;
 use tcl_values::Value;
@@ -63,6 +64,7 @@ impl Engine {
             Verb::Eval => self.eval_command(name, args, depth),
             Verb::Catch => self.catch_command(name, args, depth),
             Verb::Exit => self.exit_command(name, args),
+            Verb::Switch => self.switch_command(name, args, depth),
         }
     }
 
@@ -198,6 +200,19 @@ impl Engine {
                 self.caught_as(Some(variable), out)
             }
             _ => Err(wrong(self.alloc, name)),
+        }
+    }
+
+    /// Carries out `switch ?flags? text {pattern body ..}`.
+    #[cycle(native)]
+    #[inline(never)]
+    fn switch_command(&mut self, name: &[u8], args: &[Value], depth: u32) -> Result<Value, Leave>
+        ensures measures { Spent self.old self.new 6 (owed 0 result) }
+        ensures rest { CameIs self.old result self.new (λ k st. invoked (eval depth) Verb.Switch name.now args.now k st) }
+    {
+        match given(self.alloc, body_of_switch(self.alloc, name, args))? {
+            None => Ok(Value::new(self.alloc)),
+            Some(body) => self.text(&body, depth),
         }
     }
 

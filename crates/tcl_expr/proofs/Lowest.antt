@@ -11,7 +11,7 @@ use Rattle.tcl_expr.specs.declared.faults.ExprFault.TheVariants.{Syntax}
 use Rattle.tcl_expr.specs.Number.{is_digit, value_from, begins_with_zero, is_numeral, numeral}
 use Rattle.tcl_expr.specs.White.{past}
 use Rattle.tcl_expr.specs.Tree.{Tree}
-use Rattle.tcl_expr.specs.Leaf.{begins_digit, digits_len, leaf, is_lowest, is_lowest_magnitude}
+use Rattle.tcl_expr.specs.Leaf.{begins_digit, digits_len, decimal_literal, leaf, is_lowest, is_lowest_magnitude}
 use Rattle.tcl_expr.specs.Grammar.{Inside, term}
 use Rattle.tcl_expr.proofs.Numbers.{own}
 use Rattle.tcl_expr.proofs.Places.{drop_behind}
@@ -88,7 +88,7 @@ lowest_text b s is =
 
 -- the digits without the minus
 magnitude_fails : (inside : Inside) (r : List ℕ) → begins_digit r ≡ false → term inside (past (lowest_digits ++ r)) ≡ Err Syntax
-unfolding term leaf is_lowest
+unfolding term leaf is_lowest decimal_literal
 magnitude_fails inside r e =
     let none : past (lowest_digits ++ r) ≡ lowest_digits ++ r = ap (λ (n : ℕ). drop n (lowest_digits ++ r)) (white_none (lowest_digits ++ r) 0 (omega arith) refl refl) in
     ap (term inside) none ∙ rw (lowest_len r e) refl

@@ -4,6 +4,7 @@ use Rattle.std.specs.Prelude.{ℕ, ◌+◌, ◌*◌, ◌-◌, nat_le, nat_lt, �
 use Rattle.std.specs.List.{list_all}
 use Rattle.std.specs.Fmt.{signed_decimal}
 use Rattle.tcl_words.specs.Bytes as ascii
+use Rattle.tcl_words.specs.Backslash.{digit}
 
 abbrev pub is_digit : ℕ → Bool
 is_digit b = nat_le ascii.digit_0 b && nat_le b ascii.digit_9
@@ -28,6 +29,21 @@ is_numeral ds = nat_lt 0 (length ds) && nat_le (length ds) 19 && list_all is_dig
 -- The value of a numeral that is at most `most`.
 abbrev pub numeral : ℕ → List ℕ → Option ℕ
 numeral most ds = if is_numeral ds && nat_le (value_from 0 ds) most then Some (value_from 0 ds) else None
+
+-- A digit after the number n, in a base. `on` continues with the number, if it is at most `most`.
+abbrev pub on_digit : ℕ → ℕ → ℕ → (ℕ → Option ℕ) → Option ℕ → Option ℕ
+on_digit base most n on None = None
+on_digit base most n on (Some d) = if nat_le (base * n + d) most then on (base * n + d) else None
+
+-- The number n, followed by these digits of a base.
+abbrev pub based_from : ℕ → ℕ → ℕ → List ℕ → Option ℕ
+based_from base most n [] = Some n
+based_from base most n (b ∷ bs) = on_digit base most n (λ m. based_from base most m bs) (digit base b)
+
+-- The number that one or more digits of a base write, if it is at most `most`.
+abbrev pub based : ℕ → ℕ → List ℕ → Option ℕ
+based base most [] = None
+based base most (b ∷ bs) = based_from base most 0 (b ∷ bs)
 
 -- After a minus, a zero is no number.
 abbrev pub negative : Option ℕ → Option ℤ

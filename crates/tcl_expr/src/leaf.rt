@@ -1,7 +1,7 @@
 //! Reads the leaves of an expression: numbers, words and operands.
 
 ghost use Rattle.std.specs.Prelude.{◌≡◌, ◌≤◌, ◌+◌, ◌<◌, ◌^◌, ◌∷◌, IfOk, IsTrue, length, take, drop};
-ghost use Rattle.tcl_expr.specs.Leaf.{digits_len, letters_len, number_leaf, word_leaf, operand_leaf, leaf, is_lowest, is_lowest_magnitude};
+ghost use Rattle.tcl_expr.specs.Leaf.{based_len, begins_hex, begins_octal, hex_literal, octal_literal, decimal_literal, literal, digits_len, letters_len, number_leaf, word_leaf, operand_leaf, leaf, is_lowest, is_lowest_magnitude};
 ghost use Rattle.tcl_expr.specs.Number.{numeral as numeral_of};
 ghost use Rattle.tcl_expr.specs.Truth.{word_of};
 ghost use Rattle.tcl_words.specs.Operands.{operand as operand_read};
@@ -11,10 +11,10 @@ use crate::bareword::Bareword;
 use crate::code::{Code, Op};
 use crate::faults::ExprFault;
 use crate::infix::is_letter;
-use crate::number::{is_digit, numeral};
-use crate::white::{before, gap};
+use crate::number::{based, is_digit, numeral};
+use crate::white::{after, before, gap};
 use std::alloc::Global;
-use tcl_words::{WordFault, operand};
+use tcl_words::{WordFault, digit, operand};
 
 /// Returns the number of leading digits.
 #[tactic(auto, unfolding(crate::specs::Leaf::digits_len))]
@@ -23,6 +23,89 @@ pub(crate) fn digits_len(text: &[u8]) -> usize
     ensures within { result ≤ length text.now }
 {
     text.iter().take_while(|b| is_digit(**b)).count()
+}
+
+/// Returns the number of leading digits of a base.
+#[tactic(auto, unfolding(crate::specs::Leaf::based_len))]
+fn based_len(base: u8, text: &[u8]) -> usize
+    ensures value { result ≡ based_len base text.now }
+    ensures within { result ≤ length text.now }
+{
+    text.iter()
+        .take_while(|b| digit(base, **b).is_some())
+        .count()
+}
+
+/// Returns whether a number is hexadecimal.
+fn begins_hex(text: &[u8]) -> bool
+    ensures value { result ≡ begins_hex text.now }
+    ensures some { IsTrue result → 2 ≤ length text.now }
+{
+    match text {
+        [b, x, ..] => *b == b'0' && (*x == b'x' || *x == b'X'),
+        _ => false,
+    }
+}
+
+/// Returns whether a number is octal.
+fn begins_octal(text: &[u8]) -> bool
+    ensures { result ≡ begins_octal text.now }
+{
+    match text {
+        [b, d, ..] => *b == b'0' && digit(8, *d).is_some(),
+        _ => false,
+    }
+}
+
+/// Reads a hexadecimal number. Returns its length in bytes and its value.
+#[tactic(auto, unfolding(crate::specs::Leaf::hex_literal))]
+fn hex_literal(text: &[u8]) -> (usize, Option<u64>)
+    requires { 2 ≤ length text.now }
+    ensures value { result ≡ hex_literal text.now }
+    ensures within { result.0 ≤ length text.now }
+    ensures fits { IfSome result.1 (λ v. v ≤ 9223372036854775807) }
+{
+    let digits = after(text, 2);
+    let n = based_len(16, digits);
+    (2 + n, based(16, before(digits, n)))
+}
+
+/// Reads an octal number. Returns its length in bytes and its value.
+#[tactic(auto, unfolding(crate::specs::Leaf::octal_literal))]
+fn octal_literal(text: &[u8]) -> (usize, Option<u64>)
+    ensures value { result ≡ octal_literal text.now }
+    ensures within { result.0 ≤ length text.now }
+    ensures fits { IfSome result.1 (λ v. v ≤ 9223372036854775807) }
+{
+    let n = based_len(8, text);
+    (n, based(8, before(text, n)))
+}
+
+/// Reads a decimal number. Returns its length in bytes and its value.
+#[tactic(auto, unfolding(crate::specs::Leaf::decimal_literal))]
+fn decimal_literal(text: &[u8]) -> (usize, Option<u64>)
+    ensures value { result ≡ decimal_literal text.now }
+    ensures within { result.0 ≤ length text.now }
+    ensures fits { IfSome result.1 (λ v. v ≤ 9223372036854775807) }
+{
+    let n = digits_len(text);
+    (n, numeral(9_223_372_036_854_775_807, before(text, n)))
+}
+
+/// Reads a number: decimal, octal after a zero, or hexadecimal after `0x`. Returns its length in bytes and its value,
+/// which is `None` if there is none, or it exceeds 63 bits.
+fn literal(text: &[u8]) -> (usize, Option<u64>)
+    ensures value { result ≡ literal text.now }
+    ensures within { result.0 ≤ length text.now }
+    ensures fits { IfSome result.1 (λ v. v ≤ 9223372036854775807) }
+{
+    if begins_hex(text) {
+        return hex_literal(text);
+    }
+    if begins_octal(text) {
+        return octal_literal(text);
+    }
+    decimal_literal(text)
 }
 
 /// Returns the number of leading letters.
@@ -135,8 +218,7 @@ pub(crate) fn leaf(alloc: Global, code: &mut Code, text: &[u8]) -> Result<usize,
         [] => Err(ExprFault::Syntax),
         [b, ..] => {
             if is_digit(*b) {
-                let n = digits_len(text);
-                let value = numeral(9_223_372_036_854_775_807, before(text, n));
+                let (n, value) = literal(text);
                 return number_leaf(code, text, n, value);
             }
             if is_letter(*b) {

@@ -1,12 +1,13 @@
 //! Numbers as text: an optional minus and digits without a leading zero, within 64 bits.
 
 ghost use Rattle.std.specs.Prelude.{◌≡◌, ◌≤◌, ◌<◌, ◌==◌, ◌||◌, not, length, IfOk};
-ghost use Rattle.tcl_expr.specs.Number.{is_digit, digits_value, begins_with_zero, numeral as numeral_of, negative, number_of, number_text};
+ghost use Rattle.tcl_expr.specs.Number.{is_digit, digits_value, based as based_of, begins_with_zero, numeral as numeral_of, negative, number_of, number_text};
 
 use crate::white::before;
 use itoa::Buffer;
 use std::alloc::{AllocError, Global};
 use tcl_values::Value;
+use tcl_words::digit;
 
 /// Returns whether a byte is an ASCII digit.
 pub(crate) fn is_digit(b: u8) -> bool
@@ -49,6 +50,28 @@ pub(crate) fn numeral(most: u64, text: &[u8]) -> Option<u64>
     }
     let n = value(text)?;
     if n <= most { Some(n) } else { None }
+}
+
+/// Returns the number that one or more digits of a base write. `None` if a byte is no digit, or the number exceeds the
+/// greatest of 64 bits with a sign.
+pub(crate) fn based(base: u8, text: &[u8]) -> Option<u64>
+    requires { base ≤ 16 }
+    ensures value { result ≡ based_of base 9223372036854775807 text.now }
+    ensures within { IfSome result (λ n. n ≤ 9223372036854775807) }
+{
+    if text.is_empty() {
+        return None;
+    }
+    let mut n: u64 = 0;
+    for b in text {
+        let d = digit(base, *b)?;
+        let longer = u128::from(base) * u128::from(n) + u128::from(d);
+        if longer > 9_223_372_036_854_775_807 {
+            return None;
+        }
+        n = longer as u64;
+    }
+    Some(n)
 }
 
 /// Returns the negative number of a magnitude. `None` for 0, because `-0` is no number.

@@ -10,7 +10,7 @@ use Rattle.tcl_words.specs.declared.faults.WordFault.{WordFault}
 use Rattle.tcl_words.specs.declared.faults.WordFault.TheVariants.{MissingBracket, ExtraAfterQuote, ExtraAfterBrace, TooDeep}
 use Rattle.tcl_words.specs.Lists.{begins_with, closing}
 use Rattle.tcl_words.specs.Pieces.{Pieces, no_pieces, piece, literal, variable, member, script, Spelled}
-use Rattle.tcl_words.specs.Commands.{Read, behind, Inside, is_name_byte, is_blank, is_gap, ends_command, gap_at, comment_len, Token, byte, substitution, put_token, token_at, dollar, braced_variable, array_member, script_token, name_len, brace_at, inside_of, nested_script, script_step, more_bytes, parts, part_step, at_end, stops, join, plain_word, in_quotes, in_braces, closed, is_expansion, spelled, word, joined, count_of, after_word, words, words_step, words_at, after_nested_word, script_at}
+use Rattle.tcl_words.specs.Commands.{Read, behind, Inside, is_name_byte, is_blank, is_gap, ends_command, gap_at, comment_len, Token, text_token, substitution, put_token, token_at, dollar, braced_variable, array_member, script_token, name_len, brace_at, inside_of, nested_script, script_step, more_bytes, parts, part_step, at_end, stops, join, plain_word, in_quotes, in_braces, closed, is_expansion, spelled, word, joined, count_of, after_word, words, words_step, words_at, after_nested_word, script_at}
 use Rattle.tcl_words.specs.Commands as commands
 use Rattle.tcl_words.proofs.Runs.{gap-dark}
 use Rattle.tcl_words.proofs.ListGraph.{course_induction}
@@ -191,7 +191,7 @@ lone_gives : (d : ℕ) (s : List ℕ) → begins_with 123 s ≡ false → begins
 lone_gives d s no_brace no_paren none =
     let span : Span is_name_byte s [] s = subst (λ (n : ℕ). Span is_name_byte s (take n s) (drop n s)) none (name_of s) in
     let paren : begins_with 40 s ≡ false = ap (λ (n : ℕ). begins_with 40 (drop n s)) (sym none) ∙ no_paren in
-    record { token = byte 36; rest = s; derived = Part.lone d s span paren no_brace }
+    record { token = text_token (36 ∷ []); rest = s; derived = Part.lone d s span paren no_brace }
 
 name_gives : (d : ℕ) (s : List ℕ) → begins_with 40 (drop (name_len s) s) ≡ false → eqb (name_len s) 0 ≡ false → IsPart d 36 s
 name_gives d s no_paren some = by (take (name_len s) s) (name_of s) refl
@@ -217,7 +217,7 @@ sign_gives d inner s = by (begins_with 123 s) refl
     by false e = dollar_gives d inner s e
 
 slash_gives : (d : ℕ) (s : List ℕ) → IsPart d 92 s
-slash_gives d s = record { token = byte _; rest = _; derived = Part.slash d _ s _ (escape_of s) }
+slash_gives d s = record { token = text_token _; rest = _; derived = Part.slash d s _ _ (escape_of s) }
 
 part_of : (d : ℕ) → Inner d → (b : ℕ) (s : List ℕ) → Gives d b s (token_at (inside_of d) b s)
 part_of d inner b s = by (eqb b 92) (eqb b 91) (eqb b 36) refl refl refl
@@ -229,7 +229,7 @@ part_of d inner b s = by (eqb b 92) (eqb b 91) (eqb b 36) refl refl refl
     by true u v e f g = at 92 e (λ p _. slash_gives d s)
     by false true v e f g = at 91 f (bracket_gives d inner s)
     by false false true e f g = at 36 g (sign_gives d inner s)
-    by false false false e f g = λ p _. record { token = byte b; rest = s; derived = Part.plain d b s (other_byte b 92 e) (other_byte b 36 g) (other_byte b 91 f) }
+    by false false false e f g = λ p _. record { token = text_token (b ∷ []); rest = s; derived = Part.plain d b s (other_byte b 92 e) (other_byte b 36 g) (other_byte b 91 f) }
 
 -- ---- Runs of parts
 

@@ -8,7 +8,7 @@ use Rattle.std.proofs.lemmas.List.{drop-drop, take-append-le, take_all}
 use Rattle.tcl_words.specs.declared.faults.WordFault.{WordFault}
 use Rattle.tcl_words.specs.Lists.{begins_with, closing, plus}
 use Rattle.tcl_words.specs.Pieces.{Pieces, no_pieces, piece, literal, variable, member, script, Spelled}
-use Rattle.tcl_words.specs.Commands.{Read, behind, Inside, is_name_byte, is_blank, is_gap, is_continued, ends_command, gap_at, Token, byte, substitution, put_token, token_at, dollar, braced_variable, array_member, script_token, name_len, brace_at, inside_of, nested_script, more_bytes, parts, part_step, at_end, stop_len, join, plain_word, in_quotes, in_braces, closed, is_expansion, spelled, word, joined, count_of, after_word, words, words_step, words_at, after_nested_word, script_at, start}
+use Rattle.tcl_words.specs.Commands.{Read, behind, Inside, is_name_byte, is_blank, is_gap, is_continued, ends_command, gap_at, Token, text_token, substitution, put_token, token_at, dollar, braced_variable, array_member, script_token, name_len, brace_at, inside_of, nested_script, more_bytes, parts, part_step, at_end, stop_len, join, plain_word, in_quotes, in_braces, closed, is_expansion, spelled, word, joined, count_of, after_word, words, words_step, words_at, after_nested_word, script_at, start}
 use Rattle.tcl_words.specs.Commands as commands
 use Rattle.tcl_words.proofs.Readings.{reading_step, reading_end}
 use Rattle.tcl_words.proofs.Runs.{more-more, more-none, word-takes}
@@ -67,7 +67,7 @@ TookRun d place s ps r = Took (λ n. Ok (ps, n)) (parts (inside_of d) (stop_of p
 abbrev pub TookScript : ℕ → List ℕ → List ℕ → Type 0
 TookScript d s r = Took (λ n. Ok n) (nested_script (inside_of d) s true) s r
 
-plain_took : (d b : ℕ) (s : List ℕ) → b ≢ 92 → b ≢ 36 → b ≢ 91 → TookPart d (b ∷ s) (byte b) s
+plain_took : (d b : ℕ) (s : List ℕ) → b ≢ 92 → b ≢ 36 → b ≢ 91 → TookPart d (b ∷ s) (text_token (b ∷ [])) s
 unfolding token_at
 plain_took d b s no_slash no_dollar no_bracket =
     let slash = test_other b 92 no_slash in
@@ -75,16 +75,16 @@ plain_took d b s no_slash no_dollar no_bracket =
     let bracket = test_other b 91 no_bracket in
     record { n = 0; is = rw (slash, bracket, sign) refl; rest = refl; within = omega arith }
 
-slash_took : (d b : ℕ) (s r : List ℕ) → Escape s b r → TookPart d (92 ∷ s) (byte b) r
+slash_took : (d : ℕ) (s t r : List ℕ) → Escape s t r → TookPart d (92 ∷ s) (text_token t) r
 unfolding token_at
-slash_took d b s r h =
-    let k = escape_took s b r h in
-    record { n = k.n; is = ap (λ (p : ℕ × ℕ). Ok (byte p.0, p.1)) k.is; rest = k.rest; within = k.within }
+slash_took d s t r h =
+    let k = escape_took s t r h in
+    record { n = k.n; is = ap (λ (p : List ℕ × ℕ). Ok (text_token p.0, p.1)) k.is; rest = k.rest; within = k.within }
 
 -- behind a `$` with no `{` behind it
 pub dollar_is : (inside : Inside) (s : List ℕ) → begins_with 123 s ≡ false
     → token_at inside 36 s ≡ cond (begins_with 40 (drop (name_len s) s)) (array_member (name_len s) s (inside.index (drop (1 + name_len s) s)))
-    (cond (eqb (name_len s) 0) (Ok (byte 36, 0)) (Ok (substitution (variable (take (name_len s) s)), name_len s)))
+    (cond (eqb (name_len s) 0) (Ok (text_token (36 ∷ []), 0)) (Ok (substitution (variable (take (name_len s) s)), name_len s)))
 unfolding token_at
 dollar_is inside s e = rw e refl
 
@@ -136,7 +136,7 @@ element_part d s n m r ps h i =
       within = both_within s m (1 + k.n) i.n (behind_it 40 k.n s m k.rest) (behind_within 40 k.n s m k.rest) i.within;
     }
 
-lone_part : (d : ℕ) (s : List ℕ) → Span is_name_byte s [] s → begins_with 40 s ≡ false → begins_with 123 s ≡ false → TookPart d (36 ∷ s) (byte 36) s
+lone_part : (d : ℕ) (s : List ℕ) → Span is_name_byte s [] s → begins_with 40 s ≡ false → begins_with 123 s ≡ false → TookPart d (36 ∷ s) (text_token (36 ∷ [])) s
 lone_part d s h no_index dark =
     let k = name_took s [] s h in
     let none : k.n ≡ 0 = omega (arith, k.within, ap length k.rest, length-drop k.n s) in
@@ -500,7 +500,7 @@ command_script d s m r k on = record {
 mutual
   pub part_read : (d : ℕ) (s : List ℕ) (t : Token) (r : List ℕ) → Part d s t r → TookPart d s t r
   part_read d s t r (Part.plain d' b s' no_slash no_dollar no_bracket) = plain_took d b s' no_slash no_dollar no_bracket
-  part_read d s t r (Part.slash d' b s' r' h) = slash_took d b s' r h
+  part_read d s t r (Part.slash d' s' u r' h) = slash_took d s' u r h
   part_read d s t r (Part.name d' b s' n r' h e) = name_part d b s' n r h e
   part_read d s t r (Part.braced_name d' s' n r' h) = braced_part d s' n r h
   part_read d s t r (Part.element d' s' n m r' ps h i) = element_part d' s' n m r ps h (run_read d' index m ps r i)

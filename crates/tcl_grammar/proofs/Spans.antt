@@ -4,7 +4,7 @@ use Rattle.std.specs.List.{prefix_len}
 use Rattle.std.proofs.lemmas.Bool.{eqb-true, eq-eqb, cond_both}
 use Rattle.std.proofs.lemmas.Bool.Decides.{nat_tests}
 use Rattle.std.proofs.lemmas.List.{drop-drop}
-use Rattle.std.specs.Prelude.{nat_lt}
+use Rattle.std.specs.Prelude.{nat_lt, nat_le, encode_utf8}
 use Rattle.tcl_words.specs.Backslash.{digit, digits, digit_step, below, hex_digit, blanks, backslash, hex_escape, octal_escape, one_more}
 use Rattle.tcl_words.specs.Commands.{comment_len, comment_step}
 use Rattle.tcl_words.proofs.Readings.{reading_step, reading_end}
@@ -78,42 +78,43 @@ blanks_took s t r h = span_took is_indent s t r h
 
 -- ---- Numbers
 
-below_256 : (n : ℕ) → nat_lt n 256 ≡ true → n < 256
-below_256 n h = grind (arith, nat_tests)
+is_at_most : (n m : ℕ) → nat_le n m ≡ true → n ≤ m
+is_at_most n m h = grind (arith, nat_tests)
 
-above_255 : (n : ℕ) → nat_lt n 256 ≡ false → 256 ≤ n
-above_255 n h = grind (arith, nat_tests)
+is_above : (n m : ℕ) → nat_le n m ≡ false → m < n
+is_above n m h = grind (arith, nat_tests)
 
-is_below : (n : ℕ) → n < 256 → nat_lt n 256 ≡ true
-is_below n h = grind (arith, nat_tests)
+at_most : (n m : ℕ) → n ≤ m → nat_le n m ≡ true
+at_most n m h = grind (arith, nat_tests)
 
-not_below : (n : ℕ) → 256 ≤ n → nat_lt n 256 ≡ false
-not_below n h = grind (arith, nat_tests)
+not_at_most : (n m : ℕ) → m < n → nat_le n m ≡ false
+not_at_most n m h = grind (arith, nat_tests)
 
-pub digits_of : (base most v : ℕ) (s : List ℕ) → Digits base most v s (digits base most v s).0 (drop (digits base most v s).1 s)
-unfolding digits
-digits_of base zero v s = Digits.full v s
-digits_of base (suc most) v [] = Digits.over most v
-digits_of base (suc most) v (b ∷ s) = by (λ w. digits_of base most w s) (digit base b) refl
-  where
-    by : ((w : ℕ) → Digits base most w s (digits base most w s).0 (drop (digits base most w s).1 s)) → (o : Option ℕ) → digit base b ≡ o
-        → Digits base (suc most) v (b ∷ s) (digit_step (λ w. digits base most w s) base v o).0 (drop (digit_step (λ w. digits base most w s) base v o).1 (b ∷ s))
-    by more None e = Digits.stop most v b s e
-    by more (Some d) e =
-        cond_both (nat_lt (base * v + d) 256) _ _ (λ (p : ℕ × ℕ). Digits base (suc most) v (b ∷ s) p.0 (drop p.1 (b ∷ s)))
-        (λ t. Digits.more most v b d _ s _ e (below_256 (base * v + d) t) (more (base * v + d)))
-        (λ f. Digits.above most v b d s e (above_255 (base * v + d) f))
+module _ (base top : ℕ) where
+  pub digits_of : (most v : ℕ) (s : List ℕ) → Digits base top most v s (digits base top most v s).0 (drop (digits base top most v s).1 s)
+  unfolding digits
+  digits_of zero v s = Digits.full v s
+  digits_of (suc most) v [] = Digits.over most v
+  digits_of (suc most) v (b ∷ s) = by (λ w. digits_of most w s) (digit base b) refl
+    where
+      by : ((w : ℕ) → Digits base top most w s (digits base top most w s).0 (drop (digits base top most w s).1 s)) → (o : Option ℕ) → digit base b ≡ o
+          → Digits base top (suc most) v (b ∷ s) (digit_step (λ w. digits base top most w s) base top v o).0 (drop (digit_step (λ w. digits base top most w s) base top v o).1 (b ∷ s))
+      by more None e = Digits.stop most v b s e
+      by more (Some d) e =
+          cond_both (nat_le (base * v + d) top) _ _ (λ (p : ℕ × ℕ). Digits base top (suc most) v (b ∷ s) p.0 (drop p.1 (b ∷ s)))
+          (λ t. Digits.more most v b d _ s _ e (is_at_most (base * v + d) top t) (more (base * v + d)))
+          (λ f. Digits.above most v b d s e (is_above (base * v + d) top f))
 
-pub digits_took : (base most v : ℕ) (s : List ℕ) (w : ℕ) (r : List ℕ) → Digits base most v s w r → Took (λ n. (w, n)) (digits base most v s) s r
-unfolding digits
-digits_took base most v s w r (Digits.full v' s') = record { n = 0; is = refl; rest = refl; within = omega arith }
-digits_took base most v s w r (Digits.over most' v') = record { n = 0; is = refl; rest = refl; within = omega arith }
-digits_took base most v s w r (Digits.stop most' v' b s' e) = record { n = 0; is = rw e refl; rest = refl; within = omega arith }
-digits_took base most v s w r (Digits.above most' v' b d s' e h) = let no = not_below (base * v + d) h in record { n = 0; is = rw (e, no) refl; rest = refl; within = omega arith }
-digits_took base most v s w r (Digits.more most' v' b d w' s' r' e h on) =
-    let ih = digits_took base most' (base * v + d) s' w r on in
-    let yes = is_below (base * v + d) h in
-    record { n = suc ih.n; is = rw (e, yes, ih.is) refl; rest = ih.rest; within = omega (arith, ih.within) }
+  pub digits_took : (most v : ℕ) (s : List ℕ) (w : ℕ) (r : List ℕ) → Digits base top most v s w r → Took (λ n. (w, n)) (digits base top most v s) s r
+  unfolding digits
+  digits_took most v s w r (Digits.full v' s') = record { n = 0; is = refl; rest = refl; within = omega arith }
+  digits_took most v s w r (Digits.over most' v') = record { n = 0; is = refl; rest = refl; within = omega arith }
+  digits_took most v s w r (Digits.stop most' v' b s' e) = record { n = 0; is = rw e refl; rest = refl; within = omega arith }
+  digits_took most v s w r (Digits.above most' v' b d s' e h) = let no = not_at_most (base * v + d) top h in record { n = 0; is = rw (e, no) refl; rest = refl; within = omega arith }
+  digits_took most v s w r (Digits.more most' v' b d w' s' r' e h on) =
+      let ih = digits_took most' (base * v + d) s' w r on in
+      let yes = at_most (base * v + d) top h in
+      record { n = suc ih.n; is = rw (e, yes, ih.is) refl; rest = ih.rest; within = omega (arith, ih.within) }
 
 -- ---- Backslashes
 
@@ -130,84 +131,92 @@ hex_small b d e = by (hex_digit b) e
         last true t k = let same : x ≡ d = cc in grind (arith, nat_tests)
         last false t k = absurd (cc)
 
--- the first hexadecimal digit
-hex_step : (c : ℕ) (s : List ℕ) → digits 16 2 0 (c ∷ s) ≡ digit_step (λ v. digits 16 1 v s) 16 0 (digit 16 c)
-unfolding digits
-hex_step c s = refl
-
-hex_more : (x d : ℕ) (s : List ℕ) → x ≡ d → d < 256 → cond (nat_lt x 256) (one_more (digits 16 1 x s)) (0, 0) ≡ one_more (digits 16 1 d s)
-hex_more x d s e h = let yes : nat_lt d 256 ≡ true = is_below d h in rw (e, yes) refl
-
-hex_first : (c d : ℕ) (s : List ℕ) → digit 16 c ≡ Some d → digits 16 2 0 (c ∷ s) ≡ one_more (digits 16 1 d s)
-hex_first c d s e =
-    let small : d < 16 = hex_small c d e in
-    hex_step c s ∙ ap (digit_step (λ v. digits 16 1 v s) 16 0) e ∙ hex_more (16 * 0 + d) d s (omega arith) (omega arith)
-
-abbrev EscapeAt : List ℕ → ℕ × ℕ → Type 0
+abbrev EscapeAt : List ℕ → List ℕ × ℕ → Type 0
 EscapeAt s p = Escape s p.0 (drop p.1 s)
 
-hex_of : (s : List ℕ) → EscapeAt (120 ∷ s) (hex_escape (digits 16 2 0 s))
-unfolding digits
-hex_of [] = Escape.no_hex [] tt
-hex_of (c ∷ s) = by (digit 16 c) refl
-  where
-    by : (o : Option ℕ) → digit 16 c ≡ o → EscapeAt (120 ∷ c ∷ s) (hex_escape (digits 16 2 0 (c ∷ s)))
-    by None e = rw e (Escape.no_hex (c ∷ s) e)
-    by (Some d) e = subst (λ p. EscapeAt (120 ∷ c ∷ s) (hex_escape p)) (sym (hex_first c d s e)) (Escape.hex c d _ s _ e (digits_of 16 1 d s))
+-- hexadecimal digits, of which the first is read alone
+module _ (top most : ℕ) (room : 15 ≤ top) where
+  hex_step : (c : ℕ) (s : List ℕ) → digits 16 top (suc most) 0 (c ∷ s) ≡ digit_step (λ v. digits 16 top most v s) 16 top 0 (digit 16 c)
+  unfolding digits
+  hex_step c s = refl
+
+  hex_more : (x d : ℕ) (s : List ℕ) → x ≡ d → d ≤ top → cond (nat_le x top) (one_more (digits 16 top most x s)) (0, 0) ≡ one_more (digits 16 top most d s)
+  hex_more x d s e h = let yes : nat_le d top ≡ true = at_most d top h in rw (e, yes) refl
+
+  hex_first : (c d : ℕ) (s : List ℕ) → digit 16 c ≡ Some d → digits 16 top (suc most) 0 (c ∷ s) ≡ one_more (digits 16 top most d s)
+  hex_first c d s e =
+      let small : d < 16 = hex_small c d e in
+      hex_step c s ∙ ap (digit_step (λ v. digits 16 top most v s) 16 top 0) e ∙ hex_more (16 * 0 + d) d s (omega arith) (omega (arith, room))
+
+  no_hex_is : (s : List ℕ) → NoHex s → digits 16 top (suc most) 0 s ≡ (0, 0)
+  unfolding digits
+  no_hex_is [] h = refl
+  no_hex_is (b ∷ s) h = rw h refl
+
+  -- a letter before them
+  module _ (letter : ℕ) (text : ℕ → List ℕ) where
+    hex_of : (s : List ℕ) → (NoHex s → Escape (letter ∷ s) (letter ∷ []) s) → ((c d n : ℕ) (t r : List ℕ) → digit 16 c ≡ Some d → Digits 16 top most d t n r → Escape (letter ∷ c ∷ t) (text n) r)
+        → EscapeAt (letter ∷ s) (hex_escape letter text (digits 16 top (suc most) 0 s))
+    hex_of [] none some = subst (λ p. EscapeAt (letter ∷ []) (hex_escape letter text p)) (sym (no_hex_is [] tt)) (none tt)
+    hex_of (c ∷ s) none some = by (digit 16 c) refl
+      where
+        by : (o : Option ℕ) → digit 16 c ≡ o → EscapeAt (letter ∷ c ∷ s) (hex_escape letter text (digits 16 top (suc most) 0 (c ∷ s)))
+        by None e = subst (λ p. EscapeAt (letter ∷ c ∷ s) (hex_escape letter text p)) (sym (no_hex_is (c ∷ s) e)) (none e)
+        by (Some d) e = subst (λ p. EscapeAt (letter ∷ c ∷ s) (hex_escape letter text p)) (sym (hex_first c d s e)) (some c d _ s _ e (digits_of 16 top most d s))
+
+    hex_took : (c d n : ℕ) (s r : List ℕ) → digit 16 c ≡ Some d → Digits 16 top most d s n r → Took (λ k. (text n, k)) (hex_escape letter text (digits 16 top (suc most) 0 (c ∷ s))) (letter ∷ c ∷ s) r
+    hex_took c d n s r e h =
+        let k = digits_took 16 top most d s n r h in
+        record { n = suc (suc k.n); is = ap (hex_escape letter text) (hex_first c d s e ∙ ap one_more k.is); rest = k.rest; within = omega (arith, k.within) }
+
+    no_hex_took : (s : List ℕ) → NoHex s → Took (λ k. (letter ∷ [], k)) (hex_escape letter text (digits 16 top (suc most) 0 s)) (letter ∷ s) s
+    no_hex_took s h = record { n = 1; is = ap (hex_escape letter text) (no_hex_is s h); rest = refl; within = omega arith }
+
+abbrev one_byte : ℕ → List ℕ
+one_byte n = n ∷ []
 
 pub escape_of : (s : List ℕ) → Escape s (backslash s).0 (drop (backslash s).1 s)
 unfolding backslash
 escape_of [] = Escape.over
 escape_of (c ∷ s) =
-    cond_both (eqb c 10) _ _ (EscapeAt (c ∷ s)) (λ t. subst (λ (x : ℕ). Escape (x ∷ s) 32 (drop (blanks s) s)) (sym (eqb-true c 10 t)) (Escape.line s _ _ (blanks_of s)))
-    (λ no_line. cond_both (eqb c 120) _ _ (EscapeAt (c ∷ s)) (λ t. subst (λ (x : ℕ). EscapeAt (x ∷ s) (hex_escape (digits 16 2 0 s))) (sym (eqb-true c 120 t)) (hex_of s))
-    (λ no_x. by no_line no_x (digit 8 c) refl))
+    cond_both (eqb c 10) _ _ (EscapeAt (c ∷ s)) (λ t. subst (λ (x : ℕ). Escape (x ∷ s) (32 ∷ []) (drop (blanks s) s)) (sym (eqb-true c 10 t)) (Escape.line s _ _ (blanks_of s)))
+    (λ no_line. cond_both (eqb c 120) _ _ (EscapeAt (c ∷ s)) (λ t. subst (λ (x : ℕ). EscapeAt (x ∷ s) (hex_escape 120 one_byte (digits 16 255 2 0 s))) (sym (eqb-true c 120 t)) (hex_of 255 1 (omega arith) 120 one_byte s (Escape.no_hex s) Escape.hex))
+    (λ no_x. cond_both (eqb c 117) _ _ (EscapeAt (c ∷ s)) (λ t. subst (λ (x : ℕ). EscapeAt (x ∷ s) (hex_escape 117 encode_utf8 (digits 16 65535 4 0 s))) (sym (eqb-true c 117 t)) (hex_of 65535 3 (omega arith) 117 encode_utf8 s (Escape.no_unicode s) Escape.unicode))
+    (λ no_u. by no_line no_x no_u (digit 8 c) refl)))
   where
-    by : eqb c 10 ≡ false → eqb c 120 ≡ false → (o : Option ℕ) → digit 8 c ≡ o → EscapeAt (c ∷ s) (octal_escape c s o)
-    by no_line no_x None e = Escape.other c s (other_byte c 10 no_line) (other_byte c 120 no_x) e
-    by no_line no_x (Some d) e = Escape.octal c d _ s _ e (digits_of 8 2 d s)
+    by : eqb c 10 ≡ false → eqb c 120 ≡ false → eqb c 117 ≡ false → (o : Option ℕ) → digit 8 c ≡ o → EscapeAt (c ∷ s) (octal_escape c s o)
+    by no_line no_x no_u None e = Escape.other c s (other_byte c 10 no_line) (other_byte c 120 no_x) (other_byte c 117 no_u) e
+    by no_line no_x no_u (Some d) e = Escape.octal c d _ s _ e (digits_of 8 255 2 d s)
 
--- an octal digit is no newline and no `x`
-octal_line : (c d : ℕ) → digit 8 c ≡ Some d → eqb c 10 ≡ false
+-- an octal digit is no byte that is none
+octal_other : (c d b : ℕ) → digit 8 c ≡ Some d → digit 8 b ≡ None → eqb c b ≡ false
+octal_other c d b e none = test_other c b (λ same. let no : digit 8 c ≡ None = ap (digit 8) same ∙ none in let clash : ◌≡◌ {A = Option ℕ} (Some d) None = sym e ∙ no in absurd (cc))
+
+no_octal : (digit 8 10 ≡ None) × (digit 8 120 ≡ None) × (digit 8 117 ≡ None)
 unfolding digit
-octal_line c d e = by (eqb c 10) refl
-  where
-    by : (t : Bool) → eqb c 10 ≡ t → t ≡ false
-    by true t = let none : digit 8 c ≡ None = ap (digit 8) (eqb-true c 10 t) in absurd (cc)
-    by false t = refl
+no_octal = (refl, refl, refl)
 
-octal_x : (c d : ℕ) → digit 8 c ≡ Some d → eqb c 120 ≡ false
-unfolding digit
-octal_x c d e = by (eqb c 120) refl
-  where
-    by : (t : Bool) → eqb c 120 ≡ t → t ≡ false
-    by true t = let none : digit 8 c ≡ None = ap (digit 8) (eqb-true c 120 t) in absurd (cc)
-    by false t = refl
-
-no_hex_is : (s : List ℕ) → NoHex s → digits 16 2 0 s ≡ (0, 0)
-unfolding digits
-no_hex_is [] h = refl
-no_hex_is (b ∷ s) h = rw h refl
-
-pub escape_took : (s : List ℕ) (b : ℕ) (r : List ℕ) → Escape s b r → Took (λ n. (b, n)) (backslash s) s r
+pub escape_took : (s t r : List ℕ) → Escape s t r → Took (λ n. (t, n)) (backslash s) s r
 unfolding backslash
-escape_took s b r (Escape.line s' t r' h) =
-    let k = blanks_took s' t r h in
+escape_took s t r (Escape.line s' u r' h) =
+    let k = blanks_took s' u r h in
     record { n = suc k.n; is = rw k.is refl; rest = k.rest; within = omega (arith, k.within) }
-escape_took s b r (Escape.octal c d b' s' r' e h) =
-    let k = digits_took 8 2 d s' b r h in
-    let no_line = octal_line c d e in
-    let no_x = octal_x c d e in
-    record { n = suc k.n; is = rw (no_line, no_x, e, k.is) refl; rest = k.rest; within = omega (arith, k.within) }
-escape_took s b r (Escape.hex c d b' s' r' e h) =
-    let k = digits_took 16 1 d s' b r h in
-    record { n = suc (suc k.n); is = ap hex_escape (hex_first c d s' e ∙ ap one_more k.is); rest = k.rest; within = omega (arith, k.within) }
-escape_took s b r (Escape.no_hex s' h) = record { n = 1; is = ap hex_escape (no_hex_is s' h); rest = refl; within = omega arith }
-escape_took s b r (Escape.other c s' no_line no_x e) =
+escape_took s t r (Escape.octal c d n s' r' e h) =
+    let k = digits_took 8 255 2 d s' n r h in
+    let no_line = octal_other c d 10 e no_octal.0 in
+    let no_x = octal_other c d 120 e no_octal.1 in
+    let no_u = octal_other c d 117 e no_octal.2 in
+    record { n = suc k.n; is = rw (no_line, no_x, no_u, e, k.is) refl; rest = k.rest; within = omega (arith, k.within) }
+escape_took s t r (Escape.hex c d n s' r' e h) = hex_took 255 1 (omega arith) 120 one_byte c d n s' r e h
+escape_took s t r (Escape.unicode c d n s' r' e h) = hex_took 65535 3 (omega arith) 117 encode_utf8 c d n s' r e h
+escape_took s t r (Escape.no_hex s' h) = no_hex_took 255 1 (omega arith) 120 one_byte s' h
+escape_took s t r (Escape.no_unicode s' h) = no_hex_took 65535 3 (omega arith) 117 encode_utf8 s' h
+escape_took s t r (Escape.other c s' no_line no_x no_u e) =
     let line = test_other c 10 no_line in
     let x = test_other c 120 no_x in
-    record { n = 1; is = rw (line, x, e) refl; rest = refl; within = omega arith }
-escape_took s b r Escape.over = record { n = 0; is = refl; rest = refl; within = omega arith }
+    let u = test_other c 117 no_u in
+    record { n = 1; is = rw (line, x, u, e) refl; rest = refl; within = omega arith }
+escape_took s t r Escape.over = record { n = 0; is = refl; rest = refl; within = omega arith }
 
 -- ---- Comments
 

@@ -1,11 +1,11 @@
 -- The grammar of commands, as in Tcl(n), rule by rule. `X s v r` means that the bytes s begin with an X whose value is
 -- v, and that r is the rest. `Bytes` of `tcl_words` names the bytes.
-use Rattle.std.specs.Prelude.{◌≡◌, ◌≢◌, ℕ, suc, ◌+◌, ◌*◌, ◌<◌, ◌≤◌, Bool, true, false, not, ◌&&◌, ◌||◌, List, [], ◌∷◌, ◌++◌, length, drop, Some, None, ◌==◌}
+use Rattle.std.specs.Prelude.{◌≡◌, ◌≢◌, ℕ, suc, ◌+◌, ◌*◌, ◌<◌, ◌≤◌, Bool, true, false, not, ◌&&◌, ◌||◌, List, [], ◌∷◌, ◌++◌, length, drop, encode_utf8, Some, None, ◌==◌}
 use Rattle.tcl_words.specs.Backslash.{digit, escaped}
 use Rattle.tcl_words.specs.Lists.{begins_with}
 use Rattle.tcl_words.specs.Pieces.{Pieces, no_pieces, piece, literal, variable, member, script, Spelled}
-use Rattle.tcl_words.specs.Commands.{is_name_byte, Token, byte, substitution, put_token}
-use Rattle.tcl_words.specs.Bytes.{tab, newline, vertical_tab, form_feed, carriage_return, space, quote, hash, dollar, open_paren, close_paren, star, semicolon, open_bracket, backslash, close_bracket, letter_x, open_brace, close_brace}
+use Rattle.tcl_words.specs.Commands.{is_name_byte, Token, text_token, substitution, put_token}
+use Rattle.tcl_words.specs.Bytes.{tab, newline, vertical_tab, form_feed, carriage_return, space, quote, hash, dollar, open_paren, close_paren, star, semicolon, open_bracket, backslash, close_bracket, letter_u, letter_x, open_brace, close_brace}
 
 -- ---- Bytes
 
@@ -36,35 +36,38 @@ pub data Span (test : ℕ → Bool) : List ℕ → List ℕ → List ℕ → Typ
 
 -- ---- Backslash substitution
 
--- `Digits base most v s w r`: at most `most` further digits change the number v to w. A digit that would exceed 255
--- isn't read.
-pub data Digits (base : ℕ) : ℕ → ℕ → List ℕ → ℕ → List ℕ → Type 0 where
-  full : (v : ℕ) (s : List ℕ) → Digits base 0 v s v s
-  over : (most v : ℕ) → Digits base (suc most) v [] v []
-  stop : (most v b : ℕ) (s : List ℕ) → digit base b ≡ None → Digits base (suc most) v (b ∷ s) v (b ∷ s)
-  above : (most v b d : ℕ) (s : List ℕ) → digit base b ≡ Some d → 256 ≤ base * v + d → Digits base (suc most) v (b ∷ s) v (b ∷ s)
-  more : (most v b d w : ℕ) (s r : List ℕ) → digit base b ≡ Some d → base * v + d < 256 → Digits base most (base * v + d) s w r
-      → Digits base (suc most) v (b ∷ s) w r
+-- `Digits base top most v s w r`: at most `most` further digits change the number v to w. A digit that would exceed
+-- `top` isn't read.
+pub data Digits (base top : ℕ) : ℕ → ℕ → List ℕ → ℕ → List ℕ → Type 0 where
+  full : (v : ℕ) (s : List ℕ) → Digits base top 0 v s v s
+  over : (most v : ℕ) → Digits base top (suc most) v [] v []
+  stop : (most v b : ℕ) (s : List ℕ) → digit base b ≡ None → Digits base top (suc most) v (b ∷ s) v (b ∷ s)
+  above : (most v b d : ℕ) (s : List ℕ) → digit base b ≡ Some d → top < base * v + d → Digits base top (suc most) v (b ∷ s) v (b ∷ s)
+  more : (most v b d w : ℕ) (s r : List ℕ) → digit base b ≡ Some d → base * v + d ≤ top → Digits base top most (base * v + d) s w r
+      → Digits base top (suc most) v (b ∷ s) w r
 
 -- The text doesn't begin with a hexadecimal digit.
 abbrev pub NoHex : List ℕ → Type 0
 NoHex [] = Unit {0}
 NoHex (b ∷ s) = digit 16 b ≡ None
 
--- `Escape s b r`: a backslash followed by s stands for the byte b.
-pub data Escape : List ℕ → ℕ → List ℕ → Type 0 where
+-- `Escape s t r`: a backslash followed by s stands for the text t.
+pub data Escape : List ℕ → List ℕ → List ℕ → Type 0 where
   -- A newline, with the spaces and tabs after it: a space.
-  line : (s t r : List ℕ) → Span is_indent s t r → Escape (newline ∷ s) space r
+  line : (s t r : List ℕ) → Span is_indent s t r → Escape (newline ∷ s) (space ∷ []) r
   -- One to three octal digits: the byte with that number.
-  octal : (c d b : ℕ) (s r : List ℕ) → digit 8 c ≡ Some d → Digits 8 2 d s b r → Escape (c ∷ s) b r
+  octal : (c d n : ℕ) (s r : List ℕ) → digit 8 c ≡ Some d → Digits 8 255 2 d s n r → Escape (c ∷ s) (n ∷ []) r
   -- `x` and one or two hexadecimal digits: the byte with that number.
-  hex : (c d b : ℕ) (s r : List ℕ) → digit 16 c ≡ Some d → Digits 16 1 d s b r → Escape (letter_x ∷ c ∷ s) b r
-  -- `x` without digits: an x.
-  no_hex : (s : List ℕ) → NoHex s → Escape (letter_x ∷ s) letter_x s
+  hex : (c d n : ℕ) (s r : List ℕ) → digit 16 c ≡ Some d → Digits 16 255 1 d s n r → Escape (letter_x ∷ c ∷ s) (n ∷ []) r
+  -- `u` and one to four hexadecimal digits: the UTF-8 bytes of that number.
+  unicode : (c d n : ℕ) (s r : List ℕ) → digit 16 c ≡ Some d → Digits 16 65535 3 d s n r → Escape (letter_u ∷ c ∷ s) (encode_utf8 n) r
+  -- `x` or `u` without digits: that letter.
+  no_hex : (s : List ℕ) → NoHex s → Escape (letter_x ∷ s) (letter_x ∷ []) s
+  no_unicode : (s : List ℕ) → NoHex s → Escape (letter_u ∷ s) (letter_u ∷ []) s
   -- One of `a b f n r t v`: its control character. Any other byte: that byte.
-  other : (c : ℕ) (s : List ℕ) → c ≢ newline → c ≢ letter_x → digit 8 c ≡ None → Escape (c ∷ s) (escaped c) s
+  other : (c : ℕ) (s : List ℕ) → c ≢ newline → c ≢ letter_x → c ≢ letter_u → digit 8 c ≡ None → Escape (c ∷ s) (escaped c ∷ []) s
   -- At the end of the text: a backslash.
-  over : Escape [] backslash []
+  over : Escape [] (backslash ∷ []) []
 
 -- ---- White space, comments and ends of commands
 
@@ -164,12 +167,12 @@ split ps = record { expand = true; pieces = ps }
 
 -- In each of these, brackets and indexes nest at most d deep.
 mutual
-  -- A part of a word: a byte, or a substitution.
+  -- A part of a word: bytes, or a substitution.
   pub data Part : ℕ → List ℕ → Token → List ℕ → Type 0 where
     -- A byte that stands for itself.
-    plain : (d b : ℕ) (s : List ℕ) → b ≢ backslash → b ≢ dollar → b ≢ open_bracket → Part d (b ∷ s) (byte b) s
+    plain : (d b : ℕ) (s : List ℕ) → b ≢ backslash → b ≢ dollar → b ≢ open_bracket → Part d (b ∷ s) (text_token (b ∷ [])) s
     -- Backslash substitution.
-    slash : (d b : ℕ) (s r : List ℕ) → Escape s b r → Part d (backslash ∷ s) (byte b) r
+    slash : (d : ℕ) (s t r : List ℕ) → Escape s t r → Part d (backslash ∷ s) (text_token t) r
     -- Variable substitution, `$name`: one or more letters, digits and underscores.
     name : (d b : ℕ) (s n r : List ℕ) → Span is_name_byte s (b ∷ n) r → begins_with open_paren r ≡ false
         → Part d (dollar ∷ s) (substitution (variable (b ∷ n))) r
@@ -180,7 +183,7 @@ mutual
         → Part (suc d) (dollar ∷ s) (substitution (member n ps)) r
     -- A `$` followed by none of these stands for itself.
     lone : (d : ℕ) (s : List ℕ) → Span is_name_byte s [] s → begins_with open_paren s ≡ false → begins_with open_brace s ≡ false
-        → Part d (dollar ∷ s) (byte dollar) s
+        → Part d (dollar ∷ s) (text_token (dollar ∷ [])) s
     -- Command substitution, `[script]`.
     bracketed : (d : ℕ) (text r : List ℕ) → Script d (text ++ close_bracket ∷ r) r
         → Part (suc d) (open_bracket ∷ (text ++ close_bracket ∷ r)) (substitution (script text)) r

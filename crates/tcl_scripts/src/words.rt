@@ -237,9 +237,17 @@ fn lists_of(words: &[Word]) -> usize {
 /// `foreach` is its script.
 fn lists_by(name: &[u8], count: usize) -> usize {
     match name {
+        b"join" => count,
+        b"lassign" => count,
         b"lindex" => count,
+        b"linsert" => count,
         b"llength" => count,
         b"lrange" => count,
+        b"lreplace" => count,
+        b"lreverse" => count,
+        b"lsearch" => count,
+        b"lsort" => count,
+        b"switch" => count,
         b"foreach" => count.saturating_sub(1),
         _ => 0,
     }

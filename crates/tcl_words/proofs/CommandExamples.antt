@@ -1,6 +1,7 @@
 -- Commands and operands, on texts as a reader meets them.
 use Rattle.std.proofs.Common.{◌≡◌, ℕ, List, [], ◌∷◌, length, Some, None, Ok, Err, false, true, refl}
 use Rattle.std.specs.Prelude.{codes}
+use Rattle.std.specs.Char.{encode_utf8}
 use Rattle.tcl_words.specs.declared.faults.WordFault.{WordFault}
 use Rattle.tcl_words.specs.declared.faults.WordFault.TheVariants.{MissingBrace, MissingBracket, MissingQuote, ExtraAfterQuote, ExtraAfterBrace, MissingParen}
 use Rattle.tcl_words.specs.Course.{course}
@@ -62,6 +63,11 @@ variables : (Reads (codes "p $a(b$c d)${e f}$(x)$ $.") (
     × (Reads (codes "p \\x41\\1019\\400\\n\\xg\\q") (joins (literal (codes "AA9 0\nxgq") ∷ []) ∷ []))
 unfolding next_command start words word plain_word inside_of nested_script parts token_at comment_len joined closing name_len brace_at course backslash digits digit blanks
 variables = (refl, refl)
+
+numbered : (backslash (codes "u41g") ≡ (codes "A", 3)) × (backslash (codes "u00e9") ≡ (195 ∷ 169 ∷ [], 5)) × (backslash (codes "u20ac5") ≡ (226 ∷ 130 ∷ 172 ∷ [], 5))
+    × (backslash (codes "ud800") ≡ (237 ∷ 160 ∷ 128 ∷ [], 5)) × (backslash (codes "uq") ≡ (codes "u", 1)) × (backslash (codes "U41") ≡ (codes "U", 1))
+unfolding backslash digits digit encode_utf8
+numbered = (refl, refl, refl, refl, refl, refl)
 
 brackets : (Reads (codes "p [f {]};# ]\n[g]]]") (joins (script (codes "f {]};# ]\n[g]") ∷ literal (codes "]") ∷ []) ∷ []))
     × (Reads (codes "p []") (joins (script [] ∷ []) ∷ []))

@@ -5,12 +5,11 @@ use Rattle.std.proofs.lemmas.Bool.Decides.{nat_tests}
 use Rattle.std.proofs.lemmas.List.{drop_at, take_at}
 use Rattle.tcl_words.specs.declared.stop.Stop.TheVariants.{Gap}
 use Rattle.tcl_words.specs.Backslash.{backslash, digit, blanks}
-use Rattle.tcl_words.specs.Pieces.{Pieces, no_pieces, piece, literal, Spelled}
+use Rattle.tcl_words.specs.Pieces.{Pieces, no_pieces, piece, literal, literal_of, Spelled}
 use Rattle.tcl_words.specs.Lists.{is_special, is_empty, begins_with, needs_quoting, fits_braces, balances, letter, escape, written_element, written_rest, written}
-use Rattle.tcl_words.specs.Commands.{Read, Inside, byte, token_at, put_byte, may_end, at_end, parts, part_step, is_gap, is_blank, ends_command, is_continued, joined, joined_step, plain_word, is_expansion, word, words, words_step, gap_at, comment_len, start, start_step, inside_of, deepest, next_command}
+use Rattle.tcl_words.specs.Commands.{Read, Inside, text_token, token_at, put_text, may_end, at_end, parts, part_step, is_gap, is_blank, ends_command, is_continued, joined, joined_step, plain_word, is_expansion, word, words, words_step, gap_at, comment_len, start, start_step, inside_of, deepest, next_command}
 use Rattle.tcl_words.specs.ListCommand.{word_of}
 use Rattle.tcl_words.proofs.Readings.{reading_step, reading_end}
-use Rattle.tcl_words.proofs.Parted.{put_text, put_text-none}
 use Rattle.tcl_words.proofs.RoundTrip.{same_byte, or_false, and_true, not_true, backslash_letter, closing_balanced, not_empty_if_unfit}
 
 -- a byte that isn't special is an ordinary one
@@ -26,48 +25,46 @@ module _ (inside : Inside) where
   parts_end [] ends = reading_end (at_end Gap) (part_step inside Gap)
   parts_end (b ∷ rest) ends = reading_step (at_end Gap) (part_step inside Gap) b rest ∙ rw ends refl
 
-  plain_token : (b : ℕ) (s : List ℕ) → is_special b ≡ false → token_at inside b s ≡ Ok (byte b, 0)
+  plain_token : (b : ℕ) (s : List ℕ) → is_special b ≡ false → token_at inside b s ≡ Ok (text_token (b ∷ []), 0)
   unfolding token_at
   plain_token b s h = let p = plain_byte b s h in rw (p.1, p.2, p.3) refl
 
-  special_token : (b : ℕ) (s : List ℕ) → is_special b ≡ true → token_at inside 92 (letter b ∷ s) ≡ Ok (byte b, 1)
+  special_token : (b : ℕ) (s : List ℕ) → is_special b ≡ true → token_at inside 92 (letter b ∷ s) ≡ Ok (text_token (b ∷ []), 1)
   unfolding token_at
   special_token b s h = rw (backslash_letter b s h) refl
 
-  plain_more : (b : ℕ) (s : List ℕ) (ps : Pieces) (n : ℕ) → is_special b ≡ false → parts inside Gap s ≡ Ok (ps, n) → parts inside Gap (b ∷ s) ≡ Ok (put_byte b ps, suc n)
+  plain_more : (b : ℕ) (s : List ℕ) (ps : Pieces) (n : ℕ) → is_special b ≡ false → parts inside Gap s ≡ Ok (ps, n) → parts inside Gap (b ∷ s) ≡ Ok (put_text (b ∷ []) ps, suc n)
   unfolding parts
   plain_more b s ps n h more =
       let p = plain_byte b s h in
       let m : 1 + 0 + n ≡ suc n = omega arith in
-      reading_step (at_end Gap) (part_step inside Gap) b s ∙ rw (p.0, plain_token b s h, more) (ap (λ (k : ℕ). Ok (put_byte b ps, k)) m)
+      reading_step (at_end Gap) (part_step inside Gap) b s ∙ rw (p.0, plain_token b s h, more) (ap (λ (k : ℕ). Ok (put_text (b ∷ []) ps, k)) m)
 
-  special_more : (b : ℕ) (s : List ℕ) (ps : Pieces) (n : ℕ) → is_special b ≡ true → parts inside Gap s ≡ Ok (ps, n) → parts inside Gap (92 ∷ letter b ∷ s) ≡ Ok (put_byte b ps, suc (suc n))
+  special_more : (b : ℕ) (s : List ℕ) (ps : Pieces) (n : ℕ) → is_special b ≡ true → parts inside Gap s ≡ Ok (ps, n) → parts inside Gap (92 ∷ letter b ∷ s) ≡ Ok (put_text (b ∷ []) ps, suc (suc n))
   unfolding parts
   special_more b s ps n h more =
       let m : 1 + 1 + n ≡ suc (suc n) = omega arith in
-      reading_step (at_end Gap) (part_step inside Gap) 92 (letter b ∷ s) ∙ rw (letter_dark b, special_token b s h, more) (ap (λ (k : ℕ). Ok (put_byte b ps, k)) m)
+      reading_step (at_end Gap) (part_step inside Gap) 92 (letter b ∷ s) ∙ rw (letter_dark b, special_token b s h, more) (ap (λ (k : ℕ). Ok (put_text (b ∷ []) ps, k)) m)
 
-  parts_plain : (e rest : List ℕ) → list_any is_special e ≡ false → may_end Gap rest ≡ true → parts inside Gap (e ++ rest) ≡ Ok (put_text e no_pieces, length e)
+  -- a byte before a literal
+  literal_more : (b : ℕ) (e : List ℕ) (n : ℕ) (r : Read Pieces) → r ≡ Ok (put_text (b ∷ []) (literal_of e), n) → r ≡ Ok (literal_of (b ∷ e), n)
+  literal_more b [] n r is = is
+  literal_more b (c ∷ e) n r is = is
+
+  parts_plain : (e rest : List ℕ) → list_any is_special e ≡ false → may_end Gap rest ≡ true → parts inside Gap (e ++ rest) ≡ Ok (literal_of e, length e)
   parts_plain [] rest plain ends = parts_end rest ends
   parts_plain (b ∷ e) rest plain ends =
       let p = or_false (is_special b) (list_any is_special e) plain in
-      plain_more b (e ++ rest) (put_text e no_pieces) (length e) p.0 (parts_plain e rest p.1 ends)
+      literal_more b e _ _ (plain_more b (e ++ rest) (literal_of e) (length e) p.0 (parts_plain e rest p.1 ends))
 
-  parts_escaped : (e rest : List ℕ) → may_end Gap rest ≡ true → parts inside Gap (escape e ++ rest) ≡ Ok (put_text e no_pieces, length (escape e))
+  parts_escaped : (e rest : List ℕ) → may_end Gap rest ≡ true → parts inside Gap (escape e ++ rest) ≡ Ok (literal_of e, length (escape e))
   parts_escaped [] rest ends = parts_end rest ends
-  parts_escaped (b ∷ e) rest ends = go (parts_escaped e rest ends) (is_special b) refl
+  parts_escaped (b ∷ e) rest ends = literal_more b e _ _ (go (parts_escaped e rest ends) (is_special b) refl)
     where
-      go : parts inside Gap (escape e ++ rest) ≡ Ok (put_text e no_pieces, length (escape e)) → (t : Bool) → is_special b ≡ t
-          → parts inside Gap (cond t (92 ∷ letter b ∷ escape e) (b ∷ escape e) ++ rest) ≡ Ok (put_byte b (put_text e no_pieces), length (cond t (92 ∷ letter b ∷ escape e) (b ∷ escape e)))
-      go more true is = special_more b (escape e ++ rest) (put_text e no_pieces) (length (escape e)) is more
-      go more false is = plain_more b (escape e ++ rest) (put_text e no_pieces) (length (escape e)) is more
-
-  literal_word : (b : ℕ) (e : List ℕ) → put_text (b ∷ e) no_pieces ≡ piece (literal (b ∷ e)) no_pieces
-  literal_word b e = put_text-none (b ∷ e)
-
-  as_literal : (e : List ℕ) (n : ℕ) (r : Read Pieces) → is_empty e ≡ false → r ≡ Ok (put_text e no_pieces, n) → r ≡ Ok (piece (literal e) no_pieces, n)
-  as_literal [] n r some is = absurd (cc)
-  as_literal (b ∷ e) n r some is = is ∙ ap (λ ps. Ok (ps, n)) (put_text-none (b ∷ e))
+      go : parts inside Gap (escape e ++ rest) ≡ Ok (literal_of e, length (escape e)) → (t : Bool) → is_special b ≡ t
+          → parts inside Gap (cond t (92 ∷ letter b ∷ escape e) (b ∷ escape e) ++ rest) ≡ Ok (put_text (b ∷ []) (literal_of e), length (cond t (92 ∷ letter b ∷ escape e) (b ∷ escape e)))
+      go more true is = special_more b (escape e ++ rest) (literal_of e) (length (escape e)) is more
+      go more false is = plain_more b (escape e ++ rest) (literal_of e) (length (escape e)) is more
 
 -- in braces with no backslash nothing is replaced
 joined_plain : (e : List ℕ) → list_any (λ b. eqb b 92) e ≡ false → joined e ≡ e
@@ -85,7 +82,7 @@ module _ (inside : Inside) (rest : List ℕ) (ends : may_end Gap rest ≡ true) 
   plain_is first (b ∷ e) n =
       let p = or_false (list_any is_special (b ∷ e)) (first && begins_with 35 (b ∷ e)) n in
       let q = plain_byte b (e ++ rest) (or_false (is_special b) (list_any is_special e) p.0).0 in
-      rw (q.4, q.5) (as_literal inside (b ∷ e) (length (b ∷ e)) _ refl (parts_plain inside (b ∷ e) rest p.0 ends))
+      rw (q.4, q.5) (parts_plain inside (b ∷ e) rest p.0 ends)
 
   braces_is : (e : List ℕ) → list_any (λ b. eqb b 92) e ≡ false → balances 0 e ≡ true → plain_word inside Gap (((123 ∷ e) ++ 125 ∷ []) ++ rest) ≡ Ok (piece (literal e) no_pieces, length ((123 ∷ e) ++ 125 ∷ []))
   unfolding plain_word
@@ -100,7 +97,7 @@ module _ (inside : Inside) (rest : List ℕ) (ends : may_end Gap rest ≡ true) 
   escaped_is : (e : List ℕ) → is_empty e ≡ false → plain_word inside Gap (escape e ++ rest) ≡ Ok (piece (literal e) no_pieces, length (escape e))
   unfolding plain_word
   escaped_is [] n = absurd (cc)
-  escaped_is (b ∷ e) n = go (is_special b) refl (as_literal inside (b ∷ e) (length (escape (b ∷ e))) _ refl (parts_escaped inside (b ∷ e) rest ends))
+  escaped_is (b ∷ e) n = go (is_special b) refl (parts_escaped inside (b ∷ e) rest ends)
     where
       go : (t : Bool) → is_special b ≡ t → parts inside Gap (cond t (92 ∷ letter b ∷ escape e) (b ∷ escape e) ++ rest) ≡ Ok (piece (literal (b ∷ e)) no_pieces, length (cond t (92 ∷ letter b ∷ escape e) (b ∷ escape e)))
           → plain_word inside Gap (cond t (92 ∷ letter b ∷ escape e) (b ∷ escape e) ++ rest) ≡ Ok (piece (literal (b ∷ e)) no_pieces, length (cond t (92 ∷ letter b ∷ escape e) (b ∷ escape e)))
@@ -111,7 +108,7 @@ module _ (inside : Inside) (rest : List ℕ) (ends : may_end Gap rest ≡ true) 
   unfolding plain_word parts token_at backslash digit
   hash_35 e =
       let m : 1 + 1 + length (escape e) ≡ suc (suc (length (escape e))) = omega arith in
-      reading_step (at_end Gap) (part_step inside Gap) 92 (35 ∷ (escape e ++ rest)) ∙ rw (parts_escaped inside e rest ends) ((λ j. Ok (put_text-none (35 ∷ e) j, m j)))
+      reading_step (at_end Gap) (part_step inside Gap) 92 (35 ∷ (escape e ++ rest)) ∙ rw (parts_escaped inside e rest ends) (literal_more inside 35 e _ _ (ap (λ (k : ℕ). Ok (put_text (35 ∷ []) (literal_of e), k)) m))
 
   hash_is : (e : List ℕ) → begins_with 35 e ≡ true → plain_word inside Gap ((92 ∷ escape e) ++ rest) ≡ Ok (piece (literal e) no_pieces, length (92 ∷ escape e))
   hash_is [] n = absurd (cc)

@@ -18,13 +18,13 @@ or_false false b h = (refl, h)
 pub white_if_special : (b : ℕ) → is_special b ≡ false → (is_white b ≡ false) × (eqb b 34 ≡ false) × (eqb b 123 ≡ false) × (eqb b 92 ≡ false)
 white_if_special b h = (grind (arith, nat_tests), grind (arith, nat_tests), grind (arith, nat_tests), grind (arith, nat_tests))
 
-one_of : (b v : ℕ) (s : List ℕ) → backslash (letter v ∷ s) ≡ (v, 1) → (eqb b v ≡ false → backslash (letter b ∷ s) ≡ (b, 1)) → backslash (letter b ∷ s) ≡ (b, 1)
-one_of b v s at_v other = ⊎_elim (λ p. subst (λ (n : ℕ). backslash (letter n ∷ s) ≡ (n, 1)) (sym p.1) at_v) (λ p. other p.0) (eqb_tells b v)
+one_of : (b v : ℕ) (s : List ℕ) → backslash (letter v ∷ s) ≡ (v ∷ [], 1) → (eqb b v ≡ false → backslash (letter b ∷ s) ≡ (b ∷ [], 1)) → backslash (letter b ∷ s) ≡ (b ∷ [], 1)
+one_of b v s at_v other = ⊎_elim (λ p. subst (λ (n : ℕ). backslash (letter n ∷ s) ≡ (n ∷ [], 1)) (sym p.1) at_v) (λ p. other p.0) (eqb_tells b v)
 
 none_of : (b : ℕ) → is_special b ≡ true → eqb b 32 ≡ false → eqb b 9 ≡ false → eqb b 10 ≡ false → eqb b 11 ≡ false → eqb b 12 ≡ false → eqb b 13 ≡ false → eqb b 34 ≡ false → eqb b 123 ≡ false → eqb b 125 ≡ false → eqb b 91 ≡ false → eqb b 93 ≡ false → eqb b 36 ≡ false → eqb b 59 ≡ false → eqb b 92 ≡ false → ⊥
 none_of b h n32 n9 n10 n11 n12 n13 n34 n123 n125 n91 n93 n36 n59 n92 = grind (arith, nat_tests)
 
-pub backslash_letter : (b : ℕ) (s : List ℕ) → is_special b ≡ true → backslash (letter b ∷ s) ≡ (b, 1)
+pub backslash_letter : (b : ℕ) (s : List ℕ) → is_special b ≡ true → backslash (letter b ∷ s) ≡ (b ∷ [], 1)
 unfolding backslash digit
 backslash_letter b s h =
     one_of b 32 s refl (λ n32.

@@ -1,11 +1,10 @@
--- Backslash escapes: the byte that one stands for, and the number of bytes after the backslash that belong to it. As in
--- Tcl(n), but `\u` and `\U` are just letters.
-use Rattle.std.specs.Prelude.{ℕ, zero, suc, ◌+◌, ◌-◌, ◌*◌, ◌&&◌, ◌||◌, List, [], ◌∷◌, Option, Some, None, nat_lt, nat_le, ◌==◌, if◌then◌else◌}
+-- Backslash escapes: the bytes that one stands for, and the number of bytes after the backslash that belong to it. As in
+-- Tcl(n), but `\U` is just a letter.
+use Rattle.std.specs.Prelude.{ℕ, zero, suc, ◌+◌, ◌-◌, ◌*◌, ◌&&◌, ◌||◌, List, [], ◌∷◌, Option, Some, None, nat_lt, nat_le, encode_utf8, ◌==◌, if◌then◌else◌}
 use Rattle.std.specs.List.{prefix_len}
 use Rattle.tcl_words.specs.Bytes as ascii
 
--- The escapes `\a \b \f
---  \r \t \v`. Any other byte stands for itself.
+-- The escapes `\a \b \f \n \r \t \v`. Any other byte stands for itself.
 abbrev pub escaped : ℕ → ℕ
 escaped b =
     if b == ascii.letter_a then ascii.bell
@@ -35,34 +34,37 @@ digit base b = below base (hex_digit b)
 abbrev pub one_more : ℕ × ℕ → ℕ × ℕ
 one_more p = (p.0, suc p.1)
 
-abbrev pub digit_step : (ℕ → ℕ × ℕ) → ℕ → ℕ → Option ℕ → ℕ × ℕ
-digit_step more base value None = (value, 0)
-digit_step more base value (Some d) = if nat_lt (base * value + d) 256 then one_more (more (base * value + d)) else (value, 0)
+abbrev pub digit_step : (ℕ → ℕ × ℕ) → ℕ → ℕ → ℕ → Option ℕ → ℕ × ℕ
+digit_step more base top value None = (value, 0)
+digit_step more base top value (Some d) = if nat_le (base * value + d) top then one_more (more (base * value + d)) else (value, 0)
 
--- The number after at most `most` further digits, and how many digits were read. A digit that would exceed 255 isn't
+-- The number after at most `most` further digits, and how many digits were read. A digit that would exceed `top` isn't
 -- read.
-unfoldable pub digits : ℕ → ℕ → ℕ → List ℕ → ℕ × ℕ
-digits base zero value bytes = (value, 0)
-digits base (suc most) value [] = (value, 0)
-digits base (suc most) value (b ∷ bytes) = digit_step (λ v. digits base most v bytes) base value (digit base b)
+unfoldable pub digits : ℕ → ℕ → ℕ → ℕ → List ℕ → ℕ × ℕ
+digits base top zero value bytes = (value, 0)
+digits base top (suc most) value [] = (value, 0)
+digits base top (suc most) value (b ∷ bytes) = digit_step (λ v. digits base top most v bytes) base top value (digit base b)
 
 -- The number of leading spaces and tabs.
 unfoldable pub blanks : List ℕ → ℕ
 blanks bytes = prefix_len (λ b. b == ascii.space || b == ascii.tab) bytes
 
--- The escape `\x` with one or two hexadecimal digits. Without digits it stands for `x`.
-abbrev pub hex_escape : ℕ × ℕ → ℕ × ℕ
-hex_escape (value, zero) = (ascii.letter_x, 1)
-hex_escape (value, suc n) = (value, suc (suc n))
+-- A letter and hexadecimal digits, given their number and their count. Without digits the letter stands for itself.
+abbrev pub hex_escape : ℕ → (ℕ → List ℕ) → ℕ × ℕ → List ℕ × ℕ
+hex_escape letter text (value, zero) = (letter ∷ [], 1)
+hex_escape letter text (value, suc n) = (text value, suc (suc n))
 
-abbrev pub octal_escape : ℕ → List ℕ → Option ℕ → ℕ × ℕ
-octal_escape b bytes None = (escaped b, 1)
-octal_escape b bytes (Some d) = one_more (digits 8 2 d bytes)
+-- One to three octal digits, given the first one and its value. Any other byte is in the table or stands for itself.
+abbrev pub octal_escape : ℕ → List ℕ → Option ℕ → List ℕ × ℕ
+octal_escape b bytes None = (escaped b ∷ [], 1)
+octal_escape b bytes (Some d) = ((digits 8 255 2 d bytes).0 ∷ [], suc (digits 8 255 2 d bytes).1)
 
--- The byte that a backslash with these bytes after it stands for, and how many of them belong to it.
-unfoldable pub backslash : List ℕ → ℕ × ℕ
-backslash [] = (ascii.backslash, 0)
+-- The bytes that a backslash with these bytes after it stands for, and how many of them belong to it. `\x` stands for
+-- one byte, `\u` for the UTF-8 bytes of a number, which may be a surrogate.
+unfoldable pub backslash : List ℕ → List ℕ × ℕ
+backslash [] = (ascii.backslash ∷ [], 0)
 backslash (b ∷ bytes) =
-    if b == ascii.newline then (ascii.space, suc (blanks bytes))
-    else (if b == ascii.letter_x then hex_escape (digits 16 2 0 bytes)
-    else octal_escape b bytes (digit 8 b))
+    if b == ascii.newline then (ascii.space ∷ [], suc (blanks bytes))
+    else (if b == ascii.letter_x then hex_escape ascii.letter_x (λ value. value ∷ []) (digits 16 255 2 0 bytes)
+    else (if b == ascii.letter_u then hex_escape ascii.letter_u encode_utf8 (digits 16 65535 4 0 bytes)
+    else octal_escape b bytes (digit 8 b)))

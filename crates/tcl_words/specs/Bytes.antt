@@ -181,6 +181,9 @@ letter_s = 115
 abbrev pub letter_t : ℕ
 letter_t = 116
 
+abbrev pub letter_u : ℕ
+letter_u = 117
+
 abbrev pub letter_v : ℕ
 letter_v = 118
 
@@ -189,6 +192,9 @@ letter_w = 119
 
 abbrev pub letter_x : ℕ
 letter_x = 120
+
+abbrev pub capital_x : ℕ
+capital_x = 88
 
 abbrev pub letter_z : ℕ
 letter_z = 122

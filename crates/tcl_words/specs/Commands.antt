@@ -11,7 +11,7 @@ use Rattle.tcl_words.specs.declared.stop.Stop.TheVariants.{Gap, NestedGap, Quote
 use Rattle.tcl_words.specs.Course.{reading}
 use Rattle.tcl_words.specs.Backslash.{backslash, blanks}
 use Rattle.tcl_words.specs.Lists.{begins_with, plus, closing, is_empty}
-use Rattle.tcl_words.specs.Pieces.{Piece, literal, variable, member, script, Pieces, no_pieces, piece, Spelled}
+use Rattle.tcl_words.specs.Pieces.{Piece, literal, variable, member, script, Pieces, no_pieces, piece, append, literal_of, Spelled}
 
 -- A value and the number of bytes it took, or the first error.
 abbrev pub Read : Type 0 → Type 0
@@ -82,13 +82,10 @@ ended (Some fault) = Err fault
 abbrev pub at_end : Stop → Read Pieces
 at_end stop = ended (unclosed stop)
 
--- Adds a byte at the front. It joins a following literal.
-abbrev pub put_byte : ℕ → Pieces → Pieces
-put_byte b no_pieces = piece (literal (b ∷ [])) no_pieces
-put_byte b (piece (literal text) ps) = piece (literal (b ∷ text)) ps
-put_byte b (piece (variable name) ps) = piece (literal (b ∷ [])) (piece (variable name) ps)
-put_byte b (piece (member name index) ps) = piece (literal (b ∷ [])) (piece (member name index) ps)
-put_byte b (piece (script text) ps) = piece (literal (b ∷ [])) (piece (script text) ps)
+-- Adds bytes at the front. They join a following literal.
+abbrev pub put_text : List ℕ → Pieces → Pieces
+put_text text (piece (literal more) ps) = piece (literal (text ++ more)) ps
+put_text text ps = append (literal_of text) ps
 
 -- Readers for the inside of brackets and of an index. A bracket is read as its length, including the `]`.
 pub record Inside : Type 0 where
@@ -107,14 +104,14 @@ name_len bytes = prefix_len is_name_byte bytes
 unfoldable pub brace_at : List ℕ → Option ℕ
 brace_at bytes = position (λ b. b == ascii.close_brace) bytes
 
--- A unit of a word: a byte, which stands for itself or is an escape's value, or a variable or a script.
+-- A unit of a word: bytes, which stand for themselves or are an escape's value, or a variable or a script.
 pub data Token : Type 0 where
-  byte : ℕ → Token
+  text_token : List ℕ → Token
   substitution : Piece → Token
 
 -- Adds a token before the later pieces.
 abbrev pub put_token : Token → Pieces → Pieces
-put_token (byte b) ps = put_byte b ps
+put_token (text_token bytes) ps = put_text bytes ps
 put_token (substitution p) ps = piece p ps
 
 -- `${name}`, given the bytes after `$` and the number of bytes between the braces.
@@ -132,7 +129,7 @@ abbrev pub dollar : Inside → ℕ → List ℕ → Read Token
 dollar inside n bytes =
     if begins_with ascii.open_brace bytes then braced_variable bytes (brace_at (drop 1 bytes))
     else (if begins_with ascii.open_paren (drop n bytes) then array_member n bytes (inside.index (drop (1 + n) bytes))
-    else (if n == 0 then Ok (byte ascii.dollar, 0)
+    else (if n == 0 then Ok (text_token (ascii.dollar ∷ []), 0)
     else Ok (substitution (variable (take n bytes)), n)))
 
 -- `[script]`.
@@ -143,10 +140,10 @@ script_token bytes (Ok k) = Ok (substitution (script (take (k - 1) bytes)), k)
 -- The token at a byte, and the number of later bytes that belong to it.
 unfoldable pub token_at : Inside → ℕ → List ℕ → Read Token
 token_at inside b bytes =
-    if b == ascii.backslash then Ok (byte (backslash bytes).0, (backslash bytes).1)
+    if b == ascii.backslash then Ok (text_token (backslash bytes).0, (backslash bytes).1)
     else (if b == ascii.open_bracket then script_token bytes (inside.bracket bytes)
     else (if b == ascii.dollar then dollar inside (name_len bytes) bytes
-    else Ok (byte b, 0)))
+    else Ok (text_token (b ∷ []), 0)))
 
 -- A token, followed by the later pieces.
 abbrev pub join : (ℕ → Read Pieces) → Read Token → Read Pieces

@@ -33,11 +33,6 @@ abbrev pub begins_white : List ℕ → Bool
 begins_white [] = true
 begins_white (b ∷ bytes) = is_white b
 
--- Adds a byte at the front of a value, and n to the number of bytes read.
-abbrev pub with_byte : ℕ → ℕ → Option (List ℕ × ℕ) → Option (List ℕ × ℕ)
-with_byte b n None = None
-with_byte b n (Some p) = Some (b ∷ p.0, n + p.1)
-
 -- Adds bytes at the front of a value, and n to the number of bytes read.
 abbrev pub with_text : List ℕ → ℕ → Option (List ℕ × ℕ) → Option (List ℕ × ℕ)
 with_text front n None = None
@@ -57,8 +52,8 @@ element_end false = Some ([], 0)
 abbrev pub content_step : Bool → (ℕ → Option (List ℕ × ℕ)) → ℕ → List ℕ → Option (List ℕ × ℕ)
 content_step quoted on b bytes =
     if stops_element quoted b then Some ([], 0)
-    else (if b == ascii.backslash then with_byte (backslash bytes).0 (suc (backslash bytes).1) (on (backslash bytes).1)
-    else with_byte b 1 (on 0))
+    else (if b == ascii.backslash then with_text (backslash bytes).0 (suc (backslash bytes).1) (on (backslash bytes).1)
+    else with_text (b ∷ []) 1 (on 0))
 
 unfoldable pub content : Bool → List ℕ → Option (List ℕ × ℕ)
 content quoted = reading (element_end quoted) (content_step quoted)

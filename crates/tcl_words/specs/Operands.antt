@@ -6,7 +6,7 @@ use Rattle.tcl_words.specs.declared.faults.WordFault.TheVariants.{MissingBrace}
 use Rattle.tcl_words.specs.declared.stop.Stop.TheVariants.{Quote}
 use Rattle.tcl_words.specs.Lists.{closing}
 use Rattle.tcl_words.specs.Pieces.{literal, Pieces, no_pieces, piece, Spelled}
-use Rattle.tcl_words.specs.Commands.{Read, Token, byte, substitution, inside_of, deepest, token_at, parts, joined}
+use Rattle.tcl_words.specs.Commands.{Read, Token, text_token, substitution, inside_of, deepest, token_at, parts, joined}
 
 -- An operand and the number of bytes it takes, `None`, or an error.
 abbrev pub Operand : Type 0
@@ -19,7 +19,7 @@ operand_of ps n = Ok (Some (record { expand = false; pieces = ps }, n))
 -- `$..` or `[..]`. A `$` that stands for itself is no operand.
 abbrev pub substituted : Read Token → Operand
 substituted (Err e) = Err e
-substituted (Ok (byte b, n)) = Ok None
+substituted (Ok (text_token bytes, n)) = Ok None
 substituted (Ok (substitution p, n)) = operand_of (piece p no_pieces) (1 + n)
 
 -- `".."`, given the parts after the opening quote.

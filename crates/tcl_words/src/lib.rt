@@ -23,7 +23,7 @@ mod writing;
 
 pub use bytes::{Text, Texts, copied_texts};
 pub use commands::next_command;
-pub use escapes::{backslash, blanks};
+pub use escapes::{backslash, blanks, digit};
 pub use faults::{ListFault, WordFault};
 pub use lists::{is_white, read_list};
 pub use operands::operand;

@@ -51,7 +51,7 @@ fn content(alloc: Global, bytes: &[u8], quoted: bool) -> Result<(Text, usize), L
         }
         if b == b'\\' {
             let (value, count) = backslash(after(bytes, at + 1));
-            text.push(value)?;
+            text.extend_from_slice(value.as_slice())?;
             at += 1 + count;
         } else {
             text.push(b)?;

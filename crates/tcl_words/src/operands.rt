@@ -59,6 +59,7 @@ pub fn operand(alloc: Global, bytes: &[u8]) -> Result<Option<(Word, usize)>, Wor
             let (token, n) = token_at(alloc, *b, rest, DEEPEST)?;
             match token {
                 Token::Byte(_) => Ok(None),
+                Token::Escape(_) => Ok(None),
                 Token::Substitution(part) => Ok(Some((word_of(alloc, part)?, 1 + n))),
             }
         }

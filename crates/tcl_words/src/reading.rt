@@ -36,7 +36,7 @@ pub(crate) fn token_at(
     match b {
         b'\\' => {
             let (value, n) = backslash(rest);
-            Ok((Token::Byte(value), n))
+            Ok((Token::Escape(value), n))
         }
         b'[' => {
             let n = bracket(rest, depth)?;
@@ -122,6 +122,7 @@ pub(crate) fn parts(
         let (token, n) = token_at(alloc, b, rest, depth)?;
         match token {
             Token::Byte(value) => text.push(value)?,
+            Token::Escape(value) => text.extend_from_slice(value.as_slice())?,
             Token::Substitution(part) => {
                 flush(&mut list, text)?;
                 text = Vec::new(alloc);

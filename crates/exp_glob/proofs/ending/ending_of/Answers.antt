@@ -5,6 +5,9 @@ use Rattle.exp_glob.specs.Endings.{IsEnding, HasNoStar}
 use Rattle.exp_glob.proofs.Endings.{ends_with}
 use Rattle.exp_glob.proofs.ending.ending_of.Goals as goal
 
+pub returns-then-is_none : goal.returns-then-is_none
+returns-then-is_none c = c.no_ending.ensures c.args.nocase c.args.elements.now
+
 pub returns : goal.returns
 returns c =
     let nocase = c.args.nocase in

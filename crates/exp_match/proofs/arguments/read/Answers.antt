@@ -1,6 +1,5 @@
 use Rattle.std.proofs.Common.{rules, ◌≡◌, ◌<◌, length, Some, refl, subst, List, ℕ}
 use Rattle.std.specs.List.{slice_get}
-use Rattle.std.specs.Prelude.{IfErr}
 use Rattle.std.proofs.lemmas.Option.{slice_get_read}
 use Rattle.exp_match.specs.Unbuilt.{IsOfOne, IsOfWord}
 use Rattle.exp_match.proofs.Unbuilding.{tells_of_one}

@@ -1,4 +1,4 @@
-use Rattle.std.proofs.Common.{ℕ, ◌+◌, ◌*◌, ◌≤◌, length, sym, ◌∙◌, arith}
+use Rattle.std.proofs.Common.{◌+◌, ◌*◌, ◌≤◌, length, sym, ◌∙◌, arith}
 use Rattle.tcl_commands.proofs.Mapped.{pair_none}
 use Rattle.tcl_commands.proofs.mapping.first_pair.Goals as goal
 

@@ -1,5 +1,4 @@
 use Rattle.std.proofs.Common.{◌≡◌, ◌++◌, drop, map}
-use Rattle.std.specs.List.{position_from, filter}
 use Rattle.tcl_commands.specs.Searching.{is_sought, places_from}
 use Rattle.tcl_commands.specs.Strings.{count_text}
 use Rattle.tcl_commands.proofs.searching.all_places.Given as goal

@@ -1,7 +1,6 @@
-use Rattle.std.proofs.Common.{◌≡◌, ◌++◌, drop, map}
-use Rattle.std.specs.List.{position_from, filter}
-use Rattle.tcl_commands.specs.Searching.{is_sought, places_from}
-use Rattle.tcl_commands.specs.Strings.{count_text}
+use Rattle.std.proofs.Common.{◌≡◌, drop}
+use Rattle.std.specs.List.{position_from}
+use Rattle.tcl_commands.specs.Searching.{is_sought}
 use Rattle.tcl_commands.proofs.searching.first_place.Given as goal
 
 abbrev pub invariant-loop-at : goal.invariant-loop-at

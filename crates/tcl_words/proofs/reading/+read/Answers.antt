@@ -1,13 +1,13 @@
-use Rattle.std.proofs.Common.{◌≡◌, ◌≤◌, ◌+◌, true, false, Some, Ok, length, length-drop, drop, get_or, ap, ◌∙◌, refl, sym, take, rules, arith}
+use Rattle.std.proofs.Common.{◌≡◌, ◌≤◌, ◌+◌, [], ◌∷◌, true, false, Some, Ok, length, length-drop, drop, get_or, ap, ◌∙◌, refl, sym, take, rules, arith}
 use Rattle.std.proofs.lemmas.Result.{err_from_is_err_and}
 use Rattle.tcl_words.specs.Pieces.{member, no_pieces, piece, append, literal_of, part_view, parts_view}
 use Rattle.tcl_words.specs.Lists.{begins_with}
 use Rattle.tcl_words.specs.Commands.{Fails, dollar, name_len, substitution, inside_of, token_at, stops}
 use Rattle.tcl_words.specs.declared.shapes.Part.{Var, the_lemmas}
 use Rattle.tcl_words.specs.Tokens.{token_view}
-use Rattle.tcl_words.proofs.Parted.{parts_view-push, read_byte, read_whole, read_fails, read_last, read_unclosed, read_all}
+use Rattle.tcl_words.proofs.Parted.{parts_view-push, read_text, read_whole, read_fails, read_last, read_unclosed, read_all}
 use Rattle.tcl_words.proofs.reading.+read.Goals as goal
-use Rattle.tcl_words.proofs.reading.+read.Goals.{parts-in-Byte+in_ok-push-in-Byte, parts-in-Substitution+in_ok-flush-in-Substitution+in_ok-push-in-Substitution}
+use Rattle.tcl_words.proofs.reading.+read.Goals.{parts-in-Byte+in_ok-push-in-Byte, parts-in-Escape+in_ok-extend_from_slice-in-Escape, parts-in-Substitution+in_ok-flush-in-Substitution+in_ok-push-in-Substitution}
 
 pub parts-returns-then-stops-clause-value : goal.parts-returns-then-stops-clause-value
 parts-returns-then-stops-clause-value t c =
@@ -36,7 +36,12 @@ parts-loop-at-preserved t c =
       | parts-in-Byte+in_ok-push-in-Byte w ↦ (
           let at = is ∙ ap (λ f. Ok (token_view f, c.in_ok-token.n)) w.in-Byte.is in (
             omega (arith, length-drop (i + 1) s),
-            rw (w.text-is, w.list-is, w.in_ok-push-in-Byte.ensures.items) (read_byte (inside_of c.args.depth) c.args.stop s (parts_view c.loop-at.list.items) c.loop-at.text.items i _ c.loop-at.invariant.1 w.in-Byte.value c.in_ok-token.n (omega arith) dark at),
+            rw (w.text-is, w.list-is, w.in_ok-push-in-Byte.ensures.items) (read_text (inside_of c.args.depth) c.args.stop s (parts_view c.loop-at.list.items) c.loop-at.text.items i _ c.loop-at.invariant.1 (w.in-Byte.value ∷ []) c.in_ok-token.n (omega arith) dark at),
+          ))
+      | parts-in-Escape+in_ok-extend_from_slice-in-Escape w ↦ (
+          let at = is ∙ ap (λ f. Ok (token_view f, c.in_ok-token.n)) w.in-Escape.is in (
+            omega (arith, length-drop (i + 1) s),
+            rw (w.text-is, w.list-is, w.in_ok-extend_from_slice-in-Escape.ensures.items, w.as_slice.ensures.value) (read_text (inside_of c.args.depth) c.args.stop s (parts_view c.loop-at.list.items) c.loop-at.text.items i _ c.loop-at.invariant.1 w.in-Escape.value.items c.in_ok-token.n (omega arith) dark at),
           ))
       | parts-in-Substitution+in_ok-flush-in-Substitution+in_ok-push-in-Substitution w ↦ (
           let at = is ∙ ap (λ f. Ok (token_view f, c.in_ok-token.n)) w.in-Substitution.is in

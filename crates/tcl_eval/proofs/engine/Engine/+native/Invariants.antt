@@ -106,6 +106,9 @@ decreases-eval_command l = 32 * l.depth + 13
 abbrev pub decreases-catch_command : goal.decreases-catch_command
 decreases-catch_command l = 32 * l.depth + 13
 
+abbrev pub decreases-switch_command : goal.decreases-switch_command
+decreases-switch_command l = 32 * l.depth + 13
+
 abbrev pub decreases-verb : goal.decreases-verb
 decreases-verb l = 32 * l.depth + 14
 
