@@ -249,6 +249,13 @@ class Script:
     def loop(self, depth):
         return b"foreach x {1 2} " + self.body(depth) if depth < DEEPEST else b"break"
 
+    def choice(self, depth):
+        if depth >= DEEPEST:
+            return b"break"
+        first = b"-" if self.chance(0.3) else self.body(depth)
+        last = b" default " + self.body(depth) if self.chance(0.6) else b""
+        return b"switch -- " + self.value() + b" {<> " + first + b" <a> " + self.body(depth) + last + b"}"
+
     def procedure(self, depth):
         if depth >= DEEPEST:
             return b"return r"
@@ -271,6 +278,7 @@ class Script:
         (wait, 2),
         (refused, 1),
         (loop, 1),
+        (choice, 1),
         (procedure, 2),
         (shown, 2),
     ]

@@ -260,6 +260,15 @@ class Interpreter:
             return self.evaluate(body)
         return self.evaluate(rest[-1]) if rest else b""
 
+    def do_switch(self, words):
+        """`switch -- text {pattern body ..}`: the body of the first pattern that is equal to the text."""
+        _end_of_flags, text, cases = words
+        cases = elements(cases)
+        for at in range(0, len(cases), 2):
+            if cases[at] == text or (cases[at] == b"default" and at == len(cases) - 2):
+                return self.evaluate(next(body for body in cases[at + 1 :: 2] if body != b"-"))
+        return b""
+
     def do_while(self, words):
         condition, body = words
         while self.is_true(condition):
