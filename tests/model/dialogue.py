@@ -20,6 +20,7 @@ CHILDREN = 16
 PIECE = 4096
 
 LIST = re.compile(rb"[ \t\v\f\r]*\n")
+SECONDS = re.compile(rb"-?(?:[0-9]+|([0-9]*)\.[0-9]+)")
 WAIT_CODES = {b"notfound": 2, b"denied": 13, b"broken": 32, b"memory": 12, b"other": 5}
 
 
@@ -249,6 +250,31 @@ class Dialogue(Interpreter):
         given, words = self.flags(b"exp_continue", words, {b"-continue_timer": False})
         self.counted(b"exp_continue", words, 0, 0)
         raise Thrown(AGAIN_IN_TIME if given else AGAIN)
+
+    def sleep(self, milliseconds):
+        """Waits without taking what comes meanwhile."""
+        if milliseconds > 0:
+            deadline = FOREVER if milliseconds > 1000 * LONGEST else self.clock + milliseconds
+            self.wait([], deadline, ("item", (), deadline))
+        return b""
+
+    def do_sleep(self, words, name=b"sleep"):
+        self.counted(name, words, 1, 1)
+        if not SECONDS.fullmatch(words[0]):
+            raise failed(b"expected number but got", words[0])
+        whole, _, decimals = words[0].partition(b".")
+        if words[0].startswith(b"-"):
+            return b""
+        return self.sleep(1000 * int(whole or b"0") + int((decimals + b"000")[:3]))
+
+    def do_exp_sleep(self, words):
+        return self.do_sleep(words, b"exp_sleep")
+
+    def do_after(self, words):
+        self.counted(b"after", words, 1, 1)
+        if not words[0].isdigit():
+            raise failed(b"expected number but got", words[0])
+        return self.sleep(int(words[0]))
 
     # expect
 

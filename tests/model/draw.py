@@ -37,6 +37,8 @@ REFUSED = [
     b"match_max -5",
     b"match_max many",
     b"remove_nulls 2",
+    b"sleep 1.",
+    b"after -1",
     b"remove_nulls -d 0 1",
     b"log_user 2",
     b"log_user",
@@ -227,6 +229,7 @@ class Script:
                 b"match_max -d %d" % self.rng.choice(SIZES),
                 b"remove_nulls" + self.rng.choice([b" -d", self.id()]) + b" %d" % self.rng.randrange(2),
                 b"log_user %d" % self.rng.randrange(2),
+                self.rng.choice([b"sleep 1", b"exp_sleep .25", b"sleep -1", b"after 40"]),
                 b"send_user " + self.written(b"".join(self.some(EXACT, 0, 2))),
                 b"set a $spawn_id",
                 b"set spawn_id $a",
@@ -306,7 +309,8 @@ class Children:
         """An event that a waiting script has use for, and now and then others before it."""
         act, child, deadline = dialogue.awaited
         if act == "item":
-            child = self.rng.choice(child)
+            # a script that sleeps awaits no child: what any of them does stays for later
+            child = self.rng.choice(child or (1, 2))
         moment = dialogue.horizon + self.rng.choice([-200, -1, 0, 0, 0, 0, 1, 1, 10, 200, 700])
         if deadline != FOREVER and self.rng.random() < 0.25:
             moment = deadline + self.rng.randrange(2)

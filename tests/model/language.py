@@ -21,7 +21,7 @@ OPERATIONS = {
 NESTED = 200
 
 # The other commands of the language.
-LEFT_OUT = b"unset append lrange for eval string info concat join lassign linsert lrepeat lreplace lreverse lsearch lset lsort split".split()
+LEFT_OUT = b"unset append lrange for eval string info concat join lassign linsert lrepeat lreplace lreverse lsearch lset lsort split array format scan regexp regsub".split()
 
 
 class NotSimulated(Exception):
@@ -158,10 +158,10 @@ class Interpreter:
             return b""
         name, *words = words
         known = getattr(self, "do_" + name.decode("latin-1"), None)
-        if known:
-            return known(words)
         if name in self.procedures:
             return self.call(name, words)
+        if known:
+            return known(words)
         if name in LEFT_OUT:
             raise NotSimulated(name)
         raise failed(b"invalid command name", name)

@@ -21,7 +21,7 @@ use Rattle.dialogue_sched.specs.declared.script.Script.{Script}
 use Rattle.dialogue_sched.specs.Refusal.{refusal_of}
 use Rattle.child_hands.specs.declared.keeper.Keeper.{Ghosts}
 use Rattle.child_desk.specs.declared.book.Book.{Book}
-use Rattle.child_desk.specs.declared.line.Line.{Line}
+use Rattle.child_desk.specs.declared.line.ScriptState.{ScriptState}
 use Rattle.child_desk.specs.declared.ends.Ends.{Ends}
 use Rattle.child_desk.specs.Book.{Enters, logged}
 use Rattle.child_desk.specs.Told.{Telling, Reply, replies_in, heard_of_hand, rings_of}
@@ -168,10 +168,10 @@ not_ticked now book h = (
 no_more : (at : ℕ) (es es' : List HallEvent) → replies_in (own (at + 1) es') ≡ replies_in (own (at + 1) es) → Turn.Replies at es [] es'
 no_more at es es' same = same ∙ sym (append-nil (replies_in (own (at + 1) es)))
 
-pub told_passed : (at : ℕ) (line : Line) (t : Telling) (book : Book) → (Turn.IsAwaited line t → ⊥) → Turn.IsTold at line t book book
+pub told_passed : (at : ℕ) (line : ScriptState) (t : Telling) (book : Book) → (Turn.IsAwaited line t → ⊥) → Turn.IsTold at line t book book
 told_passed at line t book not = ([], no_more at (logged book) (logged book) refl, inr (not, refl))
 
-pub told_awaited : (at : ℕ) (line : Line) (t : Telling) (e : HallEvent) (old new : Book) → Turn.IsAwaited line t → e ≡ answer_at at t.request.child old.stamp t.answer → Enters e true old new → Turn.IsTold at line t old new
+pub told_awaited : (at : ℕ) (line : ScriptState) (t : Telling) (e : HallEvent) (old new : Book) → Turn.IsAwaited line t → e ≡ answer_at at t.request.child old.stamp t.answer → Enters e true old new → Turn.IsTold at line t old new
 told_awaited at line t e old new awaited is entered = (
   record { child = t.request.child; answer = t.answer } ∷ [],
   ap (λ (es : List HallEvent). replies_in (own (at + 1) es)) entered.2 ∙ replies_append (at + 1) (logged old) (e ∷ [])
@@ -179,10 +179,10 @@ told_awaited at line t e old new awaited is entered = (
   inl (awaited, refl),
 )
 
-pub hand_silent : (at : ℕ) (line : Line) (told told' : List Telling) (es es' : List HallEvent) → told' ≡ told → replies_in (own (at + 1) es') ≡ replies_in (own (at + 1) es) → Turn.HearsHand at line told es told' es'
+pub hand_silent : (at : ℕ) (line : ScriptState) (told told' : List Telling) (es es' : List HallEvent) → told' ≡ told → replies_in (own (at + 1) es') ≡ replies_in (own (at + 1) es) → Turn.HearsHand at line told es told' es'
 hand_silent at line told told' es es' same silent = record { more = []; heard = same ∙ sym (append-nil told); replies = []; recorded = no_more at es es' silent; entered = refl }
 
-pub hand_told : (at : ℕ) (line : Line) (t : Telling) (told told' : List Telling) (old mid new : Book) → told' ≡ told ++ t ∷ [] → logged mid ≡ logged old → Turn.IsTold at line t mid new → Turn.HearsHand at line told (logged old) told' (logged new)
+pub hand_told : (at : ℕ) (line : ScriptState) (t : Telling) (told told' : List Telling) (old mid new : Book) → told' ≡ told ++ t ∷ [] → logged mid ≡ logged old → Turn.IsTold at line t mid new → Turn.HearsHand at line told (logged old) told' (logged new)
 hand_told at line t told told' old mid new is log (replies, recorded, entered) = record {
   more = t ∷ [];
   heard = is;
@@ -191,73 +191,73 @@ hand_told at line t told told' old mid new is log (replies, recorded, entered) =
   entered = entered;
 }
 
-pub hand_on : (at : ℕ) (line : Line) (told told' told'' : List Telling) (x y z : List HallEvent) → Turn.HearsHand at line told x told' y → told'' ≡ told' → replies_in (own (at + 1) z) ≡ replies_in (own (at + 1) y) → Turn.HearsHand at line told x told'' z
+pub hand_on : (at : ℕ) (line : ScriptState) (told told' told'' : List Telling) (x y z : List HallEvent) → Turn.HearsHand at line told x told' y → told'' ≡ told' → replies_in (own (at + 1) z) ≡ replies_in (own (at + 1) y) → Turn.HearsHand at line told x told'' z
 hand_on at line told told' told'' x y z f same silent = record { more = f.more; heard = same ∙ f.heard; replies = f.replies; recorded = silent ∙ f.recorded; entered = f.entered }
 
-pub hand_behind : (at : ℕ) (line : Line) (told told' : List Telling) (x y z : List HallEvent) → replies_in (own (at + 1) y) ≡ replies_in (own (at + 1) x) → Turn.HearsHand at line told y told' z → Turn.HearsHand at line told x told' z
+pub hand_behind : (at : ℕ) (line : ScriptState) (told told' : List Telling) (x y z : List HallEvent) → replies_in (own (at + 1) y) ≡ replies_in (own (at + 1) x) → Turn.HearsHand at line told y told' z → Turn.HearsHand at line told x told' z
 hand_behind at line told told' x y z silent f = record { more = f.more; heard = f.heard; replies = f.replies; recorded = f.recorded ∙ ap (λ (rs : List Reply). rs ++ f.replies) silent; entered = f.entered }
 
 module _ {K O : Type 0} {g : Ghosts K O} {r : ReadGhosts O} where
   -- the script at a place of a desk
 
-  pub elsewhere_set : (at : ℕ) (lines : List Line) (ends : List (Ends K O g r)) (line' : Line) (e' : Ends K O g r) → Turn.SameElsewhere at lines ends (slice_set lines at line') (slice_set ends at e')
+  pub elsewhere_set : (at : ℕ) (lines : List ScriptState) (ends : List (Ends K O g r)) (line' : ScriptState) (e' : Ends K O g r) → Turn.SameElsewhere at lines ends (slice_set lines at line') (slice_set ends at e')
   elsewhere_set at lines ends line' e' i other = (set_there at i lines line' other, set_there at i ends e' other)
 
-  pub elsewhere_same : (at : ℕ) (lines : List Line) (ends : List (Ends K O g r)) → Turn.SameElsewhere at lines ends lines ends
+  pub elsewhere_same : (at : ℕ) (lines : List ScriptState) (ends : List (Ends K O g r)) → Turn.SameElsewhere at lines ends lines ends
   elsewhere_same at lines ends i other = (refl, refl)
 
-  pub hand_in : (at : ℕ) (lines : List Line) (ends : List (Ends K O g r)) (line : Line) (e e' : Ends K O g r) (old new : Book) → slice_get lines at ≡ Some line → slice_get ends at ≡ Some e →
+  pub hand_in : (at : ℕ) (lines : List ScriptState) (ends : List (Ends K O g r)) (line : ScriptState) (e e' : Ends K O g r) (old new : Book) → slice_get lines at ≡ Some line → slice_get ends at ≡ Some e →
       ((keeper : Keeping) (script : Script) → InLine (rings_of e) keeper script at line old → Turn.HearsHand at line (heard_of_hand e.answers) (logged old) (heard_of_hand e'.answers) (logged new)) → Turn.HearsHandIn at lines ends old (slice_set ends at e') new
   hand_in at lines ends line e e' old new here there hears keeper script l x got at_x is =
       let one : l ≡ line = one_there l line (sym got ∙ here) in
       let same : x ≡ e = one_there x e (sym at_x ∙ there) in
-      let f = hears keeper script (subst (λ (y : Ends K O g r). InLine (rings_of y) keeper script at line old) same (subst (λ (m : Line). InLine (rings_of x) keeper script at m old) one is)) in (
+      let f = hears keeper script (subst (λ (y : Ends K O g r). InLine (rings_of y) keeper script at line old) same (subst (λ (m : ScriptState). InLine (rings_of x) keeper script at m old) one is)) in (
         e',
         set_here at ends e e' there,
-        subst (λ (m : Line). Turn.HearsHand at m (heard_of_hand x.answers) (logged old) (heard_of_hand e'.answers) (logged new)) (sym one)
+        subst (λ (m : ScriptState). Turn.HearsHand at m (heard_of_hand x.answers) (logged old) (heard_of_hand e'.answers) (logged new)) (sym one)
             (subst (λ (y : Ends K O g r). Turn.HearsHand at line (heard_of_hand y.answers) (logged old) (heard_of_hand e'.answers) (logged new)) (sym same) f),
       )
 
-  pub none_in : (at : ℕ) (lines : List Line) (ends : List (Ends K O g r)) (book : Book) → Turn.HearsHandIn at lines ends book ends book
+  pub none_in : (at : ℕ) (lines : List ScriptState) (ends : List (Ends K O g r)) (book : Book) → Turn.HearsHandIn at lines ends book ends book
   none_in at lines ends book keeper script line e here there is =
       (e, there, hand_silent at line (heard_of_hand e.answers) (heard_of_hand e.answers) (logged book) (logged book) refl refl)
 
-  pub asked_in : (at : ℕ) (lines : List Line) (ends : List (Ends K O g r)) (line line' : Line) (e e' : Ends K O g r) (new : Book) → slice_get lines at ≡ Some line → slice_get ends at ≡ Some e →
+  pub asked_in : (at : ℕ) (lines : List ScriptState) (ends : List (Ends K O g r)) (line line' : ScriptState) (e e' : Ends K O g r) (new : Book) → slice_get lines at ≡ Some line → slice_get ends at ≡ Some e →
       Turn.HasAsked at line' e' new → Turn.HasAskedIn at (slice_set lines at line') (slice_set ends at e') new
   asked_in at lines ends line line' e e' new here there f l x got at_x =
       subst (λ (y : Ends K O g r). Turn.HasAsked at l y new) (one_there e' x (sym (set_here at ends e e' there) ∙ at_x))
-      (subst (λ (m : Line). Turn.HasAsked at m e' new) (one_there line' l (sym (set_here at lines line line' here) ∙ got)) f)
+      (subst (λ (m : ScriptState). Turn.HasAsked at m e' new) (one_there line' l (sym (set_here at lines line line' here) ∙ got)) f)
 
   -- nothing is there
-  pub not_asked_in : (at : ℕ) (lines : List Line) (ends : List (Ends K O g r)) (new : Book) → ((e : Ends K O g r) → slice_get ends at ≡ Some e → ⊥) → Turn.HasAskedIn at lines ends new
+  pub not_asked_in : (at : ℕ) (lines : List ScriptState) (ends : List (Ends K O g r)) (new : Book) → ((e : Ends K O g r) → slice_get ends at ≡ Some e → ⊥) → Turn.HasAskedIn at lines ends new
   not_asked_in at lines ends new none l x got at_x = absurd (none x at_x)
 
   -- each script in its turn
 
-  abbrev pub AllHeard : List Line → List (Ends K O g r) → Book → List (Ends K O g r) → Book → Type 0
+  abbrev pub AllHeard : List ScriptState → List (Ends K O g r) → Book → List (Ends K O g r) → Book → Type 0
   AllHeard lines ends old ends' new = (i : ℕ) → Turn.HearsHandIn i lines ends old ends' new
 
   -- from a place on nothing changed
-  abbrev pub Behind : ℕ → List Line → List (Ends K O g r) → Book → List Line → List (Ends K O g r) → Book → Type 0
+  abbrev pub Behind : ℕ → List ScriptState → List (Ends K O g r) → Book → List ScriptState → List (Ends K O g r) → Book → Type 0
   Behind n lines ends old lines' ends' new = (i : ℕ) → n ≤ i → (slice_get lines' i ≡ slice_get lines i) × (slice_get ends' i ≡ slice_get ends i) × (own (i + 1) (logged new) ≡ own (i + 1) (logged old))
 
-  abbrev pub AskedTo : ℕ → List Line → List (Ends K O g r) → Book → Type 0
+  abbrev pub AskedTo : ℕ → List ScriptState → List (Ends K O g r) → Book → Type 0
   AskedTo n lines ends book = (i : ℕ) → i < n → Turn.HasAskedIn i lines ends book
 
-  pub behind_none : (lines : List Line) (ends : List (Ends K O g r)) (book : Book) → Behind 0 lines ends book lines ends book
+  pub behind_none : (lines : List ScriptState) (ends : List (Ends K O g r)) (book : Book) → Behind 0 lines ends book lines ends book
   behind_none lines ends book i le = (refl, refl, refl)
 
-  pub asked_none : (lines : List Line) (ends : List (Ends K O g r)) (book : Book) → AskedTo 0 lines ends book
+  pub asked_none : (lines : List ScriptState) (ends : List (Ends K O g r)) (book : Book) → AskedTo 0 lines ends book
   asked_none lines ends book i lt = absurd (omega (arith, lt))
 
-  pub behind_step : (n : ℕ) (xs ys zs : List Line) (ds es fs : List (Ends K O g r)) (a b c : Book) → Behind n xs ds a ys es b → Turn.SameElsewhere n ys es zs fs → Turn.Comes n b c → Behind (n + 1) xs ds a zs fs c
+  pub behind_step : (n : ℕ) (xs ys zs : List ScriptState) (ds es fs : List (Ends K O g r)) (a b c : Book) → Behind n xs ds a ys es b → Turn.SameElsewhere n ys es zs fs → Turn.Comes n b c → Behind (n + 1) xs ds a zs fs c
   behind_step n xs ys zs ds es fs a b c behind same come i le =
       let apart : i ≡ n → ⊥ = λ e. omega (arith, le, e) in
       let was = behind i (omega (arith, le)) in
       let now = same i apart in
       (now.0 ∙ was.0, now.1 ∙ was.1, own_elsewhere i n b c apart come ∙ was.2)
 
-  pub heard_step : (n : ℕ) (xs ys zs : List Line) (ds es fs : List (Ends K O g r)) (a b c : Book) → KeepsAll xs ds a ys es b → AllHeard xs ds a es b → Behind n xs ds a ys es b → Turn.SameElsewhere n ys es zs fs → Turn.Comes n b c →
+  pub heard_step : (n : ℕ) (xs ys zs : List ScriptState) (ds es fs : List (Ends K O g r)) (a b c : Book) → KeepsAll xs ds a ys es b → AllHeard xs ds a es b → Behind n xs ds a ys es b → Turn.SameElsewhere n ys es zs fs → Turn.Comes n b c →
       Turn.HearsHandIn n ys es b fs c → AllHeard xs ds a fs c
   heard_step n xs ys zs ds es fs a b c kept heard behind same come here i keeper script line e got there is = by_place (cases_eq i n)
     where
@@ -273,35 +273,35 @@ module _ {K O : Type 0} {g : Ghosts K O} {r : ReadGhosts O} where
           let same_line : k.0 ≡ line = one_there k.0 line (sym k.2 ∙ was.0 ∙ got) in
           let same_end : k.1 ≡ e = one_there k.1 e (sym k.3 ∙ was.1 ∙ there) in
           let f = subst (λ (m : ℕ). Turn.HearsHandIn m ys es b fs c) (sym one) here keeper script line e (was.0 ∙ got) (was.1 ∙ there)
-          (subst (λ (m : Line). InLine (rings_of e) keeper script i m b) same_line (subst (λ (x : Ends K O g r). InLine (rings_of x) keeper script i k.0 b) same_end k.4)) in
+          (subst (λ (m : ScriptState). InLine (rings_of e) keeper script i m b) same_line (subst (λ (x : Ends K O g r). InLine (rings_of x) keeper script i k.0 b) same_end k.4)) in
           (f.0, f.1, hand_behind i line (heard_of_hand e.answers) (heard_of_hand f.0.answers) (logged a) (logged b) (logged c) (ap replies_in was.2) f.2)
 
       by_place : (i ≡ n) ⊎ (i ≡ n → ⊥) → (e' : Ends K O g r) × (slice_get fs i ≡ Some e') × Turn.HearsHand i line (heard_of_hand e.answers) (logged a) (heard_of_hand e'.answers) (logged c)
       by_place (inl one) = at_place one
       by_place (inr apart) = elsewhere apart
 
-  asked_on : (i : ℕ) (line : Line) (e : Ends K O g r) (b c : Book) → slice_get c.hall i ≡ slice_get b.hall i → Turn.HasAsked i line e b → Turn.HasAsked i line e c
+  asked_on : (i : ℕ) (line : ScriptState) (e : Ends K O g r) (b c : Book) → slice_get c.hall i ≡ slice_get b.hall i → Turn.HasAsked i line e b → Turn.HasAsked i line e c
   asked_on i line e b c same (inl waits) = inl waits
   asked_on i line e b c same (inr (inl over)) = inr (inl over)
   asked_on i line e b c same (inr (inr (inl sent))) = inr (inr (inl sent))
   asked_on i line e b c same (inr (inr (inr (waits, none)))) = inr (inr (inr ((λ k got. waits k (sym same ∙ got)), (λ k got. none k (sym same ∙ got)))))
 
-  pub asked_step : (n : ℕ) (ys zs : List Line) (es fs : List (Ends K O g r)) (b c : Book) → AskedTo n ys es b → Turn.SameElsewhere n ys es zs fs → Turn.Comes n b c → Turn.HasAskedIn n zs fs c → AskedTo (n + 1) zs fs c
+  pub asked_step : (n : ℕ) (ys zs : List ScriptState) (es fs : List (Ends K O g r)) (b c : Book) → AskedTo n ys es b → Turn.SameElsewhere n ys es zs fs → Turn.Comes n b c → Turn.HasAskedIn n zs fs c → AskedTo (n + 1) zs fs c
   asked_step n ys zs es fs b c asked same come here i lt = by_place (cases_eq i n)
     where
       by_place : (i ≡ n) ⊎ (i ≡ n → ⊥) → Turn.HasAskedIn i zs fs c
       by_place (inl one) = subst (λ (m : ℕ). Turn.HasAskedIn m zs fs c) (sym one) here
       by_place (inr apart) = λ line e got there. asked_on i line e b c (come.others i apart) (asked i (omega (arith, lt, apart)) line e (sym (same i apart).0 ∙ got) (sym (same i apart).1 ∙ there))
 
-  pub asked_all : (n : ℕ) (lines : List Line) (ends : List (Ends K O g r)) (book : Book) → length lines ≤ n → AskedTo n lines ends book → (i : ℕ) → Turn.HasAskedIn i lines ends book
+  pub asked_all : (n : ℕ) (lines : List ScriptState) (ends : List (Ends K O g r)) (book : Book) → length lines ≤ n → AskedTo n lines ends book → (i : ℕ) → Turn.HasAskedIn i lines ends book
   asked_all n lines ends book all asked i line e got there = let within = slice_get_within lines i line got in asked i (omega (arith, within, all)) line e got there
 
   -- behind a tick
-  pub heard_behind : (lines : List Line) (ends ends' : List (Ends K O g r)) (a b c : Book) → Leaves a b → AllHeard lines ends b ends' c → AllHeard lines ends a ends' c
+  pub heard_behind : (lines : List ScriptState) (ends ends' : List (Ends K O g r)) (a b c : Book) → Leaves a b → AllHeard lines ends b ends' c → AllHeard lines ends a ends' c
   heard_behind lines ends ends' a b c f heard i keeper script line e got there is =
       let w = heard i keeper script line e got there (f.lines (rings_of e) keeper script i line is) in
       (w.0, w.1, hand_behind i line (heard_of_hand e.answers) (heard_of_hand w.0.answers) (logged a) (logged b) (logged c) (f.answers (i + 1)) w.2)
 
-  pub heard_left : (lines : List Line) (ends : List (Ends K O g r)) (a b : Book) → Leaves a b → AllHeard lines ends a ends b
+  pub heard_left : (lines : List ScriptState) (ends : List (Ends K O g r)) (a b : Book) → Leaves a b → AllHeard lines ends a ends b
   heard_left lines ends a b f i keeper script line e got there is =
       (e, there, hand_silent i line (heard_of_hand e.answers) (heard_of_hand e.answers) (logged a) (logged b) refl (f.answers (i + 1)))

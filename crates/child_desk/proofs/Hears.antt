@@ -13,7 +13,7 @@ use Rattle.child_events.specs.declared.event.HallEvent.{HallEvent}
 use Rattle.child_events.specs.declared.event.HallEvent.TheVariants as hall
 use Rattle.child_events.specs.World.{own, after_own}
 use Rattle.child_events.proofs.Worlds.{own-append}
-use Rattle.child_hands.specs.declared.items.Item.{Item}
+use Rattle.child_hands.specs.declared.items.RingItem.{RingItem}
 use Rattle.child_hands.specs.declared.keeper.Keeper.{Ghosts}
 use Rattle.feed_rings.specs.Ends.{taken_items, seen_items, all_put, SameOut}
 use Rattle.feed_rings.specs.declared.feed.Finished.{Finished}
@@ -127,13 +127,13 @@ pub unheard_on : (a b d : List HallEvent) → b ≡ a → Unheard b d → Unhear
 unheard_on a b d same silent s c = silent s c ∙ ap (recorded s c) same
 
 module _ {K O : Type 0} {g : Ghosts K O} {r : ReadGhosts O} where
-  pub same_out : (a : FeedOut (Item K O g r)) → SameOut a a
+  pub same_out : (a : FeedOut (RingItem K O g r)) → SameOut a a
   same_out a = (refl, refl, refl, refl)
 
-  pub then_out : (a b c : FeedOut (Item K O g r)) → SameOut a b → SameOut b c → SameOut a c
+  pub then_out : (a b c : FeedOut (RingItem K O g r)) → SameOut a b → SameOut b c → SameOut a c
   then_out a b c p q = (q.0 ∙ p.0, q.1 ∙ p.1, q.2 ∙ p.2, q.3 ∙ p.3)
 
-  heard_append : (s c : ℕ) (xs ys : List (Item K O g r)) → heard s c (xs ++ ys) ≡ heard s c xs ++ heard s c ys
+  heard_append : (s c : ℕ) (xs ys : List (RingItem K O g r)) → heard s c (xs ++ ys) ≡ heard s c xs ++ heard s c ys
   heard_append s c xs ys = flat_map-append (heard_of s c) xs ys
 
   pub takes_none : (index : ℕ) (rs : Readers K O g r) → TakesAt index rs rs []
@@ -144,93 +144,93 @@ module _ {K O : Type 0} {g : Ghosts K O} {r : ReadGhosts O} where
     number = refl;
   }
 
-  pub takes_set : (index : ℕ) (rs rs' : Readers K O g r) (out out' : FeedOut (Item K O g r)) (more : List (Item K O g r)) → slice_get rs.outs.items index ≡ Some out →
+  pub takes_set : (index : ℕ) (rs rs' : Readers K O g r) (out out' : FeedOut (RingItem K O g r)) (more : List (RingItem K O g r)) → slice_get rs.outs.items index ≡ Some out →
       rs'.outs.items ≡ slice_set rs.outs.items index out' → rs'.script ≡ rs.script → SameOut out out' → taken_items out' ≡ taken_items out ++ more → TakesAt index rs rs' more
   takes_set index rs rs' out out' more here is number ring taken = record {
     here = λ o got.
         let one : out ≡ o = one_there out o (sym here ∙ got) in
-        let F : FeedOut (Item K O g r) → Type 0 = λ k. SameOut k out' × (taken_items out' ≡ taken_items k ++ more) in
+        let F : FeedOut (RingItem K O g r) → Type 0 = λ k. SameOut k out' × (taken_items out' ≡ taken_items k ++ more) in
         let f = subst F one (ring, taken) in
-        (out', ap (λ (l : List (FeedOut (Item K O g r))). slice_get l index) is ∙ set_here index rs.outs.items out out' here, f.0, f.1);
-    others = λ i other. ap (λ (l : List (FeedOut (Item K O g r))). slice_get l i) is ∙ set_there index i rs.outs.items out' other;
+        (out', ap (λ (l : List (FeedOut (RingItem K O g r))). slice_get l index) is ∙ set_here index rs.outs.items out out' here, f.0, f.1);
+    others = λ i other. ap (λ (l : List (FeedOut (RingItem K O g r))). slice_get l i) is ∙ set_there index i rs.outs.items out' other;
     count = ap length is ∙ set_length index rs.outs.items out';
     number = number;
   }
 
   -- the place was read as another number
-  pub takes_read : (index at : ℕ) (rs rs' : Readers K O g r) (out out' : FeedOut (Item K O g r)) (more : List (Item K O g r)) → at ≡ index → slice_get rs.outs.items at ≡ Some out →
+  pub takes_read : (index at : ℕ) (rs rs' : Readers K O g r) (out out' : FeedOut (RingItem K O g r)) (more : List (RingItem K O g r)) → at ≡ index → slice_get rs.outs.items at ≡ Some out →
       rs'.outs.items ≡ slice_set rs.outs.items at out' → rs'.script ≡ rs.script → SameOut out out' → taken_items out' ≡ taken_items out ++ more → TakesAt index rs rs' more
   takes_read index at rs rs' out out' more e here is number ring taken = subst (λ (n : ℕ). TakesAt n rs rs' more) e (takes_set at rs rs' out out' more here is number ring taken)
 
-  pub takes_then : (index : ℕ) (a b c : Readers K O g r) (xs ys : List (Item K O g r)) → TakesAt index a b xs → TakesAt index b c ys → TakesAt index a c (xs ++ ys)
+  pub takes_then : (index : ℕ) (a b c : Readers K O g r) (xs ys : List (RingItem K O g r)) → TakesAt index a b xs → TakesAt index b c ys → TakesAt index a c (xs ++ ys)
   takes_then index a b c xs ys f h = record {
     here = λ out got.
         let p = f.here out got in
         let q = h.here p.0 p.1 in
-        (q.0, q.1, then_out out p.0 q.0 p.2 q.2, q.3 ∙ ap (λ (l : List (Item K O g r)). l ++ ys) p.3 ∙ append_assoc (taken_items out) xs ys);
+        (q.0, q.1, then_out out p.0 q.0 p.2 q.2, q.3 ∙ ap (λ (l : List (RingItem K O g r)). l ++ ys) p.3 ∙ append_assoc (taken_items out) xs ys);
     others = λ i other. h.others i other ∙ f.others i other;
     count = h.count ∙ f.count;
     number = h.number ∙ f.number;
   }
 
   -- an item was taken, or none
-  pub takes_some : (index at : ℕ) (rs rs' : Readers K O g r) (out out' : FeedOut (Item K O g r)) (found : Option (Item K O g r)) → at ≡ index → slice_get rs.outs.items at ≡ Some out →
+  pub takes_some : (index at : ℕ) (rs rs' : Readers K O g r) (out out' : FeedOut (RingItem K O g r)) (found : Option (RingItem K O g r)) → at ≡ index → slice_get rs.outs.items at ≡ Some out →
       rs'.outs.items ≡ slice_set rs.outs.items at out' → rs'.script ≡ rs.script → SameOut out out' →
-      (P : Item K O g r → Type 0) → IfSome found (λ x. (taken_items out' ≡ taken_items out ++ x ∷ []) × P x) → IfSome found (λ x. TakesAt index rs rs' (x ∷ []))
+      (P : RingItem K O g r → Type 0) → IfSome found (λ x. (taken_items out' ≡ taken_items out ++ x ∷ []) × P x) → IfSome found (λ x. TakesAt index rs rs' (x ∷ []))
   takes_some index at rs rs' out out' None e here is number ring P some = some
   takes_some index at rs rs' out out' (Some x) e here is number ring P some = takes_read index at rs rs' out out' (x ∷ []) e here is number ring some.0
 
-  pub takes_no : (index at : ℕ) (rs rs' : Readers K O g r) (out out' : FeedOut (Item K O g r)) (found : Option (Item K O g r)) → at ≡ index → slice_get rs.outs.items at ≡ Some out →
+  pub takes_no : (index at : ℕ) (rs rs' : Readers K O g r) (out out' : FeedOut (RingItem K O g r)) (found : Option (RingItem K O g r)) → at ≡ index → slice_get rs.outs.items at ≡ Some out →
       rs'.outs.items ≡ slice_set rs.outs.items at out' → rs'.script ≡ rs.script → SameOut out out' → IfNone found (taken_items out' ≡ taken_items out) → IfNone found (TakesAt index rs rs' [])
   takes_no index at rs rs' out out' None e here is number ring none = takes_read index at rs rs' out out' [] e here is number ring (none ∙ sym (append-nil (taken_items out)))
   takes_no index at rs rs' out out' (Some x) e here is number ring none = none
 
   -- what was taken says what its item says
-  pub one_taken : (index : ℕ) (rs rs' : Readers K O g r) (x : Item K O g r) (taken : Taken) → TakesAt index rs rs' (x ∷ []) → Says (heard_of rs.script (index + 1) x) taken → IsTaken index rs rs' taken
+  pub one_taken : (index : ℕ) (rs rs' : Readers K O g r) (x : RingItem K O g r) (taken : Taken) → TakesAt index rs rs' (x ∷ []) → Says (heard_of rs.script (index + 1) x) taken → IsTaken index rs rs' taken
   one_taken index rs rs' x taken takes says = (x ∷ [], takes, subst (λ (l : List What). Says l taken) (sym (append-nil (heard_of rs.script (index + 1) x))) says)
 
-  pub left_read : (index at n : ℕ) (all : List (Item K O g r)) (outs : List (FeedOut (Item K O g r))) (out out' : FeedOut (Item K O g r)) → at ≡ index → slice_get outs at ≡ Some out →
+  pub left_read : (index at n : ℕ) (all : List (RingItem K O g r)) (outs : List (FeedOut (RingItem K O g r))) (out out' : FeedOut (RingItem K O g r)) → at ≡ index → slice_get outs at ≡ Some out →
       taken_items out' ++ seen_items out' ≡ all → n ≡ length (seen_items out') →
-      (o : FeedOut (Item K O g r)) → slice_get (slice_set outs at out') index ≡ Some o → (taken_items o ++ seen_items o ≡ all) × (n ≡ length (seen_items o))
+      (o : FeedOut (RingItem K O g r)) → slice_get (slice_set outs at out') index ≡ Some o → (taken_items o ++ seen_items o ≡ all) × (n ≡ length (seen_items o))
   left_read index at n all outs out out' e here is count o got =
       let one : out' ≡ o = one_there out' o (sym (set_here at outs out out' here) ∙ subst (λ (k : ℕ). slice_get (slice_set outs at out') k ≡ Some o) (sym e) got) in
-      subst (λ (k : FeedOut (Item K O g r)). (taken_items k ++ seen_items k ≡ all) × (n ≡ length (seen_items k))) one (is, count)
+      subst (λ (k : FeedOut (RingItem K O g r)). (taken_items k ++ seen_items k ≡ all) × (n ≡ length (seen_items k))) one (is, count)
 
-  pub one_less : (index at n : ℕ) (x : Item K O g r) (all : List (Item K O g r)) (outs : List (FeedOut (Item K O g r))) (out out' : FeedOut (Item K O g r)) → at ≡ index → slice_get outs at ≡ Some out →
+  pub one_less : (index at n : ℕ) (x : RingItem K O g r) (all : List (RingItem K O g r)) (outs : List (FeedOut (RingItem K O g r))) (out out' : FeedOut (RingItem K O g r)) → at ≡ index → slice_get outs at ≡ Some out →
       taken_items out' ≡ taken_items out ++ x ∷ [] → seen_items out ≡ x ∷ seen_items out' →
-      ((o : FeedOut (Item K O g r)) → slice_get outs index ≡ Some o → (taken_items o ++ seen_items o ≡ all) × (n + 1 ≡ length (seen_items o))) →
-      (o : FeedOut (Item K O g r)) → slice_get (slice_set outs at out') index ≡ Some o → (taken_items o ++ seen_items o ≡ all) × (n ≡ length (seen_items o))
+      ((o : FeedOut (RingItem K O g r)) → slice_get outs index ≡ Some o → (taken_items o ++ seen_items o ≡ all) × (n + 1 ≡ length (seen_items o))) →
+      (o : FeedOut (RingItem K O g r)) → slice_get (slice_set outs at out') index ≡ Some o → (taken_items o ++ seen_items o ≡ all) × (n ≡ length (seen_items o))
   one_less index at n x all outs out out' e here taken seen left =
       let was = left out (subst (λ (k : ℕ). slice_get outs k ≡ Some out) e here) in
       let size : n + 1 ≡ length (x ∷ seen_items out') = was.1 ∙ ap length seen in
       let is : taken_items out' ++ seen_items out' ≡ all =
-      ap (λ (l : List (Item K O g r)). l ++ seen_items out') taken ∙ append_assoc (taken_items out) (x ∷ []) (seen_items out') ∙ ap (λ (l : List (Item K O g r)). taken_items out ++ l) (sym seen) ∙ was.0 in
+      ap (λ (l : List (RingItem K O g r)). l ++ seen_items out') taken ∙ append_assoc (taken_items out) (x ∷ []) (seen_items out') ∙ ap (λ (l : List (RingItem K O g r)). taken_items out ++ l) (sym seen) ∙ was.0 in
       left_read index at n all outs out out' e here is (omega (arith, size))
 
   pub left_by : (index : ℕ) (a b c : Readers K O g r) → c ≡ b → LeavesOneLess index a b → LeavesOneLess index a c
   left_by index a b c is less = subst (λ (k : Readers K O g r). LeavesOneLess index a k) (sym is) less
 
   -- so many items are left at a turn of a loop that takes them one by one
-  abbrev pub AreLeft : ℕ → ℕ → ℕ → Finished (Item K O g r) → Readers K O g r → Type 0
+  abbrev pub AreLeft : ℕ → ℕ → ℕ → Finished (RingItem K O g r) → Readers K O g r → Type 0
   AreLeft index turn count finished rs = (n : ℕ) × (n + turn ≡ count) × IsLeftOf index finished rs n
 
-  pub are_left : (index count : ℕ) (finished : Finished (Item K O g r)) (rs : Readers K O g r) → IsLeftOf index finished rs count → AreLeft index 0 count finished rs
+  pub are_left : (index count : ℕ) (finished : Finished (RingItem K O g r)) (rs : Readers K O g r) → IsLeftOf index finished rs count → AreLeft index 0 count finished rs
   are_left index count finished rs is = (count, omega arith, is)
 
-  pub left_seen : (index turn count : ℕ) (finished : Finished (Item K O g r)) (rs : Readers K O g r) → turn < count → AreLeft index turn count finished rs → SeenAt index rs
+  pub left_seen : (index turn count : ℕ) (finished : Finished (RingItem K O g r)) (rs : Readers K O g r) → turn < count → AreLeft index turn count finished rs → SeenAt index rs
   left_seen index turn count finished rs lt (n, sum, is) out got = let size = (is out got).1 in omega (arith, lt, sum, size)
 
-  pub left_step : (index turn count : ℕ) (finished : Finished (Item K O g r)) (rs rs' : Readers K O g r) → turn < count → AreLeft index turn count finished rs → LeavesOneLess index rs rs' → AreLeft index (turn + 1) count finished rs'
+  pub left_step : (index turn count : ℕ) (finished : Finished (RingItem K O g r)) (rs rs' : Readers K O g r) → turn < count → AreLeft index turn count finished rs → LeavesOneLess index rs rs' → AreLeft index (turn + 1) count finished rs'
   left_step index turn count finished rs rs' lt (zero, sum, is) less = absurd (omega (arith, lt, sum))
   left_step index turn count finished rs rs' lt (suc n, sum, is) less = (n, omega (arith, sum), less finished n (λ out got. let w = is out got in let size = w.1 in (w.0, omega (arith, size))))
 
-  pub left_none : (index turn count : ℕ) (finished : Finished (Item K O g r)) (all : List (Item K O g r)) (rs : Readers K O g r) → count ≤ turn → all_put finished ≡ all → AreLeft index turn count finished rs → TakenAt index all rs
+  pub left_none : (index turn count : ℕ) (finished : Finished (RingItem K O g r)) (all : List (RingItem K O g r)) (rs : Readers K O g r) → count ≤ turn → all_put finished ≡ all → AreLeft index turn count finished rs → TakenAt index all rs
   left_none index turn count finished all rs le same (n, sum, is) out got =
       let w = is out got in
       let size = w.1 in
-      sym (append-nil (taken_items out)) ∙ ap (λ (l : List (Item K O g r)). taken_items out ++ l) (sym (empty (seen_items out) (omega (arith, le, sum, size)))) ∙ w.0 ∙ same
+      sym (append-nil (taken_items out)) ∙ ap (λ (l : List (RingItem K O g r)). taken_items out ++ l) (sym (empty (seen_items out) (omega (arith, le, sum, size)))) ∙ w.0 ∙ same
     where
-      empty : (xs : List (Item K O g r)) → length xs ≡ 0 → xs ≡ []
+      empty : (xs : List (RingItem K O g r)) → length xs ≡ 0 → xs ≡ []
       empty [] h = refl
       empty (x ∷ xs) h = absurd (omega (arith, h))
 
@@ -262,15 +262,15 @@ module _ {K O : Type 0} {g : Ghosts K O} {r : ReadGhosts O} where
             (adds_then script (index + 1) (heard a.script (index + 1) f.more) (heard b.script (index + 1) h.more) x y z f.adds h.adds);
       }
 
-  pub more_none : (number script child : ℕ) (out : FeedOut (Item K O g r)) (es es' : List HallEvent) → recorded script child es' ≡ recorded script child es → HearsMore number script child out es out es'
+  pub more_none : (number script child : ℕ) (out : FeedOut (RingItem K O g r)) (es es' : List HallEvent) → recorded script child es' ≡ recorded script child es → HearsMore number script child out es out es'
   more_none number script child out es es' same =
       record { ring = same_out out; more = []; taken = sym (append-nil (taken_items out)); entered = same ∙ sym (append-nil (recorded script child es)) }
 
-  more_then : (number script child : ℕ) (a b c : FeedOut (Item K O g r)) (x y z : List HallEvent) → HearsMore number script child a x b y → HearsMore number script child b y c z → HearsMore number script child a x c z
+  more_then : (number script child : ℕ) (a b c : FeedOut (RingItem K O g r)) (x y z : List HallEvent) → HearsMore number script child a x b y → HearsMore number script child b y c z → HearsMore number script child a x c z
   more_then number script child a b c x y z f h = record {
     ring = then_out a b c f.ring h.ring;
     more = f.more ++ h.more;
-    taken = h.taken ∙ ap (λ (l : List (Item K O g r)). l ++ h.more) f.taken ∙ append_assoc (taken_items a) f.more h.more;
+    taken = h.taken ∙ ap (λ (l : List (RingItem K O g r)). l ++ h.more) f.taken ∙ append_assoc (taken_items a) f.more h.more;
     entered =
         h.entered ∙ ap (λ (l : List What). l ++ heard number child h.more) f.entered ∙ append_assoc (recorded script child x) (heard number child f.more) (heard number child h.more)
         ∙ ap (λ (l : List What). recorded script child x ++ l) (sym (heard_append number child f.more h.more));
@@ -287,13 +287,13 @@ module _ {K O : Type 0} {g : Ghosts K O} {r : ReadGhosts O} where
     others = λ s c other. f.adds.others s c (λ both. other both.0);
   }
     where
-      at_index : (out : FeedOut (Item K O g r)) → slice_get rs.outs.items index ≡ Some out → (out' : FeedOut (Item K O g r)) × (slice_get rs'.outs.items index ≡ Some out') × HearsMore rs.script script (index + 1) out es out' es'
+      at_index : (out : FeedOut (RingItem K O g r)) → slice_get rs.outs.items index ≡ Some out → (out' : FeedOut (RingItem K O g r)) × (slice_get rs'.outs.items index ≡ Some out') × HearsMore rs.script script (index + 1) out es out' es'
       at_index out got = let p = f.takes.here out got in (p.0, p.1, record { ring = p.2; more = f.more; taken = p.3; entered = f.adds.here })
 
-      by_place : (i : ℕ) (out : FeedOut (Item K O g r)) → slice_get rs.outs.items i ≡ Some out → (i ≡ index) ⊎ (i ≡ index → ⊥) →
-          (out' : FeedOut (Item K O g r)) × (slice_get rs'.outs.items i ≡ Some out') × HearsMore rs.script script (i + 1) out es out' es'
+      by_place : (i : ℕ) (out : FeedOut (RingItem K O g r)) → slice_get rs.outs.items i ≡ Some out → (i ≡ index) ⊎ (i ≡ index → ⊥) →
+          (out' : FeedOut (RingItem K O g r)) × (slice_get rs'.outs.items i ≡ Some out') × HearsMore rs.script script (i + 1) out es out' es'
       by_place i out got (inl same) =
-          subst (λ (n : ℕ). (out' : FeedOut (Item K O g r)) × (slice_get rs'.outs.items n ≡ Some out') × HearsMore rs.script script (n + 1) out es out' es') (sym same)
+          subst (λ (n : ℕ). (out' : FeedOut (RingItem K O g r)) × (slice_get rs'.outs.items n ≡ Some out') × HearsMore rs.script script (n + 1) out es out' es') (sym same)
           (at_index out (subst (λ (n : ℕ). slice_get rs.outs.items n ≡ Some out) same got))
       by_place i out got (inr other) =
           (out, f.takes.others i other ∙ got, more_none rs.script script (i + 1) out es es' (f.adds.others script (i + 1) (λ both. other (let e = both.1 in omega (arith, e)))))
@@ -382,6 +382,6 @@ module _ {K O : Type 0} {g : Ghosts K O} {r : ReadGhosts O} where
     count = refl;
   }
 
-  pub taken_in : (at index : ℕ) (all : List (Item K O g r)) (ends : List (Ends K O g r)) (e e' : Ends K O g r) → slice_get ends at ≡ Some e → TakenAt index all e'.readers → TakenIn at index all (slice_set ends at e')
+  pub taken_in : (at index : ℕ) (all : List (RingItem K O g r)) (ends : List (Ends K O g r)) (e e' : Ends K O g r) → slice_get ends at ≡ Some e → TakenAt index all e'.readers → TakenIn at index all (slice_set ends at e')
   taken_in at index all ends e e' here taken x got =
       subst (λ (y : Ends K O g r). TakenAt index all y.readers) (one_there e' x (sym (set_here at ends e e' here) ∙ got)) taken

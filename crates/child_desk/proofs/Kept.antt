@@ -12,7 +12,7 @@ use Rattle.dialogue_sched.specs.Took.{AllTook}
 use Rattle.dialogue_sched.specs.Refusal.{refusal_of}
 use Rattle.std.specs.declared.io.traits.Read.{Ghosts as ReadGhosts}
 use Rattle.child_hands.specs.declared.keeper.Keeper.{Ghosts}
-use Rattle.child_hands.specs.declared.items.Item.{Item}
+use Rattle.child_hands.specs.declared.items.RingItem.{RingItem}
 use Rattle.feed_rings.specs.Ends.{put_items, taken_items, SameIn, SameOut}
 use Rattle.feed_rings.specs.declared.feed.FeedIn.{FeedIn}
 use Rattle.feed_rings.specs.declared.feed.FeedOut.{FeedOut}
@@ -22,7 +22,7 @@ use Rattle.child_desk.specs.Turn.{HasNoRequest, Waits}
 use Rattle.child_desk.specs.declared.book.Book.{Book}
 use Rattle.child_hands.specs.declared.log_item.LogItem.{LogItem}
 use Rattle.child_hands.specs.declared.log_item.LogItem.TheVariants as item
-use Rattle.child_desk.specs.declared.line.Line.{Line}
+use Rattle.child_desk.specs.declared.line.ScriptState.{ScriptState}
 use Rattle.child_desk.specs.Book.{Enters, IsRecord, AllUntil, AllTaken, Looks, logged, ring_log}
 use Rattle.child_hands.specs.Record.{ItemsAscendFrom, moment_in, moment_at, events_in}
 use Rattle.child_desk.specs.Line.{Keeping, IsInLine, InLine, Leaves, Keeps, SameRings, HearsNoHand, KeepsAll}
@@ -109,7 +109,7 @@ leaves_same old new f = record {
   log = f.ring;
 }
   where
-    in_line_same : (rings : Rings) (keeper : Keeping) (script : Script) (at : ℕ) (line : Line) → InLine rings keeper script at line old → InLine rings keeper script at line new
+    in_line_same : (rings : Rings) (keeper : Keeping) (script : Script) (at : ℕ) (line : ScriptState) → InLine rings keeper script at line old → InLine rings keeper script at line new
     in_line_same rings keeper script at line (k, here, is) =
         (k, ap (λ (ks : List Kept). slice_get ks at) f.hall ∙ here, subst (λ (es : List HallEvent). IsInLine rings keeper script line k (own (at + 1) es)) (sym (ap events_in f.items)) is)
 
@@ -140,7 +140,7 @@ leaves_entered e took old new t none m = record {
   log = entered_ring e took old new t;
 }
 
-pub keeps_left : (rings : Rings) (at : ℕ) (line : Line) (old new : Book) → Leaves old new → Keeps rings rings at line old line new
+pub keeps_left : (rings : Rings) (at : ℕ) (line : ScriptState) (old new : Book) → Leaves old new → Keeps rings rings at line old line new
 keeps_left rings at line old new f = record {
   here = λ keeper script is. f.lines rings keeper script at line is;
   others = λ theirs keeper script i other differs is. f.lines theirs keeper script i other is;
@@ -149,7 +149,7 @@ keeps_left rings at line old new f = record {
   log = f.log;
 }
 
-pub keeps_then : (rs ss ts : Rings) (at : ℕ) (x y z : Line) (a b c : Book) → Keeps rs ss at x a y b → Keeps ss ts at y b z c → Keeps rs ts at x a z c
+pub keeps_then : (rs ss ts : Rings) (at : ℕ) (x y z : ScriptState) (a b c : Book) → Keeps rs ss at x a y b → Keeps ss ts at y b z c → Keeps rs ts at x a z c
 keeps_then rs ss ts at x y z a b c f g = record {
   here = λ keeper script is. g.here keeper script (f.here keeper script is);
   others = λ theirs keeper script i other differs is. g.others theirs keeper script i other differs (f.others theirs keeper script i other differs is);
@@ -164,7 +164,7 @@ module _ {K O : Type 0} {g : Ghosts K O} {r : ReadGhosts O} where
   rings_told e e' more told asked = ap (λ (ts : List Telling). record { told = ts; asked = asked_of_hand e' }) told ∙ ap (λ (ps : List Put). record { told = heard_of_hand e.answers ++ more; asked = ps }) asked
 
   pub rings_asked : (e e' : HandEnds K O g r) (more : List Put) → e'.answers ≡ e.answers → asked_of_hand e' ≡ asked_of_hand e ++ more → rings_of e' ≡ asking (rings_of e) more
-  rings_asked e e' more same asked = ap (λ (o : FeedOut (Item K O g r)). record { told = heard_of_hand o; asked = asked_of_hand e' }) same ∙ ap (λ (ps : List Put). record { told = heard_of_hand e.answers; asked = ps }) asked
+  rings_asked e e' more same asked = ap (λ (o : FeedOut (RingItem K O g r)). record { told = heard_of_hand o; asked = asked_of_hand e' }) same ∙ ap (λ (ps : List Put). record { told = heard_of_hand e.answers; asked = ps }) asked
 
   pub rings_kept : (e e' : HandEnds K O g r) → heard_of_hand e'.answers ≡ heard_of_hand e.answers → asked_of_hand e' ≡ asked_of_hand e → rings_of e' ≡ rings_of e
   rings_kept e e' told asked = ap (λ (ts : List Telling). record { told = ts; asked = asked_of_hand e' }) told ∙ ap (λ (ps : List Put). record { told = heard_of_hand e.answers; asked = ps }) asked
@@ -187,7 +187,7 @@ module _ {K O : Type 0} {g : Ghosts K O} {r : ReadGhosts O} where
           (e', subst (λ (k : ℕ). slice_get (slice_set ends at e') k ≡ Some e') (sym same) (set_here at ends e e' here), subst (λ (y : HandEnds K O g r). SameOut y.answers e'.answers) one ring)
       by_place (inr other) = (x, set_there at n ends e' other ∙ got, same_out x.answers)
 
-  pub all_left : (lines : List Line) (ends : List (HandEnds K O g r)) (old new : Book) → Leaves old new → KeepsAll lines ends old lines ends new
+  pub all_left : (lines : List ScriptState) (ends : List (HandEnds K O g r)) (old new : Book) → Leaves old new → KeepsAll lines ends old lines ends new
   all_left lines ends old new f = record {
     each = λ keeper script at line e here there is. (line, e, here, there, f.lines (rings_of e) keeper script at line is);
     rings = rings_same ends;
@@ -197,7 +197,7 @@ module _ {K O : Type 0} {g : Ghosts K O} {r : ReadGhosts O} where
     count = refl;
   }
 
-  pub all_same : (lines : List Line) (ends : List (HandEnds K O g r)) (book : Book) → KeepsAll lines ends book lines ends book
+  pub all_same : (lines : List ScriptState) (ends : List (HandEnds K O g r)) (book : Book) → KeepsAll lines ends book lines ends book
   all_same lines ends book = record {
     each = λ keeper script at line e here there is. (line, e, here, there, is);
     rings = rings_same ends;
@@ -207,7 +207,7 @@ module _ {K O : Type 0} {g : Ghosts K O} {r : ReadGhosts O} where
     count = refl;
   }
 
-  pub all_then : (xs ys zs : List Line) (ds es fs : List (HandEnds K O g r)) (a b c : Book) → KeepsAll xs ds a ys es b → KeepsAll ys es b zs fs c → KeepsAll xs ds a zs fs c
+  pub all_then : (xs ys zs : List ScriptState) (ds es fs : List (HandEnds K O g r)) (a b c : Book) → KeepsAll xs ds a ys es b → KeepsAll ys es b zs fs c → KeepsAll xs ds a zs fs c
   all_then xs ys zs ds es fs a b c f h = record {
     each = λ keeper script at line e here there is.
         let p = f.each keeper script at line e here there is in
@@ -254,7 +254,7 @@ module _ {K O : Type 0} {g : Ghosts K O} {r : ReadGhosts O} where
   same_rings ends ends' h at e here = let p = h.each at e here in (p.0, p.1, p.2)
 
   -- scripts stay in their lines where nothing is taken from those rings
-  pub all_still : (lines : List Line) (a b : List (HandEnds K O g r)) (old new : Book) → Leaves old new → HearsNoHand a b → KeepsAll lines a old lines b new
+  pub all_still : (lines : List ScriptState) (a b : List (HandEnds K O g r)) (old new : Book) → Leaves old new → HearsNoHand a b → KeepsAll lines a old lines b new
   all_still lines a b old new f h = record {
     each = λ keeper script at line e here there is.
         let p = h.each at e there in (
@@ -262,7 +262,7 @@ module _ {K O : Type 0} {g : Ghosts K O} {r : ReadGhosts O} where
           p.0,
           here,
           p.1,
-          subst (λ (xs : List (Item K O g r)). InLine (record { told = all_told xs; asked = asked_of_hand p.0 }) keeper script at line new) (sym p.3)
+          subst (λ (xs : List (RingItem K O g r)). InLine (record { told = all_told xs; asked = asked_of_hand p.0 }) keeper script at line new) (sym p.3)
               (subst (λ (ps : List Put). InLine (record { told = heard_of_hand e.answers; asked = ps }) keeper script at line new) (sym p.4) (f.lines (rings_of e) keeper script at line is)),
         );
     rings = same_rings a b h;
@@ -273,7 +273,7 @@ module _ {K O : Type 0} {g : Ghosts K O} {r : ReadGhosts O} where
   }
 
   -- the script at a place went on
-  pub all_kept : (at : ℕ) (lines : List Line) (ends : List (HandEnds K O g r)) (line line' : Line) (e e' : HandEnds K O g r) (old new : Book) → slice_get lines at ≡ Some line → slice_get ends at ≡ Some e → SameOut e.answers e'.answers →
+  pub all_kept : (at : ℕ) (lines : List ScriptState) (ends : List (HandEnds K O g r)) (line line' : ScriptState) (e e' : HandEnds K O g r) (old new : Book) → slice_get lines at ≡ Some line → slice_get ends at ≡ Some e → SameOut e.answers e'.answers →
       Keeps (rings_of e) (rings_of e') at line old line' new → KeepsAll lines ends old (slice_set lines at line') (slice_set ends at e') new
   all_kept at lines ends line line' e e' old new here end ring f = record {
     each = λ keeper script i other x there got is. by_place i other x there got is (cases_eq i at);
@@ -286,14 +286,14 @@ module _ {K O : Type 0} {g : Ghosts K O} {r : ReadGhosts O} where
     where
       -- what a script is in, at a place
       Goes : Keeping → Script → ℕ → Type 0
-      Goes keeper script i = (l : Line) × (y : HandEnds K O g r) × (slice_get (slice_set lines at line') i ≡ Some l) × (slice_get (slice_set ends at e') i ≡ Some y) × InLine (rings_of y) keeper script i l new
+      Goes keeper script i = (l : ScriptState) × (y : HandEnds K O g r) × (slice_get (slice_set lines at line') i ≡ Some l) × (slice_get (slice_set ends at e') i ≡ Some y) × InLine (rings_of y) keeper script i l new
 
-      by_place : {keeper : Keeping} {script : Script} (i : ℕ) (other : Line) (x : HandEnds K O g r) → slice_get lines i ≡ Some other → slice_get ends i ≡ Some x → InLine (rings_of x) keeper script i other old → (i ≡ at) ⊎ (i ≡ at → ⊥) → Goes keeper script i
+      by_place : {keeper : Keeping} {script : Script} (i : ℕ) (other : ScriptState) (x : HandEnds K O g r) → slice_get lines i ≡ Some other → slice_get ends i ≡ Some x → InLine (rings_of x) keeper script i other old → (i ≡ at) ⊎ (i ≡ at → ⊥) → Goes keeper script i
       by_place {keeper} {script} i other x there got is (inl same) =
           let one = one_there line other (sym here ∙ subst (λ (k : ℕ). slice_get lines k ≡ Some other) same there) in
           let other_end = one_there e x (sym end ∙ subst (λ (k : ℕ). slice_get ends k ≡ Some x) same got) in
           let was = subst (λ (y : HandEnds K O g r). InLine (rings_of y) keeper script at line old) (sym other_end)
-          (subst (λ (l : Line). InLine (rings_of x) keeper script at l old) (sym one) (subst (λ (k : ℕ). InLine (rings_of x) keeper script k other old) same is)) in
+          (subst (λ (l : ScriptState). InLine (rings_of x) keeper script at l old) (sym one) (subst (λ (k : ℕ). InLine (rings_of x) keeper script k other old) same is)) in
           subst (Goes keeper script) (sym same) (line', e', set_here at lines line line' here, set_here at ends e e' end, f.here keeper script was)
       by_place {keeper} {script} i line x there got is (inr other) =
           (line, x, set_there at i lines line' other ∙ there, set_there at i ends e' other ∙ got, f.others (rings_of x) keeper script i line other is)
@@ -364,7 +364,7 @@ leaves_still now old mid new h l s le hall stamp ring put = record {
     same = ap events_in items ∙ events_still (put_items old.log) now
 
 -- the hall's next request waits
-pub keeps_asked : (rings : Rings) (at : ℕ) (line : Line) (request : Option Request) (old new : Book) → at < length old.hall → line.awaited ≡ None → Requested (at + 1) old.hall request new.hall → new.log ≡ old.log → new.stamp ≡ old.stamp →
+pub keeps_asked : (rings : Rings) (at : ℕ) (line : ScriptState) (request : Option Request) (old new : Book) → at < length old.hall → line.awaited ≡ None → Requested (at + 1) old.hall request new.hall → new.log ≡ old.log → new.stamp ≡ old.stamp →
     Keeps rings rings at line old (record line { awaited = request }) new
 keeps_asked rings at line request old new lt free req log stamp = record {
   here = λ keeper script is. asked_line rings keeper script at line request old new lt free req (ap ring_log log) is;
@@ -389,7 +389,7 @@ keeps_asked rings at line request old new lt free req log stamp = record {
     size = ap length h.4 ∙ set_length at old.hall h.1
 
 -- the answer comes that is awaited
-pub keeps_answered : (rings : Rings) (us : List Telling) (at : ℕ) (line : Line) (e : HallEvent) (old new : Book) (r : Request) (a : Answer) → Enters e true old new → e ≡ answer_at at r.child old.stamp a → IsTrue line.sent → line.awaited ≡ Some r → IsWithin rings.told us →
+pub keeps_answered : (rings : Rings) (us : List Telling) (at : ℕ) (line : ScriptState) (e : HallEvent) (old new : Book) (r : Request) (a : Answer) → Enters e true old new → e ≡ answer_at at r.child old.stamp a → IsTrue line.sent → line.awaited ≡ Some r → IsWithin rings.told us →
     Contains us (record { name = line.name; call = line.last + 1; request = r; answer = a }) → Keeps rings (record rings { told = us }) at line old (record line { last = line.last + 1; awaited = None; sent = false }) new
 keeps_answered rings us at line e old new r a t is sent waits within telling = record {
   here = λ keeper script l.
@@ -402,7 +402,7 @@ keeps_answered rings us at line e old new r a t is sent waits within telling = r
 }
 
 -- the request that waits is put to the hand
-pub keeps_sent : (rings : Rings) (at : ℕ) (line : Line) (r : Request) (book : Book) → line.over ≡ false → line.sent ≡ false → line.awaited ≡ Some r → Keeps rings (asking rings (Asks r ∷ [])) at line book (record line { sent = true }) book
+pub keeps_sent : (rings : Rings) (at : ℕ) (line : ScriptState) (r : Request) (book : Book) → line.over ≡ false → line.sent ≡ false → line.awaited ≡ Some r → Keeps rings (asking rings (Asks r ∷ [])) at line book (record line { sent = true }) book
 keeps_sent rings at line r book still unsent waits = record {
   here = λ keeper script l. sent_line rings keeper script at line r book still unsent waits l;
   others = λ theirs keeper script i other differs l. l;
@@ -412,7 +412,7 @@ keeps_sent rings at line r book still unsent waits = record {
 }
 
 -- the script at a place has ended
-pub keeps_ended : (rings : Rings) (at : ℕ) (line : Line) (book : Book) (ending : Option Ending) → line.over ≡ false → EndsAt (at + 1) book.hall ending → Goes ending false → Keeps rings (asking rings (Stops ∷ [])) at line book (record line { over = true }) book
+pub keeps_ended : (rings : Rings) (at : ℕ) (line : ScriptState) (book : Book) (ending : Option Ending) → line.over ≡ false → EndsAt (at + 1) book.hall ending → Goes ending false → Keeps rings (asking rings (Stops ∷ [])) at line book (record line { over = true }) book
 keeps_ended rings at line book ending still ends (e, is, over) = record {
   here = λ keeper script l. ended_line rings keeper script at line book still ended l;
   others = λ theirs keeper script i other differs l. l;
@@ -452,8 +452,8 @@ no_request_left at request old new lt req none k here lives =
     (ap (λ (x : Report). slice_get x.requests h.1.handed) (h.3.says []) ∙ ap (slice_get (left h.0 []).requests) count ∙ sym (h.3.next (subst IsTrue h.3.lives (subst (λ (x : Kept). IsTrue x.lives) (sym one) lives))) ∙ none)
 
 -- scripts that are over, one after another
-pub one_over : (line : Line) (lines : List Line) → IsTrue line.over → AllOver lines → AllOver (line ∷ lines)
-one_over line lines o all zero l got = subst (λ (x : Line). IsTrue x.over) (one_there line l got) o
+pub one_over : (line : ScriptState) (lines : List ScriptState) → IsTrue line.over → AllOver lines → AllOver (line ∷ lines)
+one_over line lines o all zero l got = subst (λ (x : ScriptState). IsTrue x.over) (one_there line l got) o
 one_over line lines o all (suc at) l got = all at l got
 
 pub none_over : AllOver []
@@ -463,7 +463,7 @@ pub leaves_all : (book : Book) → Leaves book book
 leaves_all book = leaves_same book book (record { hall = refl; ring = same_ring book.log; items = refl; stamp = refl })
 
 -- what is known to have been told may be more than before
-pub keeps_more : (rings : Rings) (us : List Telling) (at : ℕ) (line : Line) (book : Book) → IsWithin rings.told us → Keeps rings (record rings { told = us }) at line book line book
+pub keeps_more : (rings : Rings) (us : List Telling) (at : ℕ) (line : ScriptState) (book : Book) → IsWithin rings.told us → Keeps rings (record rings { told = us }) at line book line book
 keeps_more rings us at line book within = record {
   here = λ keeper script l. more_told rings keeper script us within at line book l;
   others = λ theirs keeper script i other differs l. l;
@@ -473,23 +473,23 @@ keeps_more rings us at line book within = record {
 }
 
 -- an entry that is refused
-pub keeps_refused : (rings : Rings) (us : List Telling) (at : ℕ) (line : Line) (e : HallEvent) (old new : Book) → Enters e false old new → IsWithin rings.told us → Keeps rings (record rings { told = us }) at line old line new
+pub keeps_refused : (rings : Rings) (us : List Telling) (at : ℕ) (line : ScriptState) (e : HallEvent) (old new : Book) → Enters e false old new → IsWithin rings.told us → Keeps rings (record rings { told = us }) at line old line new
 keeps_refused rings us at line e old new same within = subst (λ (b : Book). Keeps rings (record rings { told = us }) at line old line b) (sym same.0) (keeps_more rings us at line old within)
 
 -- behind a book's room was made
-pub keeps_behind : (rs ss ts : Rings) (at : ℕ) (x y : Line) (a b c : Book) → ts ≡ ss → Leaves a b → Keeps rs ss at x b y c → Keeps rs ts at x a y c
+pub keeps_behind : (rs ss ts : Rings) (at : ℕ) (x y : ScriptState) (a b c : Book) → ts ≡ ss → Leaves a b → Keeps rs ss at x b y c → Keeps rs ts at x a y c
 keeps_behind rs ss ts at x y a b c is f g = subst (λ (us : Rings). Keeps rs us at x a y c) (sym is) (keeps_then rs rs ss at x x y a b c (keeps_left rs at x a b f) g)
 
 -- and in front of calls that leave the lines
-pub keeps_then_left : (rs ss ts : Rings) (at : ℕ) (x y : Line) (a b c : Book) → ts ≡ ss → Keeps rs ss at x a y b → Leaves b c → Keeps rs ts at x a y c
+pub keeps_then_left : (rs ss ts : Rings) (at : ℕ) (x y : ScriptState) (a b c : Book) → ts ≡ ss → Keeps rs ss at x a y b → Leaves b c → Keeps rs ts at x a y c
 keeps_then_left rs ss ts at x y a b c same f g = subst (λ (us : Rings). Keeps rs us at x a y c) (sym same) (keeps_then rs ss ss at x y y a b c f (keeps_left ss at y b c g))
 
 -- rings that stay as they are
-pub keeps_rings : (rs ss : Rings) (at : ℕ) (line : Line) (a b : Book) → ss ≡ rs → Leaves a b → Keeps rs ss at line a line b
+pub keeps_rings : (rs ss : Rings) (at : ℕ) (line : ScriptState) (a b : Book) → ss ≡ rs → Leaves a b → Keeps rs ss at line a line b
 keeps_rings rs ss at line a b same f = subst (λ (us : Rings). Keeps rs us at line a line b) (sym same) (keeps_left rs at line a b f)
 
 -- one after another
-pub keeps_three : (rs ss us ts : Rings) (at : ℕ) (x y z : Line) (a b c d : Book) → us ≡ ss → Keeps rs ss at x a y b → Leaves b c → Keeps us ts at y c z d → Keeps rs ts at x a z d
+pub keeps_three : (rs ss us ts : Rings) (at : ℕ) (x y z : ScriptState) (a b c d : Book) → us ≡ ss → Keeps rs ss at x a y b → Leaves b c → Keeps us ts at y c z d → Keeps rs ts at x a z d
 keeps_three rs ss us ts at x y z a b c d same f g h = keeps_then rs us ts at x y z a c d (keeps_then_left rs ss us at x y a b c same f g) h
 
 pub leaves_output : (at child : ℕ) (w : What) (e : HallEvent) (took : Bool) (old new : Book) → Enters e took old new → e ≡ output_at at child old.stamp w → IsOutput w → Leaves old new

@@ -28,7 +28,7 @@ use Rattle.dialogue_sched.specs.Took.{Took, AllTook}
 use Rattle.dialogue_sched.specs.Hall.{Begins, AllReport, session_at, Requested}
 use Rattle.dialogue_sched.proofs.Pairing.{Paired-length}
 use Rattle.dialogue_sched.proofs.Running.{Took_lives, Took_says}
-use Rattle.child_desk.specs.declared.line.Line.{Line}
+use Rattle.child_desk.specs.declared.line.ScriptState.{ScriptState}
 use Rattle.child_desk.specs.Told.{Telling, Reply, Put, Asks, Stops, Rings, no_rings, asking, answer_in, answers_in, reply_in, replies_in, AreAmong, AreOf}
 use Rattle.child_desk.specs.declared.book.Book.{Book}
 use Rattle.child_desk.specs.Book.{Enters, logged}
@@ -120,15 +120,15 @@ module _ (rings : Rings) (keeper : Keeping) (script : Script) where
   asked_by es = (meaning script.source script.settings es).requests
 
   -- how many requests were put to the hand
-  abbrev put_count : Line → List Event → ℕ
+  abbrev put_count : ScriptState → List Event → ℕ
   put_count line es = length (answers_in es) + (if line.sent then 1 else 0)
 
   -- the stop, where the script is over
-  abbrev stop_of : Line → List Put
+  abbrev stop_of : ScriptState → List Put
   stop_of line = if line.over then Stops ∷ [] else []
 
   -- there are as many
-  put_within : (line : Line) (k : Kept) (es : List Event) → IsInLine rings keeper script line k es → put_count line es ≤ length (asked_by es)
+  put_within : (line : ScriptState) (k : Kept) (es : List Event) → IsInLine rings keeper script line k es → put_count line es ≤ length (asked_by es)
   put_within line k es l = by_sent line.sent refl line.awaited refl
     where
       by_sent : (b : Bool) → line.sent ≡ b → (o : Option Request) → line.awaited ≡ o → length (answers_in es) + (if b then 1 else 0) ≤ length (asked_by es)
@@ -137,7 +137,7 @@ module _ (rings : Rings) (keeper : Keeping) (script : Script) where
       by_sent true is (Some r) waits = let within = slice_get_within (asked_by es) (length (answers_in es)) r (l.next r waits) in omega (arith, within)
 
   -- the hall's next request waits
-  asked : (line : Line) (request : Option Request) (k k' : Kept) (es : List Event) → line.awaited ≡ None → HandsOut k request k' → IsInLine rings keeper script line k es → IsInLine rings keeper script (record line { awaited = request }) k' es
+  asked : (line : ScriptState) (request : Option Request) (k k' : Kept) (es : List Event) → line.awaited ≡ None → HandsOut k request k' → IsInLine rings keeper script line k es → IsInLine rings keeper script (record line { awaited = request }) k' es
   asked line request k k' es free h l = record {
     name = l.name;
     last = l.last;
@@ -176,7 +176,7 @@ module _ (rings : Rings) (keeper : Keeping) (script : Script) where
       Took_says more k k' t lives later ∙ says (Took_lives more k k' t lives) (more ++ later) ∙ ap (meaning script.source script.settings) (sym (append_assoc es more later))
 
   -- events come that answer nothing
-  passed : (line : Line) (k k' : Kept) (es more : List Event) → Took k more k' → answers_in more ≡ [] → IsInLine rings keeper script line k es → IsInLine rings keeper script line k' (es ++ more)
+  passed : (line : ScriptState) (k k' : Kept) (es more : List Event) → Took k more k' → answers_in more ≡ [] → IsInLine rings keeper script line k es → IsInLine rings keeper script line k' (es ++ more)
   passed line k k' es more t none l = record {
     name = l.name;
     last = l.last ∙ ap (λ (xs : List Answer). keeper.made + length xs) (sym same);
@@ -210,7 +210,7 @@ module _ (rings : Rings) (keeper : Keeping) (script : Script) where
           ∙ take-append-le (put_count line es) (asked_by es) on.more (put_within line k es l)
 
   -- the answer comes that is awaited
-  answered : (us : List Telling) → IsWithin rings.told us → (line : Line) (k k' : Kept) (es more : List Event) (r : Request) (a : Answer) → Took k more k' → answers_in more ≡ a ∷ [] → replies_in more ≡ record { child = r.child; answer = a } ∷ [] →
+  answered : (us : List Telling) → IsWithin rings.told us → (line : ScriptState) (k k' : Kept) (es more : List Event) (r : Request) (a : Answer) → Took k more k' → answers_in more ≡ a ∷ [] → replies_in more ≡ record { child = r.child; answer = a } ∷ [] →
       IsTrue line.sent → line.awaited ≡ Some r → Contains us (record { name = line.name; call = line.last + 1; request = r; answer = a }) →
       IsInLine rings keeper script line k es → IsInLine (record rings { told = us }) keeper script (record line { last = line.last + 1; awaited = None; sent = false }) k' (es ++ more)
   answered us within line k k' es more r a t one reply sent waits is l = record {
@@ -254,7 +254,7 @@ module _ (rings : Rings) (keeper : Keeping) (script : Script) where
       grown : take (length (answers_in (es ++ more)) + 0) (asked_by (es ++ more)) ≡ take (put_count line es) (asked_by es)
       grown = ap (λ (n : ℕ). take n (asked_by (es ++ more))) as_many ∙ ap (take (put_count line es)) on.asked ∙ take-append-le (put_count line es) (asked_by es) on.more (put_within line k es l)
 
-  pub asked_line : (at : ℕ) (line : Line) (request : Option Request) (old new : Book) → at < length old.hall → line.awaited ≡ None → Requested (at + 1) old.hall request new.hall → logged new ≡ logged old →
+  pub asked_line : (at : ℕ) (line : ScriptState) (request : Option Request) (old new : Book) → at < length old.hall → line.awaited ≡ None → Requested (at + 1) old.hall request new.hall → logged new ≡ logged old →
       InLine rings keeper script at line old → InLine rings keeper script at (record line { awaited = request }) new
   asked_line at line request old new lt free req log (k, here, l) =
       let h = handed_at at request old.hall new.hall lt req in
@@ -268,14 +268,14 @@ module _ (rings : Rings) (keeper : Keeping) (script : Script) where
   number : (at : ℕ) → 1 + at ≡ at + 1
   number at = omega arith
 
-  pub passed_line : (at : ℕ) (line : Line) (e : HallEvent) (old new : Book) → AllTook 1 (e ∷ []) old.hall new.hall → logged new ≡ logged old ++ e ∷ [] → answers_in (own (at + 1) (e ∷ [])) ≡ [] →
+  pub passed_line : (at : ℕ) (line : ScriptState) (e : HallEvent) (old new : Book) → AllTook 1 (e ∷ []) old.hall new.hall → logged new ≡ logged old ++ e ∷ [] → answers_in (own (at + 1) (e ∷ [])) ≡ [] →
       InLine rings keeper script at line old → InLine rings keeper script at line new
   passed_line at line e old new t log none (k, here, l) =
       let w = took_at 1 at (e ∷ []) old.hall new.hall k t here in
       let took : Took k (own (at + 1) (e ∷ [])) w.0 = subst (λ (n : ℕ). Took k (own n (e ∷ [])) w.0) (number at) w.2 in
       (w.0, w.1, subst (IsInLine rings keeper script line w.0) (sym (ap (own (at + 1)) log ∙ own-append (at + 1) (logged old) (e ∷ []))) (passed line k w.0 (own (at + 1) (logged old)) (own (at + 1) (e ∷ [])) took none l))
 
-  pub answered_line : (us : List Telling) → IsWithin rings.told us → (at : ℕ) (line : Line) (e : HallEvent) (old new : Book) (r : Request) (a : Answer) → AllTook 1 (e ∷ []) old.hall new.hall → logged new ≡ logged old ++ e ∷ [] → answers_in (own (at + 1) (e ∷ [])) ≡ a ∷ [] →
+  pub answered_line : (us : List Telling) → IsWithin rings.told us → (at : ℕ) (line : ScriptState) (e : HallEvent) (old new : Book) (r : Request) (a : Answer) → AllTook 1 (e ∷ []) old.hall new.hall → logged new ≡ logged old ++ e ∷ [] → answers_in (own (at + 1) (e ∷ [])) ≡ a ∷ [] →
       replies_in (own (at + 1) (e ∷ [])) ≡ record { child = r.child; answer = a } ∷ [] → IsTrue line.sent → line.awaited ≡ Some r → Contains us (record { name = line.name; call = line.last + 1; request = r; answer = a }) →
       InLine rings keeper script at line old → InLine (record rings { told = us }) keeper script at (record line { last = line.last + 1; awaited = None; sent = false }) new
   answered_line us within at line e old new r a t log one reply sent waits is (k, here, l) =
@@ -288,7 +288,7 @@ module _ (rings : Rings) (keeper : Keeping) (script : Script) where
       )
 
   -- what is known to have been told may be more than before
-  pub more_told : (us : List Telling) → IsWithin rings.told us → (at : ℕ) (line : Line) (book : Book) → InLine rings keeper script at line book → InLine (record rings { told = us }) keeper script at line book
+  pub more_told : (us : List Telling) → IsWithin rings.told us → (at : ℕ) (line : ScriptState) (book : Book) → InLine rings keeper script at line book → InLine (record rings { told = us }) keeper script at line book
   more_told us within at line book (k, here, l) = (
     k,
     here,
@@ -307,7 +307,7 @@ module _ (rings : Rings) (keeper : Keeping) (script : Script) where
   )
 
   -- the request that waits is put to the hand
-  pub sent_line : (at : ℕ) (line : Line) (r : Request) (book : Book) → line.over ≡ false → line.sent ≡ false → line.awaited ≡ Some r → InLine rings keeper script at line book → InLine (asking rings (Asks r ∷ [])) keeper script at (record line { sent = true }) book
+  pub sent_line : (at : ℕ) (line : ScriptState) (r : Request) (book : Book) → line.over ≡ false → line.sent ≡ false → line.awaited ≡ Some r → InLine rings keeper script at line book → InLine (asking rings (Asks r ∷ [])) keeper script at (record line { sent = true }) book
   sent_line at line r book open_still unsent waits (k, here, l) = (
     k,
     here,
@@ -346,7 +346,7 @@ module _ (rings : Rings) (keeper : Keeping) (script : Script) where
           ∙ ap (λ (n : ℕ). map Asks (take n asks)) (let e : count + 0 ≡ count = omega arith in e)
 
   -- the session of a script has an ending
-  pub ended_line : (at : ℕ) (line : Line) (book : Book) → line.over ≡ false → ((k : Kept) → slice_get book.hall at ≡ Some k → IsTrue k.lives → (left k []).ending ≢ Waiting) →
+  pub ended_line : (at : ℕ) (line : ScriptState) (book : Book) → line.over ≡ false → ((k : Kept) → slice_get book.hall at ≡ Some k → IsTrue k.lives → (left k []).ending ≢ Waiting) →
       InLine rings keeper script at line book → InLine (asking rings (Stops ∷ [])) keeper script at (record line { over = true }) book
   ended_line at line book open_still ended (k, here, l) = (
     k,
@@ -369,7 +369,7 @@ module _ (rings : Rings) (keeper : Keeping) (script : Script) where
       asks = map Asks (take (put_count line (own (at + 1) (logged book))) (asked_by (own (at + 1) (logged book))))
 
   -- the request that waits names a child from 1 to 16, so a hall takes its answer
-  pub never_refused : (at : ℕ) (line : Line) (book : Book) (r : Request) (a : Answer) (e : HallEvent) → e ≡ answer_at at r.child book.stamp a → book.stamp ≤ 9000000000000000 → line.awaited ≡ Some r → InLine rings keeper script at line book →
+  pub never_refused : (at : ℕ) (line : ScriptState) (book : Book) (r : Request) (a : Answer) (e : HallEvent) → e ≡ answer_at at r.child book.stamp a → book.stamp ≤ 9000000000000000 → line.awaited ≡ Some r → InLine rings keeper script at line book →
       refusal_of (length book.hall) e ≢ None → ⊥
   never_refused at line book r a e is early waits (k, here, l) refused =
       let es = own (at + 1) (logged book) in
@@ -377,7 +377,7 @@ module _ (rings : Rings) (keeper : Keeping) (script : Script) where
       refused (ap (refusal_of (length book.hall)) is ∙ answer_taken (length book.hall) at r.child book.stamp a (slice_get_within book.hall at k here) names.0 names.1 early)
 
   -- and at the end
-  pub means : (at : ℕ) (line : Line) (book : Book) (k : Kept) (r : Report) → slice_get book.hall at ≡ Some k → Reports k r → InLine rings keeper script at line book → Means script line (own (at + 1) (logged book)) r
+  pub means : (at : ℕ) (line : ScriptState) (book : Book) (k : Kept) (r : Report) → slice_get book.hall at ≡ Some k → Reports k r → InLine rings keeper script at line book → Means script line (own (at + 1) (logged book)) r
   means at line book x r there reports (k, here, l) = by_life k.lives refl
     where
       es : List Event

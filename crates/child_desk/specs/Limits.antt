@@ -8,14 +8,14 @@ use Rattle.session.specs.Spent.{Reports}
 use Rattle.dialogue_sched.specs.declared.script.Script.{Script}
 use Rattle.child_desk.specs.Book.{logged}
 use Rattle.child_desk.specs.declared.book.Book.{Book}
-use Rattle.child_desk.specs.declared.line.Line.{Line}
+use Rattle.child_desk.specs.declared.line.ScriptState.{ScriptState}
 use Rattle.child_desk.specs.Told.{Rings}
 use Rattle.child_desk.specs.Line.{Keeping, InLine}
 use Rattle.child_desk.specs.Turn.{Turns, goes_on}
 
 -- If the greatest moment of a script's own part of the record is past its limit, its report doesn't say that it waits.
 abbrev pub LinesEnd : Type 0
-LinesEnd = (rings : Rings) (keeper : Keeping) (script : Script) (at : ℕ) (line : Line) (book : Book) (k : Kept) (r : Report) (limit : ℕ) →
+LinesEnd = (rings : Rings) (keeper : Keeping) (script : Script) (at : ℕ) (line : ScriptState) (book : Book) (k : Kept) (r : Report) (limit : ℕ) →
     InLine rings keeper script at line book → slice_get book.hall at ≡ Some k → Reports k r →
     script.settings.limit_ms ≡ Some limit → limit < horizon_of (own (at + 1) (logged book)) → r.ending ≢ Waiting
 

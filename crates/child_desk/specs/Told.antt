@@ -8,8 +8,8 @@ use Rattle.child_events.specs.declared.event.Event.{Event}
 use Rattle.child_events.specs.declared.event.Event.TheVariants as event
 use Rattle.expect_core.specs.declared.request.Request.{Request}
 use Rattle.child_hands.specs.declared.items.Answered.{Answered}
-use Rattle.child_hands.specs.declared.items.Item.{Item}
-use Rattle.child_hands.specs.declared.items.Item.TheVariants as item
+use Rattle.child_hands.specs.declared.items.RingItem.{RingItem}
+use Rattle.child_hands.specs.declared.items.RingItem.TheVariants as item
 use Rattle.child_hands.specs.declared.keeper.Keeper.{Ghosts}
 use Rattle.feed_rings.specs.Ends.{put_items, taken_items}
 use Rattle.feed_rings.specs.declared.feed.FeedOut.{FeedOut}
@@ -101,7 +101,7 @@ module _ {K O : Type 0} {g : Ghosts K O} {r : ReadGhosts O} where
   told_of (Some a) = telling_of a ∷ []
 
   -- What an item tells, if it is an answer.
-  abbrev pub tells : Item K O g r → List Telling
+  abbrev pub tells : RingItem K O g r → List Telling
   tells (item.Answer s a) = telling_of a ∷ []
   tells (item.Out s c piece) = []
   tells (item.End s c) = []
@@ -109,14 +109,14 @@ module _ {K O : Type 0} {g : Ghosts K O} {r : ReadGhosts O} where
   tells (item.Ask request) = []
   tells item.Stop = []
 
-  abbrev pub all_told : List (Item K O g r) → List Telling
+  abbrev pub all_told : List (RingItem K O g r) → List Telling
   all_told items = flat_map tells items
 
   -- What the items tell that were taken from a ring.
-  abbrev pub heard_of_hand : FeedOut (Item K O g r) → List Telling
+  abbrev pub heard_of_hand : FeedOut (RingItem K O g r) → List Telling
   heard_of_hand out = all_told (taken_items out)
 
-  abbrev pub put_of : Item K O g r → Put
+  abbrev pub put_of : RingItem K O g r → Put
   put_of (item.Ask request) = Asks request
   put_of item.Stop = Stops
   put_of (item.Answer s a) = Else
@@ -124,7 +124,7 @@ module _ {K O : Type 0} {g : Ghosts K O} {r : ReadGhosts O} where
   put_of (item.End s c) = Else
   put_of (item.ReadFail s c cause) = Else
 
-  abbrev pub waiting : Option (Item K O g r) → List Put
+  abbrev pub waiting : Option (RingItem K O g r) → List Put
   waiting None = []
   waiting (Some x) = put_of x ∷ []
 

@@ -12,7 +12,7 @@ use Rattle.dialogue_sched.specs.declared.script.Script.{Script}
 use Rattle.child_hands.specs.declared.keeper.Keeper.{Ghosts}
 use Rattle.child_desk.specs.Book.{logged}
 use Rattle.child_desk.specs.declared.book.Book.{Book}
-use Rattle.child_desk.specs.declared.line.Line.{Line}
+use Rattle.child_desk.specs.declared.line.ScriptState.{ScriptState}
 use Rattle.child_desk.specs.declared.ends.Ends.{Ends}
 use Rattle.child_desk.specs.Told.{Telling, Reply, replies_in, heard_of_hand, rings_of}
 use Rattle.child_desk.specs.Line.{Keeping, InLine}
@@ -61,11 +61,11 @@ abbrev pub Turns : ℕ → Book → Book → Type 0
 Turns now old new = ComesTo (stamp_by old.stamp now) (logged old ++ ticks old.stamp now) new
 
 -- The awaited answer: of the keeper's next call, to the request that was sent.
-abbrev pub IsAwaited : Line → Telling → Type 0
+abbrev pub IsAwaited : ScriptState → Telling → Type 0
 IsAwaited line t = IsTrue line.sent × (line.awaited ≡ Some t.request) × (t.name ≡ line.name) × (t.call ≡ line.last + 1)
 
 -- What was recorded of at most one answer. The awaited one was, and any other was dropped.
-abbrev pub IsEntered : Line → List Telling → List Reply → Type 0
+abbrev pub IsEntered : ScriptState → List Telling → List Reply → Type 0
 IsEntered line [] replies = replies ≡ []
 IsEntered line (t ∷ u ∷ ts) replies = ⊥
 IsEntered line (t ∷ []) replies = (IsAwaited line t × (replies ≡ record { child = t.request.child; answer = t.answer } ∷ [])) ⊎ ((IsAwaited line t → ⊥) × (replies ≡ []))
@@ -75,11 +75,11 @@ abbrev pub Replies : ℕ → List HallEvent → List Reply → List HallEvent �
 Replies at es replies es' = replies_in (own (at + 1) es') ≡ replies_in (own (at + 1) es) ++ replies
 
 -- What was recorded of an answer that was told.
-abbrev pub IsTold : ℕ → Line → Telling → Book → Book → Type 0
+abbrev pub IsTold : ℕ → ScriptState → Telling → Book → Book → Type 0
 IsTold at line t old new = (replies : List Reply) × Replies at (logged old) replies (logged new) × IsEntered line (t ∷ []) replies
 
 -- What was recorded of what a script's hand told.
-pub record HearsHand (at : ℕ) (line : Line) (told : List Telling) (es : List HallEvent) (told' : List Telling) (es' : List HallEvent) : Type 0 where
+pub record HearsHand (at : ℕ) (line : ScriptState) (told : List Telling) (es : List HallEvent) (told' : List Telling) (es' : List HallEvent) : Type 0 where
   pub more : List Telling
   pub heard : told' ≡ told ++ more
   pub replies : List Reply
@@ -95,23 +95,23 @@ abbrev pub Waits : ℕ → Book → Type 0
 Waits at book = (k : Kept) → slice_get book.hall at ≡ Some k → IsTrue k.lives × ((left k []).ending ≡ Waiting)
 
 -- The script at `at` is over, or its sent request awaits its answer, or it waits and has no request left.
-abbrev pub IsServed : ℕ → Line → Book → Type 0
+abbrev pub IsServed : ℕ → ScriptState → Book → Type 0
 IsServed at line book = IsTrue line.over ⊎ (IsTrue line.sent ⊎ (Waits at book × HasNoRequest at book))
 
 module _ {K O : Type 0} {g : Ghosts K O} {r : ReadGhosts O} where
   -- The script is served, or an item waits for room in the ring to its hand.
-  abbrev pub HasAsked : ℕ → Line → Ends K O g r → Book → Type 0
+  abbrev pub HasAsked : ℕ → ScriptState → Ends K O g r → Book → Type 0
   HasAsked at line e book = IsTrue (is_some e.ready) ⊎ IsServed at line book
 
   -- Other scripts of a desk, and their rings, didn't change.
-  abbrev pub SameElsewhere : ℕ → List Line → List (Ends K O g r) → List Line → List (Ends K O g r) → Type 0
+  abbrev pub SameElsewhere : ℕ → List ScriptState → List (Ends K O g r) → List ScriptState → List (Ends K O g r) → Type 0
   SameElsewhere at lines ends lines' ends' = (i : ℕ) → (i ≡ at → ⊥) → (slice_get lines' i ≡ slice_get lines i) × (slice_get ends' i ≡ slice_get ends i)
 
   -- The script at `at` of a desk is served, or an item waits for room in the ring to its hand.
-  abbrev pub HasAskedIn : ℕ → List Line → List (Ends K O g r) → Book → Type 0
-  HasAskedIn at lines ends book = (line : Line) (e : Ends K O g r) → slice_get lines at ≡ Some line → slice_get ends at ≡ Some e → HasAsked at line e book
+  abbrev pub HasAskedIn : ℕ → List ScriptState → List (Ends K O g r) → Book → Type 0
+  HasAskedIn at lines ends book = (line : ScriptState) (e : Ends K O g r) → slice_get lines at ≡ Some line → slice_get ends at ≡ Some e → HasAsked at line e book
 
   -- What was recorded of what the hand of the script at `at` told.
-  abbrev pub HearsHandIn : ℕ → List Line → List (Ends K O g r) → Book → List (Ends K O g r) → Book → Type 0
-  HearsHandIn at lines ends old ends' new = (keeper : Keeping) (script : Script) (line : Line) (e : Ends K O g r) → slice_get lines at ≡ Some line → slice_get ends at ≡ Some e → InLine (rings_of e) keeper script at line old →
+  abbrev pub HearsHandIn : ℕ → List ScriptState → List (Ends K O g r) → Book → List (Ends K O g r) → Book → Type 0
+  HearsHandIn at lines ends old ends' new = (keeper : Keeping) (script : Script) (line : ScriptState) (e : Ends K O g r) → slice_get lines at ≡ Some line → slice_get ends at ≡ Some e → InLine (rings_of e) keeper script at line old →
       (e' : Ends K O g r) × (slice_get ends' at ≡ Some e') × HearsHand at line (heard_of_hand e.answers) (logged old) (heard_of_hand e'.answers) (logged new)

@@ -13,7 +13,7 @@ use crate::book::Book;
 use crate::ends::{Ends, starts};
 use crate::entering::enter_taken;
 use crate::hearing::hear_children;
-use crate::line::{Line, ask_next, enter_answer, enter_end};
+use crate::line::{ScriptState, ask_next, enter_answer, enter_end};
 use child_events::HallEvent;
 use child_hands::{Keeper, LogItem};
 use std::alloc::{AllocError, Global};
@@ -73,7 +73,12 @@ pub(crate) fn still(book: &mut Book, now: u64)
 
 /// Takes the next answer of a script's hand, if the record has room. Enters it if it is the awaited
 /// one. Returns whether there was one.
-fn hear_answer<K: Keeper>(book: &mut Book, line: &mut Line, ends: &mut Ends<K>, at: usize) -> bool
+fn hear_answer<K: Keeper>(
+    book: &mut Book,
+    line: &mut ScriptState,
+    ends: &mut Ends<K>,
+    at: usize,
+) -> bool
     requires { at < 64 }
     ensures kept { Keeps (rings_of ends.old) (rings_of ends.new) at line.old book.old line.new book.new }
     ensures readers { ends.new.readers ≡ ends.old.readers }
@@ -99,7 +104,7 @@ fn hear_answer<K: Keeper>(book: &mut Book, line: &mut Line, ends: &mut Ends<K>, 
 fn prepare<K: Keeper>(
     alloc: Global,
     book: &Book,
-    line: &mut Line,
+    line: &mut ScriptState,
     ends: &mut Ends<K>,
     at: usize,
 ) -> Result<(), AllocError>
@@ -129,7 +134,7 @@ fn prepare<K: Keeper>(
 fn ask<K: Keeper>(
     alloc: Global,
     book: &mut Book,
-    line: &mut Line,
+    line: &mut ScriptState,
     ends: &mut Ends<K>,
     at: usize,
 ) -> Result<bool, AllocError>
@@ -156,7 +161,7 @@ fn ask<K: Keeper>(
 fn attend<K: Keeper>(
     alloc: Global,
     book: &mut Book,
-    line: &mut Line,
+    line: &mut ScriptState,
     ends: &mut Ends<K>,
     at: usize,
 ) -> Result<bool, AllocError>
@@ -178,7 +183,7 @@ fn attend<K: Keeper>(
 fn attend_at<K: Keeper>(
     alloc: Global,
     book: &mut Book,
-    lines: &mut Vec<Line>,
+    lines: &mut Vec<ScriptState>,
     ends: &mut Vec<Ends<K>>,
     at: usize,
 ) -> Result<bool, AllocError>
@@ -203,7 +208,7 @@ fn attend_at<K: Keeper>(
 pub(crate) fn attend_all<K: Keeper>(
     alloc: Global,
     book: &mut Book,
-    lines: &mut Vec<Line>,
+    lines: &mut Vec<ScriptState>,
     ends: &mut Vec<Ends<K>>,
 ) -> Result<bool, AllocError>
     requires { (length lines.old.items ≤ length book.old.hall) × (length book.old.hall ≤ 64) }

@@ -13,9 +13,9 @@ use crate::attending::{attend_all, still, tick};
 use crate::book::Book;
 use crate::ends::Ends;
 use crate::hearing::{has_come_to, settle_child};
-use crate::line::Line;
+use crate::line::ScriptState;
 use child_events::HallEvent;
-use child_hands::{Item, Keeper, LogItem};
+use child_hands::{Keeper, LogItem, RingItem};
 use dialogue_sched::Reports;
 use feed_rings::{Bell, FeedIn, Finished};
 use std::alloc::{AllocError, Global};
@@ -28,7 +28,7 @@ pub struct Desk<K: Keeper> {
     /// The hall and the record.
     pub book: Book,
     /// The line of each script.
-    pub lines: Vec<Line>,
+    pub lines: Vec<ScriptState>,
     /// The endpoints of each script's rings.
     pub ends: Vec<Ends<K>>,
 }
@@ -44,7 +44,7 @@ pub struct Outcome {
 
 impl<K: Keeper> Desk<K> {
     /// Creates a desk. The hall is new, and has a line and endpoints for each script.
-    pub fn new(alloc: Global, book: Book, lines: Vec<Line>, ends: Vec<Ends<K>>) -> Desk<K>
+    pub fn new(alloc: Global, book: Book, lines: Vec<ScriptState>, ends: Vec<Ends<K>>) -> Desk<K>
         ensures book { result.book ≡ book }
         ensures lines { result.lines.items ≡ lines.items }
         ensures ends { result.ends.items ≡ ends.items }
@@ -138,7 +138,7 @@ impl<K: Keeper> Desk<K> {
         bell: &Bell,
         at: usize,
         index: u8,
-        finished: Finished<Item<K>>,
+        finished: Finished<RingItem<K>>,
     ) -> Result<bool, AllocError>
         requires place { (at < length self.old.book.hall) × (at < 64) × (index < 16) }
         requires finished { FinishedIn at index finished self.old.ends.items }
@@ -168,7 +168,7 @@ impl<K: Keeper> Desk<K> {
     /// Looks once more at the ring from the hand of the script at index `at`, which has finished
     /// it. Takes nothing. What was taken before is then known to be a prefix of all that was put
     /// there.
-    pub fn close(&mut self, at: usize, finished: Finished<Item<K>>)
+    pub fn close(&mut self, at: usize, finished: Finished<RingItem<K>>)
         requires { IsEndOf at finished self.old.ends.items }
         ensures lines { self.new.lines.items ≡ self.old.lines.items }
         ensures book { self.new.book ≡ self.old.book }
@@ -218,7 +218,7 @@ fn outcome_of(book: Book) -> Outcome
 }
 
 /// Returns whether the script at an index is over. False if there is none.
-fn is_over(lines: &[Line], at: usize) -> bool {
+fn is_over(lines: &[ScriptState], at: usize) -> bool {
     match lines.get(at) {
         Some(line) => line.over,
         None => false,
@@ -238,7 +238,7 @@ fn has_come_at<K: Keeper>(book: &Book, over: bool, ends: &mut Vec<Ends<K>>, at: 
 
 /// Returns whether each script is over, and no request awaits its answer.
 #[tactic(auto, using(crate::proofs::Kept::one_over, crate::proofs::Kept::none_over))]
-fn all_over(lines: &[Line]) -> bool
+fn all_over(lines: &[ScriptState]) -> bool
     ensures { IsTrue result → AllOver lines.now }
 {
     match lines.split_first() {
@@ -248,7 +248,7 @@ fn all_over(lines: &[Line]) -> bool
 }
 
 /// Returns whether a script is over, and no request awaits its answer.
-fn is_settled(line: &Line) -> bool
+fn is_settled(line: &ScriptState) -> bool
     ensures { IsTrue result → IsTrue line.now.over }
 {
     line.over && line.awaited.is_none()

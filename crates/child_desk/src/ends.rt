@@ -7,7 +7,7 @@ ghost use Rattle.child_desk.specs.Line.{TakesNone, IsFrontOf};
 
 use crate::readers::{Readers, Taken, is_last};
 use child_events::Answer;
-use child_hands::{Answered, Item, Keeper};
+use child_hands::{Answered, Keeper, RingItem};
 use expect_core::{Act, Request};
 use feed_rings::{FeedIn, FeedOut, Finished};
 use std::alloc::{AllocError, Global};
@@ -16,13 +16,13 @@ use std::alloc::{AllocError, Global};
 #[derive(Drop)]
 pub struct Ends<K: Keeper> {
     /// To its hand.
-    pub asks: FeedIn<Item<K>>,
+    pub asks: FeedIn<RingItem<K>>,
     /// From its hand.
-    pub answers: FeedOut<Item<K>>,
+    pub answers: FeedOut<RingItem<K>>,
     /// From the readers of its children.
     pub readers: Readers<K>,
     /// The item that waits for room in the ring to the hand.
-    pub ready: Option<Item<K>>,
+    pub ready: Option<RingItem<K>>,
     /// The greatest number of a child that a sent request starts.
     greatest: u8,
     /// The number of children that were started.
@@ -33,7 +33,11 @@ pub struct Ends<K: Keeper> {
 
 impl<K: Keeper> Ends<K> {
     /// Creates endpoints of new rings.
-    pub fn new(asks: FeedIn<Item<K>>, answers: FeedOut<Item<K>>, readers: Readers<K>) -> Ends<K>
+    pub fn new(
+        asks: FeedIn<RingItem<K>>,
+        answers: FeedOut<RingItem<K>>,
+        readers: Readers<K>,
+    ) -> Ends<K>
         ensures readers { result.readers ≡ readers }
         ensures answers { result.answers ≡ answers }
         ensures asks { result.asks ≡ asks }
@@ -84,7 +88,7 @@ impl<K: Keeper> Ends<K> {
     }
 
     /// Looks once more at the ring from the hand, which has finished it.
-    pub(crate) fn close(&mut self, finished: Finished<Item<K>>)
+    pub(crate) fn close(&mut self, finished: Finished<RingItem<K>>)
         requires finished { IsFinishedOf finished self.old.answers }
         ensures readers { self.new.readers ≡ self.old.readers }
         ensures ring { SameOut self.old.answers self.new.answers }
@@ -134,7 +138,7 @@ impl<K: Keeper> Ends<K> {
         if let Act::Spawn(_) = &request.act {
             self.greatest = self.greatest.max(request.child);
         }
-        self.ready = Some(Item::Ask(copy));
+        self.ready = Some(RingItem::Ask(copy));
         Ok(())
     }
 
@@ -143,7 +147,7 @@ impl<K: Keeper> Ends<K> {
         ensures rings { TakesNone self.old self.new }
         ensures asked { self.old.ready ≡ None → asked_of_hand self.new ≡ asked_of_hand self.old ++ Stops ∷ [] }
     {
-        self.ready = Some(Item::Stop);
+        self.ready = Some(RingItem::Stop);
     }
 
     /// Puts the item that waits for room. Returns whether it was put.
@@ -165,11 +169,11 @@ impl<K: Keeper> Ends<K> {
 }
 
 /// Returns the answer, if an item is one.
-fn answered_in<K: Keeper>(item: Item<K>) -> Option<Answered<K>>
+fn answered_in<K: Keeper>(item: RingItem<K>) -> Option<Answered<K>>
     ensures { told_of result ≡ tells item }
 {
     match item {
-        Item::Answer { answered, .. } => Some(answered),
+        RingItem::Answer { answered, .. } => Some(answered),
         _ => None,
     }
 }

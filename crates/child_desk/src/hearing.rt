@@ -17,7 +17,7 @@ use crate::ends::Ends;
 use crate::entering::enter_taken;
 use crate::readers::{Taken, room};
 use child_events::{HallEvent, What};
-use child_hands::{Item, Keeper};
+use child_hands::{Keeper, RingItem};
 use feed_rings::{Bell, Finished};
 use std::alloc::{AllocError, Global};
 use std::sync::Wait;
@@ -185,7 +185,7 @@ pub(crate) fn settle_child<K: Keeper, R: Wait>(
     ends: &mut Ends<K>,
     at: usize,
     index: u8,
-    finished: Finished<Item<K>>,
+    finished: Finished<RingItem<K>>,
 ) -> Result<bool, AllocError>
     requires place { (at < length book.old.hall) × (at < 64) × (index < 16) }
     requires finished { FinishedAt index finished ends.old.readers }

@@ -15,5 +15,5 @@ pub use book::Book;
 pub use desk::{Desk, Outcome};
 pub use ends::Ends;
 pub use laws::limits;
-pub use line::Line;
+pub use line::ScriptState;
 pub use readers::Readers;

@@ -17,7 +17,7 @@ use session::Ending;
 
 /// A desk's state of a script.
 #[derive(Drop)]
-pub struct Line {
+pub struct ScriptState {
     /// The name of its keeper.
     pub name: u64,
     /// The number of the keeper's last call whose answer was entered.
@@ -30,13 +30,13 @@ pub struct Line {
     pub over: bool,
 }
 
-impl Line {
+impl ScriptState {
     /// Creates the line of a new script. Its keeper has this name, and has made this number of
     /// calls.
-    pub fn new(name: u64, calls: u64) -> Line
+    pub fn new(name: u64, calls: u64) -> ScriptState
         ensures { result ≡ record { name = name; last = calls; awaited = None; sent = false; over = false } }
     {
-        Line {
+        ScriptState {
             name,
             last: calls,
             awaited: None,
@@ -47,7 +47,7 @@ impl Line {
 }
 
 /// Takes a script's next request from the hall, if none is open. No other script changes.
-pub fn ask_next(book: &mut Book, line: &mut Line, at: usize)
+pub fn ask_next(book: &mut Book, line: &mut ScriptState, at: usize)
     requires { (at < length book.old.hall) × (at < 64) }
     ensures kept { (rings : Rings) → Keeps rings rings at line.old book.old line.new book.new }
     ensures log { logged book.new ≡ logged book.old }
@@ -63,7 +63,7 @@ pub fn ask_next(book: &mut Book, line: &mut Line, at: usize)
 
 /// Returns whether this is the awaited answer: of the keeper's next call, to the request that was
 /// sent.
-fn is_awaited<K: Keeper>(line: &Line, answered: &Answered<K>) -> bool
+fn is_awaited<K: Keeper>(line: &ScriptState, answered: &Answered<K>) -> bool
     ensures { IsTrue result ↔ IsAwaited line.now (telling_of answered.now) }
 {
     line.sent
@@ -72,7 +72,7 @@ fn is_awaited<K: Keeper>(line: &Line, answered: &Answered<K>) -> bool
 }
 
 /// Returns whether this is the open request.
-fn is_to_request(line: &Line, request: &Request) -> bool
+fn is_to_request(line: &ScriptState, request: &Request) -> bool
     ensures { IsTrue result ↔ (line.now.awaited ≡ Some request.now) }
 {
     match &line.awaited {
@@ -82,7 +82,7 @@ fn is_to_request(line: &Line, request: &Request) -> bool
 }
 
 /// Returns whether this is the next call of the script's keeper.
-fn is_next(line: &Line, name: u64, call: u64) -> bool
+fn is_next(line: &ScriptState, name: u64, call: u64) -> bool
     ensures { IsTrue result ↔ (name ≡ line.now.name) × (call ≡ line.now.last + 1) }
 {
     name == line.name && line.last < call && call - line.last == 1
@@ -102,7 +102,7 @@ fn answer_event(at: usize, child: u8, moment: u64, answer: Answer) -> HallEvent
 }
 
 /// Closes the open request: this call has answered it.
-fn go_on(line: &mut Line, call: u64)
+fn go_on(line: &mut ScriptState, call: u64)
     ensures { line.new ≡ record line.old { last = call; awaited = None; sent = false } }
 {
     line.last = call;
@@ -114,7 +114,7 @@ fn go_on(line: &mut Line, call: u64)
 /// entered.
 pub fn enter_answer<K: Keeper>(
     book: &mut Book,
-    line: &mut Line,
+    line: &mut ScriptState,
     at: usize,
     answered: Answered<K>,
 ) -> bool
@@ -152,7 +152,7 @@ fn goes_on(ending: Option<Ending>) -> bool
 }
 
 /// Marks a script as over, if it has ended. Returns whether it has.
-pub fn enter_end(book: &Book, line: &mut Line, at: usize) -> bool
+pub fn enter_end(book: &Book, line: &mut ScriptState, at: usize) -> bool
     requires place { at < 64 }
     requires goes { line.old.over ≡ false }
     ensures ended { IsTrue result → ((rings : Rings) → Keeps rings (asking rings (Stops ∷ [])) at line.old book.now line.new book.now) × IsTrue line.new.over }

@@ -6,7 +6,7 @@ ghost use Rattle.feed_rings.specs.Ends.{all_put};
 ghost use Rattle.child_desk.specs.Heard.{FinishedAt, SeenAt, TakesAt, IsTaken, IsLeftOf, LeavesOneLess, Says, heard_of};
 
 use child_events::What;
-use child_hands::{Item, Keeper, Piece};
+use child_hands::{Keeper, Piece, RingItem};
 use feed_rings::{FeedOut, Finished};
 use std::alloc::{AllocError, Global};
 
@@ -16,7 +16,7 @@ pub struct Readers<K: Keeper> {
     /// The script's number in their items.
     pub script: u8,
     /// The endpoints, from child 1 on.
-    pub outs: Vec<FeedOut<Item<K>>>,
+    pub outs: Vec<FeedOut<RingItem<K>>>,
 }
 
 /// An item of a child's output, and a copy of it.
@@ -52,7 +52,7 @@ impl<K: Keeper> Readers<K> {
 
     /// Returns the number of items left in a child's ring, which its reader has finished. 0 if
     /// there is no such child.
-    pub(crate) fn left(&mut self, index: u8, finished: &mut Finished<Item<K>>) -> usize
+    pub(crate) fn left(&mut self, index: u8, finished: &mut Finished<RingItem<K>>) -> usize
         requires { FinishedAt index finished.old self.old }
         ensures taken { TakesAt index self.old self.new [] }
         ensures left { IsLeftOf index finished.new self.new result }
@@ -64,7 +64,7 @@ impl<K: Keeper> Readers<K> {
         }
     }
 
-    fn next_item(&mut self, index: u8) -> Option<Item<K>>
+    fn next_item(&mut self, index: u8) -> Option<RingItem<K>>
         ensures some { IfSome result (λ x. TakesAt index self.old self.new (x ∷ [])) }
         ensures none { IfNone result (TakesAt index self.old self.new []) }
     {
@@ -114,24 +114,24 @@ pub(crate) fn is_last(taken: &Taken) -> bool {
 }
 
 /// Returns what an item says of a script's child, with a copy in `room`.
-fn taken_of<K: Keeper>(script: u8, child: u8, item: Item<K>, room: Vec<u8>) -> Taken
+fn taken_of<K: Keeper>(script: u8, child: u8, item: RingItem<K>, room: Vec<u8>) -> Taken
     requires { (room.items ≡ []) × (4096 ≤ vec_capacity room) }
     ensures { Says (heard_of script child item) result }
 {
     match item {
-        Item::Out {
+        RingItem::Out {
             script: of,
             child: from,
             piece,
         } if of == script && from == child => Taken::Heard(heard_piece(piece, room)),
-        Item::End {
+        RingItem::End {
             script: of,
             child: from,
         } if of == script && from == child => Taken::Heard(Heard {
             what: What::Eof,
             copy: What::Eof,
         }),
-        Item::ReadFail {
+        RingItem::ReadFail {
             script: of,
             child: from,
             cause,

@@ -8,7 +8,7 @@ use Rattle.hex.specs.Hex.{decode_of}
 use Rattle.child_events.specs.declared.event.What.TheVariants as what
 use Rattle.child_events.specs.declared.event.HallEvent.TheVariants as hall
 use Rattle.child_events.specs.declared.fields.Stamp.{Stamp}
-use Rattle.child_events.specs.declared.line.Line.TheVariants as line
+use Rattle.child_events.specs.declared.line.LogLine.TheVariants as line
 use Rattle.child_events.specs.declared.faults.LogFault.{LogFault}
 use Rattle.child_events.specs.declared.faults.LogFault.TheVariants as fault
 use Rattle.child_events.specs.Reading.{◌>>=◌, or_fault, parts, all_lower_hex, number_of, number_within, moment_of, stamp_of, stamped, piece_of, decoded, fields_event, line_event, NumberFirst}

@@ -9,17 +9,17 @@ use Rattle.child_events.specs.declared.faults.LogFault.{LogFault}
 use Rattle.child_events.specs.declared.faults.LogFault.TheVariants as fault
 use Rattle.child_events.specs.declared.version.Version.{Version}
 use Rattle.child_events.specs.declared.fields.Stamp.{Stamp}
-use Rattle.child_events.specs.declared.line.Line.{Line}
-use Rattle.child_events.specs.declared.line.Line.TheVariants as line
+use Rattle.child_events.specs.declared.line.LogLine.{LogLine}
+use Rattle.child_events.specs.declared.line.LogLine.TheVariants as line
 use Rattle.child_events.specs.Log.{LogText}
 use Rattle.child_events.specs.Reading.{Refused, ◌>>=◌, parts, all_lower_hex, piece_of, stamped, line_event, lines_events}
 
 -- The event that line n describes, or its error.
-abbrev pub said_event : ℕ → Line → Result HallEvent LogFault
+abbrev pub said_event : ℕ → LogLine → Result HallEvent LogFault
 said_event n (line.Event e) = Ok e
 said_event n (line.Piece stamp digits) = stamped (Ok stamp) (piece_of n digits >>= λ piece. Ok (what.Out piece))
 
-abbrev pub says : ℕ → Result Line LogFault → Result HallEvent LogFault
+abbrev pub says : ℕ → Result LogLine LogFault → Result HallEvent LogFault
 says n read = read >>= said_event n
 
 -- The error of a result, without its value.

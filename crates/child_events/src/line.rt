@@ -16,20 +16,20 @@ use std::alloc::Global;
 
 /// The content of a line, as far as it needs no allocation.
 #[derive(Drop)]
-pub enum Line<'a> {
+pub enum LogLine<'a> {
     Event(HallEvent),
     /// A line of output: its stamp and the digits of its piece, which are not yet checked.
     Piece(Stamp, Digits<'a>),
 }
 
-impl Line<'_> {
+impl LogLine<'_> {
     /// Checks that the line describes an event.
     fn check(&self, number: usize) -> Result<(), LogFault>
         ensures { result ≡ judged (said_event number self.now) }
     {
         match self {
-            Line::Event(_) => Ok(()),
-            Line::Piece(_, digits) => check_piece(number, digits),
+            LogLine::Event(_) => Ok(()),
+            LogLine::Piece(_, digits) => check_piece(number, digits),
         }
     }
 
@@ -38,8 +38,8 @@ impl Line<'_> {
         ensures { Reads result (said_event number self.entry) }
     {
         match self {
-            Line::Event(event) => Ok(event),
-            Line::Piece(stamp, digits) => {
+            LogLine::Event(event) => Ok(event),
+            LogLine::Piece(stamp, digits) => {
                 let piece = piece(alloc, number, &digits)?;
                 Ok(stamp.bring(What::Out(piece)))
             }
@@ -90,11 +90,11 @@ fn failed_line<'a>(
     kind: &[u8],
     words: &StampWords,
     held: &[u8],
-) -> Result<Line<'a>, LogFault>
+) -> Result<LogLine<'a>, LogFault>
     ensures { says line result ≡ failed_of line kind.now held.now (stamp_of line words.now.script.now words.now.child.now words.now.moment.now) }
 {
     let event = failed_event(line, kind, words, held)?;
-    Ok(Line::Event(event))
+    Ok(LogLine::Event(event))
 }
 
 /// Reads the event of a child whose last word is its value.
@@ -103,7 +103,7 @@ fn held_line<'a>(
     kind: &[u8],
     words: &StampWords,
     held: Digits<'a>,
-) -> Result<Line<'a>, LogFault>
+) -> Result<LogLine<'a>, LogFault>
     ensures { says line result ≡ fields_event line (kind.now ∷ words.now.script.now ∷ words.now.child.now ∷ words.now.moment.now ∷ held.entry ∷ []) }
 {
     let word = held.word();
@@ -112,12 +112,12 @@ fn held_line<'a>(
     }
     if is(kind, b"out") {
         let stamp = read_stamp(line, words)?;
-        return Ok(Line::Piece(stamp, held));
+        return Ok(LogLine::Piece(stamp, held));
     }
     if is(kind, b"exit") {
         let stamp = read_stamp(line, words)?;
         let status = status(line, word)?;
-        return Ok(Line::Event(stamp.bring(What::Answer(Answer::Exit(status)))));
+        return Ok(LogLine::Event(stamp.bring(What::Answer(Answer::Exit(status)))));
     }
     failed_line(line, kind, words, word)
 }
@@ -134,7 +134,7 @@ fn further<'a>(held: &Digits<'a>) -> Option<(&'a [u8], &'a [u8])>
 }
 
 /// Reads the fields of a line.
-fn read_fields(number: usize, line: &[u8]) -> Result<Line, LogFault>
+fn read_fields(number: usize, line: &[u8]) -> Result<LogLine, LogFault>
     ensures { says number result ≡ fields_event number (parts 32 line.now) }
 {
     let Some((kind, rest)) = split_first(line, b' ') else {
@@ -142,7 +142,7 @@ fn read_fields(number: usize, line: &[u8]) -> Result<Line, LogFault>
     };
     let Some((script, rest)) = split_first(rest, b' ') else {
         let event = tick_event(number, kind, rest)?;
-        return Ok(Line::Event(event));
+        return Ok(LogLine::Event(event));
     };
     let Some((child, rest)) = split_first(rest, b' ') else {
         return Err(LogFault::Shape(number));
@@ -154,7 +154,7 @@ fn read_fields(number: usize, line: &[u8]) -> Result<Line, LogFault>
             moment: rest,
         };
         let event = bare_event(number, kind, &words)?;
-        return Ok(Line::Event(event));
+        return Ok(LogLine::Event(event));
     };
     let held = Digits::new(held);
     if let Some(_) = further(&held) {
@@ -169,7 +169,7 @@ fn read_fields(number: usize, line: &[u8]) -> Result<Line, LogFault>
 }
 
 /// Reads a line, which is given without its newline.
-fn read_words(number: usize, line: &[u8]) -> Result<Line, LogFault>
+fn read_words(number: usize, line: &[u8]) -> Result<LogLine, LogFault>
     ensures { says number result ≡ line_event number line.now }
 {
     if line.len() > LONGEST {

@@ -7,8 +7,8 @@ use Rattle.std.specs.Io.KnownBytes.{Consumes}
 use Rattle.std.specs.declared.io.traits.Read.{Ghosts as ReadGhosts}
 use Rattle.child_events.specs.declared.event.Cause.{Cause}
 use Rattle.child_hands.specs.declared.keeper.Keeper.{Ghosts}
-use Rattle.child_hands.specs.declared.items.Item.{Item}
-use Rattle.child_hands.specs.declared.items.Item.TheVariants.{Out, ReadFail}
+use Rattle.child_hands.specs.declared.items.RingItem.{RingItem}
+use Rattle.child_hands.specs.declared.items.RingItem.TheVariants.{Out, ReadFail}
 use Rattle.feed_rings.specs.declared.feed.FeedIn.{FeedIn}
 use Rattle.feed_rings.specs.declared.feed.Finished.{Finished}
 use Rattle.feed_rings.specs.Ends.{all_put, put_items, SameIn, EndsRingOf}
@@ -33,7 +33,7 @@ AllPieces-snoc (x ∷ ps) p all is = (all.0, AllPieces-snoc ps p all.1 is)
 
 module _ {K O : Type 0} {g : Ghosts K O} {r : ReadGhosts O} where
   -- one piece more, where the piece and the list are known by equations
-  pub pumps_put : {s c : ℕ} {was mid : Option (List ℕ)} (rest : Option (List ℕ)) {before items : List (Item K O g r)} (items' : List (Item K O g r)) (p q : List ℕ)
+  pub pumps_put : {s c : ℕ} {was mid : Option (List ℕ)} (rest : Option (List ℕ)) {before items : List (RingItem K O g r)} (items' : List (RingItem K O g r)) (p q : List ℕ)
       → PumpsSoFar s c was mid before items → Consumes mid rest q → p ≡ q → AllPieces (p ∷ []) → items' ≡ items ++ Out s c p ∷ [] → PumpsSoFar s c was rest before items'
   pumps_put {s} {c} {was} {mid} rest {before} {items} items' p q so more same is put = record {
     pieces = so.pieces ++ p ∷ [];
@@ -50,10 +50,10 @@ module _ {K O : Type 0} {g : Ghosts K O} {r : ReadGhosts O} where
   given_up s c bytes cause = record { pieces = []; sizes = tt; rest = bytes; begins = consumes_none bytes; last = inr (cause, refl) }
 
   -- a ring's end that has finished behind a read failure alone
-  pub read_given_up : (s c : ℕ) (cause : Cause) (was put : FeedIn (Item K O g r)) (finished : Option (Finished (Item K O g r)))
+  pub read_given_up : (s c : ℕ) (cause : Cause) (was put : FeedIn (RingItem K O g r)) (finished : Option (Finished (RingItem K O g r)))
       → SameIn was put → put_items put ≡ ReadFail s c cause ∷ [] → IfSome finished (λ f. EndsRingOf put f) → IfSome finished (λ f. all_put f ≡ put_items put)
       → (bytes : Option (List ℕ)) → IsRead s c bytes was finished
   read_given_up s c cause was put None same items ring all bytes = tt
   read_given_up s c cause was put (Some f) same items ring all bytes =
-      let P : List (Item K O g r) → Type 0 = λ xs. IsPumpList s c bytes xs in
+      let P : List (RingItem K O g r) → Type 0 = λ xs. IsPumpList s c bytes xs in
       ((ring.0 ∙ same.0, ring.1 ∙ same.1, ring.2 ∙ same.2, ring.3 ∙ same.3), subst P (sym (all ∙ items)) (given_up s c bytes cause))

@@ -4,7 +4,7 @@ use Rattle.std.proofs.lemmas.Bool.{cases_eq}
 use Rattle.std.specs.List.{slice_get}
 use Rattle.std.specs.declared.io.traits.Read.{Ghosts as ReadGhosts}
 use Rattle.child_hands.specs.declared.keeper.Keeper.{Ghosts}
-use Rattle.child_hands.specs.declared.items.Item.{Item}
+use Rattle.child_hands.specs.declared.items.RingItem.{RingItem}
 use Rattle.feed_rings.specs.declared.feed.FeedIn.{FeedIn}
 use Rattle.feed_rings.specs.declared.feed.Finished.{Finished}
 use Rattle.feed_rings.specs.Ends.{SameIn, EndsRingOf, all_put, put_items}
@@ -38,35 +38,35 @@ puts_again i x y xs ys zs first then = record { here = then.here; others = λ j 
 
 module _ {K O : Type 0} {g : Ghosts K O} {r : ReadGhosts O} where
   -- a place stays as long as its child's first start does
-  pub work_moved : (s c n : ℕ) (put put' : List (Item K O g r)) (was : FeedIn (Item K O g r)) (work : Work K O g r)
+  pub work_moved : (s c n : ℕ) (put put' : List (RingItem K O g r)) (was : FeedIn (RingItem K O g r)) (work : Work K O g r)
       → spawn_call c put' ≡ spawn_call c put → IsWork s c n put was work → IsWork s c n put' was work
   work_moved s c n put put' was (Free fresh) same is = (is.0, same ∙ is.1)
   work_moved s c n put put' was (Ended None) same is = tt
   work_moved s c n put put' was (Ended (Some f)) same is = (is.0, (is.1.0, is.1.1, same ∙ is.1.2, is.1.3, is.1.4))
 
   -- what started stays started
-  abbrev pub Grows : List (Item K O g r) → List (Item K O g r) → Type 0
+  abbrev pub Grows : List (RingItem K O g r) → List (RingItem K O g r) → Type 0
   Grows put put' = (c k : ℕ) → spawn_call c put ≡ Some k → spawn_call c put' ≡ Some k
 
-  grows_starting : (child call : ℕ) (put put' : List (Item K O g r)) → StartsAt child call put put' → Grows put put'
+  grows_starting : (child call : ℕ) (put put' : List (RingItem K O g r)) → StartsAt child call put put' → Grows put put'
   grows_starting child call put put' starts c k is =
       elim (cases_eq c child) [
         | inl same ↦ let P : ℕ → Type 0 = λ m. spawn_call m put ≡ Some k in let Q : ℕ → Type 0 = λ m. spawn_call m put' ≡ Some k in subst Q (sym same) (starts.later k (subst P same is))
         | inr other ↦ starts.others c other ∙ is
       ]
 
-  pub readers_moved : (s n : ℕ) (put put' : List (Item K O g r)) (feeds : List (FeedIn (Item K O g r))) (readers : List (Reader K O g r))
+  pub readers_moved : (s n : ℕ) (put put' : List (RingItem K O g r)) (feeds : List (FeedIn (RingItem K O g r))) (readers : List (Reader K O g r))
       → Grows put put' → AreReaders s n put feeds readers → AreReaders s n put' feeds readers
   readers_moved s n put put' feeds [] grows are = tt
   readers_moved s n put put' feeds (x ∷ xs) grows are =
       (λ was at. let is = are.0 was at in (is.0, grows (x.index + 1) is.0 is.1, is.2, is.3, is.4, is.5), readers_moved s n put put' feeds xs grows are.1)
 
-  readers_more : (s n : ℕ) (put : List (Item K O g r)) (feeds : List (FeedIn (Item K O g r))) (readers : List (Reader K O g r)) (x : Reader K O g r)
+  readers_more : (s n : ℕ) (put : List (RingItem K O g r)) (feeds : List (FeedIn (RingItem K O g r))) (readers : List (Reader K O g r)) (x : Reader K O g r)
       → AreReaders s n put feeds readers → IsReader s n put feeds x → AreReaders s n put feeds (readers ++ x ∷ [])
   readers_more s n put feeds [] x are is = (is, tt)
   readers_more s n put feeds (y ∷ readers) x are is = (are.0, readers_more s n put feeds readers x are.1 is)
 
-  readers_less : (s n : ℕ) (put : List (Item K O g r)) (feeds : List (FeedIn (Item K O g r))) (readers : List (Reader K O g r)) (x : Reader K O g r)
+  readers_less : (s n : ℕ) (put : List (RingItem K O g r)) (feeds : List (FeedIn (RingItem K O g r))) (readers : List (Reader K O g r)) (x : Reader K O g r)
       → AreReaders s n put feeds (readers ++ x ∷ []) → AreReaders s n put feeds readers × IsReader s n put feeds x
   readers_less s n put feeds [] x are = (tt, are.0)
   readers_less s n put feeds (y ∷ readers) x are = let rest = readers_less s n put feeds readers x are.1 in ((are.0, rest.0), rest.1)
@@ -79,7 +79,7 @@ module _ {K O : Type 0} {g : Ghosts K O} {r : ReadGhosts O} where
     busy = readers_moved s name put put' feeds readers (grows_starting child call put put' starts) are.busy;
   }
     where
-      go : (i : ℕ) (was : FeedIn (Item K O g r)) (work : Work K O g r) → slice_get feeds i ≡ Some was → slice_get works i ≡ Some work
+      go : (i : ℕ) (was : FeedIn (RingItem K O g r)) (work : Work K O g r) → slice_get feeds i ≡ Some was → slice_get works i ≡ Some work
           → (i + 1 ≡ child) ⊎ (i + 1 ≡ child → ⊥) → IsWork s (i + 1) name put was work → IsWork s (i + 1) name put' was work
       go i was (Free fresh) at here (inl same) is = absurd (away i (Free fresh) here same fresh refl)
       go i was (Ended None) at here (inl same) is = tt
@@ -87,7 +87,7 @@ module _ {K O : Type 0} {g : Ghosts K O} {r : ReadGhosts O} where
       go i was work at here (inr other) is = work_moved s (i + 1) name put put' was work (starts.others (i + 1) other) is
 
   -- what was read into a child's ring, where the child was started by this call
-  read_of : (s c name call : ℕ) (bytes : Option (List ℕ)) (put : List (Item K O g r)) (was feed : FeedIn (Item K O g r)) (finished : Option (Finished (Item K O g r)))
+  read_of : (s c name call : ℕ) (bytes : Option (List ℕ)) (put : List (RingItem K O g r)) (was feed : FeedIn (RingItem K O g r)) (finished : Option (Finished (RingItem K O g r)))
       → SameIn was feed → spawn_call c put ≡ Some call → g.gives name call bytes → IsRead s c bytes feed finished → IsWork s c name put was (Ended finished)
   read_of s c name call bytes put was feed None same started gives is = tt
   read_of s c name call bytes put was feed (Some f) same started gives is =
@@ -97,7 +97,7 @@ module _ {K O : Type 0} {g : Ghosts K O} {r : ReadGhosts O} where
       )
 
   -- a child's free place was taken, and all that can be read was put into its ring
-  pub works_read : (s child index : ℕ) (bytes : Option (List ℕ)) (works works' : List (Work K O g r)) (readers : List (Reader K O g r)) (fresh : Fresh K O g r) (finished : Option (Finished (Item K O g r)))
+  pub works_read : (s child index : ℕ) (bytes : Option (List ℕ)) (works works' : List (Work K O g r)) (readers : List (Reader K O g r)) (fresh : Fresh K O g r) (finished : Option (Finished (RingItem K O g r)))
       → child ≡ index + 1 → slice_get works index ≡ Some (Free fresh) → PutsAt index (Ended finished) works works' → IsRead s child bytes fresh.feed finished
       → KeepsWorks s child bytes works readers works' readers
   works_read s child index bytes works works' readers fresh finished number free puts is_read name call put put' feeds gives starts are = record {
@@ -105,7 +105,7 @@ module _ {K O : Type 0} {g : Ghosts K O} {r : ReadGhosts O} where
     busy = readers_moved s name put put' feeds readers (grows_starting child call put put' starts) are.busy;
   }
     where
-      go : (i : ℕ) (was : FeedIn (Item K O g r)) (work : Work K O g r) → slice_get feeds i ≡ Some was → slice_get works' i ≡ Some work → (i ≡ index) ⊎ (i ≡ index → ⊥) → IsWork s (i + 1) name put' was work
+      go : (i : ℕ) (was : FeedIn (RingItem K O g r)) (work : Work K O g r) → slice_get feeds i ≡ Some was → slice_get works' i ≡ Some work → (i ≡ index) ⊎ (i ≡ index → ⊥) → IsWork s (i + 1) name put' was work
       go i was work at here (inl same) =
           let P : ℕ → Type 0 = λ k. slice_get works' k ≡ Some work in
           let F : ℕ → Type 0 = λ k. slice_get feeds k ≡ Some was in
@@ -134,7 +134,7 @@ module _ {K O : Type 0} {g : Ghosts K O} {r : ReadGhosts O} where
             let none : spawn_call child put ≡ None = rw number free.1 in
             let C : ℕ → Type 0 = λ k. spawn_call k put' ≡ Some call in
             let G : O → Type 0 = λ k. g.gives name call (r.remaining k) in
-            let S : FeedIn (Item K O g r) → Type 0 = λ k. SameIn was k in (
+            let S : FeedIn (RingItem K O g r) → Type 0 = λ k. SameIn was k in (
               call,
               subst C (number ∙ ap (λ k. k + 1) (sym at_index)) (starts.first none),
               subst G (sym started.3) gives,
@@ -145,11 +145,11 @@ module _ {K O : Type 0} {g : Ghosts K O} {r : ReadGhosts O} where
       }
 
   -- what a reader's thread promised of its result
-  abbrev pub Promised : Reader K O g r → Option (Finished (Item K O g r)) → Type 0
+  abbrev pub Promised : Reader K O g r → Option (Finished (RingItem K O g r)) → Type 0
   Promised reader finished =
       IsRead reader.handle.promise.script reader.handle.promise.child (r.remaining reader.handle.promise.out.value) reader.handle.promise.feed.value finished
 
-  pub ends_set : (reader : Reader K O g r) (works works' : List (Work K O g r)) (finished : Option (Finished (Item K O g r)))
+  pub ends_set : (reader : Reader K O g r) (works works' : List (Work K O g r)) (finished : Option (Finished (RingItem K O g r)))
       → Promised reader finished → PutsAt reader.index (Ended finished) works works' → EndsReader reader works works'
   ends_set reader works works' finished promised puts readers s name put feeds are =
       let split = readers_less s name put feeds readers reader are.busy in record {
@@ -157,7 +157,7 @@ module _ {K O : Type 0} {g : Ghosts K O} {r : ReadGhosts O} where
         busy = split.0;
       }
     where
-      go : (i : ℕ) (was : FeedIn (Item K O g r)) (work : Work K O g r) → slice_get feeds i ≡ Some was → slice_get works' i ≡ Some work
+      go : (i : ℕ) (was : FeedIn (RingItem K O g r)) (work : Work K O g r) → slice_get feeds i ≡ Some was → slice_get works' i ≡ Some work
           → (i ≡ reader.index) ⊎ (i ≡ reader.index → ⊥) → IsWork s (i + 1) name put was work
       go i was work at here (inl same) =
           let P : ℕ → Type 0 = λ k. slice_get works' k ≡ Some work in
@@ -188,7 +188,7 @@ module _ {K O : Type 0} {g : Ghosts K O} {r : ReadGhosts O} where
       subst P (split ∙ append-nil rs') (kept s name put feeds are)
 
   -- a finished end is one of the ring as it was
-  pub finished_from : (a b q : FeedIn (Item K O g r)) (finished : Option (Finished (Item K O g r))) → SameIn a b → q ≡ b
+  pub finished_from : (a b q : FeedIn (RingItem K O g r)) (finished : Option (Finished (RingItem K O g r))) → SameIn a b → q ≡ b
       → IfSome finished (λ f. EndsRingOf b f) → IfSome finished (λ f. all_put f ≡ put_items b) → IfSome finished (λ f. EndsRingOf a f × (all_put f ≡ put_items q))
   finished_from a b q None same is ring put = tt
   finished_from a b q (Some f) same is ring put =

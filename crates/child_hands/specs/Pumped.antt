@@ -7,8 +7,8 @@ use Rattle.child_events.specs.declared.counted.Counted.{Counted}
 use Rattle.child_events.specs.declared.event.Cause.{Cause}
 use Rattle.child_events.specs.declared.event.Cause.TheVariants.{Memory, Other}
 use Rattle.child_hands.specs.declared.keeper.Keeper.{Ghosts}
-use Rattle.child_hands.specs.declared.items.Item.{Item}
-use Rattle.child_hands.specs.declared.items.Item.TheVariants.{Out, End, ReadFail}
+use Rattle.child_hands.specs.declared.items.RingItem.{RingItem}
+use Rattle.child_hands.specs.declared.items.RingItem.TheVariants.{Out, End, ReadFail}
 use Rattle.feed_rings.specs.declared.feed.FeedIn.{FeedIn}
 use Rattle.feed_rings.specs.declared.feed.Finished.{Finished}
 use Rattle.feed_rings.specs.Ends.{all_put, EndsRingOf}
@@ -23,29 +23,29 @@ FailsFor device cause = ((cause ≡ Other) × (0 < device.failures)) ⊎ (cause 
 
 module _ {K O : Type 0} {g : Ghosts K O} {r : ReadGhosts O} where
   -- Pieces as items of a script's child.
-  abbrev pub outs_of : ℕ → ℕ → List (List ℕ) → List (Item K O g r)
+  abbrev pub outs_of : ℕ → ℕ → List (List ℕ) → List (RingItem K O g r)
   outs_of script child pieces = map (λ p. Out script child p) pieces
 
   -- The items put so far by a reader whose known bytes were `was`, with `rest` left.
-  pub record PumpsSoFar (script child : ℕ) (was rest : Option (List ℕ)) (before items : List (Item K O g r)) : Type 0 where
+  pub record PumpsSoFar (script child : ℕ) (was rest : Option (List ℕ)) (before items : List (RingItem K O g r)) : Type 0 where
     pub pieces : List (List ℕ)
     pub sizes : AllPieces pieces
     pub begins : Consumes was rest (concat pieces)
     pub put : items ≡ before ++ outs_of script child pieces
 
   -- The last item: the end if no byte is left, or a read failure.
-  abbrev pub IsLast : {T : Type 0} → ℕ → ℕ → Option (List ℕ) → Counted T → Item K O g r → Type 0
+  abbrev pub IsLast : {T : Type 0} → ℕ → ℕ → Option (List ℕ) → Counted T → RingItem K O g r → Type 0
   IsLast script child rest device x =
       ((x ≡ End script child) × IsAtEnd rest) ⊎ ((cause : Cause) × (x ≡ ReadFail script child cause) × FailsFor device cause)
 
   -- All items of a child, except the last one, x.
-  abbrev pub PumpsAllBut : {T : Type 0} → ℕ → ℕ → Option (List ℕ) → Counted T → List (Item K O g r) → List (Item K O g r) → Item K O g r → Type 0
+  abbrev pub PumpsAllBut : {T : Type 0} → ℕ → ℕ → Option (List ℕ) → Counted T → List (RingItem K O g r) → List (RingItem K O g r) → RingItem K O g r → Type 0
   PumpsAllBut script child bytes device before items x =
       (rest : Option (List ℕ)) × PumpsSoFar script child bytes rest before items × IsLast script child rest device x
 
   -- The pieces, joined, are the first bytes of the reader. The end follows if they are all of its bytes. Otherwise a
   -- read failure follows.
-  pub record IsPumpList (script child : ℕ) (bytes : Option (List ℕ)) (items : List (Item K O g r)) : Type 0 where
+  pub record IsPumpList (script child : ℕ) (bytes : Option (List ℕ)) (items : List (RingItem K O g r)) : Type 0 where
     pub pieces : List (List ℕ)
     pub sizes : AllPieces pieces
     pub rest : Option (List ℕ)
@@ -55,10 +55,10 @@ module _ {K O : Type 0} {g : Ghosts K O} {r : ReadGhosts O} where
         ⊎ ((cause : Cause) × (items ≡ outs_of script child pieces ++ ReadFail script child cause ∷ []))
 
   -- A read failure at the end has one of these causes.
-  abbrev pub FailsOnlyFor : {T : Type 0} → Counted T → List (Item K O g r) → Type 0
+  abbrev pub FailsOnlyFor : {T : Type 0} → Counted T → List (RingItem K O g r) → Type 0
   FailsOnlyFor device items =
-      (put : List (Item K O g r)) (script child : ℕ) (cause : Cause) → items ≡ put ++ ReadFail script child cause ∷ [] → FailsFor device cause
+      (put : List (RingItem K O g r)) (script child : ℕ) (cause : Cause) → items ≡ put ++ ReadFail script child cause ∷ [] → FailsFor device cause
 
   -- The items put into the ring, if they are available, are all of a child's output of these bytes.
-  abbrev pub IsRead : ℕ → ℕ → Option (List ℕ) → FeedIn (Item K O g r) → Option (Finished (Item K O g r)) → Type 0
+  abbrev pub IsRead : ℕ → ℕ → Option (List ℕ) → FeedIn (RingItem K O g r) → Option (Finished (RingItem K O g r)) → Type 0
   IsRead script child bytes was finished = IfSome finished (λ f. EndsRingOf was f × IsPumpList script child bytes (all_put f))

@@ -8,7 +8,7 @@ ghost use Rattle.child_hands.specs.Handed.{PutsAt, TakesPlace, IsTaken, KeepsWor
 use crate::pump::give_up;
 use crate::reader::{Started, start};
 use crate::work::{Fresh, Reader, Work};
-use crate::{Item, Keeper};
+use crate::{Keeper, RingItem};
 use feed_rings::Finished;
 use std::alloc::Global;
 use std::mem;
@@ -51,7 +51,7 @@ impl<K: Keeper> Children<K> {
     }
 
     /// Keeps the items that a child's reader put.
-    fn keep(&mut self, index: usize, finished: Option<Finished<Item<K>>>)
+    fn keep(&mut self, index: usize, finished: Option<Finished<RingItem<K>>>)
         requires { index < vec_len self.old.works }
         ensures readers { self.new.readers ≡ self.old.readers }
         ensures size { vec_len self.new.works ≡ vec_len self.old.works }

@@ -6,9 +6,9 @@ ghost use Rattle.feed_rings.specs.Ends.{put_items, taken_items, room, SameIn, Sa
 ghost use Rattle.child_hands.specs.Handed.{starts, failure_of, order_of, KeepsGoing, GoesOn, IsEnded, IsHandEnd};
 
 use crate::children::Children;
-use crate::order::Order;
+use crate::order::Instruction;
 use crate::work::{HandEnd, Outcome, Work};
-use crate::{Answered, Gate, Item, Keeper};
+use crate::{Answered, Gate, Keeper, RingItem};
 use child_events::{Answer, Cause};
 use expect_core::{Act, Request};
 use feed_rings::{Bell, FeedIn, FeedOut, await_room, take_waiting};
@@ -25,8 +25,8 @@ const REFUSALS: u64 = 10_000;
 /// The ends of a hand's two rings, and its bell.
 #[derive(Drop)]
 struct Ends<K: Keeper> {
-    asks: FeedOut<Item<K>>,
-    answers: FeedIn<Item<K>>,
+    asks: FeedOut<RingItem<K>>,
+    answers: FeedIn<RingItem<K>>,
     bell: Bell,
 }
 
@@ -93,7 +93,7 @@ fn carry_out<K: Keeper + Send + 'static, W: Threads + Wait + Copy + Send + 'stat
     let child = request.child;
     let (answer, out) = ask(keeper, &request);
     let answered = Answered::new(keeper.name(), keeper.calls(), request, answer);
-    let Ok(()) = ends.answers.put(Item::Answer { script, answered }) else {
+    let Ok(()) = ends.answers.put(RingItem::Answer { script, answered }) else {
         unreachable!()
     };
     if let Some(out) = out {
@@ -101,13 +101,13 @@ fn carry_out<K: Keeper + Send + 'static, W: Threads + Wait + Copy + Send + 'stat
     }
 }
 
-fn order_in<K: Keeper>(item: Item<K>) -> Order
+fn order_in<K: Keeper>(item: RingItem<K>) -> Instruction
     ensures { result ≡ order_of item }
 {
     match item {
-        Item::Ask(request) => Order::Do(request),
-        Item::Stop => Order::Halt,
-        _ => Order::Nothing,
+        RingItem::Ask(request) => Instruction::Do(request),
+        RingItem::Stop => Instruction::Halt,
+        _ => Instruction::Nothing,
     }
 }
 
@@ -156,17 +156,17 @@ fn obey<K: Keeper + Send + 'static, G: Gate, W: Threads + Wait + Copy + Send + '
             };
         }
         match order_in(take_waiting(&rt, &ends.bell, &mut ends.asks)) {
-            Order::Do(request) => {
+            Instruction::Do(request) => {
                 if !passes(gate, script, request.child) {
                     forced = forced.saturating_add(1);
                 }
                 carry_out(rt, alloc, script, keeper, ends, children, request);
             }
-            Order::Halt => return Obeyed {
+            Instruction::Halt => return Obeyed {
                 outcome: Outcome::Stopped,
                 forced,
             },
-            Order::Nothing => continue,
+            Instruction::Nothing => continue,
         }
     }
     unreachable!()
@@ -190,8 +190,8 @@ pub fn hand<
     script: u8,
     keeper: K,
     gate: Arc<G>,
-    asks: FeedOut<Item<K>>,
-    answers: FeedIn<Item<K>>,
+    asks: FeedOut<RingItem<K>>,
+    answers: FeedIn<RingItem<K>>,
     bell: Bell,
     works: Vec<Work<K>>,
 ) -> HandEnd<K>

@@ -41,7 +41,7 @@ impl<K: Keeper> Answered<K> {
 
 /// An item of a ring. Scripts are numbered 1 to 64, children 1 to 16.
 #[derive(Drop)]
-pub enum Item<K: Keeper> {
+pub enum RingItem<K: Keeper> {
     /// From a reader: a child wrote this piece.
     Out { script: u8, child: u8, piece: Piece },
     /// The last item of a reader: the child's output has ended.

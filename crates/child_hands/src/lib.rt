@@ -22,7 +22,7 @@ pub mod work;
 
 pub use clock::Clock;
 pub use gate::Gate;
-pub use items::{Answered, Item};
+pub use items::{Answered, RingItem};
 pub use keeper::Keeper;
 pub use log_item::LogItem;
 pub use piece::Piece;

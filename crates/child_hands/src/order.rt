@@ -4,7 +4,7 @@ use expect_core::Request;
 
 /// What an item asks of a hand.
 #[derive(Drop)]
-pub enum Order {
+pub enum Instruction {
     /// Carry out a request.
     Do(Request),
     /// End.

@@ -2,10 +2,10 @@
 
 ghost use Rattle.std.specs.Prelude.{◌≡◌, ◌+◌, ◌^◌, ◌<◌, ◌≤◌, [], ◌∷◌, ◌++◌, IfSome, ℕ, List, Option};
 ghost use Rattle.feed_rings.specs.Ends.{put_items, all_put, SameIn};
-ghost use Rattle.child_hands.specs.declared.items.Item.TheVariants.{ReadFail};
+ghost use Rattle.child_hands.specs.declared.items.RingItem.TheVariants.{ReadFail};
 ghost use Rattle.child_hands.specs.Pumped.{PumpsAllBut, IsRead, FailsOnlyFor};
 
-use crate::{Item, Keeper, Piece};
+use crate::{Keeper, Piece, RingItem};
 use child_events::{Cause, Counted};
 use feed_rings::{Bell, FeedIn, Finished, put_waiting};
 use std::alloc::Global;
@@ -31,8 +31,8 @@ pub fn pump<K: Keeper, R: Read, W: Wait>(
     script: u8,
     child: u8,
     device: &mut Counted<R>,
-    feed: FeedIn<Item<K>>,
-) -> Option<Finished<Item<K>>>
+    feed: FeedIn<RingItem<K>>,
+) -> Option<Finished<RingItem<K>>>
     requires counts { (device.old.failures ≡ 0) × (device.old.calls ≡ 0) }
     requires empty { put_items feed ≡ [] }
     ensures read { IsRead script child (R.remaining device.old.device) feed result }
@@ -54,8 +54,8 @@ fn put_pieces<K: Keeper, R: Read, W: Wait>(
     script: u8,
     child: u8,
     device: &mut Counted<R>,
-    feed: &mut FeedIn<Item<K>>,
-) -> Option<Item<K>>
+    feed: &mut FeedIn<RingItem<K>>,
+) -> Option<RingItem<K>>
     requires { (device.old.failures ≡ 0) × (device.old.calls ≡ 0) }
     ensures ring { SameIn feed.old feed.new }
     ensures list { IfSome result (λ x. PumpsAllBut script child (R.remaining device.old.device) device.new (put_items feed.old) (put_items feed.new) x) }
@@ -63,7 +63,7 @@ fn put_pieces<K: Keeper, R: Read, W: Wait>(
     let mut buf = [0u8; SIZE];
     for _ in 0..READS {
         match device.read(&mut buf) {
-            Ok(0) => return Some(Item::End { script, child }),
+            Ok(0) => return Some(RingItem::End { script, child }),
             Ok(n) => {
                 let Ok(piece) = Piece::new(alloc, &buf[..n]) else {
                     return Some(read_failure(script, child, Cause::Memory));
@@ -72,7 +72,7 @@ fn put_pieces<K: Keeper, R: Read, W: Wait>(
                     rt,
                     bell,
                     feed,
-                    Item::Out {
+                    RingItem::Out {
                         script,
                         child,
                         piece,
@@ -91,7 +91,11 @@ fn put_pieces<K: Keeper, R: Read, W: Wait>(
 }
 
 /// Puts a read failure instead of a reader's items. `None` if the ring has no room for it.
-pub fn give_up<K: Keeper>(script: u8, child: u8, feed: FeedIn<Item<K>>) -> Option<Finished<Item<K>>>
+pub fn give_up<K: Keeper>(
+    script: u8,
+    child: u8,
+    feed: FeedIn<RingItem<K>>,
+) -> Option<Finished<RingItem<K>>>
     requires { put_items feed ≡ [] }
     ensures { (bytes : Option (List ℕ)) → IsRead script child bytes feed result }
 {
@@ -102,10 +106,10 @@ pub fn give_up<K: Keeper>(script: u8, child: u8, feed: FeedIn<Item<K>>) -> Optio
     }
 }
 
-fn read_failure<K: Keeper>(script: u8, child: u8, cause: Cause) -> Item<K>
+fn read_failure<K: Keeper>(script: u8, child: u8, cause: Cause) -> RingItem<K>
     ensures { result ≡ ReadFail script child cause }
 {
-    Item::ReadFail {
+    RingItem::ReadFail {
         script,
         child,
         cause,

@@ -7,7 +7,7 @@ ghost use Rattle.child_hands.specs.Started.{IsStarted};
 
 use crate::pump::{give_up, pump};
 use crate::work::Fresh;
-use crate::{Item, Keeper};
+use crate::{Keeper, RingItem};
 use child_events::Counted;
 use feed_rings::{FeedIn, Finished};
 use std::alloc::{AllocError, Global};
@@ -27,12 +27,12 @@ pub struct Reads<K: Keeper> {
     pub script: u8,
     pub child: u8,
     /// The end of the ring into which it puts.
-    pub feed: Snapshot<FeedIn<Item<K>>>,
+    pub feed: Snapshot<FeedIn<RingItem<K>>>,
     /// The device that it reads.
     pub out: Snapshot<K::Out>,
 }
 
-impl<K: Keeper> Promise<Option<Finished<Item<K>>>> for Reads<K> {
+impl<K: Keeper> Promise<Option<Finished<RingItem<K>>>> for Reads<K> {
     ghost kept_by = { λ p r. IsRead p.script p.child (K.Out.remaining p.out.value) p.feed.value r };
 }
 
@@ -40,9 +40,9 @@ impl<K: Keeper> Promise<Option<Finished<Item<K>>>> for Reads<K> {
 #[derive(Drop)]
 pub enum Started<K: Keeper> {
     /// The reader runs.
-    Running(PromisedHandle<Option<Finished<Item<K>>>, Reads<K>>),
+    Running(PromisedHandle<Option<Finished<RingItem<K>>>, Reads<K>>),
     /// No thread could be started. A read failure was put instead.
-    Refused(Option<Finished<Item<K>>>),
+    Refused(Option<Finished<RingItem<K>>>),
 }
 
 /// Reads a device to its end and puts its bytes. If `refused` is set, no thread could be started,
@@ -55,7 +55,7 @@ fn read<K: Keeper, R: Read + Drop, W: Wait + Copy>(
     refused: Arc<AtomicBool>,
     out: R,
     fresh: Fresh<K>,
-) -> Option<Finished<Item<K>>>
+) -> Option<Finished<RingItem<K>>>
     ensures { IsRead script child (R.remaining out) fresh.feed result }
 {
     let Fresh { feed, bell } = fresh;
@@ -89,7 +89,7 @@ pub fn start<K: Keeper + Send + 'static, W: Threads + Wait + Copy + Send + 'stat
         feed: Snapshot::of(&fresh.feed),
         out: Snapshot::of(&out),
     };
-    let run = move || -> Option<Finished<Item<K>>>
+    let run = move || -> Option<Finished<RingItem<K>>>
         requires { (life : ℕ) → Mem life K.Out.row.lives → Mem life [] }
     { read(rt, alloc, script, child, told, out, fresh) };
     match thread::Builder::new()

@@ -7,7 +7,7 @@ ghost use Rattle.child_hands.specs.Handed.{IsHandEnd};
 use crate::hand::hand;
 use crate::reader::STACK;
 use crate::work::{HandEnd, Work};
-use crate::{Gate, Item, Keeper};
+use crate::{Gate, Keeper, RingItem};
 use feed_rings::{Bell, FeedIn, FeedOut};
 use std::alloc::Global;
 use std::snapshot::Snapshot;
@@ -20,8 +20,8 @@ use std::thread::{Promise, PromisedHandle, Threads};
 pub struct Obeys<K: Keeper> {
     pub script: u8,
     pub keeper: Snapshot<K>,
-    pub asks: Snapshot<FeedOut<Item<K>>>,
-    pub answers: Snapshot<FeedIn<Item<K>>>,
+    pub asks: Snapshot<FeedOut<RingItem<K>>>,
+    pub answers: Snapshot<FeedIn<RingItem<K>>>,
     pub works: Snapshot<Vec<Work<K>>>,
 }
 
@@ -41,8 +41,8 @@ pub fn start_hand<
     script: u8,
     keeper: K,
     gate: Arc<G>,
-    asks: FeedOut<Item<K>>,
-    answers: FeedIn<Item<K>>,
+    asks: FeedOut<RingItem<K>>,
+    answers: FeedIn<RingItem<K>>,
     bell: Bell,
     works: Vec<Work<K>>,
 ) -> Option<PromisedHandle<HandEnd<K>, Obeys<K>>>

@@ -4,7 +4,7 @@ ghost use Rattle.std.specs.Prelude.{◌≡◌, [], length};
 ghost use Rattle.feed_rings.specs.Ends.{put_items};
 
 use crate::reader::Reads;
-use crate::{Item, Keeper};
+use crate::{Keeper, RingItem};
 use feed_rings::{Bell, FeedIn, FeedOut, Finished};
 use std::thread::PromisedHandle;
 
@@ -12,7 +12,7 @@ use std::thread::PromisedHandle;
 #[derive(Drop)]
 pub struct Fresh<K: Keeper> {
     /// The putting end of the child's ring.
-    pub feed: FeedIn<Item<K>>,
+    pub feed: FeedIn<RingItem<K>>,
     /// The bell that the ring was made to put from.
     pub bell: Bell,
     pub ghost empty: { length (put_items feed) ≡ 0 },
@@ -20,7 +20,7 @@ pub struct Fresh<K: Keeper> {
 
 impl<K: Keeper> Fresh<K> {
     /// Wraps a ring end into which nothing was put yet.
-    pub fn new(feed: FeedIn<Item<K>>, bell: Bell) -> Self
+    pub fn new(feed: FeedIn<RingItem<K>>, bell: Bell) -> Self
         requires { put_items feed ≡ [] }
         ensures { result.feed ≡ feed }
     {
@@ -34,14 +34,14 @@ pub enum Work<K: Keeper> {
     /// The child has no reader yet.
     Free(Fresh<K>),
     /// The items that the child's reader put, if they are available. `None` while it reads.
-    Ended(Option<Finished<Item<K>>>),
+    Ended(Option<Finished<RingItem<K>>>),
 }
 
 /// A running reader, and the index of its child, from 0.
 #[derive(Drop)]
 pub struct Reader<K: Keeper> {
     pub index: usize,
-    pub handle: PromisedHandle<Option<Finished<Item<K>>>, Reads<K>>,
+    pub handle: PromisedHandle<Option<Finished<RingItem<K>>>, Reads<K>>,
 }
 
 /// Why a hand has ended.
@@ -61,9 +61,9 @@ pub struct HandEnd<K: Keeper> {
     /// The place of each child, from child 1 on.
     pub works: Vec<Work<K>>,
     /// All answers that were put, if they are available.
-    pub answers: Option<Finished<Item<K>>>,
+    pub answers: Option<Finished<RingItem<K>>>,
     /// The end from which requests were taken.
-    pub asks: FeedOut<Item<K>>,
+    pub asks: FeedOut<RingItem<K>>,
     /// Why the hand has ended.
     pub outcome: Outcome,
     /// The number of requests that were carried out although the gate refused them.

@@ -16,7 +16,7 @@ use Rattle.dialogue_sched.specs.Refusal.{refusal_of, refused_or, first_refusal, 
 use Rattle.child_desk.specs.Book.{AllTaken}
 use Rattle.child_desk.specs.Line.{Keeping}
 use Rattle.child_desk.specs.Book.{ring_log}
-use Rattle.child_serve.specs.declared.served.Part.{Part}
+use Rattle.child_serve.specs.declared.served.WorkerResult.{WorkerResult}
 use Rattle.run_records.specs.Joined.{script_of, numbered, AllFits, IsJoined}
 use Rattle.child_serve.specs.Served.{IsPart, AreParts, records_of}
 use Rattle.run_records.proofs.Merging.{EachFrom, joined_each}
@@ -104,7 +104,7 @@ none_accepted scripts at (e ∷ es) h = tested (refusal_of scripts e) refl h (no
         no_refusal r h = cc
 
 module _ (told : ℕ → ℕ → Request → Answer → Type 0) (gives : ℕ → ℕ → Option (List ℕ) → Type 0) (keepers : List Keeping) (scripts : List Script) where
-  module _ (n w : ℕ) (s : Part) (part : IsPart told gives n w keepers scripts s) where
+  module _ (n w : ℕ) (s : WorkerResult) (part : IsPart told gives n w keepers scripts s) where
     -- a script that the worker has is one of all
     within : (number : ℕ) → 1 ≤ number → number ≤ length part.few → script_of n w number ≤ length scripts
     within number low high =
@@ -122,7 +122,7 @@ module _ (told : ℕ → ℕ → Request → Answer → Type 0) (gives : ℕ →
     part_taken : AllAccepted (length scripts) (map (numbered n w) (ring_log s.log))
     part_taken = numbered_taken (ring_log s.log) (none_accepted (length part.few) 0 (ring_log s.log) part.taken)
 
-  parts_taken : (n w : ℕ) (parts : List Part) → ((i : ℕ) (s : Part) → slice_get parts i ≡ Some s → IsPart told gives n (w + i) keepers scripts s) →
+  parts_taken : (n w : ℕ) (parts : List WorkerResult) → ((i : ℕ) (s : WorkerResult) → slice_get parts i ≡ Some s → IsPart told gives n (w + i) keepers scripts s) →
       EachFrom (λ e. refusal_of (length scripts) e ≡ None) n w (records_of parts)
   parts_taken n w [] are = tt
   parts_taken n w (p ∷ parts) are = (
@@ -131,9 +131,9 @@ module _ (told : ℕ → ℕ → Request → Answer → Type 0) (gives : ℕ →
   )
 
   -- of the joined record a run of all scripts refuses nothing
-  pub whole_taken : (parts : List Part) (es : List HallEvent) → AllFits (records_of parts) → IsJoined (records_of parts) es → AreParts told gives keepers scripts parts → first_refusal (length scripts) 0 es ≡ None
+  pub whole_taken : (parts : List WorkerResult) (es : List HallEvent) → AllFits (records_of parts) → IsJoined (records_of parts) es → AreParts told gives keepers scripts parts → first_refusal (length scripts) 0 es ≡ None
   whole_taken parts es fits joined are =
       accepted_none (length scripts) 0 es
       (joined_each (records_of parts) es fits joined (λ e. refusal_of (length scripts) e ≡ None)
-      (subst (λ (n : ℕ). EachFrom (λ e. refusal_of (length scripts) e ≡ None) n 0 (records_of parts)) (sym (map_length (λ (s : Part). ring_log s.log) parts))
+      (subst (λ (n : ℕ). EachFrom (λ e. refusal_of (length scripts) e ≡ None) n 0 (records_of parts)) (sym (map_length (λ (s : WorkerResult). ring_log s.log) parts))
       (parts_taken (length parts) 0 parts (λ i s got. subst (λ (v : ℕ). IsPart told gives (length parts) v keepers scripts s) (let e : i ≡ 0 + i = omega arith in e) (are i s got)))))

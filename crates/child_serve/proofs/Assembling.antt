@@ -18,7 +18,7 @@ use Rattle.run_records.specs.Joined.{AllFits, AllFitFrom, IsJoined}
 use Rattle.run_records.specs.Merged.{AllSoundFrom, Handed, HasOne, IsMerging, WasHanded}
 use Rattle.run_records.specs.declared.merger.Merger.{Merger}
 use Rattle.run_records.proofs.Merging.{merged_from, all_ascend, all_at, joined_sees, joined_fit}
-use Rattle.child_serve.specs.declared.served.Part.{Part}
+use Rattle.child_serve.specs.declared.served.WorkerResult.{WorkerResult}
 use Rattle.child_serve.specs.declared.served.Served.{Served}
 use Rattle.child_serve.specs.declared.serving.Joined.{Joined}
 use Rattle.child_serve.specs.declared.serving.ServeFault.{ServeFault}
@@ -40,23 +40,23 @@ joins records fits = (merged_from (length records) 0 records, record { ascends =
 
 -- the record of a run: the one that a recorder was handed, where it was handed one, or else any
 module _ {R : Type 0} (notes : R → List HallEvent → R → Type 0) (first last : R) where
-  pub the_record : (keeps : Bool) (parts : List Part) (logs : List (FeedIn LogItem)) → logs ≡ map (λ (p : Part). p.log) parts → AllFits (records_of parts) → AllSoundFrom put_items (length logs) 0 logs →
+  pub the_record : (keeps : Bool) (parts : List WorkerResult) (logs : List (FeedIn LogItem)) → logs ≡ map (λ (p : WorkerResult). p.log) parts → AllFits (records_of parts) → AllSoundFrom put_items (length logs) 0 logs →
       (IsTrue keeps → HasOne notes first logs last) → (es : List HallEvent) × IsJoined (records_of parts) es × (IsTrue keeps → Handed notes first es last)
   the_record true parts logs are fits sound has =
       let one = has refl in
-      (one.es, subst (λ (rs : List (List HallEvent)). IsJoined rs one.es) (ap (map ring_log) are ∙ map-map ring_log (λ (p : Part). p.log) parts) (one.joined sound), λ t. one.handed)
+      (one.es, subst (λ (rs : List (List HallEvent)). IsJoined rs one.es) (ap (map ring_log) are ∙ map-map ring_log (λ (p : WorkerResult). p.log) parts) (one.joined sound), λ t. one.handed)
   the_record false parts logs are fits sound has = let j = joins (records_of parts) fits in (j.0, j.1, λ t. absurd (cc))
 
 module _ (told : ℕ → ℕ → Request → Answer → Type 0) (gives : ℕ → ℕ → Option (List ℕ) → Type 0) where
-  pub is_whole : (keepers : List Keeping) (scripts : List Script) (parts : List Part) (es : List HallEvent) (s : Served) → 0 < length parts → AllFits (records_of parts) → IsJoined (records_of parts) es → AreParts told gives keepers scripts parts →
-      IsAssembled (length scripts) (map (λ (p : Part). p.served) parts) s → IsWhole told gives (length parts) keepers scripts es s
+  pub is_whole : (keepers : List Keeping) (scripts : List Script) (parts : List WorkerResult) (es : List HallEvent) (s : Served) → 0 < length parts → AllFits (records_of parts) → IsJoined (records_of parts) es → AreParts told gives keepers scripts parts →
+      IsAssembled (length scripts) (map (λ (p : WorkerResult). p.served) parts) s → IsWhole told gives (length parts) keepers scripts es s
   is_whole keepers scripts parts es s some fits joined are a = record {
     served = all_served told gives keepers scripts parts es s some are joined.ascends (joined_sees (records_of parts) es fits joined)
-        (a.reports ∙ ap (in_turn (length scripts)) (map-map (λ (x : Served). x.reports) (λ (p : Part). p.served) parts))
-        (a.unsettled ∙ flat_map-map (λ (x : Served). x.unsettled.items) (λ (p : Part). p.served) parts)
-        (a.stopped ∙ ap is_any (map-map (λ (x : Served). x.stopped) (λ (p : Part). p.served) parts));
+        (a.reports ∙ ap (in_turn (length scripts)) (map-map (λ (x : Served). x.reports) (λ (p : WorkerResult). p.served) parts))
+        (a.unsettled ∙ flat_map-map (λ (x : Served). x.unsettled.items) (λ (p : WorkerResult). p.served) parts)
+        (a.stopped ∙ ap is_any (map-map (λ (x : Served). x.stopped) (λ (p : WorkerResult). p.served) parts));
     records = records_of parts;
-    each = map_length (λ (p : Part). ring_log p.log) parts;
+    each = map_length (λ (p : WorkerResult). ring_log p.log) parts;
     joined = joined;
     fits = joined_fit (records_of parts) es fits joined;
     taken = whole_taken told gives keepers scripts parts es fits joined are;
@@ -77,18 +77,18 @@ module _ (told : ℕ → ℕ → Request → Answer → Type 0) (gives : ℕ →
   served_by : (j : Joined) (s : Served) → HaveServed told gives named made (length teams) teams j.parts.items j.logs.items → (IsTrue keeps → HasOne notes first j.logs.items last) → IsAssembled count j.parts.items s → IsServing told gives workers keepers scripts notes first keeps (Ok s) last
   served_by j s have one assembled = (record_of.0, record { opens = opens; whole = whole }, record_of.2)
     where
-      parts : List Part
+      parts : List WorkerResult
       parts = have.parts
 
       counted : length parts ≡ length teams
       counted = work_count told gives named made (length teams) 0 parts teams have.work
 
       fits : AllFits (records_of parts)
-      fits = subst (λ (n : ℕ). AllFitFrom n 0 (records_of parts)) (sym (map_length (λ (p : Part). ring_log p.log) parts ∙ counted)) (work_fits told gives named made (length teams) 0 parts teams have.work)
+      fits = subst (λ (n : ℕ). AllFitFrom n 0 (records_of parts)) (sym (map_length (λ (p : WorkerResult). ring_log p.log) parts ∙ counted)) (work_fits told gives named made (length teams) 0 parts teams have.work)
 
       sound : AllSoundFrom put_items (length j.logs.items) 0 j.logs.items
       sound = subst (λ (ls : List (FeedIn LogItem)). AllSoundFrom put_items (length ls) 0 ls) (sym have.rings)
-          (subst (λ (n : ℕ). AllSoundFrom put_items n 0 (map (λ (p : Part). p.log) parts)) (sym (map_length (λ (p : Part). p.log) parts ∙ counted)) (work_sound told gives named made (length teams) 0 parts teams have.work))
+          (subst (λ (n : ℕ). AllSoundFrom put_items n 0 (map (λ (p : WorkerResult). p.log) parts)) (sym (map_length (λ (p : WorkerResult). p.log) parts ∙ counted)) (work_sound told gives named made (length teams) 0 parts teams have.work))
 
       record_of : (es : List HallEvent) × IsJoined (records_of parts) es × (IsTrue keeps → Handed notes first es last)
       record_of = the_record notes first last keeps parts j.logs.items have.rings fits sound one
@@ -99,7 +99,7 @@ module _ (told : ℕ → ℕ → Request → Answer → Type 0) (gives : ℕ →
       whole : IsWhole told gives workers keepers scripts record_of.0 s
       whole = subst (λ (n : ℕ). IsWhole told gives n keepers scripts record_of.0 s) (counted ∙ each)
           (is_whole told gives keepers scripts parts record_of.0 s within fits record_of.1 (are_parts told gives named made keepers scripts parts teams have.work dealt)
-          (subst (λ (n : ℕ). IsAssembled n (map (λ (p : Part). p.served) parts) s) as_many (subst (λ (ss : List Served). IsAssembled count ss s) have.are assembled)))
+          (subst (λ (n : ℕ). IsAssembled n (map (λ (p : WorkerResult). p.served) parts) s) as_many (subst (λ (ss : List Served). IsAssembled count ss s) have.are assembled)))
 
   pub all_gathered : (joined : Result Joined WorkFault) (m : Merger R) (r : Result Served ServeFault) → IfOk joined (λ j. HaveServed told gives named made (length teams) teams j.parts.items j.logs.items) → m.keeps ≡ keeps → IsMerging notes first m → WasHanded notes first last →
       Gathers notes count joined m r last → IsServing told gives workers keepers scripts notes first keeps r last

@@ -16,8 +16,8 @@ use Rattle.expect_core.specs.declared.request.Act.TheVariants as act
 use Rattle.expect_core.specs.declared.request.Request.{Request}
 use Rattle.child_hands.specs.declared.keeper.Keeper.{Ghosts}
 use Rattle.child_hands.specs.declared.items.Answered.{Answered}
-use Rattle.child_hands.specs.declared.items.Item.{Item}
-use Rattle.child_hands.specs.declared.items.Item.TheVariants.{Out, End, ReadFail, Answer, Ask, Stop}
+use Rattle.child_hands.specs.declared.items.RingItem.{RingItem}
+use Rattle.child_hands.specs.declared.items.RingItem.TheVariants.{Out, End, ReadFail, Answer, Ask, Stop}
 use Rattle.child_hands.specs.Handed.{is_spawn, is_ok, starts, AreAnswers, spawn_call}
 use Rattle.child_hands.specs.Pumped.{outs_of, IsPumpList}
 use Rattle.child_desk.specs.Heard.{heard_of, heard}
@@ -91,7 +91,7 @@ behind x ts name n (a ∷ xs) (q ∷ qs) le among = (
 )
 
 module _ {K O : Type 0} {g : Ghosts K O} {r : ReadGhosts O} where
-  no_more : (script name n : ℕ) (x : Item K O g r) (put : List (Item K O g r)) → AreAnswers script name n [] (x ∷ put) → ⊥
+  no_more : (script name n : ℕ) (x : RingItem K O g r) (put : List (RingItem K O g r)) → AreAnswers script name n [] (x ∷ put) → ⊥
   no_more script name n (Out s c p) put are = are
   no_more script name n (End s c) put are = are
   no_more script name n (ReadFail s c e) put are = are
@@ -105,7 +105,7 @@ module _ {K O : Type 0} {g : Ghosts K O} {r : ReadGhosts O} where
       start_told (λ q s. ∥ g.told name call q s ∥₁) child a.request.child a.request.act a.answer h
       (subst (λ (n : ℕ). ∥ g.told name n a.request a.answer ∥₁) called (subst (λ (n : ℕ). ∥ g.told n a.call a.request a.answer ∥₁) named a.told))
 
-  spawned : (script name n child call : ℕ) (qs : List Request) (xs : List (Item K O g r)) → AreAnswers script name n qs xs → spawn_call child xs ≡ Some call → IsStart g.told name n child call
+  spawned : (script name n child call : ℕ) (qs : List Request) (xs : List (RingItem K O g r)) → AreAnswers script name n qs xs → spawn_call child xs ≡ Some call → IsStart g.told name n child call
   spawned script name n child call [] [] are is = absurd (nothing_there call is)
   spawned script name n child call [] (Out s c p ∷ xs) are is = absurd are
   spawned script name n child call [] (End s c ∷ xs) are is = absurd are
@@ -132,18 +132,18 @@ module _ {K O : Type 0} {g : Ghosts K O} {r : ReadGhosts O} where
   spawned script name n child call (q ∷ qs) (Ask p ∷ xs) are is = absurd are
   spawned script name n child call (q ∷ qs) (Stop ∷ xs) are is = absurd are
 
-  pub starts_with : (script name n child call : ℕ) (bytes : Option (List ℕ)) (qs : List Request) (xs : List (Item K O g r)) → AreAnswers script name n qs xs → spawn_call child xs ≡ Some call → g.gives name call bytes →
+  pub starts_with : (script name n child call : ℕ) (bytes : Option (List ℕ)) (qs : List Request) (xs : List (RingItem K O g r)) → AreAnswers script name n qs xs → spawn_call child xs ≡ Some call → g.gives name call bytes →
       StartsWith g.told g.gives name n child bytes
   starts_with script name n child call bytes qs xs are is gave = let s = spawned script name n child call qs xs are is in (call, s.1.0, s.0, s.1.1, gave)
 
   -- what is heard of a pump list
 
-  heard_pieces : (s c : ℕ) (pieces : List (List ℕ)) (x : Item K O g r) (w : What) → heard_of s c x ≡ w ∷ [] → heard s c (outs_of s c pieces ++ x ∷ []) ≡ map (λ p. what.Out p) pieces ++ w ∷ []
+  heard_pieces : (s c : ℕ) (pieces : List (List ℕ)) (x : RingItem K O g r) (w : What) → heard_of s c x ≡ w ∷ [] → heard s c (outs_of s c pieces ++ x ∷ []) ≡ map (λ p. what.Out p) pieces ++ w ∷ []
   heard_pieces s c [] x w is = ap (λ (l : List What). l ++ []) is
   heard_pieces s c (p ∷ pieces) x w is =
       ap (λ (t : Bool). (if t then what.Out p ∷ [] else []) ++ heard s c (outs_of s c pieces ++ x ∷ [])) (itself s c) ∙ ap (λ (l : List What). what.Out p ∷ l) (heard_pieces s c pieces x w is)
 
-  heard_list : (s c : ℕ) (bytes : Option (List ℕ)) (items : List (Item K O g r)) → IsPumpList s c bytes items → IsOutputOf bytes (heard s c items)
+  heard_list : (s c : ℕ) (bytes : Option (List ℕ)) (items : List (RingItem K O g r)) → IsPumpList s c bytes items → IsOutputOf bytes (heard s c items)
   heard_list s c bytes items p = record { pieces = p.pieces; sizes = p.sizes; rest = p.rest; begins = p.begins; last = by_last p.last }
     where
       one : (w : What) → (if (s == s) && (c == c) then w ∷ [] else []) ≡ w ∷ []
@@ -156,7 +156,7 @@ module _ {K O : Type 0} {g : Ghosts K O} {r : ReadGhosts O} where
 
   -- answers that a desk took are the first that the hand put
 
-  later : (script name n : ℕ) (qs : List Request) (put : List (Item K O g r)) (t : Telling) → AreAnswers script name n qs put → Contains (all_told put) t → n < t.call
+  later : (script name n : ℕ) (qs : List Request) (put : List (RingItem K O g r)) (t : Telling) → AreAnswers script name n qs put → Contains (all_told put) t → n < t.call
   later script name n [] [] t are has = absurd (none_in t has)
   later script name n [] (x ∷ put) t are has = absurd (no_more script name n x put are)
   later script name n (q ∷ qs) [] t are has = absurd are
@@ -173,7 +173,7 @@ module _ {K O : Type 0} {g : Ghosts K O} {r : ReadGhosts O} where
   later script name n (q ∷ qs) (Ask r ∷ put) t are has = absurd are
   later script name n (q ∷ qs) (Stop ∷ put) t are has = absurd are
 
-  pub started_first : (script name n child call : ℕ) (qs : List Request) (put : List (Item K O g r)) (xs : List Reply) (rs : List Request) → AreAnswers script name n qs put → AreAmong (all_told put) name n xs rs →
+  pub started_first : (script name n child call : ℕ) (qs : List Request) (put : List (RingItem K O g r)) (xs : List Reply) (rs : List Request) → AreAnswers script name n qs put → AreAmong (all_told put) name n xs rs →
       started_by child n xs rs ≡ Some call → spawn_call child put ≡ Some call
   started_first script name n child call qs put [] rs are among is = absurd (nothing_there call is)
   started_first script name n child call qs put (x ∷ xs) [] are among is = absurd among
@@ -207,7 +207,7 @@ module _ {K O : Type 0} {g : Ghosts K O} {r : ReadGhosts O} where
   started_first script name n child call (q ∷ qs) (Stop ∷ put) (x ∷ xs) (r ∷ rs) are among is = absurd are
 
   -- and were told
-  telling_told : (items : List (Item K O g r)) (t : Telling) → Contains (all_told items) t → ∥ g.told t.name t.call t.request t.answer ∥₁
+  telling_told : (items : List (RingItem K O g r)) (t : Telling) → Contains (all_told items) t → ∥ g.told t.name t.call t.request t.answer ∥₁
   telling_told [] t has = absurd (none_in t has)
   telling_told (Out s c p ∷ items) t has = telling_told items t has
   telling_told (End s c ∷ items) t has = telling_told items t has
@@ -219,16 +219,16 @@ module _ {K O : Type 0} {g : Ghosts K O} {r : ReadGhosts O} where
   telling_told (Ask q ∷ items) t has = telling_told items t has
   telling_told (Stop ∷ items) t has = telling_told items t has
 
-  pub among_told : (items : List (Item K O g r)) (name n : ℕ) (xs : List Reply) (qs : List Request) → AreAmong (all_told items) name n xs qs → AreTold g.told name n xs qs
+  pub among_told : (items : List (RingItem K O g r)) (name n : ℕ) (xs : List Reply) (qs : List Request) → AreAmong (all_told items) name n xs qs → AreTold g.told name n xs qs
   among_told items name n [] qs among = tt
   among_told items name n (x ∷ xs) [] among = absurd among
   among_told items name n (x ∷ xs) (q ∷ qs) among = (telling_told items _ among.0, among_told items name (n + 1) xs qs among.1)
 
   -- the first of what was put
-  told_front : (xs rest : List (Item K O g r)) (t : Telling) → Contains (all_told xs) t → Contains (all_told (xs ++ rest)) t
+  told_front : (xs rest : List (RingItem K O g r)) (t : Telling) → Contains (all_told xs) t → Contains (all_told (xs ++ rest)) t
   told_front xs rest t has = subst (λ (ts : List Telling). Contains ts t) (sym (flat_map-append tells xs rest)) (Contains-append_left (all_told xs) (all_told rest) t has)
 
-  pub given_of : (s name made c : ℕ) (qs : List Request) (put taken rest items : List (Item K O g r)) (xs : List Reply) (rs : List Request) → AreAnswers s name made qs put → taken ++ rest ≡ put →
+  pub given_of : (s name made c : ℕ) (qs : List Request) (put taken rest items : List (RingItem K O g r)) (xs : List Reply) (rs : List Request) → AreAnswers s name made qs put → taken ++ rest ≡ put →
       AreAmong (all_told taken) name made xs rs → IsPut s name c put items → IsGiven g.told g.gives name made c xs rs (heard s c items)
   given_of s name made c qs put taken rest items xs rs are front among (inl (never, none)) = record {
     started = λ call is. absurd (nothing_there call (sym never ∙ started_first s name made c call qs put xs rs are all_among is));
@@ -236,7 +236,7 @@ module _ {K O : Type 0} {g : Ghosts K O} {r : ReadGhosts O} where
   }
     where
       all_among : AreAmong (all_told put) name made xs rs
-      all_among = subst (λ (l : List (Item K O g r)). AreAmong (all_told l) name made xs rs) front (among_more (all_told taken) (all_told (taken ++ rest)) (told_front taken rest) name made xs rs among)
+      all_among = subst (λ (l : List (RingItem K O g r)). AreAmong (all_told l) name made xs rs) front (among_more (all_told taken) (all_told (taken ++ rest)) (told_front taken rest) name made xs rs among)
   given_of s name made c qs put taken rest items xs rs are front among (inr (first, bytes, is_first, gave, list)) = record {
     started = λ call is.
         let same : first ≡ call = one_there first call (sym is_first ∙ started_first s name made c call qs put xs rs are all_among is) in
@@ -245,4 +245,4 @@ module _ {K O : Type 0} {g : Ghosts K O} {r : ReadGhosts O} where
   }
     where
       all_among : AreAmong (all_told put) name made xs rs
-      all_among = subst (λ (l : List (Item K O g r)). AreAmong (all_told l) name made xs rs) front (among_more (all_told taken) (all_told (taken ++ rest)) (told_front taken rest) name made xs rs among)
+      all_among = subst (λ (l : List (RingItem K O g r)). AreAmong (all_told l) name made xs rs) front (among_more (all_told taken) (all_told (taken ++ rest)) (told_front taken rest) name made xs rs among)

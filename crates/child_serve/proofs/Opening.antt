@@ -5,7 +5,7 @@ use Rattle.std.proofs.lemmas.Option.{slice_get_within}
 use Rattle.std.specs.declared.io.traits.Read.{Ghosts as ReadGhosts}
 use Rattle.std.specs.declared.thread.PromisedHandle.{PromisedHandle}
 use Rattle.child_hands.specs.declared.keeper.Keeper.{Ghosts}
-use Rattle.child_hands.specs.declared.items.Item.{Item}
+use Rattle.child_hands.specs.declared.items.RingItem.{RingItem}
 use Rattle.feed_rings.specs.Ends.{put_items, taken_items, all_put, IsPair, SameIn, SameOut, EndsRingOf, IsFinishedOf}
 use Rattle.feed_rings.specs.declared.feed.FeedIn.{FeedIn}
 use Rattle.feed_rings.specs.declared.feed.FeedOut.{FeedOut}
@@ -87,7 +87,7 @@ module _ {K O : Type 0} {g : Ghosts K O} {r : ReadGhosts O} where
   free_there : (a b : Fresh K O g r) → ◌≡◌ {A = Work K O g r} (Free a) (Free b) → a ≡ b
   free_there a b h = cc
 
-  pub one_ring : (n : ℕ) (works works' : List (Work K O g r)) (outs outs' : List (FeedOut (Item K O g r))) (fresh : Fresh K O g r) (out : FeedOut (Item K O g r)) →
+  pub one_ring : (n : ℕ) (works works' : List (Work K O g r)) (outs outs' : List (FeedOut (RingItem K O g r))) (fresh : Fresh K O g r) (out : FeedOut (RingItem K O g r)) →
       works' ≡ works ++ Free fresh ∷ [] → outs' ≡ outs ++ out ∷ [] → IsPair fresh.feed out → taken_items out ≡ [] → AreRings n works outs → AreRings (n + 1) works' outs'
   one_ring n works works' outs outs' fresh out works_is outs_is pair none are = record {
     works_count = ap length works_is ∙ one_longer works (Free fresh) ∙ ap (λ (k : ℕ). k + 1) are.works_count;
@@ -99,17 +99,17 @@ module _ {K O : Type 0} {g : Ghosts K O} {r : ReadGhosts O} where
     paired = λ i f o got here. by_place i f o (last_or_before works (Free fresh) i (Free f) (work_at i (Free f) got)) (last_or_before outs out i o (out_at i o here));
     untaken = λ i o here. elim (last_or_before outs out i o (out_at i o here)) [
       | inl old ↦ are.untaken i o old
-      | inr new ↦ subst (λ (x : FeedOut (Item K O g r)). taken_items x ≡ []) new.1 none
+      | inr new ↦ subst (λ (x : FeedOut (RingItem K O g r)). taken_items x ≡ []) new.1 none
     ];
   }
     where
       work_at : (i : ℕ) (work : Work K O g r) → slice_get works' i ≡ Some work → slice_get (works ++ Free fresh ∷ []) i ≡ Some work
       work_at i work got = ap (λ (l : List (Work K O g r)). slice_get l i) (sym works_is) ∙ got
 
-      out_at : (i : ℕ) (o : FeedOut (Item K O g r)) → slice_get outs' i ≡ Some o → slice_get (outs ++ out ∷ []) i ≡ Some o
-      out_at i o here = ap (λ (l : List (FeedOut (Item K O g r))). slice_get l i) (sym outs_is) ∙ here
+      out_at : (i : ℕ) (o : FeedOut (RingItem K O g r)) → slice_get outs' i ≡ Some o → slice_get (outs ++ out ∷ []) i ≡ Some o
+      out_at i o here = ap (λ (l : List (FeedOut (RingItem K O g r))). slice_get l i) (sym outs_is) ∙ here
 
-      by_place : (i : ℕ) (f : Fresh K O g r) (o : FeedOut (Item K O g r)) → (slice_get works i ≡ Some (Free f)) ⊎ ((i ≡ length works) × (Free fresh ≡ Free f)) → (slice_get outs i ≡ Some o) ⊎ ((i ≡ length outs) × (out ≡ o)) → IsPair f.feed o
+      by_place : (i : ℕ) (f : Fresh K O g r) (o : FeedOut (RingItem K O g r)) → (slice_get works i ≡ Some (Free f)) ⊎ ((i ≡ length works) × (Free fresh ≡ Free f)) → (slice_get outs i ≡ Some o) ⊎ ((i ≡ length outs) × (out ≡ o)) → IsPair f.feed o
       by_place i f o (inl a) (inl b) = are.paired i f o a b
       by_place i f o (inl a) (inr b) =
           let within = slice_get_within works i (Free f) a in
@@ -124,14 +124,14 @@ module _ {K O : Type 0} {g : Ghosts K O} {r : ReadGhosts O} where
           let u = are.outs_count in
           absurd (omega (arith, within, last, w, u))
       by_place i f o (inr a) (inr b) =
-          subst (λ (x : Fresh K O g r). IsPair x.feed o) (free_there fresh f a.1) (subst (λ (x : FeedOut (Item K O g r)). IsPair fresh.feed x) b.1 pair)
+          subst (λ (x : Fresh K O g r). IsPair x.feed o) (free_there fresh f a.1) (subst (λ (x : FeedOut (RingItem K O g r)). IsPair fresh.feed x) b.1 pair)
 
   -- nothing was put to it
   pub none_asked : (e : Ends K O g r) → put_items e.asks ≡ [] → e.ready ≡ None → asked_of_hand e ≡ []
-  none_asked e none free = ap (λ (xs : List (Item K O g r)). map put_of xs ++ waiting e.ready) none ∙ ap (λ (o : Option (Item K O g r)). waiting o) free
+  none_asked e none free = ap (λ (xs : List (RingItem K O g r)). map put_of xs ++ waiting e.ready) none ∙ ap (λ (o : Option (RingItem K O g r)). waiting o) free
 
   -- a hand that is started
-  pub is_opened : (script : ℕ) (keeper : K) (e : Ends K O g r) (hand : PromisedHandle (HandEnd K O g r) (Obeys K O g r)) (works : List (Work K O g r)) (outs : List (FeedOut (Item K O g r))) →
+  pub is_opened : (script : ℕ) (keeper : K) (e : Ends K O g r) (hand : PromisedHandle (HandEnd K O g r) (Obeys K O g r)) (works : List (Work K O g r)) (outs : List (FeedOut (RingItem K O g r))) →
       hand.promise.script ≡ script → hand.promise.keeper.value ≡ keeper → taken_items hand.promise.asks.value ≡ [] → put_items hand.promise.answers.value ≡ [] → IsPair hand.promise.answers.value e.answers → taken_items e.answers ≡ [] → asked_of_hand e ≡ [] →
       hand.promise.works.value.items ≡ works → e.readers.script ≡ script → e.readers.outs.items ≡ outs → AreRings 16 works outs → IsOpened script keeper e hand
   is_opened script keeper e hand works outs puts kept asks answers answering unheard unasked works_are hears outs_are rings = record {
@@ -144,12 +144,12 @@ module _ {K O : Type 0} {g : Ghosts K O} {r : ReadGhosts O} where
       answering = answering;
       count = ap length works_are ∙ rings.works_count;
       unused = subst (λ (ws : List (Work K O g r)). AreUnused ws) (sym works_are) rings.unused;
-      paired = subst (λ (ws : List (Work K O g r)). ArePaired ws e.readers.outs.items) (sym works_are) (subst (λ (os : List (FeedOut (Item K O g r))). ArePaired works os) (sym outs_are) rings.paired);
+      paired = subst (λ (ws : List (Work K O g r)). ArePaired ws e.readers.outs.items) (sym works_are) (subst (λ (os : List (FeedOut (RingItem K O g r))). ArePaired works os) (sym outs_are) rings.paired);
     };
     outs = ap length outs_are ∙ rings.outs_count;
     unheard = unheard;
     unasked = unasked;
-    untaken = subst (λ (os : List (FeedOut (Item K O g r))). AreUntaken os) (sym outs_are) rings.untaken;
+    untaken = subst (λ (os : List (FeedOut (RingItem K O g r))). AreUntaken os) (sym outs_are) rings.untaken;
   }
 
   -- hands that are started one by one
@@ -190,29 +190,29 @@ module _ {K O : Type 0} {g : Ghosts K O} {r : ReadGhosts O} where
 
   -- what is left at a place
 
-  pub ended_finish : (o : Option (Finished (Item K O g r))) → IfSome o (IsFinishOf (Ended o))
+  pub ended_finish : (o : Option (Finished (RingItem K O g r))) → IfSome o (IsFinishOf (Ended o))
   ended_finish None = tt
   ended_finish (Some f) = ((λ out left. left), (f, refl, refl))
 
   -- What a hand leaves that was started with nothing in its own rings and none of its children started.
-  module _ (script : ℕ) (keeper : K) (asks : FeedOut (Item K O g r)) (answers : FeedIn (Item K O g r)) (works : List (Work K O g r)) (e : HandEnd K O g r)
+  module _ (script : ℕ) (keeper : K) (asks : FeedOut (RingItem K O g r)) (answers : FeedIn (RingItem K O g r)) (works : List (Work K O g r)) (e : HandEnd K O g r)
       (no_asks : taken_items asks ≡ []) (no_answers : put_items answers ≡ []) (unused : AreUnused works) (is : IsHandEnd script keeper asks answers works e) where
     -- the rings' ends at free places
-    abbrev AreFeeds : List (Work K O g r) → List (FeedIn (Item K O g r)) → Type 0
+    abbrev AreFeeds : List (Work K O g r) → List (FeedIn (RingItem K O g r)) → Type 0
     AreFeeds ws feeds = (i : ℕ) (work : Work K O g r) → slice_get ws i ≡ Some work → (fresh : Fresh K O g r) × (work ≡ Free fresh) × (slice_get feeds i ≡ Some fresh.feed)
 
-    feeds_of : (ws : List (Work K O g r)) → AreUnused ws → (feeds : List (FeedIn (Item K O g r))) × AreFeeds ws feeds
+    feeds_of : (ws : List (Work K O g r)) → AreUnused ws → (feeds : List (FeedIn (RingItem K O g r))) × AreFeeds ws feeds
     feeds_of [] are = ([], λ i work got. absurd (nothing_there work got))
     feeds_of (x ∷ ws) are =
         let first = are 0 x refl in
         let rest = feeds_of ws (λ i work got. are (suc i) work got) in
         (first.0.feed ∷ rest.0, by_place first rest)
       where
-        by_place : (first : (fresh : Fresh K O g r) × (x ≡ Free fresh)) (rest : (feeds : List (FeedIn (Item K O g r))) × AreFeeds ws feeds) → AreFeeds (x ∷ ws) (first.0.feed ∷ rest.0)
+        by_place : (first : (fresh : Fresh K O g r) × (x ≡ Free fresh)) (rest : (feeds : List (FeedIn (RingItem K O g r))) × AreFeeds ws feeds) → AreFeeds (x ∷ ws) (first.0.feed ∷ rest.0)
         by_place first rest zero work got = (first.0, sym (one_there x work got) ∙ first.1, refl)
         by_place first rest (suc i) work got = rest.1 i work got
 
-    fs : (feeds : List (FeedIn (Item K O g r))) × AreFeeds works feeds
+    fs : (feeds : List (FeedIn (RingItem K O g r))) × AreFeeds works feeds
     fs = feeds_of works unused
 
     abbrev name : ℕ
@@ -222,7 +222,7 @@ module _ {K O : Type 0} {g : Ghosts K O} {r : ReadGhosts O} where
     free_first i was work at here =
         let f = fs.1 i work here in
         subst (IsWork script (i + 1) name [] was) (sym f.1)
-        (subst (λ (x : FeedIn (Item K O g r)). IsWork script (i + 1) name [] x (Free f.0)) (one_there f.0.feed was (sym f.2 ∙ at)) ((refl, refl, refl, refl), refl))
+        (subst (λ (x : FeedIn (RingItem K O g r)). IsWork script (i + 1) name [] x (Free f.0)) (one_there f.0.feed was (sym f.2 ∙ at)) ((refl, refl, refl, refl), refl))
 
     first : IsGoing script name (g.made keeper) (g.failed keeper) (g.made keeper) (g.failed keeper) [] [] fs.0 works []
     first = record { answers = tt; calls = omega arith; fails = omega arith; places = record { free = free_first; busy = tt } }
@@ -230,8 +230,8 @@ module _ {K O : Type 0} {g : Ghosts K O} {r : ReadGhosts O} where
     last : IsGoing script name (g.made keeper) (g.failed keeper) is.made is.failed (taken_items e.asks) (put_items is.put) fs.0 e.works.items []
     last =
         is.going (g.made keeper) (g.failed keeper) fs.0
-        (subst (λ (xs : List (Item K O g r)). IsGoing script name (g.made keeper) (g.failed keeper) (g.made keeper) (g.failed keeper) xs (put_items answers) fs.0 works []) (sym no_asks)
-        (subst (λ (xs : List (Item K O g r)). IsGoing script name (g.made keeper) (g.failed keeper) (g.made keeper) (g.failed keeper) [] xs fs.0 works []) (sym no_answers) first))
+        (subst (λ (xs : List (RingItem K O g r)). IsGoing script name (g.made keeper) (g.failed keeper) (g.made keeper) (g.failed keeper) xs (put_items answers) fs.0 works []) (sym no_asks)
+        (subst (λ (xs : List (RingItem K O g r)). IsGoing script name (g.made keeper) (g.failed keeper) (g.made keeper) (g.failed keeper) [] xs fs.0 works []) (sym no_answers) first))
 
     -- a place of then and the ring's end that it had at first
     record WasAt (i : ℕ) (work : Work K O g r) : Type 0 where
@@ -247,15 +247,15 @@ module _ {K O : Type 0} {g : Ghosts K O} {r : ReadGhosts O} where
         let f = fs.1 i x.0 x.1 in
         record { fresh = f.0; first = x.1 ∙ ap (λ (y : Work K O g r). Some y) f.1; now = last.places.free i f.0.feed work f.2 got }
 
-    left_by : (was : FeedIn (Item K O g r)) (out : FeedOut (Item K O g r)) (i : ℕ) (work : Work K O g r) → IsPair was out → IsWork script (i + 1) name (put_items is.put) was work → IsLeftAt work out
+    left_by : (was : FeedIn (RingItem K O g r)) (out : FeedOut (RingItem K O g r)) (i : ℕ) (work : Work K O g r) → IsPair was out → IsWork script (i + 1) name (put_items is.put) was work → IsLeftAt work out
     left_by was out i (Free fresh) pair now = free_left was fresh.feed out now.0 pair
     left_by was out i (Ended None) pair now = tt
     left_by was out i (Ended (Some f)) pair now = ended_left was f out now.0 pair
 
-    pub left_at : (outs : List (FeedOut (Item K O g r))) → ArePaired works outs → (i : ℕ) (work : Work K O g r) → slice_get e.works.items i ≡ Some work → (out : FeedOut (Item K O g r)) → slice_get outs i ≡ Some out → IsLeftAt work out
+    pub left_at : (outs : List (FeedOut (RingItem K O g r))) → ArePaired works outs → (i : ℕ) (work : Work K O g r) → slice_get e.works.items i ≡ Some work → (out : FeedOut (RingItem K O g r)) → slice_get outs i ≡ Some out → IsLeftAt work out
     left_at outs paired i work got out here = let w = was_at i work got in left_by w.fresh.feed out i work (paired i w.fresh out w.first here) w.now
 
-    put_by : (was : FeedIn (Item K O g r)) (i : ℕ) (work : Work K O g r) (items : List (Item K O g r)) → IsWork script (i + 1) name (put_items is.put) was work → IsAllOf work items → IsPut script name (i + 1) (put_items is.put) items
+    put_by : (was : FeedIn (RingItem K O g r)) (i : ℕ) (work : Work K O g r) (items : List (RingItem K O g r)) → IsWork script (i + 1) name (put_items is.put) was work → IsAllOf work items → IsPut script name (i + 1) (put_items is.put) items
     put_by was i (Free fresh) items now all = inl (now.1, all)
     put_by was i (Ended None) items now all = absurd (nothing_there all.0 all.1)
     put_by was i (Ended (Some f)) items now all =
@@ -263,19 +263,19 @@ module _ {K O : Type 0} {g : Ghosts K O} {r : ReadGhosts O} where
         let same : all_put f ≡ items = ap all_put (one_there f all.0 all.1) ∙ sym all.2 in
         inr (n.0, n.1, n.2, n.3, subst (IsPumpList script (i + 1) n.1) same n.4)
 
-    pub put_at : (i : ℕ) (work : Work K O g r) (items : List (Item K O g r)) → slice_get e.works.items i ≡ Some work → IsAllOf work items → IsPut script (g.named keeper) (i + 1) (put_items is.put) items
+    pub put_at : (i : ℕ) (work : Work K O g r) (items : List (RingItem K O g r)) → slice_get e.works.items i ≡ Some work → IsAllOf work items → IsPut script (g.named keeper) (i + 1) (put_items is.put) items
     put_at i work items got all = let w = was_at i work got in put_by w.fresh.feed i work items w.now all
 
     -- the answers that it put
     pub all_answers : AreAnswers script (g.named keeper) (g.made keeper) (requests_of (taken_items e.asks)) (put_items is.put)
     all_answers = last.answers
 
-    pub answers_at : (out : FeedOut (Item K O g r)) → IsPair answers out → IfSome e.answers (λ f. IsFinishedOf f out)
+    pub answers_at : (out : FeedOut (RingItem K O g r)) → IsPair answers out → IfSome e.answers (λ f. IsFinishedOf f out)
     answers_at out pair = by_case e.answers is.finished
       where
-        by_case : (o : Option (Finished (Item K O g r))) → IfSome o (λ f. EndsRingOf answers f × (all_put f ≡ put_items is.put)) → IfSome o (λ f. IsFinishedOf f out)
+        by_case : (o : Option (Finished (RingItem K O g r))) → IfSome o (λ f. EndsRingOf answers f × (all_put f ≡ put_items is.put)) → IfSome o (λ f. IsFinishedOf f out)
         by_case None h = tt
         by_case (Some f) h = ended_left answers f out h.0 pair
 
-    pub all_answered : (f : Finished (Item K O g r)) → e.answers ≡ Some f → all_put f ≡ put_items is.put
-    all_answered f got = (subst (λ (o : Option (Finished (Item K O g r))). IfSome o (λ x. EndsRingOf answers x × (all_put x ≡ put_items is.put))) got is.finished).1
+    pub all_answered : (f : Finished (RingItem K O g r)) → e.answers ≡ Some f → all_put f ≡ put_items is.put
+    all_answered f got = (subst (λ (o : Option (Finished (RingItem K O g r))). IfSome o (λ x. EndsRingOf answers x × (all_put x ≡ put_items is.put))) got is.finished).1

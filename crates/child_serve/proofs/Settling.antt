@@ -7,7 +7,7 @@ use Rattle.std.specs.declared.io.traits.Read.{Ghosts as ReadGhosts}
 use Rattle.std.specs.declared.thread.PromisedHandle.{PromisedHandle}
 use Rattle.child_events.specs.declared.event.HallEvent.{HallEvent}
 use Rattle.child_hands.specs.declared.keeper.Keeper.{Ghosts}
-use Rattle.child_hands.specs.declared.items.Item.{Item}
+use Rattle.child_hands.specs.declared.items.RingItem.{RingItem}
 use Rattle.feed_rings.specs.Ends.{put_items, taken_items, all_put, SameOut, IsFinishedOf}
 use Rattle.feed_rings.specs.declared.feed.Finished.{Finished}
 use Rattle.child_events.specs.declared.event.Answer.{Answer}
@@ -88,18 +88,18 @@ module _ {K O : Type 0} {g : Ghosts K O} {r : ReadGhosts O} where
       record { e = e.0; here = e.1; own = subst (λ (x : Ends K O g r). HearsOwn (at + 1) e.0.readers es x.readers es') (one_there p.0 e' (sym p.1 ∙ got)) p.2 }
 
   -- what an end of a child's ring was before
-  record WasOut (script i : ℕ) (e : Ends K O g r) (es : List HallEvent) (out' : FeedOut (Item K O g r)) (es' : List HallEvent) : Type 0 where
-    out : FeedOut (Item K O g r)
+  record WasOut (script i : ℕ) (e : Ends K O g r) (es : List HallEvent) (out' : FeedOut (RingItem K O g r)) (es' : List HallEvent) : Type 0 where
+    out : FeedOut (RingItem K O g r)
     here : slice_get e.readers.outs.items i ≡ Some out
     more : HearsMore e.readers.script script (i + 1) out es out' es'
 
-  was_out : (script i : ℕ) (e e' : Ends K O g r) (es es' : List HallEvent) (out' : FeedOut (Item K O g r)) → HearsOwn script e.readers es e'.readers es' → slice_get e'.readers.outs.items i ≡ Some out' → WasOut script i e es out' es'
+  was_out : (script i : ℕ) (e e' : Ends K O g r) (es es' : List HallEvent) (out' : FeedOut (RingItem K O g r)) → HearsOwn script e.readers es e'.readers es' → slice_get e'.readers.outs.items i ≡ Some out' → WasOut script i e es out' es'
   was_out script i e e' es es' out' h got =
       let within = slice_get_within e'.readers.outs.items i out' got in
       let count = h.count in
       let out = there e.readers.outs.items i (omega (arith, within, count)) in
       let p = h.each i out.0 out.1 in
-      record { out = out.0; here = out.1; more = subst (λ (x : FeedOut (Item K O g r)). HearsMore e.readers.script script (i + 1) out.0 es x es') (one_there p.0 out' (sym p.1 ∙ got)) p.2 }
+      record { out = out.0; here = out.1; more = subst (λ (x : FeedOut (RingItem K O g r)). HearsMore e.readers.script script (i + 1) out.0 es x es') (one_there p.0 out' (sym p.1 ∙ got)) p.2 }
 
   -- rings stay what they are
 
@@ -122,7 +122,7 @@ module _ {K O : Type 0} {g : Ghosts K O} {r : ReadGhosts O} where
         },
       )
 
-  left_same : (out out' : FeedOut (Item K O g r)) (work : Work K O g r) → SameOut out out' → IsLeftAt work out → IsLeftAt work out'
+  left_same : (out out' : FeedOut (RingItem K O g r)) (work : Work K O g r) → SameOut out out' → IsLeftAt work out → IsLeftAt work out'
   left_same out out' (Free fresh) same left = pair_on fresh.feed out out' left same
   left_same out out' (Ended None) same left = tt
   left_same out out' (Ended (Some f)) same left = finished_on f out out' left same
@@ -135,7 +135,7 @@ module _ {K O : Type 0} {g : Ghosts K O} {r : ReadGhosts O} where
 
   -- what was taken of another child stays
 
-  taken_still : (at index i : ℕ) (items : List (Item K O g r)) (ends ends' : List (Ends K O g r)) (es es' : List HallEvent) → Settles at index ends es ends' es' → i ≢ index → TakenIn at i items ends → TakenIn at i items ends'
+  taken_still : (at index i : ℕ) (items : List (RingItem K O g r)) (ends ends' : List (Ends K O g r)) (es es' : List HallEvent) → Settles at index ends es ends' es' → i ≢ index → TakenIn at i items ends → TakenIn at i items ends'
   taken_still at index i items ends ends' es es' s other taken e' got out' end =
       let within = slice_get_within ends' at e' got in
       let count = s.count in
@@ -145,7 +145,7 @@ module _ {K O : Type 0} {g : Ghosts K O} {r : ReadGhosts O} where
       let same : slice_get e'.readers.outs.items i ≡ slice_get e.0.readers.outs.items i = subst (λ (x : Ends K O g r). slice_get x.readers.outs.items i ≡ slice_get e.0.readers.outs.items i) one (p.2.takes.others i other) in
       taken e.0 e.1 out' (sym same ∙ end)
 
-  pub taken_elsewhere : (at k i : ℕ) (items : List (Item K O g r)) (ends ends' : List (Ends K O g r)) → SameElsewhere at ends ends' → k ≢ at → TakenIn k i items ends → TakenIn k i items ends'
+  pub taken_elsewhere : (at k i : ℕ) (items : List (RingItem K O g r)) (ends ends' : List (Ends K O g r)) → SameElsewhere at ends ends' → k ≢ at → TakenIn k i items ends → TakenIn k i items ends'
   taken_elsewhere at k i items ends ends' same other taken e' got = taken e' (sym (same k other) ∙ got)
 
   -- the first children of a script
@@ -181,7 +181,7 @@ module _ {K O : Type 0} {g : Ghosts K O} {r : ReadGhosts O} where
 
   -- what was heard of a hand stays
 
-  front_still : (at : ℕ) (items : List (Item K O g r)) (ends ends' : List (Ends K O g r)) → HearsNoHand ends ends' → IsFrontIn at items ends → IsFrontIn at items ends'
+  front_still : (at : ℕ) (items : List (RingItem K O g r)) (ends ends' : List (Ends K O g r)) → HearsNoHand ends ends' → IsFrontIn at items ends → IsFrontIn at items ends'
   front_still at items ends ends' h front e' got =
       let within = slice_get_within ends' at e' got in
       let count = h.count in
@@ -189,9 +189,9 @@ module _ {K O : Type 0} {g : Ghosts K O} {r : ReadGhosts O} where
       let p = h.each at e.0 e.1 in
       let same = one_there p.0 e' (sym p.1 ∙ got) in
       let was = front e.0 e.1 in
-      (was.0, ap (λ (xs : List (Item K O g r)). xs ++ was.0) (subst (λ (x : Ends K O g r). taken_items x.answers ≡ taken_items e.0.answers) same p.3) ∙ was.1)
+      (was.0, ap (λ (xs : List (RingItem K O g r)). xs ++ was.0) (subst (λ (x : Ends K O g r). taken_items x.answers ≡ taken_items e.0.answers) same p.3) ∙ was.1)
 
-  pub closed_still : (at : ℕ) (answers : Option (Finished (Item K O g r))) (ends ends' : List (Ends K O g r)) → HearsNoHand ends ends' → IsClosedIn at answers ends → IsClosedIn at answers ends'
+  pub closed_still : (at : ℕ) (answers : Option (Finished (RingItem K O g r))) (ends ends' : List (Ends K O g r)) → HearsNoHand ends ends' → IsClosedIn at answers ends → IsClosedIn at answers ends'
   closed_still at answers ends ends' h closed = (closed.0, closed.1, front_still at (all_put closed.0) ends ends' h closed.2)
 
   pub end_of : (at : ℕ) (hand : PromisedHandle (HandEnd K O g r) (Obeys K O g r)) (e : HandEnd K O g r) (hands : List (PromisedHandle (HandEnd K O g r) (Obeys K O g r))) (ends : List (Ends K O g r)) → AreLinked hands ends → slice_get hands at ≡ Some hand →
@@ -201,7 +201,7 @@ module _ {K O : Type 0} {g : Ghosts K O} {r : ReadGhosts O} where
       by_case l.0 l.1 e.answers
       (answers_at hand.promise.script hand.promise.keeper.value hand.promise.asks.value hand.promise.answers.value hand.promise.works.value.items e l.2.asks l.2.answers l.2.unused is l.0.answers l.2.answering)
     where
-      by_case : (x : Ends K O g r) → slice_get ends at ≡ Some x → (o : Option (Finished (Item K O g r))) → IfSome o (λ f. IsFinishedOf f x.answers) → IfSome o (λ f. IsEndOf at f ends)
+      by_case : (x : Ends K O g r) → slice_get ends at ≡ Some x → (o : Option (Finished (RingItem K O g r))) → IfSome o (λ f. IsFinishedOf f x.answers) → IfSome o (λ f. IsEndOf at f ends)
       by_case x here None h = tt
       by_case x here (Some f) h = λ y got. subst (λ (z : Ends K O g r). IsFinishedOf f z.answers) (one_there x y (sym here ∙ got)) h
 
@@ -220,7 +220,7 @@ module _ {K O : Type 0} {g : Ghosts K O} {r : ReadGhosts O} where
           put = put_items is.put;
           requests = requests_of (taken_items e.asks);
           answers = all_answers hand.promise.script hand.promise.keeper.value hand.promise.asks.value hand.promise.answers.value hand.promise.works.value.items e l.asks l.answers l.unused is;
-          front = subst (λ (xs : List (Item K O g r)). IsFrontIn at xs ends) all c.2;
+          front = subst (λ (xs : List (RingItem K O g r)). IsFrontIn at xs ends) all c.2;
         },
         t.0,
         put_at hand.promise.script hand.promise.keeper.value hand.promise.asks.value hand.promise.answers.value hand.promise.works.value.items e l.asks l.answers l.unused is index work.0 t.0 work.1 t.1,
@@ -265,7 +265,7 @@ module _ {K O : Type 0} {g : Ghosts K O} {r : ReadGhosts O} where
       let out = there e.readers.outs.items index (omega (arith, lt, outs)) in
       let q = p.2.each index out.0 out.1 in
       let m = q.2 in
-      let items : m.more ≡ t.1 = sym (m.taken ∙ ap (λ (l : List (Item K O g r)). l ++ m.more) (opened.untaken index out.0 out.1)) ∙ t.3 p.0 p.1 q.0 q.1 in
+      let items : m.more ≡ t.1 = sym (m.taken ∙ ap (λ (l : List (RingItem K O g r)). l ++ m.more) (opened.untaken index out.0 out.1)) ∙ t.3 p.0 p.1 q.0 q.1 in
       let said : recorded (at + 1) (index + 1) es' ≡ heard script (index + 1) t.1 =
       m.entered ∙ ap (λ (l : List HallEvent). recorded (at + 1) (index + 1) l ++ heard e.readers.script (index + 1) m.more) empty ∙ ap (λ (k : ℕ). heard k (index + 1) m.more) opened.hears ∙ ap (heard script (index + 1)) items in
       let put : IsPut script (g.named keeper) (index + 1) a.put t.1 =

@@ -8,7 +8,7 @@ use Rattle.feed_rings.specs.Ends.{put_items}
 use Rattle.child_events.specs.declared.event.Answer.{Answer}
 use Rattle.expect_core.specs.declared.request.Request.{Request}
 use Rattle.dialogue_sched.specs.declared.script.Script.{Script}
-use Rattle.child_serve.specs.declared.served.Part.{Part}
+use Rattle.child_serve.specs.declared.served.WorkerResult.{WorkerResult}
 use Rattle.child_serve.specs.declared.served.Served.{Served}
 use Rattle.child_serve.specs.declared.worker.Team.{Team}
 use Rattle.run_records.specs.Joined.{script_of, Fits, AllFitFrom}
@@ -60,22 +60,22 @@ module _ {K C : Type 0} where
   started_all n w hs teams (before, is, all, at) = subst (AllStarted n 0 hs) (sym (is ∙ append-nil before)) all
 
 module _ (told : ℕ → ℕ → Request → Answer → Type 0) (gives : ℕ → ℕ → Option (List ℕ) → Type 0) {K C : Type 0} (named made : K → ℕ) where
-  pub work_count : (n w : ℕ) (ps : List Part) (ts : List (Team K C)) → AllWork told gives named made n w ps ts → length ps ≡ length ts
+  pub work_count : (n w : ℕ) (ps : List WorkerResult) (ts : List (Team K C)) → AllWork told gives named made n w ps ts → length ps ≡ length ts
   work_count n w ps ts all = sym (paired_count (λ v x s. IsWork told gives named made n v s x) w ps ts all)
 
-  pub work_fits : (n w : ℕ) (ps : List Part) (ts : List (Team K C)) → AllWork told gives named made n w ps ts → AllFitFrom n w (records_of ps)
+  pub work_fits : (n w : ℕ) (ps : List WorkerResult) (ts : List (Team K C)) → AllWork told gives named made n w ps ts → AllFitFrom n w (records_of ps)
   work_fits n w [] [] a = tt
   work_fits n w [] (t ∷ ts) a = absurd a
   work_fits n w (p ∷ ps) [] a = absurd a
   work_fits n w (p ∷ ps) (t ∷ ts) a = (a.0.fits, work_fits n (w + 1) ps ts a.1)
 
-  pub work_sound : (n w : ℕ) (ps : List Part) (ts : List (Team K C)) → AllWork told gives named made n w ps ts → AllSoundFrom put_items n w (map (λ (p : Part). p.log) ps)
+  pub work_sound : (n w : ℕ) (ps : List WorkerResult) (ts : List (Team K C)) → AllWork told gives named made n w ps ts → AllSoundFrom put_items n w (map (λ (p : WorkerResult). p.log) ps)
   work_sound n w [] [] a = tt
   work_sound n w [] (t ∷ ts) a = absurd a
   work_sound n w (p ∷ ps) [] a = absurd a
   work_sound n w (p ∷ ps) (t ∷ ts) a = (a.0.sound, work_sound n (w + 1) ps ts a.1)
 
-  pub are_parts : (keepers : List Keeping) (scripts : List Script) (ps : List Part) (teams : List (Team K C)) → AllWork told gives named made (length teams) 0 ps teams → AreDealt named made keepers scripts teams → AreParts told gives keepers scripts ps
+  pub are_parts : (keepers : List Keeping) (scripts : List Script) (ps : List WorkerResult) (teams : List (Team K C)) → AllWork told gives named made (length teams) 0 ps teams → AreDealt named made keepers scripts teams → AreParts told gives keepers scripts ps
   are_parts keepers scripts ps teams all dealt w p got =
       let n : ℕ = length teams in
       let r = pair_at (λ v x s. IsWork told gives named made n v s x) 0 w ps teams p all got in
@@ -86,16 +86,16 @@ module _ (told : ℕ → ℕ → Request → Answer → Type 0) (gives : ℕ →
 
 module _ (told : ℕ → ℕ → Request → Answer → Type 0) (gives : ℕ → ℕ → Option (List ℕ) → Type 0) {K C : Type 0} (named made : K → ℕ) where
   -- those before the rest have ended
-  abbrev pub JoinedTo : ℕ → List Part → List (Handle K C) → List (Team K C) → Type 0
+  abbrev pub JoinedTo : ℕ → List WorkerResult → List (Handle K C) → List (Team K C) → Type 0
   JoinedTo n ps hs teams = (before : List (Team K C)) × (after : List (Team K C)) × (teams ≡ before ++ after) × AllWork told gives named made n 0 ps before × AllStarted n (length before) hs after
 
   pub record ServedTo (n : ℕ) (ss : List Served) (ls : List (FeedIn LogItem)) (hs : List (Handle K C)) (teams : List (Team K C)) : Type 0 where
-    pub parts : List Part
+    pub parts : List WorkerResult
     pub to : JoinedTo n parts hs teams
-    pub are : ss ≡ map (λ (p : Part). p.served) parts
-    pub rings : ls ≡ map (λ (p : Part). p.log) parts
+    pub are : ss ≡ map (λ (p : WorkerResult). p.served) parts
+    pub rings : ls ≡ map (λ (p : WorkerResult). p.log) parts
 
-  pub joined_more : (n : ℕ) (ps : List Part) (h : Handle K C) (hs : List (Handle K C)) (teams : List (Team K C)) (p : Part) → JoinedTo n ps (h ∷ hs) teams → IsWork told gives named made h.promise.workers h.promise.worker h.promise.team.value p → JoinedTo n (ps ++ p ∷ []) hs teams
+  pub joined_more : (n : ℕ) (ps : List WorkerResult) (h : Handle K C) (hs : List (Handle K C)) (teams : List (Team K C)) (p : WorkerResult) → JoinedTo n ps (h ∷ hs) teams → IsWork told gives named made h.promise.workers h.promise.worker h.promise.team.value p → JoinedTo n (ps ++ p ∷ []) hs teams
   joined_more n ps h hs teams p (before, [], is, all, more) k = absurd more
   joined_more n ps h hs teams p (before, t ∷ after, is, all, more) k = (
     before ++ t ∷ [],
@@ -108,24 +108,24 @@ module _ (told : ℕ → ℕ → Request → Answer → Type 0) (gives : ℕ →
     subst (λ (v : ℕ). AllStarted n v hs after) (sym (one_longer before t)) more.1,
   )
 
-  pub joined_next : (n : ℕ) (ps ps' : List Part) (h : Handle K C) (rest rest' : List (Handle K C)) (teams : List (Team K C)) (p : Part) → rest ≡ h ∷ rest' → ps' ≡ ps ++ p ∷ [] → JoinedTo n ps rest teams → IsWork told gives named made h.promise.workers h.promise.worker h.promise.team.value p → JoinedTo n ps' rest' teams
+  pub joined_next : (n : ℕ) (ps ps' : List WorkerResult) (h : Handle K C) (rest rest' : List (Handle K C)) (teams : List (Team K C)) (p : WorkerResult) → rest ≡ h ∷ rest' → ps' ≡ ps ++ p ∷ [] → JoinedTo n ps rest teams → IsWork told gives named made h.promise.workers h.promise.worker h.promise.team.value p → JoinedTo n ps' rest' teams
   joined_next n ps ps' h rest rest' teams p e f j k =
-      subst (λ (x : List Part). JoinedTo n x rest' teams) (sym f)
+      subst (λ (x : List WorkerResult). JoinedTo n x rest' teams) (sym f)
       (joined_more n ps h rest' teams p (subst (λ (x : List (Handle K C)). JoinedTo n ps x teams) e j) k)
 
-  pub joined_all : (n : ℕ) (ps : List Part) (hs : List (Handle K C)) (teams : List (Team K C)) → length hs ≡ 0 → JoinedTo n ps hs teams → AllWork told gives named made n 0 ps teams
+  pub joined_all : (n : ℕ) (ps : List WorkerResult) (hs : List (Handle K C)) (teams : List (Team K C)) → length hs ≡ 0 → JoinedTo n ps hs teams → AllWork told gives named made n 0 ps teams
   joined_all n ps [] teams e (before, [], is, all, more) = subst (AllWork told gives named made n 0 ps) (sym (is ∙ append-nil before)) all
   joined_all n ps [] teams e (before, t ∷ after, is, all, more) = absurd more
   joined_all n ps (h ∷ hs) teams e j = absurd (omega (arith, e))
 
   -- what came of one worker more
-  pub served_next : (n : ℕ) (teams : List (Team K C)) (hs hs' : List (Handle K C)) (ss ss' : List Served) (ls ls' : List (FeedIn LogItem)) (h : Handle K C) (p : Part) → hs ≡ h ∷ hs' → ss' ≡ ss ++ p.served ∷ [] → ls' ≡ ls ++ p.log ∷ [] →
+  pub served_next : (n : ℕ) (teams : List (Team K C)) (hs hs' : List (Handle K C)) (ss ss' : List Served) (ls ls' : List (FeedIn LogItem)) (h : Handle K C) (p : WorkerResult) → hs ≡ h ∷ hs' → ss' ≡ ss ++ p.served ∷ [] → ls' ≡ ls ++ p.log ∷ [] →
       ServedTo n ss ls hs teams → IsWork told gives named made h.promise.workers h.promise.worker h.promise.team.value p → ServedTo n ss' ls' hs' teams
   served_next n teams hs hs' ss ss' ls ls' h p step more on s k = record {
     parts = s.parts ++ p ∷ [];
     to = joined_next n s.parts (s.parts ++ p ∷ []) h hs hs' teams p step refl s.to k;
-    are = more ∙ ap (λ (xs : List Served). xs ++ p.served ∷ []) s.are ∙ sym (map-append (λ (x : Part). x.served) s.parts (p ∷ []));
-    rings = on ∙ ap (λ (xs : List (FeedIn LogItem)). xs ++ p.log ∷ []) s.rings ∙ sym (map-append (λ (x : Part). x.log) s.parts (p ∷ []));
+    are = more ∙ ap (λ (xs : List Served). xs ++ p.served ∷ []) s.are ∙ sym (map-append (λ (x : WorkerResult). x.served) s.parts (p ∷ []));
+    rings = on ∙ ap (λ (xs : List (FeedIn LogItem)). xs ++ p.log ∷ []) s.rings ∙ sym (map-append (λ (x : WorkerResult). x.log) s.parts (p ∷ []));
   }
 
   pub served_all : (n : ℕ) (teams : List (Team K C)) (hs : List (Handle K C)) (ss : List Served) (ls : List (FeedIn LogItem)) → length hs ≡ 0 → ServedTo n ss ls hs teams → HaveServed told gives named made n teams ss ls

@@ -21,7 +21,7 @@ use Rattle.dialogue_sched.specs.Ticks.{Rises, WithTicks, none, kept, tick}
 use Rattle.dialogue_sched.proofs.Ticking.{ticks_change_nothing, ticks_only_add}
 use Rattle.child_events.specs.declared.event.HallEvent.{HallEvent}
 use Rattle.child_desk.specs.Book.{ring_log}
-use Rattle.child_serve.specs.declared.served.Part.{Part}
+use Rattle.child_serve.specs.declared.served.WorkerResult.{WorkerResult}
 use Rattle.child_serve.specs.declared.served.Served.{Served}
 use Rattle.child_serve.specs.declared.served.Unsettled.{Unsettled}
 use Rattle.run_records.specs.Joined.{script_of, EachSees}
@@ -160,27 +160,27 @@ one_stopped (x ∷ bs) zero b got h = or_left x (is_any bs) (subst IsTrue (sym (
 one_stopped (x ∷ bs) (suc w) b got h = or_right x (is_any bs) (one_stopped bs w b got h)
 
 module _ (told : ℕ → ℕ → Request → Answer → Type 0) (gives : ℕ → ℕ → Option (List ℕ) → Type 0)
-    (keepers : List Keeping) (scripts : List Script) (parts : List Part) (es : List HallEvent) (s : Served) (some : 0 < length parts) (are : AreParts told gives keepers scripts parts)
+    (keepers : List Keeping) (scripts : List Script) (parts : List WorkerResult) (es : List HallEvent) (s : Served) (some : 0 < length parts) (are : AreParts told gives keepers scripts parts)
     (up : Ascends es) (sees : EachSees (records_of parts) es)
-    (reports : s.reports ≡ in_turn (length scripts) (map (λ (p : Part). p.served.reports) parts))
-    (unsettled : s.unsettled.items ≡ flat_map (λ (p : Part). p.served.unsettled.items) parts)
-    (stopped : s.stopped ≡ is_any (map (λ (p : Part). p.served.stopped) parts)) where
+    (reports : s.reports ≡ in_turn (length scripts) (map (λ (p : WorkerResult). p.served.reports) parts))
+    (unsettled : s.unsettled.items ≡ flat_map (λ (p : WorkerResult). p.served.unsettled.items) parts)
+    (stopped : s.stopped ≡ is_any (map (λ (p : WorkerResult). p.served.stopped) parts)) where
   abbrev n : ℕ
   n = length parts
 
   abbrev of : List (List Report)
-  of = map (λ (p : Part). p.served.reports) parts
+  of = map (λ (p : WorkerResult). p.served.reports) parts
 
   enough : Enough n (length scripts) of
   enough w i part got lt =
-      let h = unmapped (λ (p : Part). p.served.reports) parts w part got in
+      let h = unmapped (λ (p : WorkerResult). p.served.reports) parts w part got in
       let mine = are w h.0 h.1 in
       let script = there scripts (i * n + w) lt in
       let within : i < length mine.few = slice_get_within mine.few i script.0 (mine.dealt i ∙ script.1) in
       subst (λ (l : List Report). i < length l) h.2 (omega (arith, within, mine.served.count))
 
   as_many : n ≡ length of
-  as_many = sym (map_length (λ (p : Part). p.served.reports) parts)
+  as_many = sym (map_length (λ (p : WorkerResult). p.served.reports) parts)
 
   of_one : (i : ℕ) (keeper : Keeping) (script : Script) (report : Report) → slice_get keepers i ≡ Some keeper → slice_get scripts i ≡ Some script → slice_get s.reports i ≡ Some report →
       IsServed told gives (i + 1) keeper script report s.unsettled.items s.stopped (own (i + 1) es)
@@ -188,14 +188,14 @@ module _ (told : ℕ → ℕ → Request → Answer → Type 0) (gives : ℕ →
       subst (λ (k : ℕ). IsServed told gives k keeper script report s.unsettled.items s.stopped (own k es)) number
       (served_on told gives (script_of n (i % n) ((i / n) + 1)) keeper script report p.0.served.unsettled.items s.unsettled.items p.0.served.stopped s.stopped (own ((i / n) + 1) (ring_log p.0.log)) (own (script_of n (i % n) ((i / n) + 1)) es)
       (ascends_own (script_of n (i % n) ((i / n) + 1)) es up)
-      (subst (λ (m : ℕ). WithTicks (own ((i / n) + 1) (ring_log p.0.log)) (own (script_of m (i % n) ((i / n) + 1)) es)) (map_length (λ (x : Part). ring_log x.log) parts)
-      (sees (i % n) ((i / n) + 1) (ring_log p.0.log) (mapped (λ (x : Part). ring_log x.log) parts (i % n) p.0 p.1) (omega arith)))
-      (λ u h. subst (λ (l : List Unsettled). Contains l u) (sym unsettled) (among_all (λ (x : Part). x.served.unsettled.items) parts (i % n) p.0 u p.1 h))
-      (λ h. stopped ∙ one_stopped (map (λ (x : Part). x.served.stopped) parts) (i % n) p.0.served.stopped (mapped (λ (x : Part). x.served.stopped) parts (i % n) p.0 p.1) h)
+      (subst (λ (m : ℕ). WithTicks (own ((i / n) + 1) (ring_log p.0.log)) (own (script_of m (i % n) ((i / n) + 1)) es)) (map_length (λ (x : WorkerResult). ring_log x.log) parts)
+      (sees (i % n) ((i / n) + 1) (ring_log p.0.log) (mapped (λ (x : WorkerResult). ring_log x.log) parts (i % n) p.0 p.1) (omega arith)))
+      (λ u h. subst (λ (l : List Unsettled). Contains l u) (sym unsettled) (among_all (λ (x : WorkerResult). x.served.unsettled.items) parts (i % n) p.0 u p.1 h))
+      (λ h. stopped ∙ one_stopped (map (λ (x : WorkerResult). x.served.stopped) parts) (i % n) p.0.served.stopped (mapped (λ (x : WorkerResult). x.served.stopped) parts (i % n) p.0 p.1) h)
       (mine.served.each (i / n) keeper script report
       (mine.kept (i / n) ∙ ap (slice_get keepers) place ∙ got_keeper)
       (mine.dealt (i / n) ∙ ap (slice_get scripts) place ∙ got_script)
-      (sym (turn_at n (length scripts) of as_many enough (i % n) (i / n) p.0.served.reports (mapped (λ (x : Part). x.served.reports) parts (i % n) p.0 p.1) (omega (arith, place, slice_get_within scripts i script got_script)))
+      (sym (turn_at n (length scripts) of as_many enough (i % n) (i / n) p.0.served.reports (mapped (λ (x : WorkerResult). x.served.reports) parts (i % n) p.0 p.1) (omega (arith, place, slice_get_within scripts i script got_script)))
       ∙ ap (slice_get (in_turn (length scripts) of)) place
       ∙ ap (λ (l : List Report). slice_get l i) (sym reports)
       ∙ got_report)))
@@ -203,7 +203,7 @@ module _ (told : ℕ → ℕ → Request → Answer → Type 0) (gives : ℕ →
       place : i / n * n + i % n ≡ i
       place = div-add-mod' i n
 
-      p : (x : Part) × (slice_get parts (i % n) ≡ Some x)
+      p : (x : WorkerResult) × (slice_get parts (i % n) ≡ Some x)
       p = there parts (i % n) (mod-lt i some)
 
       mine : IsPart told gives n (i % n) keepers scripts p.0

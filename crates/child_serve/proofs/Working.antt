@@ -23,7 +23,7 @@ use Rattle.dialogue_sched.specs.Refusal.{refusal_of, piece_len as taken_len}
 use Rattle.dialogue_sched.specs.Hall.{Begins, AllBegin}
 use Rattle.dialogue_sched.specs.Ticks.{WithTicks, none as no_more, kept as kept_one}
 use Rattle.child_desk.specs.declared.book.Book.{Book}
-use Rattle.child_desk.specs.declared.line.Line.{Line}
+use Rattle.child_desk.specs.declared.line.ScriptState.{ScriptState}
 use Rattle.child_desk.specs.Book.{AllTaken, AllUntil, IsRecord, logged, ring_log}
 use Rattle.child_hands.specs.Record.{Ascends, ItemsAscendFrom}
 use Rattle.run_records.specs.Merged.{AllNumbered}
@@ -32,14 +32,14 @@ use Rattle.child_desk.proofs.Kept.{until_later}
 use Rattle.child_desk.specs.Heard.{recorded}
 use Rattle.std.specs.declared.io.traits.Read.{Ghosts as ReadGhosts}
 use Rattle.child_hands.specs.declared.keeper.Keeper.{Ghosts}
-use Rattle.child_hands.specs.declared.items.Item.{Item}
+use Rattle.child_hands.specs.declared.items.RingItem.{RingItem}
 use Rattle.feed_rings.specs.Ends.{put_items, taken_items}
 use Rattle.child_desk.specs.declared.ends.Ends.{Ends}
 use Rattle.child_desk.specs.Told.{Put, no_rings, AreAmong, answers_in, all_told, heard_of_hand, asked_of_hand, rings_of}
 use Rattle.child_desk.specs.Line.{Keeping, InLine, Means, KeepsAll, AllOver, AllShown}
 use Rattle.child_desk.proofs.Places.{one_there}
 use Rattle.child_desk.proofs.Lining.{first_line}
-use Rattle.child_serve.specs.declared.served.Part.{Part}
+use Rattle.child_serve.specs.declared.served.WorkerResult.{WorkerResult}
 use Rattle.child_serve.specs.declared.worker.Team.{Team}
 use Rattle.run_records.specs.Joined.{script_of, numbered}
 use Rattle.child_serve.specs.Given.{IsGiven}
@@ -117,10 +117,10 @@ begun_length [] (k ∷ ks) b = absurd b
 begun_length (x ∷ scripts) [] b = absurd b
 begun_length (x ∷ scripts) (k ∷ ks) b = ap suc (begun_length scripts ks b.1)
 
-abbrev pub line_of : {K : Type 0} → (K → ℕ) → (K → ℕ) → K → Line
+abbrev pub line_of : {K : Type 0} → (K → ℕ) → (K → ℕ) → K → ScriptState
 line_of named made k = record { name = named k; last = made k; awaited = None; sent = false; over = false }
 
-pub first_length : {K : Type 0} (named made : K → ℕ) (keepers : List K) (lines : List Line) → AreFirst named made keepers lines → length lines ≡ length keepers
+pub first_length : {K : Type 0} (named made : K → ℕ) (keepers : List K) (lines : List ScriptState) → AreFirst named made keepers lines → length lines ≡ length keepers
 first_length named made keepers lines are = ap length are ∙ map_length (line_of named made) keepers
 
 -- an ending is `Waiting` or another
@@ -138,7 +138,7 @@ all_kept [] = no_more
 all_kept (e ∷ es) = kept_one e es es (all_kept es)
 
 -- The lines and the hall at the start, what turning left of them, what was taken behind that, the reports, and what the record has of each child.
-module _ {K C O : Type 0} {g : Ghosts K O} {r : ReadGhosts O} (n w : ℕ) (team : Team K C) (first lines : List Line) (opened between ends : List (Ends K O g r)) (begun turned settled : Book) (s : Part)
+module _ {K C O : Type 0} {g : Ghosts K O} {r : ReadGhosts O} (n w : ℕ) (team : Team K C) (first lines : List ScriptState) (opened between ends : List (Ends K O g r)) (begun turned settled : Book) (s : WorkerResult)
     (is : IsTeam n w team)
     (are : AreFirst g.named g.made team.keepers.items first) (begin : AllBegin team.scripts.items begun.hall) (empty : logged begun ≡ []) (good : IsRecord begun)
     (unheard : (i : ℕ) (keeper : K) → slice_get team.keepers.items i ≡ Some keeper → (e : Ends K O g r) × (slice_get opened i ≡ Some e) × (taken_items e.answers ≡ []) × (asked_of_hand e ≡ []))
@@ -152,7 +152,7 @@ module _ {K C O : Type 0} {g : Ghosts K O} {r : ReadGhosts O} (n w : ℕ) (team 
   is_stopped true e = inr e
   is_stopped false e = inl e
 
-  ended_by : (i : ℕ) (script : Script) (line : Line) (es : List Event) (report : Report) → slice_get lines i ≡ Some line → Means script line es report → Tells script report s.served.stopped es
+  ended_by : (i : ℕ) (script : Script) (line : ScriptState) (es : List Event) (report : Report) → slice_get lines i ≡ Some line → Means script line es report → Tells script report s.served.stopped es
   ended_by i script line es report got (inr memory) = inr (inl memory)
   ended_by i script line es report got (inl (same, ends)) = by_end (waits report.ending) (is_stopped s.served.stopped refl)
     where
@@ -186,16 +186,16 @@ module _ {K C O : Type 0} {g : Ghosts K O} {r : ReadGhosts O} (n w : ℕ) (team 
       e : (x : Ends K O g r) × (slice_get opened i ≡ Some x) × (taken_items x.answers ≡ []) × (asked_of_hand x ≡ [])
       e = unheard i k.0 k.1
 
-      line : (x : Line) × (y : Ends K O g r) × (slice_get lines i ≡ Some x) × (slice_get between i ≡ Some y) × InLine (rings_of y) keeper script i x turned
-      line = kept.each keeper script i (line_of g.named g.made k.0) e.0 (ap (λ (l : List Line). slice_get l i) are ∙ mapped (line_of g.named g.made) team.keepers.items i k.0 k.1) e.1
-          (subst (λ (xs : List (Item K O g r)). InLine (record { told = all_told xs; asked = asked_of_hand e.0 }) keeper script i (line_of g.named g.made k.0) begun) (sym e.2)
+      line : (x : ScriptState) × (y : Ends K O g r) × (slice_get lines i ≡ Some x) × (slice_get between i ≡ Some y) × InLine (rings_of y) keeper script i x turned
+      line = kept.each keeper script i (line_of g.named g.made k.0) e.0 (ap (λ (l : List ScriptState). slice_get l i) are ∙ mapped (line_of g.named g.made) team.keepers.items i k.0 k.1) e.1
+          (subst (λ (xs : List (RingItem K O g r)). InLine (record { told = all_told xs; asked = asked_of_hand e.0 }) keeper script i (line_of g.named g.made k.0) begun) (sym e.2)
           (subst (λ (ps : List Put). InLine (record { told = []; asked = ps }) keeper script i (line_of g.named g.made k.0) begun) (sym e.3) start))
 
       -- where the script is at the end
       last : (y : Ends K O g r) × (slice_get ends i ≡ Some y) × InLine (rings_of y) keeper script i line.0 settled
       last =
           let p = left.each keeper script i line.0 line.1 line.2 line.3 line.4 in
-          (p.1, p.3, subst (λ (l : Line). InLine (rings_of p.1) keeper script i l settled) (one_there p.0 line.0 (sym p.2 ∙ line.2)) p.4)
+          (p.1, p.3, subst (λ (l : ScriptState). InLine (rings_of p.1) keeper script i l settled) (one_there p.0 line.0 (sym p.2 ∙ line.2)) p.4)
 
       given_one : (child : ℕ) → 1 ≤ child → child ≤ 16 → (Contains s.served.unsettled.items (record { script = script_of n w (i + 1); child = child }) → ⊥) →
           IsGiven g.told g.gives keeper.name keeper.made child (answers_in (own (i + 1) (logged settled))) asked (recorded (i + 1) child (logged settled))

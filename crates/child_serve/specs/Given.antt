@@ -10,7 +10,7 @@ use Rattle.child_events.specs.declared.event.What.{What}
 use Rattle.child_events.specs.declared.event.What.TheVariants.{Out, Eof, ReadFail}
 use Rattle.expect_core.specs.declared.request.Act.TheVariants.{Spawn}
 use Rattle.expect_core.specs.declared.request.Request.{Request}
-use Rattle.child_hands.specs.declared.items.Item.{Item}
+use Rattle.child_hands.specs.declared.items.RingItem.{RingItem}
 use Rattle.child_hands.specs.declared.keeper.Keeper.{Ghosts}
 use Rattle.child_hands.specs.Handed.{starts, spawn_call}
 use Rattle.child_hands.specs.Pumped.{AllPieces, IsPumpList}
@@ -48,7 +48,7 @@ module _ (told : ℕ → ℕ → Request → Answer → Type 0) (gives : ℕ →
 module _ {K O : Type 0} {g : Ghosts K O} {r : ReadGhosts O} where
   -- The items that a child's reader put, by the answers that its hand put. If no answer started the child, there are
   -- none. Otherwise they are output of the bytes that the keeper gave in the call that first did.
-  abbrev pub IsPut : ℕ → ℕ → ℕ → List (Item K O g r) → List (Item K O g r) → Type 0
+  abbrev pub IsPut : ℕ → ℕ → ℕ → List (RingItem K O g r) → List (RingItem K O g r) → Type 0
   IsPut script name child put items =
       ((spawn_call child put ≡ None) × (items ≡ []))
       ⊎ ((call : ℕ) × (bytes : Option (List ℕ)) × (spawn_call child put ≡ Some call) × g.gives name call bytes × IsPumpList script child bytes items)

@@ -4,7 +4,7 @@ use Rattle.std.specs.declared.io.traits.Read.{Ghosts as ReadGhosts}
 use Rattle.std.specs.declared.thread.PromisedHandle.{PromisedHandle}
 use Rattle.expect_core.specs.declared.request.Request.{Request}
 use Rattle.child_hands.specs.Handed.{AreAnswers}
-use Rattle.child_hands.specs.declared.items.Item.{Item}
+use Rattle.child_hands.specs.declared.items.RingItem.{RingItem}
 use Rattle.child_hands.specs.declared.keeper.Keeper.{Ghosts}
 use Rattle.feed_rings.specs.Ends.{put_items, taken_items, all_put, IsPair, IsFinishedOf}
 use Rattle.feed_rings.specs.declared.feed.FeedOut.{FeedOut}
@@ -32,15 +32,15 @@ module _ {K O : Type 0} {g : Ghosts K O} {r : ReadGhosts O} where
   AreUnused works = (i : ℕ) (work : Work K O g r) → slice_get works i ≡ Some work → (fresh : Fresh K O g r) × (work ≡ Free fresh)
 
   -- These are the other endpoints of their rings.
-  abbrev pub ArePaired : List (Work K O g r) → List (FeedOut (Item K O g r)) → Type 0
-  ArePaired works outs = (i : ℕ) (fresh : Fresh K O g r) (out : FeedOut (Item K O g r)) → slice_get works i ≡ Some (Free fresh) → slice_get outs i ≡ Some out → IsPair fresh.feed out
+  abbrev pub ArePaired : List (Work K O g r) → List (FeedOut (RingItem K O g r)) → Type 0
+  ArePaired works outs = (i : ℕ) (fresh : Fresh K O g r) (out : FeedOut (RingItem K O g r)) → slice_get works i ≡ Some (Free fresh) → slice_get outs i ≡ Some out → IsPair fresh.feed out
 
   -- Nothing was taken.
-  abbrev pub AreUntaken : List (FeedOut (Item K O g r)) → Type 0
-  AreUntaken outs = (i : ℕ) (out : FeedOut (Item K O g r)) → slice_get outs i ≡ Some out → taken_items out ≡ []
+  abbrev pub AreUntaken : List (FeedOut (RingItem K O g r)) → Type 0
+  AreUntaken outs = (i : ℕ) (out : FeedOut (RingItem K O g r)) → slice_get outs i ≡ Some out → taken_items out ≡ []
 
   -- The new rings of this many children.
-  pub record AreRings (count : ℕ) (works : List (Work K O g r)) (outs : List (FeedOut (Item K O g r))) : Type 0 where
+  pub record AreRings (count : ℕ) (works : List (Work K O g r)) (outs : List (FeedOut (RingItem K O g r))) : Type 0 where
     pub works_count : length works ≡ count
     pub outs_count : length outs ≡ count
     pub unused : AreUnused works
@@ -82,30 +82,30 @@ module _ {K O : Type 0} {g : Ghosts K O} {r : ReadGhosts O} where
   AreOpened n w keepers ends hands = OpenedTo n w keepers ends hands × (length hands ≡ length keepers)
 
   -- What is left in a child's place is of this ring.
-  abbrev pub IsLeftAt : Work K O g r → FeedOut (Item K O g r) → Type 0
+  abbrev pub IsLeftAt : Work K O g r → FeedOut (RingItem K O g r) → Type 0
   IsLeftAt (Free fresh) out = IsPair fresh.feed out
   IsLeftAt (Ended finished) out = IfSome finished (λ f. IsFinishedOf f out)
 
   abbrev pub IsLeftIn : ℕ → ℕ → Work K O g r → List (Ends K O g r) → Type 0
-  IsLeftIn at index work ends = (e : Ends K O g r) → slice_get ends at ≡ Some e → (out : FeedOut (Item K O g r)) → slice_get e.readers.outs.items index ≡ Some out → IsLeftAt work out
+  IsLeftIn at index work ends = (e : Ends K O g r) → slice_get ends at ≡ Some e → (out : FeedOut (RingItem K O g r)) → slice_get e.readers.outs.items index ≡ Some out → IsLeftAt work out
 
   -- `IsLeftIn` holds of each child.
   abbrev pub AreLeftIn : ℕ → List (Work K O g r) → List (Ends K O g r) → Type 0
   AreLeftIn at works ends = (index : ℕ) (work : Work K O g r) → slice_get works index ≡ Some work → IsLeftIn at index work ends
 
   -- These are all items that were put into the ring of a place.
-  abbrev pub IsAllOf : Work K O g r → List (Item K O g r) → Type 0
+  abbrev pub IsAllOf : Work K O g r → List (RingItem K O g r) → Type 0
   IsAllOf (Free fresh) items = items ≡ []
-  IsAllOf (Ended finished) items = (f : Finished (Item K O g r)) × (finished ≡ Some f) × (items ≡ all_put f)
+  IsAllOf (Ended finished) items = (f : Finished (RingItem K O g r)) × (finished ≡ Some f) × (items ≡ all_put f)
 
   -- This is the finished ring of a place.
-  abbrev pub IsFinishOf : Work K O g r → Finished (Item K O g r) → Type 0
-  IsFinishOf work f = ((out : FeedOut (Item K O g r)) → IsLeftAt work out → IsFinishedOf f out) × IsAllOf work (all_put f)
+  abbrev pub IsFinishOf : Work K O g r → Finished (RingItem K O g r) → Type 0
+  IsFinishOf work f = ((out : FeedOut (RingItem K O g r)) → IsLeftAt work out → IsFinishedOf f out) × IsAllOf work (all_put f)
 
   -- Unless the child is listed as unsettled, all that was put into its ring was taken.
   abbrev pub IsTakenIn : ℕ → ℕ → ℕ → Work K O g r → List (Ends K O g r) → List Unsettled → Type 0
   IsTakenIn at script index work ends unsettled =
-      (Contains unsettled (record { script = script; child = index + 1 }) → ⊥) → (items : List (Item K O g r)) × IsAllOf work items × TakenIn at index items ends
+      (Contains unsettled (record { script = script; child = index + 1 }) → ⊥) → (items : List (RingItem K O g r)) × IsAllOf work items × TakenIn at index items ends
 
   -- `IsTakenIn` holds of each child.
   abbrev pub AreTakenIn : ℕ → ℕ → List (Work K O g r) → List (Ends K O g r) → List Unsettled → Type 0
@@ -116,16 +116,16 @@ module _ {K O : Type 0} {g : Ghosts K O} {r : ReadGhosts O} where
   SameElsewhere at ends ends' = (i : ℕ) → i ≢ at → slice_get ends' i ≡ slice_get ends i
 
   -- What was taken from the finished ring of a hand is a prefix of all that was put there.
-  abbrev pub IsClosedIn : ℕ → Option (Finished (Item K O g r)) → List (Ends K O g r) → Type 0
-  IsClosedIn at answers ends = (f : Finished (Item K O g r)) × (answers ≡ Some f) × IsFrontIn at (all_put f) ends
+  abbrev pub IsClosedIn : ℕ → Option (Finished (RingItem K O g r)) → List (Ends K O g r) → Type 0
+  IsClosedIn at answers ends = (f : Finished (RingItem K O g r)) × (answers ≡ Some f) × IsFrontIn at (all_put f) ends
 
   -- `IsClosedIn` holds, unless all of these children are listed.
-  abbrev pub AreClosedIn : ℕ → ℕ → Option (Finished (Item K O g r)) → ℕ → List (Ends K O g r) → List Unsettled → Type 0
+  abbrev pub AreClosedIn : ℕ → ℕ → Option (Finished (RingItem K O g r)) → ℕ → List (Ends K O g r) → List Unsettled → Type 0
   AreClosedIn at script answers count ends unsettled = (index : ℕ) → index < count → (Contains unsettled (record { script = script; child = index + 1 }) → ⊥) → IsClosedIn at answers ends
 
   -- `put` is all answers that a hand put. What was taken of them is a prefix.
   pub record IsAnswered (at : ℕ) (hand : PromisedHandle (HandEnd K O g r) (Obeys K O g r)) (ends : List (Ends K O g r)) : Type 0 where
-    pub put : List (Item K O g r)
+    pub put : List (RingItem K O g r)
     pub requests : List Request
     pub answers : AreAnswers hand.promise.script (g.named hand.promise.keeper.value) (g.made hand.promise.keeper.value) requests put
     pub front : IsFrontIn at put ends
@@ -133,7 +133,7 @@ module _ {K O : Type 0} {g : Ghosts K O} {r : ReadGhosts O} where
   -- For each child of a hand's script that isn't listed, what was taken is exactly what its keeper gave, if anything.
   abbrev pub IsSettled : ℕ → ℕ → PromisedHandle (HandEnd K O g r) (Obeys K O g r) → List (Ends K O g r) → List Unsettled → Type 0
   IsSettled script at hand ends unsettled = (index : ℕ) → index < 16 → (Contains unsettled (record { script = script; child = index + 1 }) → ⊥) →
-      (a : IsAnswered at hand ends) × (items : List (Item K O g r)) × IsPut hand.promise.script (g.named hand.promise.keeper.value) (index + 1) a.put items × TakenIn at index items ends
+      (a : IsAnswered at hand ends) × (items : List (RingItem K O g r)) × IsPut hand.promise.script (g.named hand.promise.keeper.value) (index + 1) a.put items × TakenIn at index items ends
 
   -- `IsSettled` holds of each hand of a worker.
   abbrev pub AreSettled : ℕ → ℕ → List (PromisedHandle (HandEnd K O g r) (Obeys K O g r)) → List (Ends K O g r) → List Unsettled → Type 0

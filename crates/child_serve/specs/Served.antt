@@ -16,7 +16,7 @@ use Rattle.dialogue_sched.specs.Refusal.{first_refusal}
 use Rattle.dialogue_sched.specs.Ticks.{WithTicks}
 use Rattle.child_desk.specs.Book.{ring_log}
 use Rattle.child_serve.specs.Turns.{in_turn}
-use Rattle.child_serve.specs.declared.served.Part.{Part}
+use Rattle.child_serve.specs.declared.served.WorkerResult.{WorkerResult}
 use Rattle.child_serve.specs.declared.served.Served.{Served}
 use Rattle.child_serve.specs.declared.served.Unsettled.{Unsettled}
 use Rattle.child_serve.specs.declared.served.Apart.{Apart}
@@ -54,7 +54,7 @@ module _ (told : ℕ → ℕ → Request → Answer → Type 0) (gives : ℕ →
         IsServed (number i) keeper script report s.unsettled.items s.stopped (own (i + 1) es)
 
   -- One worker has served its own scripts. Its record has events of these only.
-  pub record IsPart (n w : ℕ) (keepers : List Keeping) (scripts : List Script) (p : Part) : Type 0 where
+  pub record IsPart (n w : ℕ) (keepers : List Keeping) (scripts : List Script) (p : WorkerResult) : Type 0 where
     pub mine : List Keeping
     pub kept : IsDealt n w keepers mine
     pub few : List Script
@@ -62,11 +62,11 @@ module _ (told : ℕ → ℕ → Request → Answer → Type 0) (gives : ℕ →
     pub served : AreServed (λ i. script_of n w (i + 1)) mine few (ring_log p.log) p.served
     pub taken : first_refusal (length few) 0 (ring_log p.log) ≡ None
 
-  abbrev pub AreParts : List Keeping → List Script → List Part → Type 0
-  AreParts keepers scripts parts = (w : ℕ) (p : Part) → slice_get parts w ≡ Some p → IsPart (length parts) w keepers scripts p
+  abbrev pub AreParts : List Keeping → List Script → List WorkerResult → Type 0
+  AreParts keepers scripts parts = (w : ℕ) (p : WorkerResult) → slice_get parts w ≡ Some p → IsPart (length parts) w keepers scripts p
 
 -- The record of each worker: the events that were put into its ring.
-abbrev pub records_of : List Part → List (List HallEvent)
+abbrev pub records_of : List WorkerResult → List (List HallEvent)
 records_of parts = map (λ p. ring_log p.log) parts
 
 -- Whether one of them was given up.

@@ -5,7 +5,7 @@ use Rattle.expect_core.specs.declared.request.Request.{Request}
 use Rattle.dialogue_sched.specs.declared.script.Script.{Script}
 use Rattle.dialogue_sched.specs.Hall.{opening_fault}
 use Rattle.dialogue_sched.specs.Refusal.{first_refusal}
-use Rattle.child_serve.specs.declared.served.Part.{Part}
+use Rattle.child_serve.specs.declared.served.WorkerResult.{WorkerResult}
 use Rattle.child_serve.specs.declared.worker.Seat.{Seat}
 use Rattle.child_serve.specs.declared.worker.Team.{Team}
 use Rattle.child_serve.specs.declared.worker.WorkFault.{WorkFault}
@@ -20,7 +20,7 @@ use Rattle.child_desk.specs.Book.{ring_log}
 use Rattle.std.specs.List.{AllByRecursion}
 use Rattle.feed_rings.specs.Ends.{put_items, IsPair, SameIn}
 use Rattle.run_records.specs.Joined.{script_of, Fits}
-use Rattle.child_desk.specs.declared.line.Line.{Line}
+use Rattle.child_desk.specs.declared.line.ScriptState.{ScriptState}
 use Rattle.child_desk.specs.Line.{Keeping}
 use Rattle.child_serve.specs.Dealt.{IsDealt}
 use Rattle.child_serve.specs.Opened.{AreNumbers}
@@ -28,7 +28,7 @@ use Rattle.child_serve.specs.Served.{AreServed}
 use Rattle.child_serve.specs.Whole.{keeping_of}
 
 -- A new script's line for each keeper.
-abbrev pub AreFirst : {K : Type 0} → (K → ℕ) → (K → ℕ) → List K → List Line → Type 0
+abbrev pub AreFirst : {K : Type 0} → (K → ℕ) → (K → ℕ) → List K → List ScriptState → Type 0
 AreFirst named made keepers lines = lines ≡ map (λ k. record { name = named k; last = made k; awaited = None; sent = false; over = false }) keepers
 
 module _ {K C : Type 0} where
@@ -49,14 +49,14 @@ module _ {K C : Type 0} where
   IsSeated n w seat = IsTeam n w seat.team × (put_items seat.log ≡ [])
 
   -- A worker has served its scripts.
-  pub record IsWork (told : ℕ → ℕ → Request → Answer → Type 0) (gives : ℕ → ℕ → Option (List ℕ) → Type 0) (named made : K → ℕ) (n w : ℕ) (team : Team K C) (p : Part) : Type 0 where
+  pub record IsWork (told : ℕ → ℕ → Request → Answer → Type 0) (gives : ℕ → ℕ → Option (List ℕ) → Type 0) (named made : K → ℕ) (n w : ℕ) (team : Team K C) (p : WorkerResult) : Type 0 where
     pub served : AreServed told gives (λ i. script_of n w (i + 1)) (map (keeping_of named made) team.keepers.items) team.scripts.items (ring_log p.log) p.served
     pub fits : Fits n w (ring_log p.log)
     pub sound : IsSound n w (put_items p.log)
     pub taken : first_refusal (length team.scripts.items) 0 (ring_log p.log) ≡ None
 
   -- Each worker has served its scripts.
-  abbrev pub AllWork : (ℕ → ℕ → Request → Answer → Type 0) → (ℕ → ℕ → Option (List ℕ) → Type 0) → (K → ℕ) → (K → ℕ) → ℕ → ℕ → List Part → List (Team K C) → Type 0
+  abbrev pub AllWork : (ℕ → ℕ → Request → Answer → Type 0) → (ℕ → ℕ → Option (List ℕ) → Type 0) → (K → ℕ) → (K → ℕ) → ℕ → ℕ → List WorkerResult → List (Team K C) → Type 0
   AllWork told gives named made n = AllPaired (λ w p t. IsWork told gives named made n w t p)
 
   -- All scripts and keepers were dealt to these teams in turn.
@@ -70,7 +70,7 @@ module _ {K C : Type 0} where
 
 -- A running worker.
 abbrev pub Handle : Type 0 → Type 0 → Type 0
-Handle K C = PromisedHandle (Result Part WorkFault) (Works K C)
+Handle K C = PromisedHandle (Result WorkerResult WorkFault) (Works K C)
 
 module _ {K C : Type 0} where
   -- This worker was started for this team, at index `w` of `n`.
@@ -94,7 +94,7 @@ module _ {K C : Type 0} where
 
   -- The results of workers, in order. Each has served its scripts.
   pub record HaveServed (told : ℕ → ℕ → Request → Answer → Type 0) (gives : ℕ → ℕ → Option (List ℕ) → Type 0) (named made : K → ℕ) (n : ℕ) (teams : List (Team K C)) (served : List Served) (logs : List (FeedIn LogItem)) : Type 0 where
-    pub parts : List Part
+    pub parts : List WorkerResult
     pub work : AllWork told gives named made n 0 parts teams
     pub are : served ≡ map (λ p. p.served) parts
     pub rings : logs ≡ map (λ p. p.log) parts

@@ -7,7 +7,7 @@ use Rattle.dialogue_sched.specs.Hall.{opening_fault}
 use Rattle.child_events.specs.declared.event.HallEvent.{HallEvent}
 use Rattle.run_records.specs.Merged.{Handed, HasOne, IsMerging, WasHanded}
 use Rattle.run_records.specs.declared.merger.Merger.{Merger}
-use Rattle.child_serve.specs.declared.served.Part.{Part}
+use Rattle.child_serve.specs.declared.served.WorkerResult.{WorkerResult}
 use Rattle.child_serve.specs.declared.served.Served.{Served}
 use Rattle.child_serve.specs.declared.serving.Joined.{Joined}
 use Rattle.child_serve.specs.declared.serving.ServeFault.{ServeFault}
@@ -50,10 +50,10 @@ fault_of work.Memory = Memory
 fault_of work.NoThread = NoThread
 
 -- The result of one more worker, and the ring of its record.
-pub record JoinsPart (part : Part) (old new : Joined) : Type 0 where
+pub record JoinsPart (part : WorkerResult) (old new : Joined) : Type 0 where
   pub parts : new.parts.items ≡ old.parts.items ++ part.served ∷ []
   pub logs : new.logs.items ≡ old.logs.items ++ part.log ∷ []
 
 -- Without an error afterwards, there was none before, and the worker's result was added.
-abbrev pub Joins : Result Part WorkFault → Joined → Joined → Type 0
-Joins outcome old new = new.fault ≡ None → (old.fault ≡ None) × ((part : Part) × (outcome ≡ Ok part) × JoinsPart part old new)
+abbrev pub Joins : Result WorkerResult WorkFault → Joined → Joined → Type 0
+Joins outcome old new = new.fault ≡ None → (old.fault ≡ None) × ((part : WorkerResult) × (outcome ≡ Ok part) × JoinsPart part old new)

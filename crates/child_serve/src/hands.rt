@@ -5,7 +5,7 @@ ghost use Rattle.child_serve.specs.Opened.{AreRings, IsOpened};
 
 use crate::worker::WorkFault;
 use child_desk::{Ends, Readers};
-use child_hands::{Fresh, Gate, HandEnd, Item, Keeper, Obeys, Work, start_hand};
+use child_hands::{Fresh, Gate, HandEnd, Keeper, Obeys, RingItem, Work, start_hand};
 use feed_rings::{Bell, FeedOut, feed_pair};
 use std::alloc::{AllocError, Global};
 use std::sync::{Arc, Wait};
@@ -24,7 +24,7 @@ pub type Hand<K> = PromisedHandle<HandEnd<K>, Obeys<K>>;
 #[derive(Drop)]
 struct Children<K: Keeper> {
     works: Vec<Work<K>>,
-    outs: Vec<FeedOut<Item<K>>>,
+    outs: Vec<FeedOut<RingItem<K>>>,
 }
 
 /// Creates the rings of a script's children. `desk` is the bell of the desk.

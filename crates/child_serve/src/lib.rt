@@ -13,6 +13,6 @@ mod worker;
 
 pub use audience::Audience;
 pub use laws::{serving_is_run, serving_isolation};
-pub use served::{Part, Served, Unsettled, assembled};
+pub use served::{Served, Unsettled, WorkerResult, assembled};
 pub use serving::{ServeFault, serve};
 pub use stopping::Stopping;

@@ -34,7 +34,7 @@ pub struct Served {
 
 /// The results of one worker's scripts, and the ring of their record.
 #[derive(Drop)]
-pub struct Part {
+pub struct WorkerResult {
     /// The results.
     pub served: Served,
     /// The ring of the record.

@@ -11,9 +11,9 @@ ghost use Rattle.child_serve.specs.Whole.{keeping_of, IsServing, Gathers, Joins,
 
 use crate::audience::Audience;
 use crate::dealing::dealt;
-use crate::served::{Part, Served, assembled};
+use crate::served::{Served, WorkerResult, assembled};
 use crate::stopping::Stopping;
-use crate::worker::{Over, Place, Seat, Team, WorkFault, work};
+use crate::worker::{Over, Seat, Team, WorkFault, WorkerIndex, work};
 use child_hands::{Clock, Gate, Keeper, LogItem};
 use dialogue_sched::{HallFault, Script, opening_fault};
 use feed_rings::{Bell, FeedIn, feed_pair};
@@ -86,12 +86,12 @@ pub struct Works<K: Drop, C: Drop> {
     pub log: Snapshot<FeedIn<LogItem>>,
 }
 
-impl<K: Keeper + Drop, C: Drop> Promise<Result<Part, WorkFault>> for Works<K, C> {
+impl<K: Keeper + Drop, C: Drop> Promise<Result<WorkerResult, WorkFault>> for Works<K, C> {
     ghost kept_by = { λ w r. IfOk r (λ p. IsWork K.told K.gives K.named K.made w.workers w.worker w.team.value p × SameIn w.log.value p.log) };
 }
 
 /// A running worker.
-type Handle<K, C> = PromisedHandle<Result<Part, WorkFault>, Works<K, C>>;
+type Handle<K, C> = PromisedHandle<Result<WorkerResult, WorkFault>, Works<K, C>>;
 
 /// The number of items that a worker's ring has room for.
 const ROOM: usize = 1_024;
@@ -126,7 +126,7 @@ fn start_worker<
     C: Clock + Audience + Stopping + Send + Drop + 'static,
     G: Gate + Sync + Send + Drop + 'static,
     W: Threads + Wait + std::time::Clock + Copy + Send + Drop + 'static,
->(rt: W, alloc: Global, place: Place, seat: Seat<K, C>, gate: Arc<G>) -> Option<Handle<K, C>>
+>(rt: W, alloc: Global, place: WorkerIndex, seat: Seat<K, C>, gate: Arc<G>) -> Option<Handle<K, C>>
     requires { IsSeated place.workers place.worker seat }
     ensures { IfSome result (λ h. (h.promise.workers ≡ place.workers) × (h.promise.worker ≡ place.worker) × (h.promise.team.value ≡ seat.team) × (h.promise.log.value ≡ seat.log)) }
 {
@@ -139,7 +139,7 @@ fn start_worker<
     thread::spawn_with(
         &rt,
         promise,
-        move || -> Result<Part, WorkFault>
+        move || -> Result<WorkerResult, WorkFault>
             requires out { (life : ℕ) → Mem life K.Out.row.lives → Mem life [] }
             requires seat { IsSeated place.workers place.worker seat }
         { work(rt, alloc, place, seat, gate) },
@@ -156,7 +156,7 @@ fn start_at<
 >(
     rt: W,
     alloc: Global,
-    place: Place,
+    place: WorkerIndex,
     team: Team<K, C>,
     gate: &Arc<G>,
     takings: &Takings,
@@ -211,7 +211,7 @@ fn start_all<
     for team in teams {
         handles.reserve(1)?;
         reels.reserve(1)?;
-        let place = Place { workers, worker };
+        let place = WorkerIndex { workers, worker };
         let (handle, reel) = start_at(rt, alloc, place, team, gate, takings)?;
         handles.push_reserved(handle);
         reels.push_reserved(reel);
@@ -258,17 +258,17 @@ pub(crate) struct Joined {
 }
 
 /// Adds the result of one worker.
-fn join_part(joined: &mut Joined, part: Part) -> Result<(), AllocError>
+fn join_part(joined: &mut Joined, part: WorkerResult) -> Result<(), AllocError>
     ensures { OnOk result (JoinsPart part joined.old joined.new) }
 {
-    let Part { served, log } = part;
+    let WorkerResult { served, log } = part;
     joined.parts.push(served)?;
     joined.logs.push(log)?;
     Ok(())
 }
 
 /// Adds the result of one worker, unless there was an error before.
-fn join_one(joined: &mut Joined, outcome: Result<Part, WorkFault>)
+fn join_one(joined: &mut Joined, outcome: Result<WorkerResult, WorkFault>)
     ensures { Joins outcome joined.old joined.new }
 {
     if joined.fault.is_some() {

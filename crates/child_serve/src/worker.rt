@@ -13,10 +13,10 @@ ghost use Rattle.child_serve.specs.Teams.{IsSeated, IsWork, AreFirst};
 use crate::audience::Audience;
 use crate::hands::{Hand, start};
 use crate::rounds::{end_record, turn_all};
-use crate::served::{Part, Served, Unsettled};
+use crate::served::{Served, Unsettled, WorkerResult};
 use crate::stopping::Stopping;
-use child_desk::{Book, Desk, Ends, Line, Outcome};
-use child_hands::{Clock, Fresh, Gate, HandEnd, Item, Keeper, LogItem, Work};
+use child_desk::{Book, Desk, Ends, Outcome, ScriptState};
+use child_hands::{Clock, Fresh, Gate, HandEnd, Keeper, LogItem, RingItem, Work};
 use dialogue_sched::{Hall, HallFault, Script};
 use feed_rings::{Bell, FeedIn, Finished, Ringer};
 use std::alloc::{AllocError, AllocFailed, Global};
@@ -69,7 +69,7 @@ impl Drop for Over {
 /// The number of workers, and a worker's index, from 0. Its scripts have the numbers worker + 1,
 /// worker + 1 + workers, ..
 #[derive(Clone, Copy)]
-pub struct Place {
+pub struct WorkerIndex {
     /// The number of workers.
     pub workers: u8,
     /// The worker's index.
@@ -115,18 +115,18 @@ struct Opened<K: Keeper> {
 }
 
 /// Creates a line for each keeper.
-fn lines_of<K: Keeper>(alloc: Global, keepers: &[K]) -> Result<Vec<Line>, AllocError>
+fn lines_of<K: Keeper>(alloc: Global, keepers: &[K]) -> Result<Vec<ScriptState>, AllocError>
     ensures { IfOk result (λ ls. AreFirst K.named K.made keepers.now ls.items) }
 {
     let mut lines = Vec::new(alloc);
     for keeper in keepers {
-        lines.push(Line::new(keeper.name(), keeper.calls()))?;
+        lines.push(ScriptState::new(keeper.name(), keeper.calls()))?;
     }
     Ok(lines)
 }
 
 /// Returns the number, among all scripts, of a worker's script. `at` is its index at the worker.
-fn number_of(place: Place, at: usize) -> u8
+fn number_of(place: WorkerIndex, at: usize) -> u8
     requires few { at < 64 }
     requires number { script_of place.workers place.worker (at + 1) ≤ 64 }
     ensures { result ≡ script_of place.workers place.worker (at + 1) }
@@ -142,7 +142,7 @@ fn open_all<
 >(
     rt: W,
     alloc: Global,
-    place: Place,
+    place: WorkerIndex,
     keepers: Vec<K>,
     gate: &Arc<G>,
     bell: &Bell,
@@ -195,7 +195,7 @@ fn let_go<K: Keeper, W: Threads>(rt: &W, desk: Desk<K>, hands: Vec<Hand<K>>) {
 fn list_all<K: Keeper, W: Threads>(
     rt: &W,
     alloc: Global,
-    place: Place,
+    place: WorkerIndex,
     hands: Vec<Hand<K>>,
 ) -> Result<Settled, AllocError>
     requires few { length hands.items ≤ 64 }
@@ -232,10 +232,10 @@ fn list_children(script: u8, settled: &mut Settled) -> Result<(), AllocError>
 fn give_up<K: Keeper, W: Threads>(
     rt: &W,
     alloc: Global,
-    place: Place,
+    place: WorkerIndex,
     desk: Desk<K>,
     hands: Vec<Hand<K>>,
-) -> Result<Part, AllocError>
+) -> Result<WorkerResult, AllocError>
     requires few { length hands.items ≤ 64 }
     requires numbers { AreNumbers place.workers place.worker (length hands.items) }
     ensures shown { IfOk result (λ p. AllShown desk.book p.served.reports) }
@@ -251,12 +251,12 @@ fn give_up<K: Keeper, W: Threads>(
 }
 
 /// Returns the result of a worker's scripts and their children.
-fn part_of(outcome: Outcome, settled: Settled, stopped: bool) -> Part
+fn part_of(outcome: Outcome, settled: Settled, stopped: bool) -> WorkerResult
     ensures { result ≡ record { served = record { reports = outcome.reports; unsettled = settled.unsettled; forced = settled.forced; stopped = stopped }; log = outcome.log } }
 {
     let Outcome { reports, log } = outcome;
     let Settled { unsettled, forced } = settled;
-    Part {
+    WorkerResult {
         served: Served {
             reports,
             unsettled,
@@ -276,7 +276,7 @@ struct Settled {
 
 /// Returns the finished ring of a child that wasn't started, or whose reader has ended. `None` if
 /// there is none.
-fn finished_of<K: Keeper>(work: Work<K>) -> Option<Finished<Item<K>>>
+fn finished_of<K: Keeper>(work: Work<K>) -> Option<Finished<RingItem<K>>>
     ensures { IfSome result (IsFinishOf work) }
 {
     match work {
@@ -286,7 +286,7 @@ fn finished_of<K: Keeper>(work: Work<K>) -> Option<Finished<Item<K>>>
 }
 
 /// Looks once more at the finished ring of a script's hand. Returns false if there is none.
-fn close<K: Keeper>(desk: &mut Desk<K>, at: usize, answers: Option<Finished<Item<K>>>) -> bool
+fn close<K: Keeper>(desk: &mut Desk<K>, at: usize, answers: Option<Finished<RingItem<K>>>) -> bool
     requires { IfSome answers (λ f. IsEndOf at f desk.old.ends.items) }
     ensures lines { desk.new.lines.items ≡ desk.old.lines.items }
     ensures book { desk.new.book ≡ desk.old.book }
@@ -385,7 +385,7 @@ fn settle_script<K: Keeper, W: Wait>(
 fn settle_all<K: Keeper, W: Threads + Wait>(
     rt: &W,
     alloc: Global,
-    place: Place,
+    place: WorkerIndex,
     bell: &Bell,
     desk: &mut Desk<K>,
     hands: Vec<Hand<K>>,
@@ -420,7 +420,13 @@ pub fn work<
     C: Clock + Audience + Stopping + Drop,
     G: Gate + Sync + Send + Drop + 'static,
     W: Threads + Wait + std::time::Clock + Copy + Send + Drop + 'static,
->(rt: W, alloc: Global, place: Place, seat: Seat<K, C>, gate: Arc<G>) -> Result<Part, WorkFault>
+>(
+    rt: W,
+    alloc: Global,
+    place: WorkerIndex,
+    seat: Seat<K, C>,
+    gate: Arc<G>,
+) -> Result<WorkerResult, WorkFault>
     requires { IsSeated place.workers place.worker seat }
     ensures { IfOk result (λ p. IsWork K.told K.gives K.named K.made place.workers place.worker seat.team p × SameIn seat.log p.log) }
 {

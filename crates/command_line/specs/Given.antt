@@ -1,5 +1,5 @@
 -- The meaning of the words of the command line.
-use Rattle.std.specs.Prelude.{ℕ, List, [], map, Option, Some, None, unwrap_or, option_map, codes, Bool, false, not, ◌&&◌, ◌==◌, if◌then◌else◌}
+use Rattle.std.specs.Prelude.{ℕ, List, [], ◌∷◌, map, Option, Some, None, unwrap_or, option_map, codes, Bool, true, false, not, ◌&&◌, ◌==◌, if◌then◌else◌}
 use Rattle.std.specs.Str.{bytes_eq}
 use Rattle.std.specs.Borrow.{Bor}
 use Rattle.clap.specs.Matches.{found_of, matched_of, raw_values}
@@ -11,6 +11,10 @@ use Rattle.report_texts.specs.declared.form.Format.TheVariants.{Text, Bare, Esca
 abbrev pub steps_given : Option ℕ → ℕ
 steps_given asked = unwrap_or asked 1000000
 
+-- The number of steps given for a script that is run as a command, or a million times a million.
+abbrev pub alone_steps_given : Option ℕ → ℕ
+alone_steps_given asked = unwrap_or asked 1000000000000
+
 -- The grace period given, in seconds, or two seconds.
 abbrev pub grace_seconds : Option ℕ → ℕ
 grace_seconds asked = unwrap_or asked 2
@@ -18,9 +22,33 @@ grace_seconds asked = unwrap_or asked 2
 abbrev pub names_of : List (Bor (List ℕ)) → List (List ℕ)
 names_of files = map (λ file. file.now) files
 
--- The words of the command line that name the files of sources, in order.
+-- The words of files, or of an option that may be repeated, in the order of the command line.
+abbrev pub words_told : List ℕ → ArgMatches → List (List ℕ)
+words_told name matches = unwrap_or (option_map raw_values (matched_of (found_of matches) name)) []
+
+-- The files of sources.
 abbrev pub files_told : ArgMatches → List (List ℕ)
-files_told matches = unwrap_or (option_map raw_values (matched_of (found_of matches) (codes "sources"))) []
+files_told matches = words_told (codes "sources") matches
+
+-- The words of `--env`.
+abbrev pub env_told : ArgMatches → List (List ℕ)
+env_told matches = words_told (codes "env") matches
+
+-- The words of `--set`.
+abbrev pub sets_told : ArgMatches → List (List ℕ)
+sets_told matches = words_told (codes "set") matches
+
+-- The arguments of a script that is run as a command.
+abbrev pub args_told : ArgMatches → List (List ℕ)
+args_told matches = words_told (codes "args") matches
+
+abbrev pub is_none : List (Bor (List ℕ)) → Bool
+is_none [] = true
+is_none (w ∷ ws) = false
+
+-- Such a script gets all of exprun's own environment, unless `--env-none` or a word of `--env` is given.
+abbrev pub all_taken : Bool → List (Bor (List ℕ)) → Bool
+all_taken none named = not none && is_none named
 
 abbrev pub format_named : List ℕ → Format
 format_named name = if bytes_eq name (codes "json") then Json else if bytes_eq name (codes "jsonl") then JsonLines else if bytes_eq name (codes "tap") then Tap else Text

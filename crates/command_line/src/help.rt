@@ -19,6 +19,10 @@ finished, it prints one report per script: how it ended, and its transcript,
 which is what an operator would have seen. With --record it also writes a log of
 what the programs did.
 
+script runs one script as a command, as expect(1) does: with arguments, the
+environment, and an exit status of its own. It prints what the script shows as
+it appears, and no report.
+
 replay starts no programs. It reads such a log instead, and prints the reports
 of the scripts. An unchanged script has the same report as in the run. A changed
 script runs with the same events.
@@ -37,14 +41,16 @@ finding.
 Up to 64 scripts run side by side. No script affects another.
 
 Exit status: 0 if every script ended with exit:0, or if check found nothing;
-1 otherwise; 2 on an error, which is a line on standard error. A run stopped by
-a signal has 128 plus the signal's number. If the reader of standard output has
-closed it, exprun ends with status 141 and prints no error.
+1 otherwise; 2 on an error, which is a line on standard error. With script, it
+is that of the script. A run stopped by a signal has 128 plus the signal's
+number. If the reader of standard output has closed it, exprun ends with status
+141 and prints no error.
 
 Each command has its own help, with an example. `exprun run --help` describes
-how programs are run, `exprun replay --help` logs and reports, `exprun show
---help` how a log is shown, `exprun explain --help` how scripts are explained,
-`exprun plan --help` timelines, and `exprun check --help` findings.";
+how programs are run, `exprun script --help` scripts as commands, `exprun replay
+--help` logs and reports, `exprun show --help` how a log is shown, `exprun
+explain --help` how scripts are explained, `exprun plan --help` timelines, and
+`exprun check --help` findings.";
 
 /// The help of `replay`.
 pub const REPLAY: &str = "\
@@ -104,6 +110,8 @@ transcripts and error texts a control character is written as \\x and two
 hexadecimal digits, a carriage return as \\r, and a backslash as two. A byte that
 isn't UTF-8 is written as \\x and digits too. Tabs and ends of lines are kept,
 with their carriage returns. Counts are those of the unescaped bytes.
+
+--set, --env and --env-all set variables: see `exprun run --help`.
 
 --transcripts also writes each transcript, unescaped, to a file DIR/N-NAME. N is
 the script's number, NAME the last part of its file's name. DIR is created if it
@@ -173,6 +181,13 @@ are unchanged, with one exception. If standard output is a terminal too, the
 report of a single script has no transcript, which was printed before. --format
 text prints it anyway.
 
+--set sets a variable before each script starts, as `--set host=gate`. NAME is
+neither env nor an element. --env sets an element of the array env, which is
+empty otherwise: `--env TO=ada@gate` to this value, `--env USER` to exprun's
+own, if it has one. --env-all first sets env to all of exprun's own environment.
+Programs have the environment of exprun in any case. A log contains no
+variables, so give replay the same options.
+
 --explain writes to FILE, once all scripts have finished, what each script did
 at each event and what it then waited for: see `exprun explain --help`. If FILE
 can't be written, an error is printed and the status is 2. The reports are
@@ -199,6 +214,41 @@ Then `exprun run cat.exp` prints
 The terminal showed the first hi when it was sent, and cat wrote the second.
 With `--record log` the run writes a log, and `exprun replay log cat.exp` prints
 the same report again.";
+
+/// The help of `script`.
+pub const SCRIPT: &str = "\
+All words after FILE belong to the script, even if they begin with -. The
+variable argv0 is FILE, argv the list of the ARGs, and argc their number. The
+array env is exprun's own environment. With --env or --env-none it is only what
+--env sets. --set comes last, so it may replace argv.
+
+What the script shows is printed on standard output as it appears, byte for
+byte, and nothing else is. Programs are run as by run: see `exprun run --help`.
+
+The exit status is that of `exit`. If an error ends the script, its message is
+printed on standard error, and the status is 1. If a limit ends it, standard
+error says `exprun: timelimit`, `exprun: steplimit` or `exprun: memory`, and the
+status is 1. If FILE can't be read or a file can't be written, the status is 2.
+After Ctrl-C, SIGTERM or SIGHUP it is 128 plus the signal's number.
+
+An executable file whose first line is `#!/usr/bin/env -S exprun script` is a
+command.
+
+--record writes a log of the run, as run does. --replay prints the same bytes
+over this log, with the same status. Give it the same options, FILE and ARGs: a
+log contains no variables. If the log ends before the script does, standard
+error says `exprun: waiting`, and the status is 1.
+
+Example: hello.exp is
+
+    puts \"hello, [lindex $argv 0]\"
+    exit 3
+
+Then `exprun script hello.exp Ada` prints
+
+    hello, Ada
+
+and ends with status 3.";
 
 /// The help of `show`.
 pub const SHOW: &str = "\

@@ -27,6 +27,8 @@ enum Takes {
     Nothing,
     /// An option with any value.
     Word(&'static str),
+    /// An option with any value, which may be repeated.
+    Words(&'static str),
     /// An option with a number between these bounds.
     Number(&'static str, i64, i64),
     /// An option with one of a few words.
@@ -35,6 +37,10 @@ enum Takes {
     File(&'static str),
     /// One or more files.
     Files(&'static str),
+    /// A file. It ends the options: all words after it are arguments.
+    Command(&'static str),
+    /// The words after such a file.
+    Arguments(&'static str),
 }
 
 /// An option or a file of a command.
@@ -55,6 +61,12 @@ const STEPS: Offer = Offer {
     name: "steps",
     takes: Takes::Number("N", 1, STEPS_LIMIT as i64),
     help: "End a script after N steps [default: 1000000]",
+};
+
+const ALONE_STEPS: Offer = Offer {
+    name: "steps",
+    takes: Takes::Number("N", 1, STEPS_LIMIT as i64),
+    help: "End the script after N steps [default: 1000000000000]",
 };
 
 const VARS: Offer = Offer {
@@ -93,6 +105,24 @@ const TRANSCRIPTS: Offer = Offer {
     help: "Write each transcript to a file in the folder DIR",
 };
 
+const SET: Offer = Offer {
+    name: "set",
+    takes: Takes::Words("NAME=VALUE"),
+    help: "Set the variable NAME of scripts to VALUE",
+};
+
+const ENV: Offer = Offer {
+    name: "env",
+    takes: Takes::Words("NAME=VALUE"),
+    help: "Set env(NAME); NAME alone takes exprun's own value",
+};
+
+const ENV_ALL: Offer = Offer {
+    name: "env-all",
+    takes: Takes::Nothing,
+    help: "Set env to all of exprun's own environment",
+};
+
 const SOURCES: Offer = Offer {
     name: "sources",
     takes: Takes::Files("FILE"),
@@ -109,6 +139,30 @@ const CUT: Offer = Offer {
     name: "cut",
     takes: Takes::Nothing,
     help: "Read a log that was cut off up to its last whole line",
+};
+
+const ENV_NONE: Offer = Offer {
+    name: "env-none",
+    takes: Takes::Nothing,
+    help: "Leave env empty, except for what --env sets",
+};
+
+const REPLAYED: Offer = Offer {
+    name: "replay",
+    takes: Takes::Word("LOG"),
+    help: "Start no programs, but replay the log of an earlier run",
+};
+
+const COMMAND: Offer = Offer {
+    name: "source",
+    takes: Takes::Command("FILE"),
+    help: "The file of the script",
+};
+
+const ARGS: Offer = Offer {
+    name: "args",
+    takes: Takes::Arguments("ARG"),
+    help: "Its arguments, even if they begin with -",
 };
 
 const WORKERS: Offer = Offer {
@@ -189,10 +243,13 @@ const TIMELINE: Offer = Offer {
     help: "The timeline of its children, or /dev/stdin",
 };
 
-static RUN: [Offer; 17] = [
+static RUN: [Offer; 20] = [
     WORKERS,
     LIMIT,
     STEPS,
+    SET,
+    ENV,
+    ENV_ALL,
     RECORD,
     GRACE,
     HANGUP,
@@ -209,10 +266,13 @@ static RUN: [Offer; 17] = [
     SOURCES,
 ];
 
-static REPLAY: [Offer; 11] = [
+static REPLAY: [Offer; 14] = [
     CUT,
     LIMIT,
     STEPS,
+    SET,
+    ENV,
+    ENV_ALL,
     VARS,
     REQUESTS,
     FORMAT,
@@ -223,16 +283,30 @@ static REPLAY: [Offer; 11] = [
     SOURCES,
 ];
 
+static SCRIPT: [Offer; 9] = [
+    LIMIT,
+    ALONE_STEPS,
+    SET,
+    ENV,
+    ENV_NONE,
+    RECORD,
+    REPLAYED,
+    COMMAND,
+    ARGS,
+];
+
 static SHOW: [Offer; 2] = [SHOWN_SCRIPT, LOG];
 
-static EXPLAIN: [Offer; 5] = [TOLD_SCRIPT, LIMIT, STEPS, LOG, SOURCES];
+static EXPLAIN: [Offer; 8] = [TOLD_SCRIPT, LIMIT, STEPS, SET, ENV, ENV_ALL, LOG, SOURCES];
 
-static PLAN: [Offer; 5] = [LIMIT, STEPS, TIMING, SOURCE, TIMELINE];
+static PLAN: [Offer; 8] = [LIMIT, STEPS, SET, ENV, ENV_ALL, TIMING, SOURCE, TIMELINE];
 
 static CHECK: [Offer; 1] = [SOURCES];
 
 /// The names of the commands, in the order of the help.
-const COMMANDS: [&str; 6] = ["run", "replay", "show", "explain", "plan", "check"];
+const COMMANDS: [&str; 7] = [
+    "run", "script", "replay", "show", "explain", "plan", "check",
+];
 
 /// Returns the words that an option accepts.
 fn words_of(name: &str) -> &'static [&'static str] {
@@ -248,6 +322,10 @@ fn arg_of<'a>(alloc: Global, offer: &Offer) -> Arg<'a> {
     match offer.takes {
         Takes::Nothing => arg.long(offer.name).action(ArgAction::SetTrue),
         Takes::Word(value) => arg.long(offer.name).value_name(value),
+        Takes::Words(value) => arg
+            .long(offer.name)
+            .value_name(value)
+            .action(ArgAction::Append),
         Takes::Number(value, least, most) => arg
             .long(offer.name)
             .value_name(value)
@@ -263,14 +341,21 @@ fn arg_of<'a>(alloc: Global, offer: &Offer) -> Arg<'a> {
             .required(true)
             .num_args(1..)
             .action(ArgAction::Append),
+        Takes::Command(value) => arg.value_name(value).required(true).trailing_var_arg(true),
+        Takes::Arguments(value) => arg
+            .value_name(value)
+            .num_args(0..)
+            .trailing_var_arg(true)
+            .action(ArgAction::Append),
     }
 }
 
-/// Makes an argument conflict with the other forms of reports.
+/// Makes an argument conflict with the others that can't be given beside it.
 fn alone<'a>(arg: Arg<'a>, name: &str) -> Result<Arg<'a>, AllocError> {
     match name {
         "summary" => arg.conflicts_with("format"),
         "escape" => arg.conflicts_with("format")?.conflicts_with("summary"),
+        "replay" => arg.conflicts_with("record"),
         _ => Ok(arg),
     }
 }
@@ -302,6 +387,12 @@ fn part_named(name: &str) -> Part {
             about: "Runs scripts with real programs, and prints their reports",
             after: help::RUN,
             offers: RUN.as_slice(),
+        },
+        "script" => Part {
+            name: "script",
+            about: "Runs a script as a command, as expect(1) does",
+            after: help::SCRIPT,
+            offers: SCRIPT.as_slice(),
         },
         "replay" => Part {
             name: "replay",

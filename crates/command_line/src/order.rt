@@ -11,6 +11,7 @@ use report_texts::{Form, Format};
 pub enum Order<'a> {
     Replay(Replay<'a>),
     Run(Run<'a>),
+    Script(Alone<'a>),
     Show(Show<'a>),
     Plan(Plan<'a>),
     Check(Check<'a>),
@@ -28,8 +29,22 @@ pub struct Scripts<'a> {
     pub form: Form,
     /// The folder for their transcripts.
     pub transcripts: Option<&'a str>,
+    /// Their variables at the start.
+    pub variables: Variables<'a>,
     /// The files of their sources.
     pub sources: Vec<&'a str>,
+}
+
+/// The variables of scripts at the start. If a name occurs twice, the last value counts.
+#[derive(Drop)]
+pub struct Variables<'a> {
+    /// Whether `env` first gets all of exprun's own environment.
+    pub all: bool,
+    /// The other elements of `env`, in order: NAME=VALUE, or NAME for a variable of exprun's own
+    /// environment.
+    pub env: Vec<&'a str>,
+    /// The other variables, in order: NAME=VALUE.
+    pub sets: Vec<&'a str>,
 }
 
 /// The request for a replay of a log.
@@ -93,7 +108,7 @@ impl Run<'_> {
         ensures format { self.new.scripts.form.format ≡ format_on_terminal is_one_terminal self.old.follow (length self.old.scripts.sources.items) self.old.has_format self.old.scripts.form.format }
         ensures form { (self.new.scripts.form.shown ≡ self.old.scripts.form.shown) × (self.new.scripts.form.files ≡ self.old.scripts.form.files) }
         ensures limits { (self.new.scripts.steps ≡ self.old.scripts.steps) × (self.new.scripts.limit_ms ≡ self.old.scripts.limit_ms) }
-        ensures files { (self.new.scripts.transcripts ≡ self.old.scripts.transcripts) × (self.new.scripts.sources ≡ self.old.scripts.sources) }
+        ensures files { (self.new.scripts.transcripts ≡ self.old.scripts.transcripts) × (self.new.scripts.variables ≡ self.old.scripts.variables) × (self.new.scripts.sources ≡ self.old.scripts.sources) }
         ensures products { (self.new.record ≡ self.old.record) × (self.new.explain ≡ self.old.explain) }
         ensures rest { (self.new.workers ≡ self.old.workers) × (self.new.follow ≡ self.old.follow) × (self.new.has_format ≡ self.old.has_format) × (self.new.terms ≡ self.old.terms) × (self.new.guard ≡ self.old.guard) × (self.new.labels ≡ self.old.labels) }
     {
@@ -125,6 +140,8 @@ pub struct Plan<'a> {
     pub steps: u64,
     /// The time limit of the script, in milliseconds.
     pub limit_ms: Option<u64>,
+    /// Its variables at the start.
+    pub variables: Variables<'a>,
     /// The file of its source.
     pub source: &'a str,
     /// The file of the timeline, or of a recording.
@@ -144,6 +161,25 @@ impl<'a> Plan<'a> {
             None => self.timeline,
         }
     }
+}
+
+/// The request to run a script as a command, or to replay such a run.
+#[derive(Drop)]
+pub struct Alone<'a> {
+    /// The most steps of the script.
+    pub steps: u64,
+    /// The time limit of the script, in milliseconds.
+    pub limit_ms: Option<u64>,
+    /// Its variables at the start, without `argv0`, `argv` and `argc`.
+    pub variables: Variables<'a>,
+    /// The file for the record.
+    pub record: Option<&'a str>,
+    /// The log of an earlier run. With it no programs are started.
+    pub log: Option<&'a str>,
+    /// The file of its source.
+    pub source: &'a str,
+    /// Its arguments.
+    pub args: Vec<&'a str>,
 }
 
 /// The request to check scripts.

@@ -1,10 +1,10 @@
 //! Reads the words of the command line.
 
 ghost use Rattle.std.specs.Prelude.{◌≡◌, ◌≤◌, ◌*◌, option_map, IfOk, IfSome, Some, None};
-ghost use Rattle.command_line.specs.Given.{steps_given, grace_seconds, names_of, files_told, format_given, labels_given};
+ghost use Rattle.command_line.specs.Given.{steps_given, alone_steps_given, grace_seconds, all_taken, names_of, words_told, files_told, env_told, sets_told, args_told, format_given, labels_given};
 
 use crate::offers::command;
-use crate::order::{Check, Explain, Order, Plan, Replay, Run, Scripts, Show};
+use crate::order::{Alone, Check, Explain, Order, Plan, Replay, Run, Scripts, Show, Variables};
 use child_pipes::Terms;
 use clap::{ArgMatches, Error};
 use report_texts::{Form, Format, Shown};
@@ -13,6 +13,9 @@ use tcl_words::{Text, Texts};
 
 /// The most steps of a script by default.
 const DEFAULT_STEPS: u64 = 1_000_000;
+
+/// The most steps of a script that is run as a command.
+const ALONE_STEPS: u64 = 1_000_000_000_000;
 
 /// The grace period by default, in seconds.
 const DEFAULT_GRACE: u64 = 2;
@@ -42,15 +45,39 @@ fn limit_of(asked: Option<u64>) -> Option<u64>
     }
 }
 
+/// Returns the words of files, or of an option that may be repeated, in the order of the command
+/// line.
+fn words_of<'a>(
+    alloc: Global,
+    matches: &ArgMatches<'a>,
+    name: &str,
+) -> Result<Vec<&'a str>, AllocError>
+    ensures { IfOk result (λ words. names_of words.items ≡ words_told name.now matches.now) }
+{
+    let mut words = Vec::new(alloc);
+    if let Some(given) = matches.get_strs(name) {
+        words.extend_from_slice(given)?;
+    }
+    Ok(words)
+}
+
 /// Returns the files of sources, in the order of the command line.
 fn files_of<'a>(alloc: Global, matches: &ArgMatches<'a>) -> Result<Vec<&'a str>, AllocError>
     ensures { IfOk result (λ files. names_of files.items ≡ files_told matches.now) }
 {
-    let mut files = Vec::new(alloc);
-    if let Some(words) = matches.get_strs("sources") {
-        files.extend_from_slice(words)?;
-    }
-    Ok(files)
+    words_of(alloc, matches, "sources")
+}
+
+/// Returns the variables of scripts at the start.
+fn variables_of<'a>(alloc: Global, matches: &ArgMatches<'a>) -> Result<Variables<'a>, AllocError>
+    ensures env { IfOk result (λ v. names_of v.env.items ≡ env_told matches.now) }
+    ensures sets { IfOk result (λ v. names_of v.sets.items ≡ sets_told matches.now) }
+{
+    Ok(Variables {
+        all: matches.get_flag("env-all"),
+        env: words_of(alloc, matches, "env")?,
+        sets: words_of(alloc, matches, "set")?,
+    })
 }
 
 /// Returns the names of files as texts.
@@ -86,6 +113,8 @@ fn format_of(summary: bool, escape: bool, name: Option<&str>) -> Format
 fn scripts_of<'a>(alloc: Global, matches: &ArgMatches<'a>) -> Result<Scripts<'a>, AllocError>
     ensures files { IfOk result (λ scripts. names_of scripts.sources.items ≡ files_told matches.now) }
     ensures names { IfOk result (λ scripts. scripts.form.files ≡ files_told matches.now) }
+    ensures env { IfOk result (λ scripts. names_of scripts.variables.env.items ≡ env_told matches.now) }
+    ensures sets { IfOk result (λ scripts. names_of scripts.variables.sets.items ≡ sets_told matches.now) }
 {
     let files = files_of(alloc, matches)?;
     let names = texts_of(alloc, files.as_slice())?;
@@ -105,6 +134,7 @@ fn scripts_of<'a>(alloc: Global, matches: &ArgMatches<'a>) -> Result<Scripts<'a>
             files: names,
         },
         transcripts: matches.get_str("transcripts"),
+        variables: variables_of(alloc, matches)?,
         sources: files,
     })
 }
@@ -170,13 +200,63 @@ fn explain_of<'a>(alloc: Global, matches: &ArgMatches<'a>) -> Result<Order<'a>, 
     }))
 }
 
-fn plan_of<'a>(matches: &ArgMatches<'a>) -> Order<'a> {
-    Order::Plan(Plan {
+fn plan_of<'a>(alloc: Global, matches: &ArgMatches<'a>) -> Result<Order<'a>, AllocError> {
+    Ok(Order::Plan(Plan {
         steps: steps_of(matches.get_one::<u64>("steps")),
         limit_ms: limit_of(matches.get_one::<u64>("limit")),
+        variables: variables_of(alloc, matches)?,
         source: matches.get_str("source").unwrap_or(""),
         timeline: matches.get_str("timeline").unwrap_or(""),
         timing: matches.get_str("timing"),
+    }))
+}
+
+/// Returns the most steps of a script that is run as a command, given the number on the command
+/// line.
+fn alone_steps_of(asked: Option<u64>) -> u64
+    ensures { result ≡ alone_steps_given asked }
+{
+    asked.unwrap_or(ALONE_STEPS)
+}
+
+/// Returns whether `env` first gets all of exprun's own environment: unless it is to be empty, or
+/// some of it is named.
+fn takes_all(none: bool, words: &[&str]) -> bool
+    ensures { result ≡ all_taken none words.now }
+{
+    !none && words.is_empty()
+}
+
+/// Returns the variables of a script that is run as a command.
+fn alone_variables_of<'a>(
+    alloc: Global,
+    matches: &ArgMatches<'a>,
+) -> Result<Variables<'a>, AllocError>
+    ensures env { IfOk result (λ v. names_of v.env.items ≡ env_told matches.now) }
+    ensures sets { IfOk result (λ v. names_of v.sets.items ≡ sets_told matches.now) }
+{
+    let named = words_of(alloc, matches, "env")?;
+    Ok(Variables {
+        all: takes_all(matches.get_flag("env-none"), named.as_slice()),
+        env: named,
+        sets: words_of(alloc, matches, "set")?,
+    })
+}
+
+/// Returns the request to run a script as a command.
+fn alone_of<'a>(alloc: Global, matches: &ArgMatches<'a>) -> Result<Alone<'a>, AllocError>
+    ensures args { IfOk result (λ alone. names_of alone.args.items ≡ args_told matches.now) }
+    ensures env { IfOk result (λ alone. names_of alone.variables.env.items ≡ env_told matches.now) }
+    ensures sets { IfOk result (λ alone. names_of alone.variables.sets.items ≡ sets_told matches.now) }
+{
+    Ok(Alone {
+        steps: alone_steps_of(matches.get_one::<u64>("steps")),
+        limit_ms: limit_of(matches.get_one::<u64>("limit")),
+        variables: alone_variables_of(alloc, matches)?,
+        record: matches.get_str("record"),
+        log: matches.get_str("replay"),
+        source: matches.get_str("source").unwrap_or(""),
+        args: words_of(alloc, matches, "args")?,
     })
 }
 
@@ -193,8 +273,9 @@ pub fn read_words<'a>(alloc: Global, words: &'a [String]) -> Result<Order<'a>, E
     let matches = command(alloc, first)?.try_get_matches_from(words)?;
     match matches.subcommand() {
         Some(("run", run)) => Ok(run_of(alloc, run)?),
+        Some(("script", script)) => Ok(Order::Script(alone_of(alloc, script)?)),
         Some(("show", show)) => Ok(show_of(show)),
-        Some(("plan", plan)) => Ok(plan_of(plan)),
+        Some(("plan", plan)) => Ok(plan_of(alloc, plan)?),
         Some(("check", check)) => Ok(check_of(alloc, check)?),
         Some(("explain", explain)) => Ok(explain_of(alloc, explain)?),
         Some((_, replay)) => Ok(replay_of(alloc, replay)?),

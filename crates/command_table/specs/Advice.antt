@@ -4,8 +4,7 @@ use Rattle.std.specs.Prelude.{ℕ, ◌||◌, List, [], ◌∷◌, codes, bytes_e
 
 abbrev pub waiting : List ℕ → List ℕ
 waiting word =
-    if bytes_eq word (codes "after") || bytes_eq word (codes "sleep") || bytes_eq word (codes "exp_sleep") then codes "expect -timeout 2 timeout {} waits for two seconds"
-    else if bytes_eq word (codes "update") || bytes_eq word (codes "vwait") then codes "expect waits"
+    if bytes_eq word (codes "update") || bytes_eq word (codes "vwait") then codes "expect waits"
     else if bytes_eq word (codes "clock") || bytes_eq word (codes "timestamp") || bytes_eq word (codes "exp_timestamp") then codes "spawn date"
     else if bytes_eq word (codes "time") then codes "a record has the time of each event"
     else []
@@ -24,17 +23,13 @@ choosing word =
 
 abbrev pub lists : List ℕ → List ℕ
 lists word =
-    if bytes_eq word (codes "array") then codes "keep the names in a list; info exists a(x) tests for one"
-    else if bytes_eq word (codes "dict") then codes "use the elements of an array"
+    if bytes_eq word (codes "dict") then codes "use the elements of an array"
     else if bytes_eq word (codes "lmap") then codes "use foreach and lappend"
     else []
 
 abbrev pub texts : List ℕ → List ℕ
 texts word =
-    if bytes_eq word (codes "format") then codes "put texts together in quotes, or spawn printf"
-    else if bytes_eq word (codes "scan") then codes "use split and string range"
-    else if bytes_eq word (codes "regexp") || bytes_eq word (codes "regsub") then codes "use expect -re and its groups, or string match"
-    else if bytes_eq word (codes "binary") || bytes_eq word (codes "encoding") then codes "texts are bytes"
+    if bytes_eq word (codes "binary") || bytes_eq word (codes "encoding") then codes "texts are bytes"
     else []
 
 abbrev pub files : List ℕ → List ℕ

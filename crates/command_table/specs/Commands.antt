@@ -1,5 +1,5 @@
 -- The commands of Tcl(n) and expect(1) that exist, by their names.
-use Rattle.std.specs.Prelude.{ℕ, List, codes, Option, Some, None, option_map, bytes_eq, if◌then◌else◌}
+use Rattle.std.specs.Prelude.{ℕ, List, codes, Bool, ◌||◌, Option, Some, None, is_some, option_map, bytes_eq, if◌then◌else◌}
 use Rattle.command_table.specs.declared.commands.ValueCommand.{ValueCommand}
 use Rattle.command_table.specs.declared.commands.ValueCommand.TheVariants as value
 use Rattle.command_table.specs.declared.commands.TclCommand.{TclCommand}
@@ -66,6 +66,11 @@ redefinable_value word =
     else if bytes_eq word (codes "lassign") then Some value.Lassign
     else if bytes_eq word (codes "lsearch") then Some value.Lsearch
     else if bytes_eq word (codes "lsort") then Some value.Lsort
+    else if bytes_eq word (codes "array") then Some value.Array
+    else if bytes_eq word (codes "format") then Some value.Format
+    else if bytes_eq word (codes "scan") then Some value.Scan
+    else if bytes_eq word (codes "regexp") then Some value.Regexp
+    else if bytes_eq word (codes "regsub") then Some value.Regsub
     else None
 
 -- The command that a word names, if it evaluates a script and a procedure can have its name.
@@ -88,9 +93,9 @@ or_redefinable None word = redefinable_command word
 abbrev pub language_command : List ℕ → Option TclCommand
 language_command word = or_redefinable (tcl_command word) word
 
--- The command of Expect that a word names.
-abbrev pub expect_command : List ℕ → Option ExpectCommand
-expect_command word =
+-- The command of Expect that a word names, if no procedure can have its name.
+abbrev pub fixed_expect : List ℕ → Option ExpectCommand
+fixed_expect word =
     if bytes_eq word (codes "send") then Some expect.Send
     else if bytes_eq word (codes "expect") then Some expect.Expect
     else if bytes_eq word (codes "exp_continue") then Some expect.ExpContinue
@@ -104,6 +109,25 @@ expect_command word =
     else if bytes_eq word (codes "remove_nulls") then Some expect.RemoveNulls
     else if bytes_eq word (codes "log_user") then Some expect.LogUser
     else None
+
+-- The command of Expect that a word names, if a procedure can have its name. Such a procedure is called instead.
+abbrev pub redefinable_expect : List ℕ → Option ExpectCommand
+redefinable_expect word =
+    if bytes_eq word (codes "sleep") || bytes_eq word (codes "exp_sleep") then Some expect.Sleep
+    else if bytes_eq word (codes "after") then Some expect.After
+    else None
+
+abbrev pub or_redefinable_expect : Option ExpectCommand → List ℕ → Option ExpectCommand
+or_redefinable_expect (Some c) word = Some c
+or_redefinable_expect None word = redefinable_expect word
+
+-- The command of Expect that a word names.
+abbrev pub expect_command : List ℕ → Option ExpectCommand
+expect_command word = or_redefinable_expect (fixed_expect word) word
+
+-- The word names a command, and a procedure can have its name.
+abbrev pub is_redefinable : List ℕ → Bool
+is_redefinable word = is_some (redefinable_command word) || is_some (redefinable_expect word)
 
 abbrev pub tcl_or_expect : Option TclCommand → List ℕ → Option Command
 tcl_or_expect (Some c) word = Some (Tcl c)

@@ -1,4 +1,4 @@
--- The options of commands, their first arguments: string(n), info(n), and log_user of expect(1).
+-- The options of commands, their first arguments: string(n), info(n), array(n), and log_user of expect(1).
 use Rattle.std.specs.Prelude.{ℕ, ◌||◌, List, codes, Option, Some, None, option_map, bytes_eq, if◌then◌else◌, option_and_then}
 use Rattle.command_table.specs.declared.commands.Command.{Command}
 use Rattle.command_table.specs.declared.commands.Command.TheVariants.{Tcl, Expect}
@@ -10,6 +10,8 @@ use Rattle.command_table.specs.declared.options.StringOption.{StringOption}
 use Rattle.command_table.specs.declared.options.StringOption.TheVariants as string
 use Rattle.command_table.specs.declared.options.InfoOption.{InfoOption}
 use Rattle.command_table.specs.declared.options.InfoOption.TheVariants as info
+use Rattle.command_table.specs.declared.options.ArrayOption.{ArrayOption}
+use Rattle.command_table.specs.declared.options.ArrayOption.TheVariants as array
 use Rattle.command_table.specs.declared.switches.Switches.{Switches}
 use Rattle.command_table.specs.declared.switches.Switches.TheVariants.{Case, Strict}
 use Rattle.command_table.specs.Counts.{exactly, at_least, between}
@@ -84,10 +86,35 @@ abbrev pub info_count : InfoOption → Count
 -- info exists varName
 info_count info.Exists = exactly 1
 
+abbrev pub array_option : List ℕ → Option ArrayOption
+array_option word =
+    if bytes_eq word (codes "exists") then Some array.Exists
+    else if bytes_eq word (codes "get") then Some array.Get
+    else if bytes_eq word (codes "names") then Some array.Names
+    else if bytes_eq word (codes "set") then Some array.Set
+    else if bytes_eq word (codes "size") then Some array.Size
+    else if bytes_eq word (codes "unset") then Some array.Unset
+    else None
+
+abbrev pub array_count : ArrayOption → Count
+-- array exists arrayName
+array_count array.Exists = exactly 1
+-- array get arrayName ?pattern?
+array_count array.Get = between 1 2
+-- array names arrayName ?pattern?
+array_count array.Names = between 1 2
+-- array set arrayName list
+array_count array.Set = exactly 2
+-- array size arrayName
+array_count array.Size = exactly 1
+-- array unset arrayName ?pattern?
+array_count array.Unset = between 1 2
+
 -- How many arguments an option takes, if the command has it.
 abbrev pub option_count : Command → List ℕ → Option Count
 option_count (Tcl (Value value.String)) word = option_map string_count (string_option word)
 option_count (Tcl (Value value.Info)) word = option_map info_count (info_option word)
+option_count (Tcl (Value value.Array)) word = option_map array_count (array_option word)
 -- log_user -info|0|1
 option_count (Expect expect.LogUser) word = if bytes_eq word (codes "0") || bytes_eq word (codes "1") || bytes_eq word (codes "-info") then Some (exactly 0) else None
 option_count other word = None

@@ -3,7 +3,7 @@ use Rattle.std.specs.Prelude.{ℕ, ◌==◌, Bool, true, false, ◌||◌, List, 
 use Rattle.command_table.specs.declared.reading.Kind.{Kind}
 use Rattle.command_table.specs.declared.reading.Kind.TheVariants.{Text, Script, Expression}
 use Rattle.command_table.specs.declared.reading.Stage.{Stage}
-use Rattle.command_table.specs.declared.reading.Stage.TheVariants.{Each, Alone, Choice, Test, Then, Branch, Ends, Else, Done, Over, Pattern, Operand, Written, Action, Output}
+use Rattle.command_table.specs.declared.reading.Stage.TheVariants.{Each, Alone, Choice, Front, Test, Then, Branch, Ends, Else, Done, Over, Pattern, Operand, Written, Action, Output}
 use Rattle.command_table.specs.Flags.{begins_with_minus}
 
 -- All further arguments are texts.
@@ -45,6 +45,7 @@ abbrev pub step : Stage → Option (List ℕ) → Kind × Stage
 step (Each first second third others) word = (first, Each second third others others)
 step (Alone kind) word = (kind, texts)
 step Choice word = (Text, texts)
+step (Front switches) word = (Text, texts)
 -- if expr1 ?then? body1 elseif expr2 ?then? body2 elseif ... ?else? ?bodyN?
 step Test word = (Expression, Then)
 step Then word = behind_test word

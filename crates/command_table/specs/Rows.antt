@@ -13,14 +13,14 @@ use Rattle.command_table.specs.declared.flags.Own.{Own}
 use Rattle.command_table.specs.declared.flags.Own.TheVariants as own
 use Rattle.command_table.specs.declared.reading.Kind.TheVariants.{Text, Name, Script, Expression}
 use Rattle.command_table.specs.declared.reading.Stage.{Stage}
-use Rattle.command_table.specs.declared.reading.Stage.TheVariants.{Each, Alone, Choice, Test, Pattern, Output}
+use Rattle.command_table.specs.declared.reading.Stage.TheVariants.{Each, Alone, Choice, Front, Test, Pattern, Output}
 use Rattle.command_table.specs.declared.switches.Switches.{Switches}
-use Rattle.command_table.specs.declared.switches.Switches.TheVariants.{Search, Sort}
+use Rattle.command_table.specs.declared.switches.Switches.TheVariants.{Search, Sort, Match, Replace}
 use Rattle.command_table.specs.declared.rows.Row.{Row}
 use Rattle.command_table.specs.Counts.{exactly, at_least, between}
 use Rattle.command_table.specs.Reading.{texts}
 
--- A command without flags.
+-- A command whose arguments are read by `words` alone.
 abbrev pub plain : Count → Stage → Row
 plain count words = record { count = count; flags = None; switches = None; words = words }
 
@@ -35,6 +35,8 @@ switched s n = record { count = at_least n; flags = None; switches = Some s; wor
 abbrev pub value_row : ValueCommand → Row
 -- append varName ?value value value ...?
 value_row value.Append = plain (at_least 1) (Each Name Text Text Text)
+-- array option arrayName ?arg arg ...?
+value_row value.Array = plain (at_least 1) Choice
 -- break
 value_row value.Break = plain (exactly 0) texts
 -- concat ?arg arg ...?
@@ -43,6 +45,8 @@ value_row value.Concat = plain (at_least 0) texts
 value_row value.Continue = plain (exactly 0) texts
 -- error message ?info? ?code?
 value_row value.Error = plain (between 1 3) texts
+-- format formatString ?arg arg ...?
+value_row value.Format = plain (at_least 1) texts
 -- global ?varname ...?
 value_row value.Global = plain (at_least 0) (Each Name Name Name Name)
 -- incr varName ?increment?
@@ -71,14 +75,20 @@ value_row value.Lrepeat = plain (at_least 1) texts
 value_row value.Lreplace = plain (at_least 3) texts
 -- lreverse list
 value_row value.Lreverse = plain (exactly 1) texts
--- lsearch ?-exact|-glob? ?-all? ?-inline? ?-not? ?-nocase? ?-start index? list pattern
+-- lsearch ?-exact|-glob|-regexp? ?-all? ?-inline? ?-not? ?-nocase? ?-start index? list pattern
 value_row value.Lsearch = switched Search 2
 -- lset varName index newValue
 value_row value.Lset = plain (exactly 3) (Each Name Text Text Text)
 -- lsort ?-integer? ?-decreasing? ?-unique? ?-nocase? ?-index index? list
 value_row value.Lsort = switched Sort 1
+-- regexp ?-all? ?-indices? ?-inline? ?-lineanchor? ?-nocase? ?-start index? ?--? exp string ?matchVar? ?subMatchVar subMatchVar ...?
+value_row value.Regexp = plain (at_least 0) (Front Match)
+-- regsub ?-all? ?-lineanchor? ?-nocase? ?-start index? ?--? exp string subSpec ?varName?
+value_row value.Regsub = plain (at_least 0) (Front Replace)
 -- return ?result?
 value_row value.Return = plain (between 0 1) texts
+-- scan string format varName ?varName ...?
+value_row value.Scan = plain (at_least 3) (Each Text Text Name Name)
 -- set varName ?value?
 value_row value.Set = plain (between 1 2) (Each Name Text Text Text)
 -- split string ?splitChars?
@@ -106,12 +116,14 @@ tcl_row tcl.Foreach = plain (exactly 3) (Each Name Text Script Text)
 tcl_row tcl.If = plain (at_least 2) Test
 -- proc name args body
 tcl_row tcl.Proc = plain (exactly 3) (Each Text Text Script Text)
--- switch ?-exact|-glob? ?--? string {pattern body ?pattern body ...?}
+-- switch ?-exact|-glob|-regexp? ?--? string {pattern body ?pattern body ...?}
 tcl_row tcl.Switch = plain (at_least 2) texts
 -- while test body
 tcl_row tcl.While = plain (exactly 2) (Each Expression Script Text Text)
 
 abbrev pub expect_row : ExpectCommand → Row
+-- after ms
+expect_row expect.After = plain (exactly 1) texts
 -- close ?-i spawn_id?
 expect_row expect.Close = flagged own.None true false (exactly 0)
 -- exp_continue ?-continue_timer?
@@ -130,6 +142,8 @@ expect_row expect.RemoveNulls = flagged own.Default true false (between 0 1)
 expect_row expect.Send = flagged own.None true true (exactly 1)
 -- send_user ?--? string
 expect_row expect.SendUser = flagged own.None false true (exactly 1)
+-- sleep seconds
+expect_row expect.Sleep = plain (exactly 1) texts
 -- spawn ?-noecho? ?--? program ?args?
 expect_row expect.Spawn = flagged own.NoEcho false true (at_least 1)
 -- wait ?-i spawn_id?

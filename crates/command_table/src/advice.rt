@@ -9,9 +9,7 @@ use crate::commands::is;
 fn waiting(word: &[u8]) -> &'static [u8]
     ensures { result.now ≡ waiting word.now }
 {
-    if is(word, b"after") || is(word, b"sleep") || is(word, b"exp_sleep") {
-        b"expect -timeout 2 timeout {} waits for two seconds"
-    } else if is(word, b"update") || is(word, b"vwait") {
+    if is(word, b"update") || is(word, b"vwait") {
         b"expect waits"
     } else if is(word, b"clock") || is(word, b"timestamp") || is(word, b"exp_timestamp") {
         b"spawn date"
@@ -51,9 +49,7 @@ fn choosing(word: &[u8]) -> &'static [u8]
 fn lists(word: &[u8]) -> &'static [u8]
     ensures { result.now ≡ lists word.now }
 {
-    if is(word, b"array") {
-        b"keep the names in a list; info exists a(x) tests for one"
-    } else if is(word, b"dict") {
+    if is(word, b"dict") {
         b"use the elements of an array"
     } else if is(word, b"lmap") {
         b"use foreach and lappend"
@@ -66,13 +62,7 @@ fn lists(word: &[u8]) -> &'static [u8]
 fn texts(word: &[u8]) -> &'static [u8]
     ensures { result.now ≡ texts word.now }
 {
-    if is(word, b"format") {
-        b"put texts together in quotes, or spawn printf"
-    } else if is(word, b"scan") {
-        b"use split and string range"
-    } else if is(word, b"regexp") || is(word, b"regsub") {
-        b"use expect -re and its groups, or string match"
-    } else if is(word, b"binary") || is(word, b"encoding") {
+    if is(word, b"binary") || is(word, b"encoding") {
         b"texts are bytes"
     } else {
         b""

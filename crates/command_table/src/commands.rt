@@ -2,16 +2,18 @@
 
 ghost use Rattle.std.specs.Prelude.{◌≡◌};
 ghost use Rattle.std.specs.Str.{bytes_eq};
-ghost use Rattle.command_table.specs.Commands.{value_command, control_command, tcl_command, redefinable_value, redefinable_control, redefinable_command, expect_command, language_command, command_of};
+ghost use Rattle.command_table.specs.Commands.{value_command, control_command, tcl_command, redefinable_value, redefinable_control, redefinable_command, fixed_expect, redefinable_expect, expect_command, is_redefinable, language_command, command_of};
 
 /// A value command: it evaluates no script.
 #[derive(Clone, Copy, PartialEq, Eq)]
 pub enum ValueCommand {
     Append,
+    Array,
     Break,
     Concat,
     Continue,
     Error,
+    Format,
     Global,
     Incr,
     Info,
@@ -29,7 +31,10 @@ pub enum ValueCommand {
     Lsearch,
     Lset,
     Lsort,
+    Regexp,
+    Regsub,
     Return,
+    Scan,
     Set,
     Split,
     String,
@@ -53,9 +58,10 @@ pub enum TclCommand {
     While,
 }
 
-/// A command of Expect.
+/// A command of Expect, or one that waits.
 #[derive(Clone, Copy, PartialEq, Eq)]
 pub enum ExpectCommand {
+    After,
     Close,
     ExpContinue,
     Expect,
@@ -65,6 +71,7 @@ pub enum ExpectCommand {
     RemoveNulls,
     Send,
     SendUser,
+    Sleep,
     Spawn,
     Wait,
 }
@@ -190,6 +197,16 @@ fn redefinable_value(word: &[u8]) -> Option<ValueCommand>
         Some(ValueCommand::Lsearch)
     } else if is(word, b"lsort") {
         Some(ValueCommand::Lsort)
+    } else if is(word, b"array") {
+        Some(ValueCommand::Array)
+    } else if is(word, b"format") {
+        Some(ValueCommand::Format)
+    } else if is(word, b"scan") {
+        Some(ValueCommand::Scan)
+    } else if is(word, b"regexp") {
+        Some(ValueCommand::Regexp)
+    } else if is(word, b"regsub") {
+        Some(ValueCommand::Regsub)
     } else {
         None
     }
@@ -227,9 +244,9 @@ fn language_command(word: &[u8]) -> Option<TclCommand>
     }
 }
 
-/// Returns the command of Expect that a word names, or `None`.
-pub fn expect_command(word: &[u8]) -> Option<ExpectCommand>
-    ensures { result ≡ expect_command word.now }
+/// Returns the command of Expect that a word names, if no procedure can have its name.
+pub fn fixed_expect(word: &[u8]) -> Option<ExpectCommand>
+    ensures { result ≡ fixed_expect word.now }
 {
     if is(word, b"send") {
         Some(ExpectCommand::Send)
@@ -258,6 +275,37 @@ pub fn expect_command(word: &[u8]) -> Option<ExpectCommand>
     } else {
         None
     }
+}
+
+/// Returns the command of Expect that a word names, if a procedure can have its name. Such a
+/// procedure is called instead.
+fn redefinable_expect(word: &[u8]) -> Option<ExpectCommand>
+    ensures { result ≡ redefinable_expect word.now }
+{
+    if is(word, b"sleep") || is(word, b"exp_sleep") {
+        Some(ExpectCommand::Sleep)
+    } else if is(word, b"after") {
+        Some(ExpectCommand::After)
+    } else {
+        None
+    }
+}
+
+/// Returns the command of Expect that a word names, or `None`.
+pub fn expect_command(word: &[u8]) -> Option<ExpectCommand>
+    ensures { result ≡ expect_command word.now }
+{
+    match fixed_expect(word) {
+        Some(command) => Some(command),
+        None => redefinable_expect(word),
+    }
+}
+
+/// Returns whether a word names a command, and a procedure can have its name.
+pub fn is_redefinable(word: &[u8]) -> bool
+    ensures { result ≡ is_redefinable word.now }
+{
+    redefinable_command(word).is_some() || redefinable_expect(word).is_some()
 }
 
 /// Returns the command that a word names, or `None`.

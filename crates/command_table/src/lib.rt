@@ -16,15 +16,15 @@ mod switches;
 
 pub use advice::advice_for;
 pub use commands::{
-    Command, ExpectCommand, TclCommand, ValueCommand, command_of, expect_command, is,
-    redefinable_command, tcl_command,
+    Command, ExpectCommand, TclCommand, ValueCommand, command_of, expect_command, fixed_expect, is,
+    is_redefinable, redefinable_command, tcl_command,
 };
 pub use counts::{Count, fits};
 pub use flags::{Flags, Own, Role, begins_with_minus, flag_role};
 pub use options::{
-    InfoOption, StringOption, info_count, info_option, option_count, option_switches, string_count,
-    string_option,
+    ArrayOption, InfoOption, StringOption, array_count, array_option, info_count, info_option,
+    option_count, option_switches, string_count, string_option,
 };
 pub use reading::{Kind, Stage, begin, is_short, step, texts};
 pub use rows::{Row, expect_row, row_of, tcl_row, value_row};
-pub use switches::{Switch, Switches, switch_of, takes_value, words_before};
+pub use switches::{Switch, Switches, is_end, switch_of, takes_value, words_before, words_behind};

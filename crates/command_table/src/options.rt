@@ -1,7 +1,7 @@
 //! The options of commands: their first arguments.
 
 ghost use Rattle.std.specs.Prelude.{◌≡◌};
-ghost use Rattle.command_table.specs.Options.{string_option, string_count, string_switches, option_switches, info_option, info_count, option_count};
+ghost use Rattle.command_table.specs.Options.{string_option, string_count, string_switches, option_switches, info_option, info_count, array_option, array_count, option_count};
 
 use crate::commands::{Command, ExpectCommand, TclCommand, ValueCommand, is};
 use crate::counts::{Count, at_least, between, exactly};
@@ -26,6 +26,17 @@ pub enum StringOption {
     Map,
     Is,
     Reverse,
+}
+
+/// An option of `array`.
+#[derive(Clone, Copy, PartialEq, Eq)]
+pub enum ArrayOption {
+    Exists,
+    Get,
+    Names,
+    Set,
+    Size,
+    Unset,
 }
 
 /// An option of `info`.
@@ -119,6 +130,41 @@ pub fn info_count(option: InfoOption) -> Count
     }
 }
 
+/// Returns the option of `array` that a word names, or `None`.
+pub fn array_option(word: &[u8]) -> Option<ArrayOption>
+    ensures { result ≡ array_option word.now }
+{
+    if is(word, b"exists") {
+        Some(ArrayOption::Exists)
+    } else if is(word, b"get") {
+        Some(ArrayOption::Get)
+    } else if is(word, b"names") {
+        Some(ArrayOption::Names)
+    } else if is(word, b"set") {
+        Some(ArrayOption::Set)
+    } else if is(word, b"size") {
+        Some(ArrayOption::Size)
+    } else if is(word, b"unset") {
+        Some(ArrayOption::Unset)
+    } else {
+        None
+    }
+}
+
+/// Returns how many arguments an option of `array` takes.
+pub fn array_count(option: ArrayOption) -> Count
+    ensures { result ≡ array_count option }
+{
+    match option {
+        ArrayOption::Exists => exactly(1),
+        ArrayOption::Get => between(1, 2),
+        ArrayOption::Names => between(1, 2),
+        ArrayOption::Set => exactly(2),
+        ArrayOption::Size => exactly(1),
+        ArrayOption::Unset => between(1, 2),
+    }
+}
+
 /// Returns how many arguments an option of a command takes. `None` if the command has no such
 /// option.
 pub fn option_count(command: Command, word: &[u8]) -> Option<Count>
@@ -132,6 +178,10 @@ pub fn option_count(command: Command, word: &[u8]) -> Option<Count>
         Command::Tcl(TclCommand::Value(ValueCommand::Info)) => match info_option(word) {
             None => None,
             Some(option) => Some(info_count(option)),
+        },
+        Command::Tcl(TclCommand::Value(ValueCommand::Array)) => match array_option(word) {
+            None => None,
+            Some(option) => Some(array_count(option)),
         },
         Command::Expect(ExpectCommand::LogUser) => {
             if is(word, b"0") || is(word, b"1") || is(word, b"-info") {

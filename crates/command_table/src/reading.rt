@@ -5,6 +5,7 @@ ghost use Rattle.command_table.specs.Reading.{texts, behind_test, behind_body, e
 
 use crate::commands::is;
 use crate::flags::begins_with_minus;
+use crate::switches::Switches;
 use tcl_words::Text;
 
 /// What an argument is read as.
@@ -26,6 +27,8 @@ pub enum Stage {
     Alone(Kind),
     /// An option of the command, followed by texts.
     Choice,
+    /// These flags at the front, followed by texts.
+    Front(Switches),
     /// A condition of `if`.
     Test,
     /// A body of `if`, or `then` before it.
@@ -133,6 +136,7 @@ pub fn step(stage: Stage, word: &Option<Text>) -> (Kind, Stage)
         }
         Stage::Alone(kind) => (kind, texts()),
         Stage::Choice => (Kind::Text, texts()),
+        Stage::Front(_) => (Kind::Text, texts()),
         Stage::Test => (Kind::Expression, Stage::Then),
         Stage::Then => behind_test(word),
         Stage::Branch => (Kind::Script, Stage::Ends),

@@ -7,7 +7,7 @@ use crate::commands::{Command, ExpectCommand, TclCommand, ValueCommand};
 use crate::counts::{Count, at_least, between, exactly};
 use crate::flags::{Flags, Own};
 use crate::reading::Kind::{Expression, Name, Script, Text};
-use crate::reading::Stage::{Alone, Choice, Each, Output, Pattern, Test};
+use crate::reading::Stage::{Alone, Choice, Each, Front, Output, Pattern, Test};
 use crate::reading::{Stage, texts};
 use crate::switches::Switches;
 
@@ -18,13 +18,14 @@ pub struct Row {
     pub count: Count,
     /// The flags. `None` if no argument is a flag.
     pub flags: Option<Flags>,
-    /// The flags before its last arguments, as many as `count.least` says. `None`: no argument is one.
+    /// The flags before its last arguments, as many as `count.least` says. `None` if it has no such
+    /// flags.
     pub switches: Option<Switches>,
     /// How the arguments are read.
     pub words: Stage,
 }
 
-/// Returns the row of a command without flags.
+/// Returns the row of a command whose arguments are read by `words` alone.
 fn plain(count: Count, words: Stage) -> Row
     ensures { result ≡ plain count words }
 {
@@ -66,10 +67,12 @@ pub fn value_row(command: ValueCommand) -> Row
 {
     match command {
         ValueCommand::Append => plain(at_least(1), Each(Name, Text, Text, Text)),
+        ValueCommand::Array => plain(at_least(1), Choice),
         ValueCommand::Break => plain(exactly(0), texts()),
         ValueCommand::Concat => plain(at_least(0), texts()),
         ValueCommand::Continue => plain(exactly(0), texts()),
         ValueCommand::Error => plain(between(1, 3), texts()),
+        ValueCommand::Format => plain(at_least(1), texts()),
         ValueCommand::Global => plain(at_least(0), Each(Name, Name, Name, Name)),
         ValueCommand::Incr => plain(between(1, 2), Each(Name, Text, Text, Text)),
         ValueCommand::Info => plain(at_least(1), Choice),
@@ -87,7 +90,10 @@ pub fn value_row(command: ValueCommand) -> Row
         ValueCommand::Lsearch => switched(Switches::Search, 2),
         ValueCommand::Lset => plain(exactly(3), Each(Name, Text, Text, Text)),
         ValueCommand::Lsort => switched(Switches::Sort, 1),
+        ValueCommand::Regexp => plain(at_least(0), Front(Switches::Match)),
+        ValueCommand::Regsub => plain(at_least(0), Front(Switches::Replace)),
         ValueCommand::Return => plain(between(0, 1), texts()),
+        ValueCommand::Scan => plain(at_least(3), Each(Text, Text, Name, Name)),
         ValueCommand::Set => plain(between(1, 2), Each(Name, Text, Text, Text)),
         ValueCommand::Split => plain(between(1, 2), texts()),
         ValueCommand::String => plain(at_least(1), Choice),
@@ -119,6 +125,7 @@ pub fn expect_row(command: ExpectCommand) -> Row
     ensures { result ≡ expect_row command }
 {
     match command {
+        ExpectCommand::After => plain(exactly(1), texts()),
         ExpectCommand::Close => flagged(Own::None, true, false, exactly(0)),
         ExpectCommand::ExpContinue => flagged(Own::Timer, false, false, exactly(0)),
         ExpectCommand::Expect => plain(at_least(0), Pattern),
@@ -128,6 +135,7 @@ pub fn expect_row(command: ExpectCommand) -> Row
         ExpectCommand::RemoveNulls => flagged(Own::Default, true, false, between(0, 1)),
         ExpectCommand::Send => flagged(Own::None, true, true, exactly(1)),
         ExpectCommand::SendUser => flagged(Own::None, false, true, exactly(1)),
+        ExpectCommand::Sleep => plain(exactly(1), texts()),
         ExpectCommand::Spawn => flagged(Own::NoEcho, false, true, at_least(1)),
         ExpectCommand::Wait => flagged(Own::None, true, false, exactly(0)),
     }

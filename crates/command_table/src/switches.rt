@@ -1,9 +1,10 @@
 //! The flags of value commands. They come before the last arguments.
 
 ghost use Rattle.std.specs.Prelude.{◌≡◌};
-ghost use Rattle.command_table.specs.Switches.{case_switch, search_switch, sort_switch, switch_of, takes_value, words_before};
+ghost use Rattle.command_table.specs.Switches.{case_switch, search_switch, sort_switch, place_switch, match_switch, replace_switch, switch_of, takes_value, is_end, words_before, words_behind};
 
 use crate::commands::is;
+use crate::counts::{Count, at_least, between};
 
 /// A flag of a value command.
 #[derive(Clone, Copy, PartialEq, Eq)]
@@ -16,10 +17,13 @@ pub enum Switch {
     Glob,
     /// `-index` and an index.
     Index,
+    Indices,
     Inline,
     Integer,
+    LineAnchor,
     Nocase,
     Not,
+    Regexp,
     /// `-start` and an index.
     Start,
     Strict,
@@ -33,6 +37,10 @@ pub enum Switches {
     Case,
     /// The flags of `switch`.
     Choice,
+    /// The flags of `regexp`.
+    Match,
+    /// The flags of `regsub`.
+    Replace,
     /// `-strict`
     Strict,
     /// The flags of `lsearch`.
@@ -51,6 +59,8 @@ fn case_switch(word: &[u8]) -> Option<Switch>
         Some(Switch::Exact)
     } else if is(word, b"-glob") {
         Some(Switch::Glob)
+    } else if is(word, b"-regexp") {
+        Some(Switch::Regexp)
     } else {
         None
     }
@@ -64,6 +74,8 @@ fn search_switch(word: &[u8]) -> Option<Switch>
         Some(Switch::Exact)
     } else if is(word, b"-glob") {
         Some(Switch::Glob)
+    } else if is(word, b"-regexp") {
+        Some(Switch::Regexp)
     } else if is(word, b"-all") {
         Some(Switch::All)
     } else if is(word, b"-inline") {
@@ -98,6 +110,46 @@ fn sort_switch(word: &[u8]) -> Option<Switch>
     }
 }
 
+/// Returns the flag that a word is, if it changes where or how a pattern matches.
+fn place_switch(word: &[u8]) -> Option<Switch>
+    ensures { result ≡ place_switch word.now }
+{
+    if is(word, b"--") {
+        Some(Switch::End)
+    } else if is(word, b"-nocase") {
+        Some(Switch::Nocase)
+    } else if is(word, b"-lineanchor") {
+        Some(Switch::LineAnchor)
+    } else if is(word, b"-start") {
+        Some(Switch::Start)
+    } else {
+        None
+    }
+}
+
+/// Returns the flag of `regsub` that a word is, or `None`.
+fn replace_switch(word: &[u8]) -> Option<Switch>
+    ensures { result ≡ replace_switch word.now }
+{
+    if is(word, b"-all") {
+        return Some(Switch::All);
+    }
+    place_switch(word)
+}
+
+/// Returns the flag of `regexp` that a word is, or `None`.
+fn match_switch(word: &[u8]) -> Option<Switch>
+    ensures { result ≡ match_switch word.now }
+{
+    if is(word, b"-inline") {
+        return Some(Switch::Inline);
+    }
+    if is(word, b"-indices") {
+        return Some(Switch::Indices);
+    }
+    replace_switch(word)
+}
+
 /// Returns the allowed flag that a word is, or `None`.
 pub fn switch_of(allowed: Switches, word: &[u8]) -> Option<Switch>
     ensures { result ≡ switch_of allowed word.now }
@@ -111,6 +163,8 @@ pub fn switch_of(allowed: Switches, word: &[u8]) -> Option<Switch>
             }
         }
         Switches::Choice => case_switch(word),
+        Switches::Match => match_switch(word),
+        Switches::Replace => replace_switch(word),
         Switches::Strict => {
             if is(word, b"-strict") {
                 Some(Switch::Strict)
@@ -130,6 +184,27 @@ pub fn takes_value(switch: Switch) -> bool
     match switch {
         Switch::Index | Switch::Start => true,
         _ => false,
+    }
+}
+
+/// Returns whether a flag is the end of the flags.
+pub fn is_end(switch: Switch) -> bool
+    ensures { result ≡ is_end switch }
+{
+    match switch {
+        Switch::End => true,
+        _ => false,
+    }
+}
+
+/// Returns how many words follow the flags of `regexp` and `regsub`.
+pub fn words_behind(switches: Switches) -> Count
+    ensures { result ≡ words_behind switches }
+{
+    match switches {
+        Switches::Match => between(2, 12),
+        Switches::Replace => between(3, 4),
+        _ => at_least(0),
     }
 }
 

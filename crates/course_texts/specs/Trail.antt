@@ -5,8 +5,8 @@ use Rattle.std.specs.List.{prefix_len}
 use Rattle.tcl_words.specs.Bytes as ascii
 use Rattle.script_check.specs.Lines.{line_of}
 use Rattle.script_check.specs.Readings.{begin_of}
-use Rattle.session.specs.declared.place.Place.{Place}
-use Rattle.session.specs.declared.place.Place.TheVariants.{Command, Procedure}
+use Rattle.session.specs.declared.place.ErrorPlace.{ErrorPlace}
+use Rattle.session.specs.declared.place.ErrorPlace.TheVariants.{Command, Procedure}
 use Rattle.report_texts.specs.Escape.{quoted}
 use Rattle.report_texts.specs.Line.{line_text}
 use Rattle.report_texts.specs.Report.{labelled}
@@ -35,10 +35,10 @@ in_procedure = codes "  in procedure "
 abbrev pub procedure_line : List ℕ → List ℕ
 procedure_line name = in_procedure ++ quoted name ++ codes "\n"
 
-abbrev pub place_line : Place → List ℕ
+abbrev pub place_line : ErrorPlace → List ℕ
 place_line (Command script at) = command_line script (command_from script at)
 place_line (Procedure name) = procedure_line name
 
-abbrev pub place_lines : List Place → List ℕ
+abbrev pub place_lines : List ErrorPlace → List ℕ
 place_lines [] = []
 place_lines (p ∷ ps) = place_line p ++ place_lines ps

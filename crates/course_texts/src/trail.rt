@@ -5,7 +5,7 @@ ghost use Rattle.course_texts.specs.Trail.{line_len, shortened, command_line, in
 
 use report_texts::{push_labelled, push_line, push_quoted};
 use script_check::{begin_of, line_of};
-use session::Place;
+use session::ErrorPlace;
 use std::alloc::{AllocError, Global};
 use tcl_words::Text;
 
@@ -84,20 +84,20 @@ fn push_procedure(alloc: Global, text: &mut Text, name: &[u8]) -> Result<(), All
     text.extend(b"\n")
 }
 
-fn push_place(alloc: Global, text: &mut Text, place: &Place) -> Result<(), AllocError>
+fn push_place(alloc: Global, text: &mut Text, place: &ErrorPlace) -> Result<(), AllocError>
     ensures { OnOk result (text.new ≡ text.old ++ place_line place.now) }
 {
     match place {
-        Place::Command { script, at } => {
+        ErrorPlace::Command { script, at } => {
             let script = script.as_slice();
             push_command(alloc, text, script, begin_of(rest_of(script, *at)))
         }
-        Place::Procedure { name } => push_procedure(alloc, text, name.as_slice()),
+        ErrorPlace::Procedure { name } => push_procedure(alloc, text, name.as_slice()),
     }
 }
 
 /// Appends the lines of the places where an error occurred.
-pub fn push_places(alloc: Global, text: &mut Text, places: &[Place]) -> Result<(), AllocError>
+pub fn push_places(alloc: Global, text: &mut Text, places: &[ErrorPlace]) -> Result<(), AllocError>
     ensures { OnOk result (text.new ≡ text.old ++ place_lines places.now) }
 {
     for place in places {

@@ -20,4 +20,4 @@ pub use element::{Element, Elements, Members, Single};
 pub use ending::Ending;
 pub use literal::{Literal, Literals};
 pub use pattern::Glob;
-pub use plan::Plan;
+pub use plan::SearchElements;

@@ -11,7 +11,7 @@ use crate::element::Elements;
 use crate::ending::lacks_end;
 use crate::literal::{lacks_literal, later_literals};
 use crate::places::after;
-use crate::plan::Plan;
+use crate::plan::SearchElements;
 use crate::reading::elements;
 use crate::runs::{least_run, longest, run_end, star_end};
 use std::alloc::{AllocError, Global};
@@ -22,7 +22,7 @@ pub struct Glob {
     /// The pattern began with `^`: it matches only at the start of the text.
     pub anchored: bool,
     /// The elements, without that `^`.
-    pub elements: Plan,
+    pub elements: SearchElements,
 }
 
 impl Glob {
@@ -32,7 +32,7 @@ impl Glob {
     {
         match pattern {
             [] => {
-                let elements = Plan::new(alloc, Elements::new(alloc), nocase)?;
+                let elements = SearchElements::new(alloc, Elements::new(alloc), nocase)?;
                 Ok(Glob {
                     anchored: false,
                     elements,
@@ -40,13 +40,13 @@ impl Glob {
             }
             [first, rest @ ..] => {
                 if *first == b'^' {
-                    let elements = Plan::new(alloc, elements(alloc, rest)?, nocase)?;
+                    let elements = SearchElements::new(alloc, elements(alloc, rest)?, nocase)?;
                     return Ok(Glob {
                         anchored: true,
                         elements,
                     });
                 }
-                let elements = Plan::new(alloc, elements(alloc, pattern)?, nocase)?;
+                let elements = SearchElements::new(alloc, elements(alloc, pattern)?, nocase)?;
                 Ok(Glob {
                     anchored: false,
                     elements,

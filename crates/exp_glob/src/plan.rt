@@ -15,7 +15,7 @@ use std::marker::Model;
 
 /// Elements with their literals. A contract sees the elements.
 #[derive(Drop)]
-pub struct Plan {
+pub struct SearchElements {
     elements: Elements,
     /// The literals of a search with case.
     cased: Literals,
@@ -23,7 +23,7 @@ pub struct Plan {
     caseless: Literals,
 }
 
-impl Model for Plan {
+impl Model for SearchElements {
     ghost use Rattle.std.specs.Prelude.{List, true, false};
     ghost use Rattle.exp_glob.specs.Endings.{IsSoughtBy};
     ghost use Rattle.exp_glob.specs.declared.element.Element.{Element};
@@ -35,21 +35,25 @@ impl Model for Plan {
     ghost invariant = { λ p. IsSoughtBy false p.elements p.cased × IsSoughtBy true p.elements p.caseless };
 }
 
-impl Plan {
+impl SearchElements {
     /// Computes the literals of these elements for searches with or without case. Other searches
     /// have no literals. It allocates only if there are elements.
-    pub(crate) fn new(alloc: Global, elements: Elements, nocase: bool) -> Result<Plan, AllocError>
+    pub(crate) fn new(
+        alloc: Global,
+        elements: Elements,
+        nocase: bool,
+    ) -> Result<SearchElements, AllocError>
         ensures { IfOk result (λ p. p ≡ elements) }
     {
         let sought = literals(alloc, elements.as_slice(), nocase)?;
         if nocase {
-            return Ok(Plan {
+            return Ok(SearchElements {
                 elements,
                 cased: no_literals(alloc),
                 caseless: sought,
             });
         }
-        Ok(Plan {
+        Ok(SearchElements {
             elements,
             cased: sought,
             caseless: no_literals(alloc),

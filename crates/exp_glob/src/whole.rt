@@ -6,7 +6,7 @@ ghost use Rattle.exp_glob.specs.Whole.{plain, plain_elements, whole_of};
 
 use crate::element::{Element, Elements, Single};
 use crate::pattern::Glob;
-use crate::plan::Plan;
+use crate::plan::SearchElements;
 use crate::reading::elements;
 use std::alloc::{AllocError, Global};
 
@@ -42,7 +42,7 @@ impl Glob {
         let elements = to_the_end(alloc, elements(alloc, pattern)?)?;
         Ok(Glob {
             anchored: true,
-            elements: Plan::new(alloc, elements, nocase)?,
+            elements: SearchElements::new(alloc, elements, nocase)?,
         })
     }
 

@@ -2,17 +2,15 @@
 use Rattle.std.proofs.Common.{◌≡◌, ℕ, zero, suc, ◌+◌, ◌*◌, ◌<◌, ◌≤◌, Bool, true, ◌&&◌, List, [], ◌∷◌, length, length-drop, drop, get_or, get_or-drop, Option, Some, None, IsSomeAnd, IfSome, Decides, option_map, refl, sym, ap, subst, ◌∙◌, arith}
 use Rattle.std.specs.List.{slice_get}
 use Rattle.std.specs.Option.{option_and_then}
-use Rattle.std.specs.Str.{chars}
 use Rattle.std.proofs.lemmas.Bool.{and_parts, and_from, cond-true, cond-false, false_from_ne_true, false≢true}
 use Rattle.std.proofs.lemmas.Option.{same_Some}
 use Rattle.regex.specs.Patterns.{Re, find}
 use Rattle.regex.specs.Writes.{both}
 use Rattle.regex_syntax.specs.Brackets.{Nested}
-use Rattle.regex_syntax.specs.Grammar.{Names, read}
+use Rattle.regex_syntax.specs.Grammar.{Names}
 use Rattle.exp_glob.proofs.Found.{first_none, first_some}
 use Rattle.exp_match.specs.Exact.{alike, StandsAt, FindsExact, begins, text_at, find_text}
-use Rattle.exp_match.specs.Translation.{translated}
-use Rattle.exp_match.specs.Written.{Written, Seen, Shows, AreGroupsOf, FindsAsWritten, config_of, seen_of, groups_from, groups_of, find_written}
+use Rattle.exp_match.specs.Written.{Written, Seen, Shows, AreGroupsOf, FindsFrom, reading, seen_of, groups_from, groups_of, find_from}
 
 -- exact texts
 
@@ -107,8 +105,8 @@ by_reading : {X : Type 0} (seen : X → Option Seen) (found : Option (List (Opti
 by_reading seen found ten None h = absurd h
 by_reading seen found ten (Some p) h = shown (seen p) found ten h
 
-pub is_find_written : (w : Written) (bytes : List ℕ) (found : Option (List (Option (ℕ × ℕ)))) → IfSome found (λ spans. length spans ≡ 10)
-    → FindsAsWritten w bytes found → found ≡ find_written w bytes
-unfolding find_written
-is_find_written w bytes found ten is =
-    by_reading (λ (p : Nested Re × Names). option_map seen_of (find p.0.value bytes 0)) found ten (read (config_of w.nocase) (translated (chars w.source))) is
+pub is_find_from : (w : Written) (bytes : List ℕ) (start : ℕ) (found : Option (List (Option (ℕ × ℕ)))) → IfSome found (λ spans. length spans ≡ 10)
+    → FindsFrom w bytes start found → found ≡ find_from w bytes start
+unfolding find_from
+is_find_from w bytes start found ten is =
+    by_reading (λ (p : Nested Re × Names). option_map seen_of (find p.0.value bytes start)) found ten (reading w) is

@@ -1,5 +1,6 @@
 pub mod Grouped
 pub mod Shown
+pub mod Within
 pub mod Standing
 pub mod Classes
 pub mod Patterns

@@ -17,10 +17,11 @@ by_reading : (a : Re) (m : ℕ) → reach (beginning a) ≡ Some m → (Q : Nest
 by_reading a m is Q same None q = absurd q
 by_reading a m is Q same (Some x) q = (a, same x q, is)
 
-pub text_opens : (given : List ℕ) (nocase : Bool) (hir : Hir) (names : Names) → Reads (config_of nocase) given hir names
-    → (known : Option ℕ) → IsReach known (beginning (meaning hir)) → (source : List ℕ) → IsGivenFor source given → IfSome known (Opens (record { source = source; nocase = nocase }))
+pub text_opens : (given : List ℕ) (nocase lines : Bool) (hir : Hir) (names : Names) → Reads (config_of nocase lines) given hir names
+    → (known : Option ℕ) → IsReach known (beginning (meaning hir)) → (source : List ℕ) → IsGivenFor source given
+    → IfSome known (Opens (record { source = source; nocase = nocase; lines = lines }))
 unfolding Reads
-text_opens given nocase hir names reads None is source for = tt
-text_opens given nocase hir names reads (Some m) is source for =
-    subst (λ (text : List ℕ). IsSomeAnd (read (config_of nocase) text) (λ p. HasOpening m p.0.value)) for
-    (by_reading (meaning hir) m is _ (λ x q. q.1) (read (config_of nocase) (chars given)) reads)
+text_opens given nocase lines hir names reads None is source for = tt
+text_opens given nocase lines hir names reads (Some m) is source for =
+    subst (λ (text : List ℕ). IsSomeAnd (read (config_of nocase lines) text) (λ p. HasOpening m p.0.value)) for
+    (by_reading (meaning hir) m is _ (λ x q. q.1) (read (config_of nocase lines) (chars given)) reads)

@@ -3,7 +3,6 @@
 use Rattle.std.proofs.Common.{◌≡◌, inl, inr, ℕ, ◌+◌, ◌-◌, ◌<◌, ◌≤◌, max, true, List, ◌++◌, All, length, length-drop, take, drop, drop-drop, get_or-drop, get_or-take, Option, Some, None, IfSome, IsSomeAnd, MatchOption, option_map, refl, sym, ap, subst, ◌∙◌, ⊎_elim, arith}
 use Rattle.std.specs.Prelude.{not, is_some}
 use Rattle.std.specs.List.{slice_get}
-use Rattle.std.specs.Str.{chars}
 use Rattle.std.specs.Char.{encode_utf8}
 use Rattle.std.proofs.Math.Seq.{take-append-add}
 use Rattle.std.proofs.lemmas.Bool.{cases_lt}
@@ -23,11 +22,10 @@ use Rattle.regex_hir.proofs.OptionLemmas.{value_of_IsSome}
 use Rattle.regex_hir.proofs.TextLemmas.{has_bytes_at_parts, has_bytes_at_from, char_at_parts, char_at_from}
 use Rattle.regex_syntax.specs.Brackets.{Nested}
 use Rattle.regex_syntax.specs.Captures.{SameCaptures}
-use Rattle.regex_syntax.specs.Grammar.{Names, read}
+use Rattle.regex_syntax.specs.Grammar.{Names}
 use Rattle.regex_syntax.proofs.CapturesLemmas.{find_alike}
 use Rattle.exp_match.specs.Reach.{of_both, look_reach, reach, beginning, HasOpening, Opens, IsBounded}
-use Rattle.exp_match.specs.Translation.{translated}
-use Rattle.exp_match.specs.Written.{Written, Seen, Shows, FindsAsWritten, config_of, seen_of}
+use Rattle.exp_match.specs.Written.{Written, Seen, Shows, FindsAsWritten, FindsFrom, reading, seen_of}
 use Rattle.exp_match.proofs.Beginning.{sooner, later}
 
 -- the two numbers behind one of both
@@ -251,10 +249,6 @@ module _ (a b : Re) (alike : SameCaptures a b) (m : ℕ) (is : reach (beginning 
       sym (find_alike a b alike (drop d hay) (All-drop (λ b. b < 256) d hay bytes) 0)
       ∙ ap (option_map seen_of) (unfound_in_rest a m is hay d (found_by_either hay bytes none))
 
--- what a pattern finds from a place on shows these spans
-abbrev pub FindsFrom : Written → List ℕ → ℕ → Option (List (Option (ℕ × ℕ))) → Type 0
-FindsFrom w bytes start found = IsSomeAnd (read (config_of w.nocase) (translated (chars w.source))) (λ p. Shows (seen_from p.0.value bytes start) found)
-
 module _ (m : ℕ) (hay : List ℕ) (bytes : AreBytes hay) where
   reading_behind : (o : Option (Nested Re × Names)) → IsSomeAnd o (λ p. HasOpening m p.0.value) → (n start : ℕ) → ((i : ℕ) → i < start → i + m ≤ n)
       → IsSomeAnd o (λ p. seen_from p.0.value (take n hay) 0 ≡ None) → (found : Option (List (Option (ℕ × ℕ))))
@@ -272,7 +266,7 @@ module _ (m : ℕ) (hay : List ℕ) (bytes : AreBytes hay) where
 pub found_from : (w : Written) (m : ℕ) → Opens w m → (bytes : List ℕ) → AreBytes bytes → (n start : ℕ) → ((i : ℕ) → i < start → i + m ≤ n)
     → FindsAsWritten w (take n bytes) None → (found : Option (List (Option (ℕ × ℕ)))) → FindsFrom w bytes start found → FindsAsWritten w bytes found
 found_from w m opens bytes are n start before none found shows =
-    reading_behind m bytes are (read (config_of w.nocase) (translated (chars w.source))) opens n start before none found shows
+    reading_behind m bytes are (reading w) opens n start before none found shows
 
 -- the same where a search begins by what is known of the pattern's opening
 pub found_by_opening : (w : Written) (known : Option ℕ) → IfSome known (Opens w) → (bytes : List ℕ) → AreBytes bytes → (n start : ℕ)
@@ -290,4 +284,4 @@ found_by_opening w (Some m) opens bytes are n start is none found shows =
 -- what it finds nowhere it doesn't find in the last of the bytes
 pub bounded_in_rest : (w : Written) → IsBounded w → (bytes : List ℕ) → AreBytes bytes → (d : ℕ) → FindsAsWritten w bytes None → FindsAsWritten w (drop d bytes) None
 bounded_in_rest w bound bytes are d none =
-    reading_in_rest bound.0 bytes are (read (config_of w.nocase) (translated (chars w.source))) bound.1 d none
+    reading_in_rest bound.0 bytes are (reading w) bound.1 d none

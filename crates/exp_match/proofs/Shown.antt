@@ -11,10 +11,8 @@ use Rattle.regex_syntax.specs.Brackets.{Nested}
 use Rattle.regex_syntax.specs.Grammar.{Names, read}
 use Rattle.regex_syntax.specs.declared.Config.{Config}
 use Rattle.regex_syntax.proofs.CapturesLemmas.{find_alike}
-use Rattle.exp_match.specs.Translation.{translated}
 use Rattle.exp_match.specs.Unbuilt.{IsGivenFor}
-use Rattle.exp_match.specs.Written.{Written, IsReadAs, Shows, AreGroupsOf, config_of, seen_of}
-use Rattle.exp_match.proofs.Reaching.{FindsFrom}
+use Rattle.exp_match.specs.Written.{Written, IsReadAs, FindsFrom, Shows, AreGroupsOf, config_of, reading, seen_of}
 
 module _ (a : Re) (hay : List ℕ) (start : ℕ) (bytes : All (λ x. x < 256) hay) (found : Option (List (Option (ℕ × ℕ))))
     (shows : Shows (option_map seen_of (find a hay start)) found) where
@@ -26,7 +24,7 @@ module _ (a : Re) (hay : List ℕ) (start : ℕ) (bytes : All (λ x. x < 256) ha
 pub found_as_written : (w : Written) (a : Re) → IsReadAs w a → (hay : List ℕ) (start : ℕ) → All (λ x. x < 256) hay
     → (found : Option (List (Option (ℕ × ℕ)))) → Shows (option_map seen_of (find a hay start)) found → FindsFrom w hay start found
 found_as_written w a is_read hay start bytes found shows =
-    by_reading a hay start bytes found shows _ (λ x same. same) (read (config_of w.nocase) (translated (chars w.source))) is_read
+    by_reading a hay start bytes found shows _ (λ x same. same) (reading w) is_read
 
 same_captures : (a : Re) (Q : Nested Re × Names → Type 0) → ((x : Nested Re × Names) → Q x → SameCaptures a x.0.value) → (o : Option (Nested Re × Names)) → IsSomeAnd o Q
     → IsSomeAnd o (λ p. SameCaptures a p.0.value)
@@ -34,11 +32,11 @@ same_captures a Q same None p = absurd p
 same_captures a Q same (Some x) p = same x p
 
 -- a compiled pattern is read as the pattern whose translated text it has
-pub read_as : (r : Regex) (nocase : Bool) (source : List ℕ) → regex_config r ≡ config_of nocase → IsReadFromSource r → IsGivenFor source (regex_source r)
-    → IsReadAs (record { source = source; nocase = nocase }) (regex_pattern r)
+pub read_as : (r : Regex) (nocase lines : Bool) (source : List ℕ) → regex_config r ≡ config_of nocase lines → IsReadFromSource r → IsGivenFor source (regex_source r)
+    → IsReadAs (record { source = source; nocase = nocase; lines = lines }) (regex_pattern r)
 unfolding Reads
-read_as r nocase source config is_read for =
-    subst (λ (text : List ℕ). IsSomeAnd (read (config_of nocase) text) (λ p. SameCaptures (regex_pattern r) p.0.value)) for
+read_as r nocase lines source config is_read for =
+    subst (λ (text : List ℕ). IsSomeAnd (read (config_of nocase lines) text) (λ p. SameCaptures (regex_pattern r) p.0.value)) for
     (subst (λ (k : Config). IsSomeAnd (read k (chars (regex_source r))) (λ p. SameCaptures (regex_pattern r) p.0.value)) config
     (same_captures (regex_pattern r) _ (λ x q. q.1) (read (regex_config r) (chars (regex_source r))) is_read))
 

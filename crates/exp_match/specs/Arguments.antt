@@ -34,7 +34,7 @@ abbrev pub Gives : {X : Type 0} → Result X PatternFault → Result X PatternFa
 Gives (Ok x) meant = meant ≡ Ok x
 Gives (Err f) meant = IsOfArguments f → meant ≡ Err f
 
--- The role of a word in the place of a pattern.
+-- The word begins with `-`.
 abbrev pub is_dash : List ℕ → Bool
 is_dash [] = false
 is_dash (b ∷ bytes) = b == ascii.minus
@@ -57,6 +57,7 @@ way_role word =
     else (if bytes_eq word (codes "-re") || bytes_eq word (codes "-regexp") then role.Written way.Regular
     else plain_role word))
 
+-- The role of a word in the place of a pattern.
 unfoldable pub role_of : List ℕ → Role
 role_of word =
     if bytes_eq word (codes "-nocase") then role.Mark mark.Nocase
@@ -79,7 +80,7 @@ abbrev pub want_of : Way → Bool → ℕ → List ℕ → Result Want PatternFa
 want_of way.Exact nocase at word = Ok (want.Exact word nocase)
 want_of way.Glob nocase at word = Ok (want.Glob (glob_of word) nocase)
 want_of way.Regular nocase at word =
-    if is_pattern word then Ok (want.Regular (record { source = word; nocase = nocase })) else Err (fault.BadRegex at)
+    if is_pattern word then Ok (want.Regular (record { source = word; nocase = nocase; lines = false })) else Err (fault.BadRegex at)
 
 -- Appends a pattern or keyword with its action. Its group is the one that the last `-i` opened.
 abbrev pub with_entry : PatternList → Marks → Want → List ℕ → PatternList

@@ -1,10 +1,8 @@
 -- The number of bytes that decide whether a match of a regular pattern begins at an index. It exists if there is a
 -- bound and the bytes before the index don't matter.
-use Rattle.std.specs.Prelude.{◌≡◌, ℕ, ◌+◌, Bool, true, false, ◌&&◌, ◌||◌, if◌then◌else◌, max, length, Option, Some, None, IfSome, IsSomeAnd, chars}
+use Rattle.std.specs.Prelude.{◌≡◌, ℕ, ◌+◌, Bool, true, false, ◌&&◌, ◌||◌, if◌then◌else◌, max, length, Option, Some, None, IfSome, IsSomeAnd}
 use Rattle.regex.specs.Patterns.{Re, empty, literal, byte_in, char_in, look, cat, alt, group, plus, Look, End, SameCaptures}
-use Rattle.regex_syntax.specs.Grammar.{read}
-use Rattle.exp_match.specs.Translation.{translated}
-use Rattle.exp_match.specs.Written.{Written, config_of}
+use Rattle.exp_match.specs.Written.{Written, reading}
 use Rattle.exp_match.specs.declared.reach.Extent.{Extent}
 
 -- Combines two numbers if both are present.
@@ -64,7 +62,7 @@ HasOpening m a = (re : Re) × SameCaptures re a × (reach (beginning re) ≡ Som
 
 -- m bytes decide whether a match of the pattern with this text begins.
 abbrev pub Opens : Written → ℕ → Type 0
-Opens w m = IsSomeAnd (read (config_of w.nocase) (translated (chars w.source))) (λ p. HasOpening m p.0.value)
+Opens w m = IsSomeAnd (reading w) (λ p. HasOpening m p.0.value)
 
 -- Some number of bytes decides it.
 abbrev pub IsBounded : Written → Type 0

@@ -20,16 +20,36 @@ outside c d =
     else (if c == ascii.open_brace && is_digit d then context.Count
     else context.Outside))
 
+-- Where a pattern goes on after a character c of a count.
+abbrev pub in_count : ℕ → Context
+in_count c = if c == ascii.close_brace then context.Outside else context.Count
+
+-- Where a pattern goes on after a character c that may be the first of a class, before d.
+abbrev pub at_first : ℕ → ℕ → Context
+at_first c d = if c == ascii.close_bracket then context.Class else in_class c d
+
+-- Where a pattern goes on after a character c directly after the `[` of a class, before d.
+abbrev pub at_opening : ℕ → ℕ → Context
+at_opening c d = if c == ascii.caret then context.First else at_first c d
+
+-- Where a pattern goes on after a character c after the first member of a class, before d.
+abbrev pub at_member : ℕ → ℕ → Context
+at_member c d = if c == ascii.close_bracket then context.Outside else in_class c d
+
+-- Where a pattern goes on after a character c of the name of a class.
+abbrev pub in_name : ℕ → Context
+in_name c = if c == ascii.close_bracket then context.Class else context.Name
+
 -- Where a pattern goes on after a character c that stands somewhere, before d.
 abbrev pub goes_on : Context → ℕ → ℕ → Context
 goes_on context.Outside c d = outside c d
 goes_on context.Escape c d = context.Outside
-goes_on context.Count c d = if c == ascii.close_brace then context.Outside else context.Count
-goes_on context.Opening c d = if c == ascii.caret then context.First else (if c == ascii.close_bracket then context.Class else in_class c d)
-goes_on context.First c d = if c == ascii.close_bracket then context.Class else in_class c d
-goes_on context.Class c d = if c == ascii.close_bracket then context.Outside else in_class c d
+goes_on context.Count c d = in_count c
+goes_on context.Opening c d = at_opening c d
+goes_on context.First c d = at_first c d
+goes_on context.Class c d = at_member c d
 goes_on context.ClassEscape c d = context.Class
-goes_on context.Name c d = if c == ascii.close_bracket then context.Class else context.Name
+goes_on context.Name c d = in_name c
 
 -- A member of a class that `regex` would read otherwise.
 abbrev pub is_operator : ℕ → ℕ → Bool

@@ -7,8 +7,7 @@ ghost use Rattle.exp_match.specs.Unbuilt.{IsOfOne, IsOfWord};
 
 use crate::compiled::Compiled;
 use crate::entry::{Entries, Entry, Keyword, Want};
-use crate::faults::{PatternFault, Refusal};
-use crate::grammar::pattern_text;
+use crate::faults::{PatternFault, RegularFault};
 use crate::list::PatternList;
 use crate::pending::{Mark, Marks, Pending, Reader, Role, Way};
 use exp_glob::Glob;
@@ -127,16 +126,11 @@ fn regular(
     ensures given { Gives result (want_of_word Way.Regular nocase at word.now) }
     ensures refused { IfErr result (IsOfWord word.now) }
 {
-    if let Some(kept) = compiled.find(word, nocase) {
-        return Ok(Want::Regular(kept.shared()?));
-    }
-    let Some(source) = pattern_text(alloc, word)? else {
-        return Err(PatternFault::BadRegex(at));
-    };
-    match compiled.compile(alloc, source, nocase) {
+    match compiled.regular(alloc, word, nocase, false) {
         Ok(regular) => Ok(Want::Regular(regular)),
-        Err(Refusal::Refused) => Err(PatternFault::Refused),
-        Err(Refusal::Memory) => Err(PatternFault::Memory),
+        Err(RegularFault::NoPattern) => Err(PatternFault::BadRegex(at)),
+        Err(RegularFault::Refused) => Err(PatternFault::Refused),
+        Err(RegularFault::Memory) => Err(PatternFault::Memory),
     }
 }
 

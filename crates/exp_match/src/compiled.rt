@@ -2,9 +2,10 @@
 
 ghost use Rattle.std.specs.Prelude.{◌≡◌, true, IfErr, IfOk, IfSome};
 ghost use Rattle.exp_match.specs.Scan.{is_pattern};
-ghost use Rattle.exp_match.specs.Unbuilt.{IsOfText};
+ghost use Rattle.exp_match.specs.Unbuilt.{IsOfRegular};
 
-use crate::faults::Refusal;
+use crate::faults::RegularFault;
+use crate::grammar::pattern_text;
 use crate::regular::Regular;
 use std::alloc::Global;
 use std::marker::Model;
@@ -37,12 +38,37 @@ impl Compiled {
         }
     }
 
-    /// Returns the pattern with this text and case, if it is in the cache.
-    pub(crate) fn find(&self, text: &[u8], nocase: bool) -> Option<&Regular>
-        ensures { IfSome result (λ r. (is_pattern text.now ≡ true) × (r.now ≡ record { source = text.now; nocase = nocase })) }
+    /// Returns the pattern that a text writes, compiled or from the cache. With `nocase`, letters
+    /// match in either case. With `lines`, `^` also holds after each newline and `$` before each.
+    ///
+    /// A new pattern goes into the cache, if memory allows. The characters of its text are
+    /// allocated to test them.
+    pub fn regular(
+        &mut self,
+        alloc: Global,
+        text: &[u8],
+        nocase: bool,
+        lines: bool,
+    ) -> Result<Regular, RegularFault>
+        ensures pattern { IfOk result (λ _. is_pattern text.now ≡ true) }
+        ensures built { IfOk result (λ r. r ≡ record { source = text.now; nocase = nocase; lines = lines }) }
+        ensures fault { IfErr result (IsOfRegular (record { source = text.now; nocase = nocase; lines = lines })) }
+    {
+        if let Some(kept) = self.find(text, nocase, lines) {
+            return Ok(kept.shared()?);
+        }
+        let Some(source) = pattern_text(alloc, text)? else {
+            return Err(RegularFault::NoPattern);
+        };
+        self.compile(alloc, source, nocase, lines)
+    }
+
+    /// Returns the pattern with this text, case and anchors, if it is in the cache.
+    fn find(&self, text: &[u8], nocase: bool, lines: bool) -> Option<&Regular>
+        ensures { IfSome result (λ r. (is_pattern text.now ≡ true) × (r.now ≡ record { source = text.now; nocase = nocase; lines = lines })) }
     {
         'kept: for kept in self.list.iter() {
-            if kept.is(text, nocase) {
+            if kept.is(text, nocase, lines) {
                 return Some(kept);
             }
         }
@@ -58,17 +84,18 @@ impl Compiled {
     }
 
     /// Compiles a text of the grammar, and adds the pattern to the cache if memory allows.
-    pub(crate) fn compile(
+    fn compile(
         &mut self,
         alloc: Global,
         source: &str,
         nocase: bool,
-    ) -> Result<Regular, Refusal>
+        lines: bool,
+    ) -> Result<Regular, RegularFault>
         requires { is_pattern source.now ≡ true }
-        ensures built { IfOk result (λ r. r ≡ record { source = source.now; nocase = nocase }) }
-        ensures refused { IfErr result (IsOfText source.now) }
+        ensures built { IfOk result (λ r. r ≡ record { source = source.now; nocase = nocase; lines = lines }) }
+        ensures refused { IfErr result (IsOfRegular (record { source = source.now; nocase = nocase; lines = lines })) }
     {
-        let regular = Regular::build(alloc, source, nocase)?;
+        let regular = Regular::build(alloc, source, nocase, lines)?;
         if let Ok(kept) = regular.shared() {
             self.keep(kept);
         }

@@ -1,25 +1,27 @@
-//! The errors of a list of patterns.
+//! The errors of a pattern and of a list of patterns.
 
 ghost use Rattle.std.specs.Prelude.{◌≡◌};
 
 use std::alloc::AllocError;
 
-/// Why a pattern of the grammar isn't compiled.
+/// Why a text has no compiled pattern.
 #[derive(Clone, Copy)]
-pub enum Refusal {
-    /// `regex` refuses it: its program would be too big.
+pub enum RegularFault {
+    /// It is no regular pattern.
+    NoPattern,
+    /// `regex` refuses the pattern: its program would be too big.
     Refused,
     /// Memory was refused.
     Memory,
 }
 
-impl From<AllocError> for Refusal {
-    ghost use Rattle.exp_match.specs.declared.faults.Refusal.TheVariants.{Memory};
+impl From<AllocError> for RegularFault {
+    ghost use Rattle.exp_match.specs.declared.faults.RegularFault.TheVariants.{Memory};
 
     ghost from_gives = { λ _ e. e ≡ Memory };
 
-    fn from(_e: AllocError) -> Refusal {
-        Refusal::Memory
+    fn from(_e: AllocError) -> RegularFault {
+        RegularFault::Memory
     }
 }
 

@@ -1,12 +1,12 @@
 //! Searches for a regular pattern.
 
-ghost use Rattle.std.specs.Prelude.{◌≡◌, ℕ, ◌<◌, Some, None, IsTrue, IfOk, IfSome, length, option_map, take};
+ghost use Rattle.std.specs.Prelude.{◌≡◌, ℕ, ◌<◌, false, Some, None, IsTrue, IfOk, IfSome, length, option_map, take};
 ghost use Rattle.std.specs.Bool.{then_some};
 ghost use Rattle.std.specs.List.{slice_get};
 ghost use Rattle.regex.specs.Bytes.{captures_span, match_span, matcher_pattern};
 ghost use Rattle.regex.specs.Patterns.{find};
 ghost use Rattle.exp_match.specs.Reach.{IsBounded};
-ghost use Rattle.exp_match.specs.Written.{FindsAsWritten, Shows, find_written, seen_of};
+ghost use Rattle.exp_match.specs.Written.{AreWithin, FindsAsWritten, FindsFrom, Shows, find_from, find_written, seen_of};
 
 use crate::reach::start_behind;
 use crate::regular::Regular;
@@ -17,20 +17,22 @@ use std::marker::Model;
 /// The spans of a match and of its groups 1 to 9: start and exclusive end, or `None`.
 pub type Spans = [Option<(usize, usize)>; 10];
 
-/// The state of a search for a pattern, which later searches reuse. A contract sees the pattern.
+/// The state of searches for a pattern, which later searches reuse. A contract sees the pattern.
 #[derive(Drop)]
-pub(crate) struct RegularMatcher<'r> {
+pub struct Searcher<'r> {
     /// The text of the pattern.
     source: &'r [u8],
     /// Whether letters match in either case.
     nocase: bool,
+    /// Whether `^` and `$` hold at the start and the end of each line.
+    lines: bool,
     /// The number of bytes that decide whether a match begins at an index, if it is known.
     opening: Option<usize>,
     /// The matcher of `regex`.
     matcher: Matcher<'r>,
 }
 
-impl<'r> Model for RegularMatcher<'r> {
+impl<'r> Model for Searcher<'r> {
     ghost use Rattle.std.specs.Prelude.{IfSome};
     ghost use Rattle.regex.specs.Bytes.{matcher_pattern};
     ghost use Rattle.exp_match.specs.Reach.{Opens};
@@ -38,29 +40,46 @@ impl<'r> Model for RegularMatcher<'r> {
 
     ghost Value = { Written };
 
-    ghost view = { λ m. record { source = m.source.now; nocase = m.nocase } };
+    ghost view = { λ m. record { source = m.source.now; nocase = m.nocase; lines = m.lines } };
 
-    ghost invariant = { λ m. IsReadAs (record { source = m.source.now; nocase = m.nocase }) (matcher_pattern m.matcher) × IfSome m.opening (Opens (record { source = m.source.now; nocase = m.nocase })) };
+    ghost invariant = { λ m. IsReadAs (record { source = m.source.now; nocase = m.nocase; lines = m.lines }) (matcher_pattern m.matcher) × IfSome m.opening (Opens (record { source = m.source.now; nocase = m.nocase; lines = m.lines })) };
 }
 
-impl<'r> RegularMatcher<'r> {
-    /// Creates a matcher for this pattern.
-    pub(crate) fn new(alloc: Global, regular: &'r Regular) -> Result<RegularMatcher<'r>, AllocError>
+impl<'r> Searcher<'r> {
+    /// Creates a searcher for this pattern.
+    pub fn new(alloc: Global, regular: &'r Regular) -> Result<Searcher<'r>, AllocError>
         ensures { IfOk result (λ m. m ≡ regular.now) }
     {
-        Ok(RegularMatcher {
+        Ok(Searcher {
             source: regular.source(),
             nocase: regular.nocase(),
+            lines: regular.lines(),
             opening: regular.opening(),
             matcher: regular.regex().matcher(alloc)?,
         })
     }
 
-    /// Returns true only if this is a matcher for the pattern.
+    /// Returns true only if this is a searcher for the pattern.
     pub(crate) fn is_for(&self, regular: &Regular) -> bool
         ensures { IsTrue result → self.now ≡ regular.now }
     {
-        self.nocase == regular.nocase() && self.source == regular.source()
+        self.nocase == regular.nocase()
+            && self.lines == regular.lines()
+            && self.source == regular.source()
+    }
+
+    /// Returns whether a match begins at or after index `start`, and writes the spans of the first
+    /// one, leftmost-first. Anchors see the bytes before `start`.
+    ///
+    /// If `start` is past the end of the bytes, nothing is found.
+    pub fn find_from(&mut self, bytes: &[u8], start: usize, spans: &mut Spans) -> bool
+        ensures written { FindsFrom self.old bytes.now start (then_some result spans.new) }
+        ensures found { then_some result spans.new ≡ find_from self.old bytes.now start }
+        ensures within { IfSome (then_some result spans.new) (AreWithin start (length bytes.now)) }
+        ensures kept { result ≡ false → spans.new ≡ spans.old }
+        ensures same { self.new ≡ self.old }
+    {
+        first_match(&mut self.matcher, bytes, start, spans)
     }
 
     /// Returns whether there is a match in these bytes, and writes the spans of the first one,
@@ -74,8 +93,8 @@ impl<'r> RegularMatcher<'r> {
         ensures value { then_some result spans.new ≡ find_written self.old bytes.now }
         ensures same { self.new ≡ self.old }
     {
-        let start = start_behind(self.opening, sought);
-        first_match(&mut self.matcher, bytes, start, spans)
+        let from = start_behind(self.opening, sought);
+        first_match(&mut self.matcher, bytes, from, spans)
     }
 }
 
@@ -84,6 +103,8 @@ impl<'r> RegularMatcher<'r> {
 fn first_match(matcher: &mut Matcher, bytes: &[u8], start: usize, spans: &mut Spans) -> bool
     ensures shows { Shows (option_map seen_of (find (matcher_pattern matcher.old) bytes.now start)) (then_some result spans.new) }
     ensures ten { IfSome (then_some result spans.new) (λ s. length s ≡ 10) }
+    ensures within { IfSome (then_some result spans.new) (AreWithin start (length bytes.now)) }
+    ensures kept { result ≡ false → spans.new ≡ spans.old }
     ensures same { matcher_pattern matcher.new ≡ matcher_pattern matcher.old }
 {
     match matcher.captures_at(bytes, start) {

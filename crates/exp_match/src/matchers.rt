@@ -1,4 +1,4 @@
-//! The matchers of the regular patterns in a list, kept from one test to the next.
+//! The searchers for the regular patterns in a list, kept from one test to the next.
 
 ghost use Rattle.std.specs.Prelude.{◌≡◌, ◌<◌, Some, None, IfOk, IfSome, length, take};
 ghost use Rattle.std.specs.Bool.{then_some};
@@ -6,18 +6,18 @@ ghost use Rattle.std.specs.List.{slice_get};
 ghost use Rattle.exp_match.specs.Reach.{IsBounded};
 ghost use Rattle.exp_match.specs.Written.{FindsAsWritten, find_written};
 
-use crate::matcher::{RegularMatcher, Spans};
+use crate::matcher::{Searcher, Spans};
 use crate::regular::Regular;
 use std::alloc::{AllocError, Global};
 use std::marker::Model;
 
-/// Matchers of regular patterns. Each is made at the first search for its pattern and then kept.
+/// Searchers for regular patterns. Each is made at the first search for its pattern and then kept.
 ///
 /// A contract sees nothing of them: results are the same with and without them.
 #[derive(Drop)]
 pub struct Matchers<'l> {
-    /// One matcher per pattern that was searched for.
-    list: Vec<RegularMatcher<'l>>,
+    /// One searcher per pattern that was searched for.
+    list: Vec<Searcher<'l>>,
 }
 
 impl<'l> Model for Matchers<'l> {
@@ -28,12 +28,12 @@ impl<'l> Model for Matchers<'l> {
     ghost view = { λ _. tt };
 }
 
-/// Returns the index of the matcher for a pattern.
-fn position(matchers: &[RegularMatcher], regular: &Regular) -> Option<usize>
-    ensures { IfSome result (λ n. (n < length matchers.now) × (slice_get matchers.now n ≡ Some regular.now)) }
+/// Returns the index of the searcher for a pattern.
+fn position(searchers: &[Searcher], regular: &Regular) -> Option<usize>
+    ensures { IfSome result (λ n. (n < length searchers.now) × (slice_get searchers.now n ≡ Some regular.now)) }
 {
-    for (n, matcher) in matchers.iter().enumerate() {
-        if matcher.is_for(regular) {
+    for (n, searcher) in searchers.iter().enumerate() {
+        if searcher.is_for(regular) {
             return Some(n);
         }
     }
@@ -72,7 +72,7 @@ impl<'l> Matchers<'l> {
         }
     }
 
-    /// Like `find`, for a pattern without a matcher yet.
+    /// Like `find`, for a pattern without a searcher yet.
     #[inline(never)]
     fn find_newly(
         &mut self,
@@ -86,9 +86,9 @@ impl<'l> Matchers<'l> {
         ensures written { IfOk result (λ found. FindsAsWritten regular.now bytes.now (then_some found spans.new)) }
         ensures value { IfOk result (λ found. then_some found spans.new ≡ find_written regular.now bytes.now) }
     {
-        let mut matcher = RegularMatcher::new(alloc, regular)?;
-        let found = matcher.find(bytes, sought, spans);
-        self.list.push(matcher)?;
+        let mut searcher = Searcher::new(alloc, regular)?;
+        let found = searcher.find(bytes, sought, spans);
+        self.list.push(searcher)?;
         Ok(found)
     }
 }

@@ -16,24 +16,30 @@ use std::alloc::Global;
 ///
 /// It parses that text once more, because a compiled pattern doesn't contain this. Without memory
 /// for that, the result is `None`.
-pub(crate) fn opening_of_text(alloc: Global, given: &str, nocase: bool) -> Option<usize>
-    ensures { (source : List ℕ) → IsGivenFor source given.now → IfSome result (Opens (record { source = source; nocase = nocase })) }
+pub(crate) fn opening_of_text(
+    alloc: Global,
+    given: &str,
+    nocase: bool,
+    lines: bool,
+) -> Option<usize>
+    ensures { (source : List ℕ) → IsGivenFor source given.now → IfSome result (Opens (record { source = source; nocase = nocase; lines = lines })) }
 {
-    let parsed = parse(alloc, given, &config(nocase)).ok()?;
+    let parsed = parse(alloc, given, &config(nocase, lines)).ok()?;
     let known = extent_of(&parsed.hir);
     drop(parsed);
     known.opening
 }
 
 /// Returns the settings with which `Regular` parses its text.
-fn config(nocase: bool) -> Config
-    ensures { result ≡ config_of nocase }
+fn config(nocase: bool, lines: bool) -> Config
+    ensures { result ≡ config_of nocase lines }
 {
     let defaults = Config::default();
     Config {
         flags: Flags {
             dot_matches_new_line: true,
             case_insensitive: nocase,
+            multi_line: lines,
             ..defaults.flags
         },
         utf8: false,
@@ -173,7 +179,8 @@ fn extent_of(hir: &Hir) -> Extent
     }
 }
 
-/// Returns the reach of an assertion. Only the end of the bytes has one.
+/// Returns the reach of an assertion. Only the end of the bytes has one: the start of the bytes and
+/// the start and the end of a line depend on the byte before or behind.
 fn reach_of_look(look: Look) -> Option<usize>
     ensures { result ≡ look_reach look }
 {

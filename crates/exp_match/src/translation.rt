@@ -2,7 +2,7 @@
 
 ghost use Rattle.std.specs.Prelude.{◌≡◌, ◌++◌, IfOk, OnOk, chars, encode_utf8_all};
 ghost use Rattle.std.specs.String.{string_bytes};
-ghost use Rattle.exp_match.specs.Translation.{in_class as in_class_of, outside as outside_of, goes_on as goes_on_of, is_operator as operator, needs_backslash as needs_backslash_of, escape_text, text_of, translated as translated_of};
+ghost use Rattle.exp_match.specs.Translation.{in_class as in_class_of, outside as outside_of, in_count as in_count_of, at_first as at_first_of, at_opening as at_opening_of, at_member as at_member_of, in_name as in_name_of, goes_on as goes_on_of, is_operator as operator, needs_backslash as needs_backslash_of, escape_text, text_of, translated as translated_of};
 
 use crate::count::is_digit;
 use crate::grammar::characters;
@@ -58,6 +58,57 @@ fn outside(c: char, next: char) -> Context
     }
 }
 
+/// Returns where a pattern goes on after a character of a count.
+fn in_count(c: char) -> Context
+    ensures { result ≡ in_count_of c }
+{
+    match c {
+        '}' => Context::Outside,
+        _ => Context::Count,
+    }
+}
+
+/// Returns where a pattern goes on after a character that may be the first of a class.
+fn at_first(c: char, next: char) -> Context
+    ensures { result ≡ at_first_of c next }
+{
+    if c == ']' {
+        Context::Class
+    } else {
+        in_class(c, next)
+    }
+}
+
+/// Returns where a pattern goes on after a character directly after the `[` of a class.
+fn at_opening(c: char, next: char) -> Context
+    ensures { result ≡ at_opening_of c next }
+{
+    match c {
+        '^' => Context::First,
+        _ => at_first(c, next),
+    }
+}
+
+/// Returns where a pattern goes on after a character after the first member of a class.
+fn at_member(c: char, next: char) -> Context
+    ensures { result ≡ at_member_of c next }
+{
+    match c {
+        ']' => Context::Outside,
+        _ => in_class(c, next),
+    }
+}
+
+/// Returns where a pattern goes on after a character of the name of a class.
+fn in_name(c: char) -> Context
+    ensures { result ≡ in_name_of c }
+{
+    match c {
+        ']' => Context::Class,
+        _ => Context::Name,
+    }
+}
+
 /// Returns where a pattern goes on after a character that stands in this context.
 fn goes_on(context: Context, c: char, next: char) -> Context
     ensures { result ≡ goes_on_of context c next }
@@ -65,44 +116,12 @@ fn goes_on(context: Context, c: char, next: char) -> Context
     match context {
         Context::Outside => outside(c, next),
         Context::Escape => Context::Outside,
-        Context::Count => {
-            if c == '}' {
-                Context::Outside
-            } else {
-                Context::Count
-            }
-        }
-        Context::Opening => {
-            if c == '^' {
-                Context::First
-            } else if c == ']' {
-                Context::Class
-            } else {
-                in_class(c, next)
-            }
-        }
-        Context::First => {
-            if c == ']' {
-                Context::Class
-            } else {
-                in_class(c, next)
-            }
-        }
-        Context::Class => {
-            if c == ']' {
-                Context::Outside
-            } else {
-                in_class(c, next)
-            }
-        }
+        Context::Count => in_count(c),
+        Context::Opening => at_opening(c, next),
+        Context::First => at_first(c, next),
+        Context::Class => at_member(c, next),
         Context::ClassEscape => Context::Class,
-        Context::Name => {
-            if c == ']' {
-                Context::Class
-            } else {
-                Context::Name
-            }
-        }
+        Context::Name => in_name(c),
     }
 }
 

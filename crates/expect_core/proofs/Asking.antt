@@ -17,7 +17,7 @@ use Rattle.expect_core.specs.Answered.{Outcome, idle, owning}
 use Rattle.expect_core.specs.Turns.{over}
 use Rattle.expect_core.specs.Expecting.{behind}
 use Rattle.expect_core.specs.Running.{run, turns}
-use Rattle.expect_core.specs.Calls.{knows, began, outer, outcome}
+use Rattle.expect_core.specs.Calls.{is_named, began, outer, outcome}
 use Rattle.expect_core.specs.Laws.{behind_call, step_to, goes_back, IsBegin, AsksForScripts, IsAnswer, AnswersAsked}
 use Rattle.expect_core.proofs.Calling.{IsUnknown, MayAnswer}
 use Rattle.expect_core.proofs.Steady.{steady_outcome}
@@ -72,7 +72,7 @@ no_name : (n : Option ExpectCommand) (word : List ℕ) (args : List (List ℕ)) 
 no_name None word args vars st none = refl
 no_name (Some n) word args vars st none = absurd (let differs : true ≡ false = none in cc)
 
-unknown : (word : List ℕ) (args : List (List ℕ)) (vars : Variables) (st : Dialogue) → (step_to (outcome (Begin (word ∷ args) vars) st) ≡ Unknown) ↔ (knows word ≡ false)
+unknown : (word : List ℕ) (args : List (List ℕ)) (vars : Variables) (st : Dialogue) → (step_to (outcome (Begin (word ∷ args) vars) st) ≡ Unknown) ↔ (is_named word ≡ false)
 unknown word args vars st = (
   λ is. may_unknown (Begin (word ∷ args) vars) (outcome (Begin (word ∷ args) vars) st) (steady_outcome (Begin (word ∷ args) vars) st).1 is,
   λ none. no_name (expect_command word) word args vars (idle st) none,

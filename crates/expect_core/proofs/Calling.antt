@@ -18,7 +18,7 @@ use Rattle.expect_core.specs.Answered.{Outcome, idle, owning}
 use Rattle.expect_core.specs.Turns.{doing}
 use Rattle.expect_core.specs.Expecting.{expecting, behind}
 use Rattle.expect_core.specs.Running.{run, turns, resuming}
-use Rattle.expect_core.specs.Calls.{knows, named, filling, filled, began, outer, outcome}
+use Rattle.expect_core.specs.Calls.{is_named, named, filling, filled, began, outer, outcome}
 use Rattle.expect_core.specs.Laws.{IsBegin}
 use Rattle.expect_core.proofs.Stepping.{MayCome, Sees, TurnOf, PhaseOf, Kept, After, at_of, run_keeps, resuming_keeps}
 
@@ -26,10 +26,10 @@ pub pick : {X : Type 0} (P : X → Type 0) (b : Bool) (x y : X) → P x → P y 
 pick P true x y px py = px
 pick P false x y px py = py
 
--- an unknown command has no known word
+-- an unknown command has a word that names none
 abbrev pub IsUnknown : Call → Type 0
 IsUnknown (Begin [] vars) = Unit {0}
-IsUnknown (Begin (word ∷ args) vars) = knows word ≡ false
+IsUnknown (Begin (word ∷ args) vars) = is_named word ≡ false
 IsUnknown call = ⊥
 
 -- a call that came to this step may come to it

@@ -14,6 +14,7 @@ pub mod Hushes
 pub mod Vain
 pub mod Recalling
 mod Counting
+mod Lasting
 pub mod Pausing
 pub mod Keeping
 pub mod Siding

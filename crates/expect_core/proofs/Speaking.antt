@@ -13,11 +13,11 @@ use Rattle.command_table.specs.declared.commands.ExpectCommand.{ExpectCommand}
 use Rattle.command_table.specs.declared.commands.ExpectCommand.TheVariants as command
 use Rattle.command_table.specs.Commands.{expect_command}
 use Rattle.expect_core.specs.declared.plan.Plan.{Plan}
-use Rattle.expect_core.specs.declared.order.Order.{Order}
+use Rattle.expect_core.specs.declared.order.SpawnOrder.{SpawnOrder}
 use Rattle.expect_core.specs.declared.turn.Purpose.TheVariants as purpose
 use Rattle.expect_core.specs.declared.turn.Next.TheVariants.{Await}
 use Rattle.expect_core.specs.declared.turn.Deed.{Deed}
-use Rattle.expect_core.specs.declared.turn.Deed.TheVariants.{To, Expect}
+use Rattle.expect_core.specs.declared.turn.Deed.TheVariants.{Alone, To, Expect}
 use Rattle.expect_core.specs.declared.own.Own.{Own}
 use Rattle.expect_core.specs.declared.dialogue.Dialogue.{Dialogue}
 use Rattle.expect_core.specs.Flags.{arguments}
@@ -26,10 +26,11 @@ use Rattle.expect_core.specs.Owned.{child_of}
 use Rattle.expect_core.specs.Heard.{Watch, IsWatched, deadline_from}
 use Rattle.expect_core.specs.Among.{IsAmong}
 use Rattle.expect_core.specs.Sides.{takes_current, opened, asked_by, with_group, with_groups, sides_of, still_open, spoken, spoken_by}
-use Rattle.expect_core.specs.Turns.{react}
+use Rattle.expect_core.specs.Turns.{react, done}
 use Rattle.expect_core.specs.Texts.{too_many}
 use Rattle.expect_core.specs.Spawning.{order_of, ordering}
 use Rattle.expect_core.specs.Sending.{send_of}
+use Rattle.expect_core.specs.Sleeping.{digits, signed, or_expected, until, nothing_until, sleeping_by}
 use Rattle.expect_core.specs.Expecting.{patterns_by, span_in, plan_at, plan_by, plan_of, expecting, again, behind}
 use Rattle.expect_core.specs.Again.{continued}
 use Rattle.expect_core.specs.Ends.{close_of, if_unwaited, wait_of}
@@ -167,7 +168,7 @@ module _ (A : ℕ → Type 0) (B : ℕ → Plan → Type 0) where
   each_said (Err text) f of = tt
 
   -- a child more is about nobody that was there before
-  spawn_speaks : (order : Order) (o : Own) (b : Bool) → nat_lt (length o.children) 16 ≡ b → (nat_lt (length o.children) 16 ≡ true → A (length o.children)) →
+  spawn_speaks : (order : SpawnOrder) (o : Own) (b : Bool) → nat_lt (length o.children) 16 ≡ b → (nat_lt (length o.children) 16 ≡ true → A (length o.children)) →
       SaidOf A B (if b then Ok (To (length o.children) (react (ordering order) (Await (purpose.Spawn order.words)))) else Err too_many)
   spawn_speaks order o true room new = new room
   spawn_speaks order o false room new = tt
@@ -187,6 +188,14 @@ module _ (A : ℕ → Type 0) (B : ℕ → Plan → Type 0) where
   expect_speaks : (args : List (List ℕ)) (vars : Variables) (o : Own) → ((i : ℕ) → IsAmong i (each (by_patterns args vars o)) → A i) → SaidOf A B (expecting args vars o)
   expect_speaks args vars o all = each_said (plan_of args vars o) _ (λ p e i part. all i (plan_speaks args vars o p e i part))
 
+  -- no child takes part in a wait for time
+  time_speaks : (b : Bool) (last : Option ℕ) → SaidOf A B (Ok (if b then Alone [] (done []) else Expect (nothing_until last)))
+  time_speaks true last = tt
+  time_speaks false last = λ i none. absurd none
+
+  slept_speaks : (c : ExpectCommand) (time : List ℕ → Option ℕ) (word : List ℕ) (args : List (List ℕ)) (o : Own) → SaidOf A B (sleeping_by c time word args o)
+  slept_speaks c time word args o = each_said (arguments c word args) _ (λ f e. each_said (or_expected (arg 0 f.1) (time (arg 0 f.1))) _ (λ ms e. time_speaks (ms == 0) (until o.clock ms)))
+
   named_speaks : (c : ExpectCommand) (word : List ℕ) (args : List (List ℕ)) (vars : Variables) (o : Own) → ((i : ℕ) → IsAmong i (named_by (Some c) word args vars o) → A i) → (nat_lt (length o.children) 16 ≡ true → A (length o.children)) → SaidOf A B (named c word args vars o)
   named_speaks command.Spawn word args vars o all new = each_said (order_of word args vars) _ (λ order e. spawn_speaks order o (nat_lt (length o.children) 16) refl new)
   named_speaks command.Send word args vars o all new = each_said (send_of word args vars o) _ (λ s e. all s.0 (alone _ s.0 (send_speaks word args vars o s e)))
@@ -199,6 +208,8 @@ module _ (A : ℕ → Type 0) (B : ℕ → Plan → Type 0) where
   named_speaks command.RemoveNulls word args vars o all new = each_said (option_of command.RemoveNulls word args vars o) _ (λ s e. removing_speaks s.0 s.1 o (λ i at. all i (alone _ i (option_speaks command.RemoveNulls word args vars o s i e at))))
   named_speaks command.LogUser word args vars o all new = each_said (arguments command.LogUser word args) _ (λ f e. each_said (log_word (arg 0 f.1)) _ (λ on e. tt))
   named_speaks command.Puts word args vars o all new = each_said (put_of word args) _ (λ text e. tt)
+  named_speaks command.Sleep word args vars o all new = slept_speaks command.Sleep signed word args o
+  named_speaks command.After word args vars o all new = slept_speaks command.After digits word args o
 
   begun_speaks : (n : Option ExpectCommand) (word : List ℕ) (args : List (List ℕ)) (vars : Variables) (o : Own) → ((i : ℕ) → IsAmong i (named_by n word args vars o) → A i) → (nat_lt (length o.children) 16 ≡ true → A (length o.children)) → NamedOf A B n word args vars o
   begun_speaks None word args vars o all new = tt

@@ -3,7 +3,7 @@ use Rattle.std.specs.Prelude.{◌≡◌, ℕ, List, [], ◌∷◌, Bool, true, f
 use Rattle.child_events.specs.declared.event.Event.{Event}
 use Rattle.command_table.specs.declared.commands.ExpectCommand.{ExpectCommand}
 use Rattle.command_table.specs.declared.commands.ExpectCommand.TheVariants as command
-use Rattle.command_table.specs.Commands.{expect_command}
+use Rattle.command_table.specs.Commands.{expect_command, fixed_expect}
 use Rattle.tcl_subst.specs.Variables.{Variables}
 use Rattle.tcl_commands.specs.declared.code.Code.{Code}
 use Rattle.tcl_commands.specs.Said.{Said}
@@ -20,6 +20,7 @@ use Rattle.expect_core.specs.Answered.{Outcome, idle, owning}
 use Rattle.expect_core.specs.Turns.{doing}
 use Rattle.expect_core.specs.Spawning.{spawning}
 use Rattle.expect_core.specs.Sending.{sending}
+use Rattle.expect_core.specs.Sleeping.{sleeping, waiting_after}
 use Rattle.expect_core.specs.Expecting.{listed, expecting, behind}
 use Rattle.expect_core.specs.Again.{continuing}
 use Rattle.expect_core.specs.Ends.{closing, waiting}
@@ -27,9 +28,13 @@ use Rattle.expect_core.specs.Transcript.{put_of, to_user, writing, logging}
 use Rattle.expect_core.specs.Options.{sizing, removing}
 use Rattle.expect_core.specs.Running.{run, turns, resuming}
 
--- Whether a word names a command of Expect.
+-- Whether a word names a command.
+abbrev pub is_named : List ℕ → Bool
+is_named word = is_some (expect_command word)
+
+-- Whether a word names a command, and no procedure can have its name.
 abbrev pub knows : List ℕ → Bool
-knows word = is_some (expect_command word)
+knows word = is_some (fixed_expect word)
 
 -- What a command does.
 abbrev pub named : ExpectCommand → List ℕ → List (List ℕ) → Variables → Own → Said Deed
@@ -44,6 +49,8 @@ named command.MatchMax word args vars o = sizing word args vars o
 named command.RemoveNulls word args vars o = removing word args vars o
 named command.LogUser word args vars o = logging word args o
 named command.Puts word args vars o = writing (put_of word args)
+named command.Sleep word args vars o = sleeping word args o
+named command.After word args vars o = waiting_after word args o
 
 -- If the only argument of `expect` is a list of all arguments, its words are filled first.
 abbrev pub filling : ExpectCommand → List (List ℕ) → Option (List ℕ)

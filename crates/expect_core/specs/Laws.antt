@@ -13,7 +13,7 @@ use Rattle.expect_core.specs.declared.own.Own.{Own}
 use Rattle.expect_core.specs.declared.dialogue.Dialogue.{Dialogue}
 use Rattle.expect_core.specs.Answered.{Outcome, idle}
 use Rattle.expect_core.specs.Lanes.{offered}
-use Rattle.expect_core.specs.Calls.{knows, outcome, resumed, onward, fresh}
+use Rattle.expect_core.specs.Calls.{is_named, outcome, resumed, onward, fresh}
 use Rattle.expect_core.specs.Good.{Good}
 use Rattle.expect_core.specs.Numbered.{Numbered}
 use Rattle.expect_core.specs.Deadlines.{IsWithin, deadline_of}
@@ -87,7 +87,7 @@ IsAnswer call step = Unit {0}
 -- A command is unknown if and only if its first word names no command of Expect, or it has no words. An action that
 -- ends with another code than 5 and 6 ends its `expect`, with that code and value. No call ends a dialogue.
 pub record AnswersAsked : Type 0 where
-  pub unknown : (word : List ℕ) (args : List (List ℕ)) (vars : Variables) (st : Dialogue) → (step_to (outcome (Begin (word ∷ args) vars) st) ≡ Unknown) ↔ (knows word ≡ false)
+  pub unknown : (word : List ℕ) (args : List (List ℕ)) (vars : Variables) (st : Dialogue) → (step_to (outcome (Begin (word ∷ args) vars) st) ≡ Unknown) ↔ (is_named word ≡ false)
   pub wordless : (vars : Variables) (st : Dialogue) → outcome (Begin [] vars) st ≡ (Unknown, vars, idle st)
   pub each : (call : Call) (st : Dialogue) → IsAnswer call (step_to (outcome call st))
   pub ended : (c : Code) (value : List ℕ) (vars : Variables) (st : Dialogue) → goes_back c ≡ false → step_to (outcome (AfterBody c value vars) st) ≡ Done c value

@@ -19,6 +19,7 @@ pub mod Turns
 pub mod Awaited
 pub mod Spawning
 pub mod Sending
+pub mod Sleeping
 pub mod Expecting
 pub mod Again
 pub mod Ends

@@ -18,7 +18,7 @@ use Rattle.expect_core.specs.declared.turn.Next.TheVariants.{Finish, Await}
 use Rattle.expect_core.specs.declared.turn.Reaction.{Reaction}
 use Rattle.expect_core.specs.declared.turn.Deed.{Deed}
 use Rattle.expect_core.specs.declared.turn.Deed.TheVariants.{To}
-use Rattle.expect_core.specs.declared.order.Order.{Order}
+use Rattle.expect_core.specs.declared.order.SpawnOrder.{SpawnOrder}
 use Rattle.expect_core.specs.declared.own.Own.{Own}
 use Rattle.expect_core.specs.Flags.{arguments}
 use Rattle.expect_core.specs.Scoped.{optional}
@@ -37,10 +37,10 @@ modes_by (Some text) = list_of text >>= λ words. modes_in words (read_modes wor
 abbrev pub modes_of : Variables → Said Modes
 modes_of vars = optional (codes "stty_init") vars >>= modes_by
 
-abbrev pub order_by : Bool → List (List ℕ) → Variables → Said Order
+abbrev pub order_by : Bool → List (List ℕ) → Variables → Said SpawnOrder
 order_by quiet words vars = modes_of vars >>= λ modes. Ok (record { quiet = quiet; words = words; modes = modes })
 
-abbrev pub order_of : List ℕ → List (List ℕ) → Variables → Said Order
+abbrev pub order_of : List ℕ → List (List ℕ) → Variables → Said SpawnOrder
 order_of name args vars = arguments command.Spawn name args >>= λ f. order_by f.0.on f.1 vars
 
 -- The line for the transcript.
@@ -49,10 +49,10 @@ announcing true words = []
 announcing false words = Log (spawn_line words) ∷ []
 
 -- Adds a child and requests its start.
-abbrev pub ordering : Order → List Effect
+abbrev pub ordering : SpawnOrder → List Effect
 ordering order = Add order.modes ∷ (announcing order.quiet order.words ++ Ask (act.Spawn order.words) ∷ [])
 
-abbrev pub spawning_as : Order → Own → Said Deed
+abbrev pub spawning_as : SpawnOrder → Own → Said Deed
 spawning_as order o =
     if nat_lt (length o.children) 16 then Ok (To (length o.children) (react (ordering order) (Await (purpose.Spawn order.words))))
     else Err too_many

@@ -23,10 +23,11 @@ use crate::phase::Phase;
 use crate::planning::listed;
 use crate::run::Paused;
 use crate::send::send;
+use crate::sleeping::{after, sleep};
 use crate::spawn::spawn;
 use crate::transcript::{log_user, puts, send_user};
 use crate::turn::{Deed, Reply, Turn};
-use command_table::{ExpectCommand, expect_command};
+use command_table::{ExpectCommand, expect_command, fixed_expect};
 use std::alloc::{AllocError, Global};
 use std::mem;
 use tcl_commands::{Code, Complaint, said};
@@ -34,11 +35,11 @@ use tcl_host::HostStep;
 use tcl_subst::Vars;
 use tcl_values::Value;
 
-/// Returns whether a word names a command of Expect.
+/// Returns whether a word names a command of Expect, and no procedure can have its name.
 pub(crate) fn knows(word: &[u8]) -> bool
     ensures { result ≡ knows_of word.now }
 {
-    expect_command(word).is_some()
+    fixed_expect(word).is_some()
 }
 
 /// Returns what a command does.
@@ -65,6 +66,8 @@ fn deed(
         ExpectCommand::RemoveNulls => remove_nulls(alloc, word, args, vars, own),
         ExpectCommand::LogUser => log_user(alloc, word, args, own),
         ExpectCommand::Puts => puts(alloc, word, args),
+        ExpectCommand::Sleep => sleep(alloc, word, args, own),
+        ExpectCommand::After => after(alloc, word, args, own),
     }
 }
 

@@ -34,6 +34,7 @@ mod run;
 mod scoped;
 mod send;
 mod settings;
+mod sleeping;
 mod sought;
 mod spawn;
 mod stored;

@@ -18,7 +18,7 @@ use tty::Modes;
 
 /// What a `spawn` is to start.
 #[derive(Drop)]
-pub struct Order {
+pub struct SpawnOrder {
     /// Whether nothing is written to the transcript.
     pub quiet: bool,
     /// The program and its arguments.
@@ -70,11 +70,16 @@ fn modes_of(alloc: Global, vars: &Vars) -> Result<Modes, Complaint>
 }
 
 /// Returns what a `spawn` with these words is to start.
-fn started(alloc: Global, quiet: bool, words: &[Value], vars: &Vars) -> Result<Order, Complaint>
+fn started(
+    alloc: Global,
+    quiet: bool,
+    words: &[Value],
+    vars: &Vars,
+) -> Result<SpawnOrder, Complaint>
     ensures { Says result (order_by quiet words.now vars.now) }
 {
     let modes = modes_of(alloc, vars)?;
-    Ok(Order {
+    Ok(SpawnOrder {
         quiet,
         words: texts_of(alloc, words)?,
         modes,
@@ -87,7 +92,7 @@ pub(crate) fn order_of(
     name: &[u8],
     args: &[Value],
     vars: &Vars,
-) -> Result<Order, Complaint>
+) -> Result<SpawnOrder, Complaint>
     ensures { Says result (order_meant name.now args.now vars.now) }
 {
     let (flags, at) = arguments(alloc, ExpectCommand::Spawn, name, args)?;

@@ -59,15 +59,16 @@ impl Pairs {
     }
 }
 
-/// The limits and the environment of a script.
+/// The limits of a script, and its variables at the start.
 #[derive(Drop)]
 pub struct Settings {
     /// The most steps, from 1 to 1,000,000,000,000. A greater number counts as that.
     pub steps: u64,
     /// The last moment in milliseconds, from 1 to 9,000,000,000,000. `None` is no time limit.
     pub limit_ms: Option<u64>,
-    /// The elements of the array `env`. If a name occurs twice, the last value counts.
-    pub env: Pairs,
+    /// The variables that are set at the start, in order. A name may be that of an element. If it
+    /// occurs twice, the last value counts.
+    pub vars: Pairs,
     /// Whether the script's report lists its variables. If not, none of them is copied for it.
     pub tells_vars: bool,
 }
@@ -80,7 +81,7 @@ impl Settings {
         Ok(Settings {
             steps: self.steps,
             limit_ms: self.limit_ms,
-            env: self.env.copied(alloc)?,
+            vars: self.vars.copied(alloc)?,
             tells_vars: self.tells_vars,
         })
     }

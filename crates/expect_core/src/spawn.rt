@@ -7,7 +7,7 @@ ghost use Rattle.expect_core.specs.Texts.{id_at as id_of};
 
 use crate::child::{Change, Standing};
 use crate::effect::{Effect, Effects};
-use crate::order::{Order, order_of};
+use crate::order::{SpawnOrder, order_of};
 use crate::own::Own;
 use crate::place::Place;
 use crate::request::Act;
@@ -37,7 +37,7 @@ fn announce(
 }
 
 /// Returns the effects that add a child and request its start.
-fn order(alloc: Global, order: &Order) -> Result<Effects, AllocError>
+fn order(alloc: Global, order: &SpawnOrder) -> Result<Effects, AllocError>
     ensures { IfOk result (λ e. e ≡ ordering order.now) }
 {
     let effects = Effects::one(alloc, Effect::Add(order.modes))?;
@@ -46,7 +46,7 @@ fn order(alloc: Global, order: &Order) -> Result<Effects, AllocError>
 }
 
 /// Returns what a `spawn` does, or an error if there are 16 children.
-fn spawn_as(alloc: Global, ordered: Order, own: &Own) -> Result<Deed, Complaint>
+fn spawn_as(alloc: Global, ordered: SpawnOrder, own: &Own) -> Result<Deed, Complaint>
     ensures { Says result (spawning_as ordered own.now) }
 {
     let Some(i) = Place::new(own.children.len()) else {

@@ -1,14 +1,14 @@
 -- What `regex` reads behind a backslash, and which characters aren't others.
-use Rattle.std.proofs.Common.{◌≡◌, ℕ, zero, suc, ◌+◌, ◌*◌, ◌<◌, ◌≤◌, nat_le, nat_lt, Bool, true, false, cond, not, ◌&&◌, ◌||◌, List, [], ◌∷◌, ◌++◌, length, get_or, Some, None, Option, IsSomeAnd, option_map, eqb, refl, sym, subst, ap, ◌∙◌, ⊎_elim, ne_eqb, arith}
+use Rattle.std.proofs.Common.{◌≡◌, ℕ, ◌+◌, ◌*◌, ◌<◌, ◌≤◌, nat_lt, Bool, true, false, cond, ◌||◌, List, [], ◌∷◌, ◌++◌, length, Some, None, IsSomeAnd, option_map, eqb, refl, sym, subst, ap, ◌∙◌, ⊎_elim, ne_eqb, arith}
 use Rattle.std.proofs.lemmas.Bool.{both_ways, cases_lt, le-leb, or_cases, or_parts, eqb-true}
 use Rattle.std.proofs.lemmas.Bool.Decides.{nat_tests}
-use Rattle.std.specs.Char.{digit_value, is_digit}
+use Rattle.std.specs.Char.{digit_value}
 use Rattle.std.specs.Int.{is_in_range}
 use Rattle.regex_hir.specs.Text.{is_scalar}
 use Rattle.regex_syntax.specs.Escapes.{Piece, character, class, assertion, escape, hex, one_letter}
 use Rattle.regex_syntax.specs.Reading.{Text, first, char_of, take_up_to, skip}
 use Rattle.regex_syntax.specs.Sets.{negate_if}
-use Rattle.exp_match.specs.Grammar.{Pair, Escape, digits, quote, byte, unicode}
+use Rattle.exp_match.specs.Grammar.{Escape, digits, quote, byte, unicode}
 use Rattle.exp_match.specs.Scan.{quoted, control, is_quotable, is_hex, is_surrogate, is_set}
 use Rattle.exp_match.specs.Translation.{escape_text, text_from}
 use Rattle.exp_match.specs.Written.{config_of}
@@ -54,10 +54,10 @@ by_number c = (eqb c 101 || eqb c 60) || eqb c 62
 abbrev lettered : List ℕ
 lettered = 118 ∷ 116 ∷ 114 ∷ 110 ∷ 102 ∷ 62 ∷ 60 ∷ 101 ∷ 97 ∷ []
 
-module _ (nocase : Bool) (s : List ℕ) where
+module _ (nocase lines : Bool) (s : List ℕ) where
   -- behind a backslash the text of c is read as the character that it stands for
   abbrev AsQuoted : ℕ → Type 0
-  AsQuoted c = escape (config_of nocase) (escape_text c ++ s) ≡ option_map (λ v. (character v (by_number c), s)) (quoted c)
+  AsQuoted c = escape (config_of nocase lines) (escape_text c ++ s) ≡ option_map (λ v. (character v (by_number c), s)) (quoted c)
 
   each_lettered : HoldsOf AsQuoted lettered
   unfolding escape one_letter hex take_up_to char_of skip first
@@ -124,11 +124,11 @@ module _ (nocase : Bool) (s : List ℕ) where
       by true is = of_one AsQuoted lettered each_lettered c is
       by false isnt = unlettered c v isnt q
 
-  pub quoted_is : (c v : ℕ) → quoted c ≡ Some v → escape (config_of nocase) (escape_text c ++ s) ≡ Some (character v (by_number c), s)
+  pub quoted_is : (c v : ℕ) → quoted c ≡ Some v → escape (config_of nocase lines) (escape_text c ++ s) ≡ Some (character v (by_number c), s)
   quoted_is c v q = as_quoted c v q ∙ ap (option_map (λ v. (character v (by_number c), s))) q
 
   abbrev AsSet : ℕ → Type 0
-  AsSet c = IsSomeAnd (escape (config_of nocase) (c ∷ s)) (λ r. IsClass r.0 × (r.1 ≡ s))
+  AsSet c = IsSomeAnd (escape (config_of nocase lines) (c ∷ s)) (λ r. IsClass r.0 × (r.1 ≡ s))
 
   each_set : HoldsOf AsSet (87 ∷ 83 ∷ 68 ∷ 119 ∷ 115 ∷ 100 ∷ [])
   unfolding escape one_letter first negate_if
@@ -175,8 +175,8 @@ scalar_of n h isnt =
     (λ (ge : 0xD800 ≤ n). ⊎_elim (λ (lt : n < 0xE000). absurd (both_ways _ isnt (surrogate n ge lt))) (λ (le : 0xE000 ≤ n). high_scalar n le h) (cases_lt n 0xE000))
     (cases_lt n 0xD800)
 
-module _ (nocase : Bool) (s : List ℕ) where
-  two_digits : (h i : ℕ) → is_hex h ≡ true → is_hex i ≡ true → escape (config_of nocase) (120 ∷ h ∷ i ∷ s) ≡ Some (character (16 * digit_value h + digit_value i) true, s)
+module _ (nocase lines : Bool) (s : List ℕ) where
+  two_digits : (h i : ℕ) → is_hex h ≡ true → is_hex i ≡ true → escape (config_of nocase lines) (120 ∷ h ∷ i ∷ s) ≡ Some (character (16 * digit_value h + digit_value i) true, s)
   unfolding escape hex take_up_to char_of skip first
   two_digits h i p q =
       let no_brace : eqb h 123 ≡ false = other_than is_hex h 123 p refl in
@@ -185,7 +185,7 @@ module _ (nocase : Bool) (s : List ℕ) where
 
   four_digits : (h i j k : ℕ) → is_hex h ≡ true → is_hex i ≡ true → is_hex j ≡ true → is_hex k ≡ true
       → is_surrogate (256 * (16 * digit_value h + digit_value i) + (16 * digit_value j + digit_value k)) ≡ false
-      → escape (config_of nocase) (117 ∷ h ∷ i ∷ j ∷ k ∷ s) ≡ Some (character (256 * (16 * digit_value h + digit_value i) + (16 * digit_value j + digit_value k)) false, s)
+      → escape (config_of nocase lines) (117 ∷ h ∷ i ∷ j ∷ k ∷ s) ≡ Some (character (256 * (16 * digit_value h + digit_value i) + (16 * digit_value j + digit_value k)) false, s)
   unfolding escape hex take_up_to char_of skip first
   four_digits h i j k p q r t isnt =
       let no_brace : eqb h 123 ≡ false = other_than is_hex h 123 p refl in
@@ -215,9 +215,9 @@ class_escapes = record {
 }
 
 -- an escape is read as the character that it stands for
-pub record IsEscaped (nocase : Bool) (v : ℕ) (s t : Text) : Type 0 where
+pub record IsEscaped (nocase lines : Bool) (v : ℕ) (s t : Text) : Type 0 where
   pub as_byte : Bool
-  pub is : escape (config_of nocase) s ≡ Some (character v as_byte, t)
+  pub is : escape (config_of nocase lines) s ≡ Some (character v as_byte, t)
   pub takes : length t < length s
 
 escape_grows : (c : ℕ) (t : Text) → length t < length (escape_text c ++ t)
@@ -229,14 +229,14 @@ escape_grows c t = by (eqb c 101) (eqb c 60) (eqb c 62)
     by false false true = omega arith
     by false false false = omega arith
 
-module _ (nocase : Bool) (outer inner : Context) (are : AreEscapes outer inner) where
+module _ (nocase lines : Bool) (outer inner : Context) (are : AreEscapes outer inner) where
   pair_text : (h i : ℕ) (s : List ℕ) → is_hex h ≡ true → is_hex i ≡ true → text_from outer (h ∷ i ∷ s) ≡ h ∷ i ∷ text_from outer s
   pair_text h i s p q = are.hex h (i ∷ s) p ∙ ap (λ (x : List ℕ). h ∷ x) (are.hex i s q)
 
-  pub escape_is : (v : ℕ) (s t : List ℕ) → Escape v s t → IsEscaped nocase v (text_from inner s) (text_from outer t)
+  pub escape_is : (v : ℕ) (s t : List ℕ) → Escape v s t → IsEscaped nocase lines v (text_from inner s) (text_from outer t)
   escape_is v s t (quote c v' s' q) = record {
     as_byte = by_number c;
-    is = ap (escape (config_of nocase)) (are.escape c s') ∙ quoted_is nocase (text_from outer s') c v q;
+    is = ap (escape (config_of nocase lines)) (are.escape c s') ∙ quoted_is nocase lines (text_from outer s') c v q;
     takes = subst (λ (x : Text). length (text_from outer s') < length x) (sym (are.escape c s')) (escape_grows c (text_from outer s'));
   }
   escape_is v s t (byte v' s' t' (digits h i s'' p q)) =
@@ -244,7 +244,7 @@ module _ (nocase : Bool) (outer inner : Context) (are : AreEscapes outer inner) 
       are.escape 120 (h ∷ i ∷ t) ∙ ap (λ (x : List ℕ). 120 ∷ x) (pair_text h i t p q) in
       record {
         as_byte = true;
-        is = ap (escape (config_of nocase)) x ∙ two_digits nocase (text_from outer t) h i p q;
+        is = ap (escape (config_of nocase lines)) x ∙ two_digits nocase lines (text_from outer t) h i p q;
         takes = subst (λ (x : Text). length (text_from outer t) < length x) (sym x) (omega arith);
       }
   escape_is v s t (unicode a b s' u t' (digits h i s'' p q) (digits j k t'' r w) isnt) =
@@ -252,6 +252,6 @@ module _ (nocase : Bool) (outer inner : Context) (are : AreEscapes outer inner) 
       are.escape 117 (h ∷ i ∷ j ∷ k ∷ t) ∙ ap (λ (x : List ℕ). 117 ∷ x) (pair_text h i (j ∷ k ∷ t) p q ∙ ap (λ (x : List ℕ). h ∷ i ∷ x) (pair_text j k t r w)) in
       record {
         as_byte = false;
-        is = ap (escape (config_of nocase)) x ∙ four_digits nocase (text_from outer t) h i j k p q r w isnt;
+        is = ap (escape (config_of nocase lines)) x ∙ four_digits nocase lines (text_from outer t) h i j k p q r w isnt;
         takes = subst (λ (x : Text). length (text_from outer t) < length x) (sym x) (omega arith);
       }

@@ -49,24 +49,24 @@ bracket_head : (s : Text) → Head (91 ∷ s)
 unfolding first operator
 bracket_head s = record { some = not_empty 91 s; no_end = refl; no_caret = refl; no_dash = refl; no_mark = refl; no_operator = refl }
 
-module _ (nocase : Bool) where
+module _ (nocase lines : Bool) where
   -- an item is read as the character that it stands for
   record IsItem (v : ℕ) (s t : Text) : Type 0 where
     as_byte : Bool
-    is : member (config_of nocase) s ≡ Some (character v as_byte, t)
+    is : member (config_of nocase lines) s ≡ Some (character v as_byte, t)
     head : Head s
     no_class : is_at "[" s ≡ false
     no_posix : posix s ≡ None
     takes : length t < length s
 
-  escaped_item : (v : ℕ) (s t : Text) → IsEscaped nocase v s t → IsItem v (92 ∷ s) t
+  escaped_item : (v : ℕ) (s t : Text) → IsEscaped nocase lines v s t → IsItem v (92 ∷ s) t
   unfolding member posix first
   escaped_item v s t e =
       record { as_byte = e.as_byte; is = e.is; head = quoted_head s; no_class = refl; no_posix = refl; takes = omega (arith, e.takes) }
 
   -- ^ & ~ [ get a backslash
   abbrev AsEscaped : Text → ℕ → Type 0
-  AsEscaped t c = escape (config_of nocase) (c ∷ t) ≡ Some (character c false, t)
+  AsEscaped t c = escape (config_of nocase lines) (c ∷ t) ≡ Some (character c false, t)
 
   each_escaped : (t : Text) → HoldsOf (AsEscaped t) (91 ∷ 126 ∷ 38 ∷ 94 ∷ [])
   unfolding escape one_letter first
@@ -128,7 +128,7 @@ module _ (nocase : Bool) where
   plain_text c s slash end alone none isnt = class_text c s slash end none ∙ rw (alone, isnt) refl
 
   item_is : (v : ℕ) (s t : List ℕ) → Item v s t → IsItem v (in_class s) (in_class t)
-  item_is v s t (grammar.escape v' s' t' e) = escaped_item v (text_from context.ClassEscape s') (in_class t) (escape_is nocase context.Class context.ClassEscape class_escapes v s' t e)
+  item_is v s t (grammar.escape v' s' t' e) = escaped_item v (text_from context.ClassEscape s') (in_class t) (escape_is nocase lines context.Class context.ClassEscape class_escapes v s' t e)
   item_is v s t (plain c s' p) =
       let a = or_parts ((eqb c 92 || eqb c 93) || eqb c 45) (eqb c 91 && is_mark (get_or s' 0 0)) (not_so _ p) in
       let b = or_parts (eqb c 92 || eqb c 93) (eqb c 45) a.0 in
@@ -151,7 +151,7 @@ module _ (nocase : Bool) where
   -- what may stand behind a member: something, which makes no range of it
   record Behind (u : Text) : Type 0 where
     some : is_empty u ≡ false
-    no_range : (is_at "-" u && not (is_at "]-" (after_hyphen (config_of nocase) u))) ≡ false
+    no_range : (is_at "-" u && not (is_at "]-" (after_hyphen (config_of nocase lines) u))) ≡ false
 
   head_behind : (s : Text) → Head s → Behind s
   head_behind s h = record { some = h.some; no_range = rw h.no_dash refl }
@@ -167,25 +167,25 @@ module _ (nocase : Bool) where
   -- a member is read as a set
   record IsSet (s t : Text) : Type 0 where
     value : Set
-    is : set_item (config_of nocase) s ≡ Some (value, t)
+    is : set_item (config_of nocase lines) s ≡ Some (value, t)
 
-  item_alone : (v : ℕ) (as_byte : Bool) (s t : List ℕ) → member (config_of nocase) s ≡ Some (character v as_byte, t) → Behind t → IsSet s t
+  item_alone : (v : ℕ) (as_byte : Bool) (s t : List ℕ) → member (config_of nocase lines) s ≡ Some (character v as_byte, t) → Behind t → IsSet s t
   unfolding set_item single is_member skip
   item_alone v as_byte s t read b = record { value = λ d. eqb d v; is = rw (read, b.some, b.no_range) refl }
 
-  class_alone : (s t : List ℕ) (set : Set) → member (config_of nocase) s ≡ Some (class set, t) → Behind t → IsSet s t
+  class_alone : (s t : List ℕ) (set : Set) → member (config_of nocase lines) s ≡ Some (class set, t) → Behind t → IsSet s t
   unfolding set_item single skip
   class_alone s t set read b = record { value = set; is = rw (read, b.some, b.no_range) refl }
 
-  set_alone : (c : ℕ) (s t : List ℕ) (o : Option (Piece × Text)) → escape (config_of nocase) (c ∷ s) ≡ o → IsSomeAnd o (λ r. IsClass r.0 × (r.1 ≡ s)) → Behind s → IsSet (92 ∷ c ∷ s) s
+  set_alone : (c : ℕ) (s t : List ℕ) (o : Option (Piece × Text)) → escape (config_of nocase lines) (c ∷ s) ≡ o → IsSomeAnd o (λ r. IsClass r.0 × (r.1 ≡ s)) → Behind s → IsSet (92 ∷ c ∷ s) s
   unfolding member first
   set_alone c s t None is h b = absurd h
   set_alone c s t (Some (character d is_byte, rest)) is h b = absurd h.0
   set_alone c s t (Some (assertion look, rest)) is h b = absurd h.0
   set_alone c s t (Some (class set, rest)) is h b = class_alone (92 ∷ c ∷ s) s set (is ∙ ap (λ (x : Text). Some (class set, x)) h.1) b
 
-  range_is : (v w : ℕ) (v_as_byte w_as_byte : Bool) (s t u : List ℕ) → member (config_of nocase) s ≡ Some (character v v_as_byte, 45 ∷ t)
-      → member (config_of nocase) t ≡ Some (character w w_as_byte, u) → Head t → v ≤ w → IsSet s u
+  range_is : (v w : ℕ) (v_as_byte w_as_byte : Bool) (s t u : List ℕ) → member (config_of nocase lines) s ≡ Some (character v v_as_byte, 45 ∷ t)
+      → member (config_of nocase lines) t ≡ Some (character w w_as_byte, u) → Head t → v ≤ w → IsSet s u
   unfolding set_item range is_member skip first after_hyphen
   range_is v w v_as_byte w_as_byte s t u low high h le = record { value = is_in_range v w; is = rw (low, not_empty 45 t, h.no_mark, high, le-leb v w le) refl }
 
@@ -211,7 +211,7 @@ module _ (nocase : Bool) where
   -- the members from s on are read as sets, up to what is left
   record AreSets (n : ℕ) (s rest : Text) : Type 0 where
     parts : List (Nested Set)
-    is : set_items (config_of nocase) n s ≡ Some (parts, rest)
+    is : set_items (config_of nocase lines) n s ≡ Some (parts, rest)
     flat : deepest parts ≤ 0
 
   abbrev AreRead : Text → Text → Type 0
@@ -248,13 +248,13 @@ module _ (nocase : Bool) where
       record {
         head = h;
         takes = omega arith;
-        with_rest = λ n rest others. set_then n (92 ∷ c ∷ s) s rest h.no_end h.no_operator refl refl (set_alone c s s (escape (config_of nocase) (c ∷ s)) refl (set_is nocase s c is) b) others;
+        with_rest = λ n rest others. set_then n (92 ∷ c ∷ s) s rest h.no_end h.no_operator refl refl (set_alone c s s (escape (config_of nocase lines) (c ∷ s)) refl (set_is nocase lines s c is) b) others;
       }
 
   named_rest : (s t : Text) (it : IsNamed s t) (n : ℕ) (rest : Text) → AreSets n t rest → AreSets (suc n) (91 ∷ 58 ∷ s) rest
   unfolding set_items skip item_or negate_if first operator
   named_rest s t it n rest others = record {
-    parts = flat (case_fold (config_of nocase) it.value) ∷ others.parts;
+    parts = flat (case_fold (config_of nocase lines) it.value) ∷ others.parts;
     is = rw (it.is, others.is) refl;
     flat = omega (arith, others.flat);
   }
@@ -300,7 +300,7 @@ module _ (nocase : Bool) where
   -- the class that opens at t is read as a set, and s is left behind it
   pub record IsBracket (n : ℕ) (t rest : Text) : Type 0 where
     pub part : Nested Set
-    pub is : bracket (config_of nocase) n t ≡ Some (part, rest)
+    pub is : bracket (config_of nocase lines) n t ≡ Some (part, rest)
     pub depth : part.depth ≤ 2
 
   leading_flat : (leading : Text) → deepest {A = Set} (map (λ c. flat (λ d. eqb d c)) leading) ≡ 0
@@ -311,41 +311,41 @@ module _ (nocase : Bool) where
   level true = omega arith
   level false = omega arith
 
-  bracket_is : (n : ℕ) (c : ℕ) (s : Text) (negated : Bool) (leading after rest : Text) → bracket_start (config_of nocase) s ≡ (negated, leading, after)
+  bracket_is : (n : ℕ) (c : ℕ) (s : Text) (negated : Bool) (leading after rest : Text) → bracket_start (config_of nocase lines) s ≡ (negated, leading, after)
       → 0 < n → AreSets n after (93 ∷ rest) → IsBracket (suc n) (c ∷ s) rest
   unfolding bracket skip unite operations negate_if first
   bracket_is zero c s negated leading after rest start some inside = absurd (omega arith)
   bracket_is (suc n) c s negated leading after rest start some inside =
       let firsts : List (Nested Set) = map (λ c. flat (λ d. eqb d c)) leading in
       let all : Nested Set = union (firsts ++ inside.parts) in
-      let folded : Set = case_fold (config_of nocase) all.value in
+      let folded : Set = case_fold (config_of nocase lines) all.value in
       record {
-        part = record { value = cond negated (negate (config_of nocase) folded) folded; depth = all.depth + 1 };
+        part = record { value = cond negated (negate (config_of nocase lines) folded) folded; depth = all.depth + 1 };
         is = rw (start, inside.is) refl;
         depth = omega (arith, deepest-append firsts inside.parts, leading_flat leading, level (nat_lt 1 (length (firsts ++ inside.parts))));
       }
 
-  plain_start : (s : Text) → Head s → bracket_start (config_of nocase) s ≡ (false, [], s)
+  plain_start : (s : Text) → Head s → bracket_start (config_of nocase lines) s ≡ (false, [], s)
   unfolding bracket_start take_run
   plain_start s h = rw (h.no_caret, take_up_to_stops false (length s) (λ c. c ∈ "-") s h.no_dash, h.no_end) refl
 
-  caret_start : (s : Text) → Head s → bracket_start (config_of nocase) (94 ∷ s) ≡ (true, [], s)
+  caret_start : (s : Text) → Head s → bracket_start (config_of nocase lines) (94 ∷ s) ≡ (true, [], s)
   unfolding bracket_start take_run skip first
   caret_start s h = rw (take_up_to_stops false (length s) (λ c. c ∈ "-") s h.no_dash, h.no_end) refl
 
-  dash_start : (s : Text) → is_at "-" s ≡ false → bracket_start (config_of nocase) (45 ∷ s) ≡ (false, 45 ∷ [], s)
+  dash_start : (s : Text) → is_at "-" s ≡ false → bracket_start (config_of nocase lines) (45 ∷ s) ≡ (false, 45 ∷ [], s)
   unfolding bracket_start take_run take_up_to skip first
   dash_start s h = rw (take_up_to_stops false (length s) (λ c. c ∈ "-") s h) refl
 
-  caret_dash_start : (s : Text) → is_at "-" s ≡ false → bracket_start (config_of nocase) (94 ∷ 45 ∷ s) ≡ (true, 45 ∷ [], s)
+  caret_dash_start : (s : Text) → is_at "-" s ≡ false → bracket_start (config_of nocase lines) (94 ∷ 45 ∷ s) ≡ (true, 45 ∷ [], s)
   unfolding bracket_start take_run take_up_to skip first
   caret_dash_start s h = rw (take_up_to_stops false (length s) (λ c. c ∈ "-") s h) refl
 
-  dashes_start : (t : Text) → bracket_start (config_of nocase) (45 ∷ 45 ∷ 93 ∷ t) ≡ (false, 45 ∷ 45 ∷ [], 93 ∷ t)
+  dashes_start : (t : Text) → bracket_start (config_of nocase lines) (45 ∷ 45 ∷ 93 ∷ t) ≡ (false, 45 ∷ 45 ∷ [], 93 ∷ t)
   unfolding bracket_start take_run take_up_to skip first
   dashes_start t = refl
 
-  caret_dashes_start : (t : Text) → bracket_start (config_of nocase) (94 ∷ 45 ∷ 45 ∷ 93 ∷ t) ≡ (true, 45 ∷ 45 ∷ [], 93 ∷ t)
+  caret_dashes_start : (t : Text) → bracket_start (config_of nocase lines) (94 ∷ 45 ∷ 45 ∷ 93 ∷ t) ≡ (true, 45 ∷ 45 ∷ [], 93 ∷ t)
   unfolding bracket_start take_run take_up_to skip first
   caret_dashes_start t = refl
 
@@ -353,8 +353,8 @@ module _ (nocase : Bool) where
   pub record IsClassText (s t : Text) : Type 0 where
     leading : Text
     after : Text
-    plain_is : bracket_start (config_of nocase) s ≡ (false, leading, after)
-    caret_is : bracket_start (config_of nocase) (94 ∷ s) ≡ (true, leading, after)
+    plain_is : bracket_start (config_of nocase lines) s ≡ (false, leading, after)
+    caret_is : bracket_start (config_of nocase lines) (94 ∷ s) ≡ (true, leading, after)
     are : AreRead after (93 ∷ t)
     within : length after ≤ length s
     pub takes : length t < length s

@@ -146,12 +146,12 @@ unfolding first
 no_lazy [] h = refl
 no_lazy (c ∷ t) h = (or_parts (eqb c 63) _ h).0
 
-module _ (nocase : Bool) where
+module _ (nocase lines : Bool) where
   -- the operator at the front sets some bounds
   record AreBounds (t u : Text) : Type 0 where
     least : ℕ
     most : Option ℕ
-    are : bounds (config_of nocase) t ≡ Some (least, most, u)
+    are : bounds (config_of nocase lines) t ≡ Some (least, most, u)
 
   bounds_are : (t u : Text) → Times t u → AreBounds t u
   unfolding bounds first counted_bounds upper_bound skip
@@ -174,13 +174,13 @@ module _ (nocase : Bool) where
   times_head t u (between m n s' t' u' low high le) = refl
 
   -- what no operator follows isn't repeated
-  pub once : (sub : Nested Re) (t : Text) → is_at "?*+{" t ≡ false → repetitions (config_of nocase) (length t + 1) sub t ≡ Some (sub, t)
+  pub once : (sub : Nested Re) (t : Text) → is_at "?*+{" t ≡ false → repetitions (config_of nocase lines) (length t + 1) sub t ≡ Some (sub, t)
   unfolding skip
-  once sub t h = repetitions_end (config_of nocase) (length t + 1) (length t) sub t t (omega arith) refl h
+  once sub t h = repetitions_end (config_of nocase lines) (length t + 1) (length t) sub t t (omega arith) refl h
 
   pub record IsRepeated (sub : Nested Re) (t u : Text) : Type 0 where
     pub part : Nested Re
-    pub is : repetitions (config_of nocase) (length t + 1) sub t ≡ Some (part, u)
+    pub is : repetitions (config_of nocase lines) (length t + 1) sub t ≡ Some (part, u)
     pub depth : part.depth ≤ sub.depth + 1
 
   -- one operator repeats by itself, with or without a `?` behind it
@@ -189,14 +189,14 @@ module _ (nocase : Bool) where
   times_repeat sub t u w r is_lazy mark left h =
       let b = bounds_are t u r in
       let some : length t ≡ suc (length t - 1) = omega (arith, times_take t u r) in
-      let part = repeated_by (config_of nocase) sub (b.least, b.most, u) in
+      let part = repeated_by (config_of nocase lines) sub (b.least, b.most, u) in
       record {
         part = part;
-        is = repetitions_go (config_of nocase) (length t + 1) (length t) sub t t (omega arith) refl (times_head t u r)
-            ∙ ap (λ o. o >>= more_repetitions (config_of nocase) (length t) sub) b.are
-            ∙ ap (λ (l : Bool). repetitions (config_of nocase) (length t) part (cond l (drop 1 u) u)) mark
-            ∙ ap (λ (x : Text). repetitions (config_of nocase) (length t) part x) left
-            ∙ repetitions_end (config_of nocase) (length t) (length t - 1) part w w some refl h;
+        is = repetitions_go (config_of nocase lines) (length t + 1) (length t) sub t t (omega arith) refl (times_head t u r)
+            ∙ ap (λ o. o >>= more_repetitions (config_of nocase lines) (length t) sub) b.are
+            ∙ ap (λ (l : Bool). repetitions (config_of nocase lines) (length t) part (cond l (drop 1 u) u)) mark
+            ∙ ap (λ (x : Text). repetitions (config_of nocase lines) (length t) part x) left
+            ∙ repetitions_end (config_of nocase lines) (length t) (length t - 1) part w w some refl h;
         depth = omega arith;
       }
 

@@ -45,19 +45,19 @@ ends_operator t (Ends.close t') = refl
 
 atom_begins : (d : ℕ) (s t : List ℕ) → Atom d s t → Begins (given s)
 unfolding first
-atom_begins d s t (any d' s') = (any_is false s').begins
+atom_begins d s t (any d' s') = (any_is false false s').begins
 atom_begins d s t (group d' s' t' r) = special_begins 40 (given s') refl refl
 atom_begins d s t (plain_group d' s' t' r) = special_begins 40 (63 ∷ 58 ∷ given s') refl refl
-atom_begins d s t (class d' s' t' q c) = (class_is false s' t q c).begins
-atom_begins d s t (class_without d' s' t' c) = (class_without_is false s' t c).begins
-atom_begins d s t (character d' v s' t' e) = (escape_reads false v s' t e).begins
-atom_begins d s t (set d' c s' is) = (set_reads false c s' is).begins
-atom_begins d s t (literal d' c s' isnt) = (literal_reads false c s' isnt).begins
-atom_begins d s t (brace d' s' isnt) = (brace_reads false s' isnt).begins
+atom_begins d s t (class d' s' t' q c) = (class_is false false s' t q c).begins
+atom_begins d s t (class_without d' s' t' c) = (class_without_is false false s' t c).begins
+atom_begins d s t (character d' v s' t' e) = (escape_reads false false v s' t e).begins
+atom_begins d s t (set d' c s' is) = (set_reads false false c s' is).begins
+atom_begins d s t (literal d' c s' isnt) = (literal_reads false false c s' isnt).begins
+atom_begins d s t (brace d' s' isnt) = (brace_reads false false s' isnt).begins
 
 piece_begins : (d : ℕ) (s t : List ℕ) → Piece d s t → Begins (given s)
-piece_begins d s t (start d' s') = (start_is false s').begins
-piece_begins d s t (end d' s') = (end_is false s').begins
+piece_begins d s t (start d' s') = (start_is false false s').begins
+piece_begins d s t (end d' s') = (end_is false false s').begins
 piece_begins d s t (once d' s' t' a) = atom_begins d s t a
 piece_begins d s t (repeated d' s' u t' a r) = atom_begins d s u a
 
@@ -90,25 +90,25 @@ mutual
   seq_takes d s t (next d' s' u t' p q) = omega (arith, piece_takes d s u p, seq_takes d u t q)
 
   piece_takes : (d : ℕ) (s t : List ℕ) → Piece d s t → length (given t) < length (given s)
-  piece_takes d s t (start d' s') = (start_is false s').takes
-  piece_takes d s t (end d' s') = (end_is false s').takes
+  piece_takes d s t (start d' s') = (start_is false false s').takes
+  piece_takes d s t (end d' s') = (end_is false false s').takes
   piece_takes d s t (once d' s' t' a) = atom_takes d s t a
   piece_takes d s t (repeated d' s' u t' a r) = omega (arith, atom_takes d s u a, repeat_takes (given u) (given t) (repeat_text u t r))
 
   atom_takes : (d : ℕ) (s t : List ℕ) → Atom d s t → length (given t) < length (given s)
-  atom_takes d s t (any d' s') = (any_is false s').takes
+  atom_takes d s t (any d' s') = (any_is false false s').takes
   atom_takes d s t (group d' s' t' r) = omega (arith, re_takes d' s' (41 ∷ t) r)
   atom_takes d s t (plain_group d' s' t' r) = omega (arith, re_takes d' s' (41 ∷ t) r)
-  atom_takes d s t (class d' s' t' q c) = (class_is false s' t q c).takes
-  atom_takes d s t (class_without d' s' t' c) = (class_without_is false s' t c).takes
-  atom_takes d s t (character d' v s' t' e) = (escape_reads false v s' t e).takes
-  atom_takes d s t (set d' c s' is) = (set_reads false c s' is).takes
-  atom_takes d s t (literal d' c s' isnt) = (literal_reads false c s' isnt).takes
-  atom_takes d s t (brace d' s' isnt) = (brace_reads false s' isnt).takes
+  atom_takes d s t (class d' s' t' q c) = (class_is false false s' t q c).takes
+  atom_takes d s t (class_without d' s' t' c) = (class_without_is false false s' t c).takes
+  atom_takes d s t (character d' v s' t' e) = (escape_reads false false v s' t e).takes
+  atom_takes d s t (set d' c s' is) = (set_reads false false c s' is).takes
+  atom_takes d s t (literal d' c s' isnt) = (literal_reads false false c s' isnt).takes
+  atom_takes d s t (brace d' s' isnt) = (brace_reads false false s' isnt).takes
 
-module _ (nocase : Bool) where
+module _ (nocase lines : Bool) where
   abbrev pub at : Names → Text → Place
-  at names s = record { config = config_of nocase; names = names; text = s }
+  at names s = record { config = config_of nocase lines; names = names; text = s }
 
   abbrev Found : Type 0 → Type 0
   Found A = Option (A × Place)
@@ -153,7 +153,7 @@ module _ (nocase : Bool) where
   once_part found most t r h = record {
     part = r.part;
     names = r.names;
-    is = r.is ∙ rw (counts.once nocase r.part t h) refl;
+    is = r.is ∙ rw (counts.once nocase lines r.part t h) refl;
     depth = omega (arith, r.depth);
     fits = r.fits;
   }
@@ -161,7 +161,7 @@ module _ (nocase : Bool) where
   repeated_part : (found : Found (Nested Meant)) (most : ℕ) (t u : Text) → IsRepeatable found most t → Repeat t u → is_at "?*+{" u ≡ false → IsPart found (most + 1) u
   unfolding with_repetitions
   repeated_part found most t u r operator h =
-      let p = counts.repeated nocase r.part t u operator h in
+      let p = counts.repeated nocase lines r.part t u operator h in
       record {
         part = p.part;
         names = r.names;
@@ -174,7 +174,7 @@ module _ (nocase : Bool) where
   abbrev inside : ℕ → Place → Found (Nested Meant)
   inside n p = join_parts alt_all (branches n p)
 
-  atom_item : (n most : ℕ) (names : Names) (s t : Text) → IsAtom nocase s t → 2 ≤ most → Fits names s → IsRepeatable (item (inside n) (at names s)) most t
+  atom_item : (n most : ℕ) (names : Names) (s t : Text) → IsAtom nocase lines s t → 2 ≤ most → Fits names s → IsRepeatable (item (inside n) (at names s)) most t
   unfolding item
   atom_item n most names s t a le fits = record {
     part = a.part;
@@ -287,9 +287,9 @@ module _ (nocase : Bool) where
     piece_reads : (d : ℕ) (s t : List ℕ) → Piece d s t → is_at "?*+{" (given t) ≡ false → (n : ℕ) → 2 * length (given s) ≤ n → (names : Names) → Fits names (given s)
         → IsPart (item (inside n) (at names (given s))) (atom_depth d + 1) (given t)
     piece_reads d s t (start d' s') h n le names fits =
-        once_part (item (inside n) (at names (given s))) (atom_depth d) (given t) (atom_item n (atom_depth d) names (given s) (given t) (start_is nocase t) (omega arith) fits) h
+        once_part (item (inside n) (at names (given s))) (atom_depth d) (given t) (atom_item n (atom_depth d) names (given s) (given t) (start_is nocase lines t) (omega arith) fits) h
     piece_reads d s t (end d' s') h n le names fits =
-        once_part (item (inside n) (at names (given s))) (atom_depth d) (given t) (atom_item n (atom_depth d) names (given s) (given t) (end_is nocase t) (omega arith) fits) h
+        once_part (item (inside n) (at names (given s))) (atom_depth d) (given t) (atom_item n (atom_depth d) names (given s) (given t) (end_is nocase lines t) (omega arith) fits) h
     piece_reads d s t (once d' s' t' a) h n le names fits = once_part (item (inside n) (at names (given s))) (atom_depth d) (given t) (atom_reads d s t a n le names fits) h
     piece_reads d s t (repeated d' s' u t' a r) h n le names fits =
         repeated_part (item (inside n) (at names (given s))) (atom_depth d) (given u) (given t) (atom_reads d s u a n le names fits) (repeat_text u t r) h
@@ -305,10 +305,10 @@ module _ (nocase : Bool) where
         deeper (item (inside n) (at names (given s))) (atom_depth d' + 1 + 1 + 2) (atom_depth d) (given t)
         (plain_group_item n (atom_depth d' + 1 + 1) names (given s') (given t) (re_reads d' s' (41 ∷ t) r (Closes.close (given t)) n (omega arith) names (omega (arith, fits))))
         (omega arith)
-    atom_reads d s t (any d' s') n le names fits = atom_item n (atom_depth d) names (given s) (given t) (any_is nocase t) (omega arith) fits
-    atom_reads d s t (class d' s' t' q c) n le names fits = atom_item n (atom_depth d) names (given s) (given t) (class_is nocase s' t q c) (omega arith) fits
-    atom_reads d s t (class_without d' s' t' c) n le names fits = atom_item n (atom_depth d) names (given s) (given t) (class_without_is nocase s' t c) (omega arith) fits
-    atom_reads d s t (character d' v s' t' e) n le names fits = atom_item n (atom_depth d) names (given s) (given t) (escape_reads nocase v s' t e) (omega arith) fits
-    atom_reads d s t (set d' c s' is) n le names fits = atom_item n (atom_depth d) names (given s) (given t) (set_reads nocase c s' is) (omega arith) fits
-    atom_reads d s t (literal d' c s' isnt) n le names fits = atom_item n (atom_depth d) names (given s) (given t) (literal_reads nocase c s' isnt) (omega arith) fits
-    atom_reads d s t (brace d' s' isnt) n le names fits = atom_item n (atom_depth d) names (given s) (given t) (brace_reads nocase s' isnt) (omega arith) fits
+    atom_reads d s t (any d' s') n le names fits = atom_item n (atom_depth d) names (given s) (given t) (any_is nocase lines t) (omega arith) fits
+    atom_reads d s t (class d' s' t' q c) n le names fits = atom_item n (atom_depth d) names (given s) (given t) (class_is nocase lines s' t q c) (omega arith) fits
+    atom_reads d s t (class_without d' s' t' c) n le names fits = atom_item n (atom_depth d) names (given s) (given t) (class_without_is nocase lines s' t c) (omega arith) fits
+    atom_reads d s t (character d' v s' t' e) n le names fits = atom_item n (atom_depth d) names (given s) (given t) (escape_reads nocase lines v s' t e) (omega arith) fits
+    atom_reads d s t (set d' c s' is) n le names fits = atom_item n (atom_depth d) names (given s) (given t) (set_reads nocase lines c s' is) (omega arith) fits
+    atom_reads d s t (literal d' c s' isnt) n le names fits = atom_item n (atom_depth d) names (given s) (given t) (literal_reads nocase lines c s' isnt) (omega arith) fits
+    atom_reads d s t (brace d' s' isnt) n le names fits = atom_item n (atom_depth d) names (given s) (given t) (brace_reads nocase lines s' isnt) (omega arith) fits

@@ -1,5 +1,5 @@
 -- `regex` reads the text of every pattern of the grammar.
-use Rattle.std.proofs.Common.{◌≡◌, ◌≢◌, ◌⊎◌, ℕ, zero, suc, ◌+◌, ◌-◌, ◌*◌, ◌<◌, ◌≤◌, Bool, true, false, cond, List, [], ◌∷◌, ◌++◌, length, length-append, Option, Some, None, IfSome, IsSomeAnd, eqb, inl, inr, le_refl, sym, subst, arith}
+use Rattle.std.proofs.Common.{◌≡◌, ◌≢◌, ◌⊎◌, ℕ, zero, suc, ◌+◌, ◌-◌, ◌*◌, ◌<◌, ◌≤◌, Bool, true, false, cond, List, [], ◌∷◌, length, length-append, Option, Some, None, IfSome, IsSomeAnd, eqb, inl, inr, le_refl, sym, subst, arith}
 use Rattle.std.specs.List.{slice_index}
 use Rattle.std.specs.Str.{chars, chars_after, continuation_len, lead_bits}
 use Rattle.regex.specs.Failures.{IsPattern}
@@ -14,7 +14,7 @@ use Rattle.exp_match.specs.Grammar.{RePattern}
 use Rattle.exp_match.specs.Scan.{is_pattern}
 use Rattle.exp_match.specs.Unbuilt.{IsGivenFor, IsUnbuilt}
 use Rattle.exp_match.specs.Translation.{escape_text, goes_on, needs_backslash, text_of, text_from, translated}
-use Rattle.exp_match.specs.Written.{config_of}
+use Rattle.exp_match.specs.Written.{Written, config_of}
 use Rattle.exp_match.specs.declared.translation.Context.{Context}
 use Rattle.exp_match.specs.declared.translation.Context.TheVariants as context
 use Rattle.exp_match.proofs.Accepting.{pattern_parts}
@@ -66,15 +66,15 @@ text_fits k (c ∷ s) =
     let d = slice_index s 0 in
     omega (arith, one_fits k c d, text_fits (goes_on k c d) s, length-append (text_of k c d) (text_from (goes_on k c d) s))
 
-pub rules : (text : List ℕ) (nocase : Bool) → RePattern text → IsRead nocase text
+pub rules : (text : List ℕ) (nocase lines : Bool) → RePattern text → IsRead nocase lines text
 unfolding read join_parts translated
-rules text nocase r =
+rules text nocase lines r =
     let fits : length (given (chars text)) ≤ 3 * length (chars text) = text_fits context.Outside (chars text) in
-    let p = re_reads nocase 50 (chars text) [] r.2 Closes.over (2 * length (given (chars text)) + 2) (le_refl _) (None ∷ []) (omega (arith, r.0, fits, chars_fit text)) in
-    rw p.are (omega (arith, join_depth nocase alt_all p.parts (atom_depth nocase 50 + 1 + 1) p.depth))
+    let p = re_reads nocase lines 50 (chars text) [] r.2 Closes.over (2 * length (given (chars text)) + 2) (le_refl _) (None ∷ []) (omega (arith, r.0, fits, chars_fit text)) in
+    rw p.are (omega (arith, join_depth nocase lines alt_all p.parts (atom_depth nocase lines 50 + 1 + 1) p.depth))
 
-pub read_is : (text : List ℕ) (nocase : Bool) → is_pattern text ≡ true → IsRead nocase text
-read_is text nocase is = let p = pattern_parts text is in rules text nocase (p.0, p.1, derived token_means (chars text) p.2)
+pub read_is : (text : List ℕ) (nocase lines : Bool) → is_pattern text ≡ true → IsRead nocase lines text
+read_is text nocase lines is = let p = pattern_parts text is in rules text nocase lines (p.0, p.1, derived token_means (chars text) p.2)
 
 -- what was read isn't refused
 not_refused : (kind : ErrorKind) (limit : ℕ) (found : Option (Nested Program × Names)) → IsSomeAnd found (λ p. p.0.depth ≤ limit)
@@ -85,17 +85,18 @@ not_refused kind limit (Some p) read (inr (inl none)) = absurd (cc)
 not_refused kind limit (Some p) read (inr (inr deep)) = absurd (omega (arith, deep.1))
 
 -- and so is a text that is given for a pattern
-given_read : (text given : List ℕ) (nocase : Bool) → is_pattern text ≡ true → IsGivenFor text given → IsSomeAnd (read (config_of nocase) (chars given)) (λ p. p.0.depth ≤ (config_of nocase).nest_limit)
-given_read text given nocase is for =
-    subst (λ (cs : List ℕ). IsSomeAnd (read (config_of nocase) cs) (λ p. p.0.depth ≤ (config_of nocase).nest_limit)) (sym for) (read_is text nocase is)
+given_read : (text given : List ℕ) (nocase lines : Bool) → is_pattern text ≡ true → IsGivenFor text given → IsSomeAnd (read (config_of nocase lines) (chars given)) (λ p. p.0.depth ≤ (config_of nocase lines).nest_limit)
+given_read text given nocase lines is for =
+    subst (λ (cs : List ℕ). IsSomeAnd (read (config_of nocase lines) cs) (λ p. p.0.depth ≤ (config_of nocase lines).nest_limit)) (sym for) (read_is text nocase lines is)
 
-pub memory : (text given : List ℕ) (nocase : Bool) (kind : ErrorKind) → is_pattern text ≡ true → IsGivenFor text given → Refuses (config_of nocase) given kind → kind ≡ OutOfMemory
+pub memory : (text given : List ℕ) (nocase lines : Bool) (kind : ErrorKind) → is_pattern text ≡ true → IsGivenFor text given → Refuses (config_of nocase lines) given kind → kind ≡ OutOfMemory
 unfolding Refuses
-memory text given nocase kind is for h = not_refused kind (config_of nocase).nest_limit (read (config_of nocase) (chars given)) (given_read text given nocase is for) h
+memory text given nocase lines kind is for h = not_refused kind (config_of nocase lines).nest_limit (read (config_of nocase lines) (chars given)) (given_read text given nocase lines is for) h
 
-pub refused : (text : List ℕ) → IsUnbuilt text → (nocase : Bool) × (given : List ℕ) × IsGivenFor text given × IsPattern (config_of nocase) given
-refused text (is, nocase, given, for, why) = (nocase, given, for, by why)
+pub refused : (w : Written) → IsUnbuilt w → (given : List ℕ) × IsGivenFor w.source given × IsPattern (config_of w.nocase w.lines) given
+refused w (is, given, for, why) = (given, for, by why)
   where
-    by : IsPattern (config_of nocase) given ⊎ ((kind : ErrorKind) × (kind ≢ OutOfMemory) × Refuses (config_of nocase) given kind) → IsPattern (config_of nocase) given
+    by : IsPattern (config_of w.nocase w.lines) given ⊎ ((kind : ErrorKind) × (kind ≢ OutOfMemory) × Refuses (config_of w.nocase w.lines) given kind)
+        → IsPattern (config_of w.nocase w.lines) given
     by (inl p) = p
-    by (inr h) = absurd (h.1 (memory text given nocase h.0 is for h.2))
+    by (inr h) = absurd (h.1 (memory w.source given w.nocase w.lines h.0 is for h.2))

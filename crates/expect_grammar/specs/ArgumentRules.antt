@@ -83,7 +83,7 @@ pub data Pattern (nocase : Bool) : List (List ℕ) → Want → List (List ℕ) 
   glob : (flag word : List ℕ) (rest : List (List ℕ)) → IsWay flag way.Glob → Pattern nocase (flag ∷ word ∷ rest) (want.Glob (glob_of word) nocase) rest
   -- After `-re`, it must be a regular expression.
   regular : (flag word : List ℕ) (rest : List (List ℕ)) → IsWay flag way.Regular → RePattern word
-      → Pattern nocase (flag ∷ word ∷ rest) (want.Regular (record { source = word; nocase = nocase })) rest
+      → Pattern nocase (flag ∷ word ∷ rest) (want.Regular (record { source = word; nocase = nocase; lines = false })) rest
   -- Without such a flag, it is a glob pattern.
   plain : (word : List ℕ) (rest : List (List ℕ)) → IsPlain word → Pattern nocase (word ∷ rest) (want.Glob (glob_of word) nocase) rest
 

@@ -9,7 +9,7 @@ ghost use Rattle.exp_match.specs.Arguments.{patterns_of};
 ghost use Rattle.exp_match.specs.Grammar.{RePattern};
 ghost use Rattle.exp_match.specs.Scan.{is_pattern};
 ghost use Rattle.exp_match.specs.Unbuilt.{IsGivenFor, IsUnbuilt};
-ghost use Rattle.exp_match.specs.Written.{config_of};
+ghost use Rattle.exp_match.specs.Written.{Written, config_of};
 ghost use Rattle.exp_match.specs.declared.faults.PatternFault.{PatternFault};
 ghost use Rattle.exp_match.specs.declared.list.PatternList.{PatternList};
 ghost use Rattle.tty.specs.Modes.{read};
@@ -60,11 +60,12 @@ pub fn flag_rules()
 {}
 
 /// States the law of regular patterns. `regex` parses the text that it gets for each pattern, with
-/// or without case, and the text nests no deeper than `regex` allows. It therefore refuses none, except for
-/// memory. A build that fails for another reason fails because the program would be too big.
+/// or without case and line anchors, and the text nests no deeper than `regex` allows. It therefore
+/// refuses none, except for memory. A build that fails for another reason fails because the program
+/// would be too big.
 pub fn patterns_are_read()
-    ensures rules { (text : List ℕ) (nocase : Bool) → RePattern text → IsRead nocase text }
-    ensures read { (text : List ℕ) (nocase : Bool) → is_pattern text ≡ true → IsRead nocase text }
-    ensures memory { (text given : List ℕ) (nocase : Bool) (kind : ErrorKind) → is_pattern text ≡ true → IsGivenFor text given → Refuses (config_of nocase) given kind → kind ≡ OutOfMemory }
-    ensures refused { (text : List ℕ) → IsUnbuilt text → (nocase : Bool) × (given : List ℕ) × IsGivenFor text given × IsPattern (config_of nocase) given }
+    ensures rules { (text : List ℕ) (nocase lines : Bool) → RePattern text → IsRead nocase lines text }
+    ensures read { (text : List ℕ) (nocase lines : Bool) → is_pattern text ≡ true → IsRead nocase lines text }
+    ensures memory { (text given : List ℕ) (nocase lines : Bool) (kind : ErrorKind) → is_pattern text ≡ true → IsGivenFor text given → Refuses (config_of nocase lines) given kind → kind ≡ OutOfMemory }
+    ensures refused { (w : Written) → IsUnbuilt w → (given : List ℕ) × IsGivenFor w.source given × IsPattern (config_of w.nocase w.lines) given }
 {}

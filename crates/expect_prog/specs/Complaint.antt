@@ -67,7 +67,7 @@ RunLine files (run.Refused at r) c = c ≡ line.Event (at + 1) (refusal_number r
 RunLine files (run.New f) c = OpeningLine files f c
 RunLine files run.Memory c = c ≡ line.Memory
 
--- The line for an error of `replay`, with this log file and these script files.
+-- The line for an error of a replay, with this log file and these script files.
 abbrev pub FaultLine : Bor (List ℕ) → List (Bor (List ℕ)) → ReplayFault → Complaint → Type 0
 FaultLine log files replay.Read c = IsUnreadable log c
 FaultLine log files (replay.Log f) c = LogLine f c
@@ -142,7 +142,7 @@ PlanLine script timeline timing (plan.Plan plans.Memory) c = c ≡ line.Memory
 PlanLine script timeline timing plan.Write c = c ≡ line.Unwritten
 PlanLine script timeline timing plan.Memory c = c ≡ line.Memory
 
--- The line for an error of `run`, with these script files.
+-- The line for an error of a run, with these script files.
 abbrev pub DriveLine : List (Bor (List ℕ)) → DriveFault → Complaint → Type 0
 DriveLine files (drive.Serve (serve.New f)) c = OpeningLine files f c
 DriveLine files (drive.Serve serve.NoThread) c = c ≡ line.NoThread

@@ -1,11 +1,14 @@
 -- The scripts made from an order's settings and files.
-use Rattle.std.specs.Prelude.{◌≡◌, ℕ, List, [], map, Option, Bool, false}
+use Rattle.std.specs.Prelude.{◌≡◌, ℕ, List, map, Bool, false}
 use Rattle.std.specs.Borrow.{Bor}
+use Rattle.command_line.specs.declared.order.Alone.{Alone}
+use Rattle.command_line.specs.declared.order.Scripts.{Scripts}
 use Rattle.report_texts.specs.declared.form.Format.{Format}
 use Rattle.report_texts.specs.declared.form.Format.TheVariants.{Text, Bare, Escaped, Summary, Json, JsonLines, Tap}
 use Rattle.expect_core.specs.declared.settings.Settings.{Settings}
 use Rattle.dialogue_sched.specs.declared.script.Script.{Script}
 use Rattle.dialogue_sched.specs.Pairs.{Paired}
+use Rattle.expect_prog.specs.Variables.{Variables, AreGiven, AreAlone}
 
 -- Whether reports in a format contain the variables, given whether they were requested. Summaries and TAP never do.
 abbrev pub vars_told : Format → Bool → Bool
@@ -17,24 +20,37 @@ vars_told Json asked = asked
 vars_told JsonLines asked = asked
 vars_told Tap asked = false
 
--- The settings of each script of an order: its step limit, its last moment in milliseconds, an empty environment, and
--- whether its report includes its variables.
-abbrev pub settings_given : ℕ → Option ℕ → Bool → Settings
-settings_given steps limit tells = record { steps = steps; limit_ms = limit; env = []; tells_vars = tells }
+-- The settings of each script of an order: its step limit, its last moment in milliseconds, these variables at the
+-- start, and whether its report includes its variables.
+abbrev pub settings_given : Scripts → Variables → Settings
+settings_given order vars = record { steps = order.steps; limit_ms = order.limit_ms; vars = vars; tells_vars = vars_told order.form.format order.form.shown.vars }
 
-abbrev pub script_given : ℕ → Option ℕ → Bool → List ℕ → Script
-script_given steps limit tells source = record { source = source; settings = settings_given steps limit tells }
-
--- The scripts of sources, in their order.
-abbrev pub scripts_given : ℕ → Option ℕ → Bool → List (List ℕ) → List Script
-scripts_given steps limit tells sources = map (script_given steps limit tells) sources
+-- The scripts of sources, in their order, with the same settings.
+abbrev pub scripts_given : Settings → List (List ℕ) → List Script
+scripts_given settings sources = map (λ source. record { source = source; settings = settings }) sources
 
 -- These sources were read at these paths, one at each, in their order.
 abbrev pub AreHeld : (List ℕ → List ℕ → Type 0) → List (Bor (List ℕ)) → List (List ℕ) → Type 0
 AreHeld holds files sources = Paired (λ file source. holds file.now source) files sources
 
--- The scripts of files, in their order. Each file has one script, whose source was read at the file's path.
-pub record AreOfFiles (holds : List ℕ → List ℕ → Type 0) (steps : ℕ) (limit : Option ℕ) (tells : Bool) (files : List (Bor (List ℕ))) (scripts : List Script) : Type 0 where
+-- The scripts of an order's files, in their order. Each file has one script, whose source was read at the file's path.
+-- All have the order's settings, and the variables that it requests.
+pub record AreOfFiles (holds : List ℕ → List ℕ → Type 0) (sets : List (List ℕ) → Type 0) (order : Scripts) (scripts : List Script) : Type 0 where
+  pub vars : Variables
+  pub asked : AreGiven sets order.variables vars
   pub sources : List (List ℕ)
-  pub held : AreHeld holds files sources
-  pub given : scripts ≡ scripts_given steps limit tells sources
+  pub held : AreHeld holds order.sources.items sources
+  pub given : scripts ≡ scripts_given (settings_given order vars) sources
+
+-- The settings of a script that is run as a command: its step limit, its last moment in milliseconds, and these
+-- variables at the start. It has no report that could include its variables.
+abbrev pub alone_settings : Alone → Variables → Settings
+alone_settings order vars = record { steps = order.steps; limit_ms = order.limit_ms; vars = vars; tells_vars = false }
+
+-- The script of a command. Its source was read at the path of its file, and it has the command's settings, arguments
+-- and variables.
+pub record IsOfFile (holds : List ℕ → List ℕ → Type 0) (sets : List (List ℕ) → Type 0) (order : Alone) (script : Script) : Type 0 where
+  pub vars : Variables
+  pub given : AreAlone sets order vars
+  pub held : holds order.source.now script.source
+  pub settings : script.settings ≡ alone_settings order vars

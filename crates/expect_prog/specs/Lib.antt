@@ -1,4 +1,5 @@
 pub mod Complaint
+pub mod Variables
 pub mod Given
 pub mod Folder
 pub mod Outcome

@@ -6,11 +6,11 @@ ghost use Rattle.expect_prog.specs.Complaint.{LogLine, OpeningLine, RunLine, Fau
 use child_events::LogFault;
 use child_serve::ServeFault;
 use child_timeline::TimelineFault;
-use command_line::{Explain, Plan, Replay, Run, Show};
+use command_line::{Explain, Plan, Show};
 use course_texts::{ExplainFault, ShowFault};
 use dialogue_sched::{HallFault, HallRefusal, RunFault};
 use log_plan::PlanFault;
-use report_texts::{Place, push_text};
+use report_texts::{Escaping, push_text};
 use script_runs::{DriveFault, PlanLogFault, ReplayFault};
 use std::alloc::{AllocError, AllocFailed, Global};
 use std::io;
@@ -49,6 +49,12 @@ pub enum Complaint<'a> {
     Words,
     #[error("cannot read {0}")]
     Unreadable(&'a str),
+    #[error("cannot read the environment")]
+    Environment,
+    #[error("--env {0} has no name: write NAME or NAME=VALUE")]
+    NoName(&'a str),
+    #[error("--set {0} sets no variable: write NAME=VALUE, with a NAME that isn't env and has no parenthesis")]
+    BadSet(&'a str),
     #[error("log fault {number} at line {line}")]
     Log {
         number: u8,
@@ -146,7 +152,7 @@ impl<T: Drop> From<AllocFailed<T>> for Complaint<'_> {
 fn line(alloc: Global, complaint: &Complaint<'_>) -> Result<Text, AllocError> {
     let raw = complaint.to_string(alloc)?;
     let mut line = Text::new(alloc);
-    push_text(alloc, &mut line, Place::Quotes, raw.as_bytes())?;
+    push_text(alloc, &mut line, Escaping::Quotes, raw.as_bytes())?;
     Ok(line)
 }
 
@@ -206,29 +212,28 @@ impl<'a> Complaint<'a> {
         }
     }
 
-    fn of_run(fault: RunFault, order: &Replay<'a>) -> Complaint<'a>
-        ensures { RunLine order.now.scripts.sources.items fault result }
+    fn of_run(fault: RunFault, sources: &[&'a str]) -> Complaint<'a>
+        ensures { RunLine sources.now fault result }
     {
         match fault {
             RunFault::Refused { at, refusal } => Complaint::Event {
                 event: at as u128 + 1,
                 number: refusal_number(refusal),
             },
-            RunFault::New(fault) => {
-                Complaint::of_opening(fault, order.scripts.sources.as_slice())
-            }
+            RunFault::New(fault) => Complaint::of_opening(fault, sources),
             RunFault::Memory => Complaint::Memory,
         }
     }
 
-    /// Returns the complaint for an error of a replay.
-    pub fn of(fault: ReplayFault, order: &Replay<'a>) -> Complaint<'a>
-        ensures { FaultLine order.now.log order.now.scripts.sources.items fault result }
+    /// Returns the complaint for an error of a replay of the log at a path, for scripts with these
+    /// files.
+    pub fn of_replay(fault: ReplayFault, log: &'a str, sources: &[&'a str]) -> Complaint<'a>
+        ensures { FaultLine log.entry sources.now fault result }
     {
         match fault {
-            ReplayFault::Read => Complaint::Unreadable(order.log),
+            ReplayFault::Read => Complaint::Unreadable(log),
             ReplayFault::Log(fault) => Complaint::of_log(fault),
-            ReplayFault::Run(fault) => Complaint::of_run(fault, order),
+            ReplayFault::Run(fault) => Complaint::of_run(fault, sources),
             ReplayFault::Write => Complaint::Unwritten,
             ReplayFault::Memory => Complaint::Memory,
         }
@@ -322,14 +327,12 @@ impl<'a> Complaint<'a> {
         }
     }
 
-    /// Returns the complaint for an error of a run.
-    pub fn of_drive(fault: DriveFault, order: &Run<'a>) -> Complaint<'a>
-        ensures { DriveLine order.now.scripts.sources.items fault result }
+    /// Returns the complaint for an error of a run of scripts with these files.
+    pub fn of_drive(fault: DriveFault, sources: &[&'a str]) -> Complaint<'a>
+        ensures { DriveLine sources.now fault result }
     {
         match fault {
-            DriveFault::Serve(ServeFault::New(fault)) => {
-                Complaint::of_opening(fault, order.scripts.sources.as_slice())
-            }
+            DriveFault::Serve(ServeFault::New(fault)) => Complaint::of_opening(fault, sources),
             DriveFault::Serve(ServeFault::NoThread) => Complaint::NoThread,
             DriveFault::Serve(ServeFault::Memory) => Complaint::Memory,
             DriveFault::Memory => Complaint::Memory,

@@ -1,7 +1,8 @@
 //! Reads and runs the files of an order.
 
-ghost use Rattle.std.specs.Prelude.{◌≡◌, ◌≤◌, ℕ, List, IfOk, OnOk};
-ghost use Rattle.expect_prog.specs.Given.{script_given, scripts_given, vars_told, AreHeld, AreOfFiles};
+ghost use Rattle.std.specs.Prelude.{◌≡◌, ◌≤◌, ◌<◌, ℕ, List, length, IsTrue, IfOk, OnOk};
+ghost use Rattle.expect_prog.specs.Variables.{AreGiven, AreAlone};
+ghost use Rattle.expect_prog.specs.Given.{settings_given, alone_settings, scripts_given, vars_told, AreHeld, AreOfFiles, IsOfFile};
 
 use crate::complaint::Complaint;
 use crate::folder::{Folder, Pages, paths_of};
@@ -9,14 +10,16 @@ use crate::names::{Names, Role};
 use crate::outcome::Outcome;
 use crate::sized::{Bounded, LONGEST_LOG};
 use crate::standard::Patient;
+use crate::variables::{alone_given, own_entries, variables_given};
 use child_events::Counted;
-use command_line::{Check, Explain, Plan, Replay, Scripts, Show};
+use command_line::{Alone, Check, Explain, Plan, Replay, Scripts, Show, Variables};
 use course_texts::{explain, show_log};
 use dialogue_sched::Script;
 use report_texts::{Form, Format, ReadFault, read_all};
 use script_runs::{CheckFault, NoShelf, Shelf, check_source, plan_log, replay};
 use session::{Pairs, SOURCE_LIMIT, Settings};
 use std::alloc::{AllocError, Global};
+use std::env::Env;
 use std::fs::{self, OpenFile};
 use std::io::{self, ErrorKind, Read, Write};
 use std::rt::Files;
@@ -37,7 +40,7 @@ pub fn opened<'a, R: Files>(rt: &R, path: &'a str) -> Result<R::File, Complaint<
 
 /// Opens a log's file for reading. Fails if it is empty or too long. `cut` says that the log may be
 /// cut off: then its lines have no greatest length.
-fn opened_log<'a, R: Files>(
+pub fn opened_log<'a, R: Files>(
     rt: &R,
     path: &'a str,
     cut: bool,
@@ -52,7 +55,7 @@ fn opened_log<'a, R: Files>(
 
 /// Returns the complaint for an error in reading a log: that the log is too long, if it is,
 /// otherwise this complaint.
-fn unless_long<'a, D: Drop>(
+pub fn unless_long<'a, D: Drop>(
     log: &Bounded<D>,
     path: &'a str,
     complaint: Complaint<'a>,
@@ -83,31 +86,76 @@ fn source<'a, R: Files>(rt: &R, alloc: Global, path: &'a str) -> Result<Text, Co
     read_whole(alloc, file.take(SOURCE_LIMIT as u64 + 1), path)
 }
 
-/// Where sources are read from.
+/// Where sources and exprun's own environment are read from.
 ///
-/// Each implementation gives `holds` its own meaning. Generic code can learn that it holds only
-/// from a call of `source`. A source for a path was therefore read at this path.
+/// Each implementation gives `holds` and `sets` its own meaning. Generic code can learn that they
+/// hold only from a call of `source` or `entries`. A source for a path was therefore read at this
+/// path, and entries were read in this environment.
 pub trait Sources {
     /// These bytes were read at a path.
     ghost holds: { List ℕ → List ℕ → Type 0 };
 
+    /// These are the entries of the environment.
+    ghost sets: { List (List ℕ) → Type 0 };
+
     /// Reads the source at a path. Of a source that is too long, one byte more than is allowed.
     fn source<'a>(&self, alloc: Global, path: &'a str) -> Result<Text, Complaint<'a>>
         ensures { IfOk result (λ text. holds path.now text) };
+
+    /// Reads the entries of the environment, in order.
+    fn entries<'a>(&self, alloc: Global) -> Result<Texts, Complaint<'a>>
+        ensures { IfOk result (λ texts. sets texts) };
 }
 
-/// The sources in the files of the system.
+/// The files of the system, and the environment of the process.
 #[derive(Drop)]
-pub struct Disk<'r, R> {
+pub struct System<'r, R> {
     pub rt: &'r R,
 }
 
-impl<'r, R: Files> Sources for Disk<'r, R> {
+impl<'r, R: Files + Env> Sources for System<'r, R> {
     ghost holds = { λ _ _. Unit {0} };
+
+    ghost sets = { λ _. Unit {0} };
 
     fn source<'a>(&self, alloc: Global, path: &'a str) -> Result<Text, Complaint<'a>> {
         source(self.rt, alloc, path)
     }
+
+    fn entries<'a>(&self, alloc: Global) -> Result<Texts, Complaint<'a>> {
+        own_entries(self.rt, alloc)
+    }
+}
+
+/// Reads the entries of exprun's own environment, if any of it may be requested.
+fn needed_entries<'a, S: Sources>(
+    from: &S,
+    alloc: Global,
+    asked: &Variables<'_>,
+) -> Result<Texts, Complaint<'a>>
+    ensures whole { IfOk result (λ es. IsTrue asked.now.all → S.sets es) }
+    ensures named { IfOk result (λ es. 0 < length asked.now.env.items → S.sets es) }
+{
+    if asked.all {
+        return from.entries(alloc);
+    }
+    if asked.env.is_empty() {
+        return Ok(Texts::new(alloc));
+    }
+    from.entries(alloc)
+}
+
+/// Returns the variables of scripts at the start. Returns the complaint for the first word that sets
+/// none.
+fn variables<'a, S: Sources>(
+    from: &S,
+    alloc: Global,
+    asked: &Variables<'a>,
+) -> Result<Pairs, Complaint<'a>>
+    ensures { IfOk result (AreGiven S.sets asked.now) }
+{
+    let entries = needed_entries(from, alloc, asked)?;
+    variables_given(alloc, asked, entries.as_slice())
 }
 
 /// Reads the sources at paths, in order. Returns the complaint for the first one that can't be
@@ -126,40 +174,17 @@ fn read_sources<'a, S: Sources>(
     Ok(texts)
 }
 
-/// Returns the script of a source, with an empty environment.
-fn script_of(
-    alloc: Global,
-    steps: u64,
-    limit_ms: Option<u64>,
-    tells_vars: bool,
-    source: Text,
-) -> Script
-    ensures { result ≡ script_given steps limit_ms tells_vars source }
-{
-    Script {
-        source,
-        settings: Settings {
-            steps,
-            limit_ms,
-            env: Pairs::new(alloc),
-            tells_vars,
-        },
-    }
-}
-
-/// Returns the scripts of sources, in their order.
-fn scripts_of(
-    alloc: Global,
-    steps: u64,
-    limit_ms: Option<u64>,
-    tells_vars: bool,
-    sources: Texts,
-) -> Result<Vec<Script>, AllocError>
-    ensures { IfOk result (λ ss. ss.items ≡ scripts_given steps limit_ms tells_vars sources) }
+/// Returns the scripts of sources, in their order, with the same settings.
+fn scripts_of(alloc: Global, settings: &Settings, sources: Texts) -> Result<Vec<Script>, AllocError>
+    ensures { IfOk result (λ ss. ss.items ≡ scripts_given settings.now sources) }
 {
     let mut scripts = Vec::new(alloc);
     for source in sources.list {
-        let Ok(()) = scripts.push(script_of(alloc, steps, limit_ms, tells_vars, source)) else {
+        let script = Script {
+            source,
+            settings: settings.copied(alloc)?,
+        };
+        let Ok(()) = scripts.push(script) else {
             return Err(AllocError);
         };
     }
@@ -181,24 +206,78 @@ fn tells_vars(form: &Form) -> bool
     }
 }
 
-/// Reads the sources of an order, in order, and returns their scripts. Returns the complaint for
-/// the first source that can't be read.
+/// Returns the settings of each script of an order.
+fn settings_of(asked: &Scripts<'_>, vars: Pairs) -> Settings
+    ensures { result ≡ settings_given asked.now vars }
+{
+    Settings {
+        steps: asked.steps,
+        limit_ms: asked.limit_ms,
+        vars,
+        tells_vars: tells_vars(&asked.form),
+    }
+}
+
+/// Reads exprun's own environment, if needed, and then the sources of an order, in order. Returns
+/// their scripts. Returns the complaint for the first word that sets no variable, or the first source
+/// that can't be read.
 pub fn scripts<'a, S: Sources>(
     from: &S,
     alloc: Global,
     order: &Scripts<'a>,
 ) -> Result<Vec<Script>, Complaint<'a>>
-    ensures { IfOk result (λ ss. AreOfFiles S.holds order.now.steps order.now.limit_ms (vars_told order.now.form.format order.now.form.shown.vars) order.now.sources.items ss.items) }
+    ensures { IfOk result (λ ss. AreOfFiles S.holds S.sets order.now ss.items) }
 {
+    let settings = settings_of(order, variables(from, alloc, &order.variables)?);
     let sources = read_sources(from, alloc, order.sources.as_slice())?;
-    let scripts = scripts_of(
-        alloc,
-        order.steps,
-        order.limit_ms,
-        tells_vars(&order.form),
-        sources,
-    )?;
+    let scripts = scripts_of(alloc, &settings, sources)?;
     Ok(scripts)
+}
+
+/// Returns the variables at the start of a script that is run as a command. Returns the complaint
+/// for the first word that sets none.
+fn alone_variables<'a, S: Sources>(
+    from: &S,
+    alloc: Global,
+    order: &Alone<'a>,
+) -> Result<Pairs, Complaint<'a>>
+    ensures { IfOk result (AreAlone S.sets order.now) }
+{
+    let entries = needed_entries(from, alloc, &order.variables)?;
+    alone_given(
+        alloc,
+        order.source,
+        order.args.as_slice(),
+        &order.variables,
+        entries.as_slice(),
+    )
+}
+
+/// Returns the settings of a script that is run as a command.
+fn alone_settings(alone: &Alone<'_>, vars: Pairs) -> Settings
+    ensures { result ≡ alone_settings alone.now vars }
+{
+    Settings {
+        steps: alone.steps,
+        limit_ms: alone.limit_ms,
+        vars,
+        tells_vars: false,
+    }
+}
+
+/// Reads exprun's own environment, if needed, and then the source of a script that is run as a
+/// command. Returns the script. Returns the complaint for the first word that sets no variable, or
+/// for a source that can't be read.
+pub fn alone_script<'a, S: Sources>(
+    from: &S,
+    alloc: Global,
+    order: &Alone<'a>,
+) -> Result<Script, Complaint<'a>>
+    ensures { IfOk result (IsOfFile S.holds S.sets order.now) }
+{
+    let settings = alone_settings(order, alone_variables(from, alloc, order)?);
+    let source = from.source(alloc, order.source)?;
+    Ok(Script { source, settings })
 }
 
 /// Replays an order's scripts over its log, passes their transcripts to a shelf, and prints the
@@ -224,7 +303,8 @@ fn replay_order<'a, R: Files + Print, L: Read + Drop, S: Shelf>(
     ) {
         Ok(well) => Ok(well),
         Err(fault) => {
-            let complaint = Complaint::of(fault, order);
+            let sources = order.scripts.sources.as_slice();
+            let complaint = Complaint::of_replay(fault, order.log, sources);
             Err(unless_long(&log.device, order.log, complaint))
         }
     }
@@ -252,12 +332,12 @@ fn judge_replay<'a, R: Files>(
 ///
 /// Reads the sources in order, and then the log. Returns the complaint for the first one that can't
 /// be read.
-pub fn replay_files<'a, R: Files + Print + Eprint + Pages + Copy + Drop>(
+pub fn replay_files<'a, R: Files + Env + Print + Eprint + Pages + Copy + Drop>(
     rt: &R,
     alloc: Global,
     order: &Replay<'a>,
 ) -> Result<Outcome, Complaint<'a>> {
-    let scripts = scripts(&Disk { rt }, alloc, &order.scripts)?;
+    let scripts = scripts(&System { rt }, alloc, &order.scripts)?;
     let log = opened_log(rt, order.log, order.cut)?;
     let Some(path) = order.scripts.transcripts else {
         let well = replay_order(rt, alloc, order, scripts, log, &mut NoShelf)?;
@@ -291,12 +371,12 @@ pub fn show_file<'a, R: Files + Print>(
 ///
 /// Reads the sources in order, and then the log. Returns the complaint for the first one that can't
 /// be read.
-pub fn explain_files<'a, R: Files + Print>(
+pub fn explain_files<'a, R: Files + Env + Print>(
     rt: &R,
     alloc: Global,
     order: &Explain<'a>,
 ) -> Result<Outcome, Complaint<'a>> {
-    let scripts = scripts(&Disk { rt }, alloc, &order.scripts)?;
+    let scripts = scripts(&System { rt }, alloc, &order.scripts)?;
     let mut log = Counted::new(opened_log(rt, order.log, false)?);
     let mut out = Counted::new(Patient(io::writer(rt)));
     match explain(alloc, order.only, &mut log, scripts, &mut out) {
@@ -322,13 +402,20 @@ fn timing<'a, R: Files>(
 }
 
 /// Plans the log of an order. Reads its script first, then its timing file, and then the timeline.
-pub fn plan_file<'a, R: Files + Print>(
+pub fn plan_file<'a, R: Files + Env + Print>(
     rt: &R,
     alloc: Global,
     order: &Plan<'a>,
 ) -> Result<Outcome, Complaint<'a>> {
+    let vars = variables(&System { rt }, alloc, &order.variables)?;
     let source = source(rt, alloc, order.source)?;
-    let script = script_of(alloc, order.steps, order.limit_ms, false, source);
+    let settings = Settings {
+        steps: order.steps,
+        limit_ms: order.limit_ms,
+        vars,
+        tells_vars: false,
+    };
+    let script = Script { source, settings };
     let timing = timing(rt, alloc, order.timing)?;
     let mut timeline = Counted::new(Bounded::new(opened(rt, order.timeline)?, false));
     let mut out = Counted::new(Patient(io::writer(rt)));

@@ -1,8 +1,9 @@
-//! Runs scripts, or replays them over a log, and prints their reports. Also shows, explains and
-//! plans logs, and checks scripts.
+//! Runs scripts, or replays them over a log, and prints their reports. Also runs a script as a
+//! command, shows, explains and plans logs, and checks scripts.
 #![tactic(auto)]
 
 mod account;
+mod alone;
 mod complaint;
 mod files;
 mod folder;
@@ -12,13 +13,15 @@ mod part;
 mod running;
 mod sized;
 mod standard;
+mod variables;
 
+use crate::alone::run_alone;
 use crate::complaint::{Complaint, tell};
 use crate::files::{check_files, explain_files, plan_file, replay_files, show_file};
 use crate::running::run_files;
 use crate::standard::{Patient, is_unread, open_closed};
 use command_line::{Order, read_words};
-use report_texts::{Place, push_text};
+use report_texts::{Escaping, push_text};
 use std::alloc::{AllocError, Global};
 use std::env;
 use std::env::Env;
@@ -53,7 +56,7 @@ fn words(rt: &(impl Env + AllocGlobal), alloc: Global) -> Result<Vec<String>, Co
 fn told_usage(rt: &impl Eprint, alloc: Global, error: &clap::Error) -> Result<(), AllocError> {
     let raw = error.to_string(alloc)?;
     let mut text = Text::new(alloc);
-    push_text(alloc, &mut text, Place::Lines, raw.as_bytes())?;
+    push_text(alloc, &mut text, Escaping::Lines, raw.as_bytes())?;
     let _ = eprint!(rt; "{}", std::str::from_utf8(text.as_slice()).unwrap_or(""));
     Ok(())
 }
@@ -91,6 +94,7 @@ fn main(rt: HostRuntime) -> ExitCode {
     let outcome = match &order {
         Order::Replay(replay) => replay_files(&rt, rt.alloc(), replay),
         Order::Run(run) => run_files(rt, rt.alloc(), run, rt.stderr(), Patient(rt.stdout())),
+        Order::Script(alone) => run_alone(rt, rt.alloc(), alone, rt.stderr(), Patient(rt.stdout())),
         Order::Show(show) => show_file(&rt, rt.alloc(), show),
         Order::Plan(plan) => plan_file(&rt, rt.alloc(), plan),
         Order::Check(check) => check_files(&rt, rt.alloc(), check),

@@ -4,7 +4,7 @@ ghost use Rattle.std.specs.Prelude.{◌≡◌, ◌≤◌, length, vec_len, IfOk}
 
 use crate::account::{Account, opened_account, remove_account, tell_account};
 use crate::complaint::{Complaint, tell};
-use crate::files::{Disk, scripts};
+use crate::files::{System, scripts};
 use crate::folder::{Folder, Pages, paths_of};
 use crate::names::{Names, Role, judge_old};
 use crate::outcome::Outcome;
@@ -19,6 +19,7 @@ use script_runs::{
     drive_early,
 };
 use std::alloc::{AllocError, Global};
+use std::env::Env;
 use std::io::{self, ErrorKind, IsTerminal, Write};
 use std::rt::Files;
 use std::sync::{Arc, Wait};
@@ -27,7 +28,7 @@ use std::time::Clock;
 use tcl_words::Text;
 
 /// Returns a cancellation for each of `count` scripts.
-fn cancellations<R: Files>(
+pub fn cancellations<R: Files>(
     rt: &R,
     alloc: Global,
     count: usize,
@@ -44,7 +45,7 @@ fn cancellations<R: Files>(
 }
 
 /// Returns a keeper of processes for the script of each cancellation.
-fn keepers<R: Programs + Wait + Clock + Copy + Drop>(
+pub fn keepers<R: Programs + Wait + Clock + Copy + Drop>(
     rt: R,
     alloc: Global,
     reaper: &Reaper,
@@ -210,18 +211,18 @@ struct Ran {
 
 /// The file of a record.
 #[derive(Drop)]
-struct RecordFile<'a, F: Drop> {
-    target: Target<'a>,
-    file: F,
+pub struct RecordFile<'a, F: Drop> {
+    pub target: Target<'a>,
+    pub file: F,
 }
 
-/// Opens the file of the record, if requested.
-fn opened_record<'a, R: Files>(
+/// Opens the file of a record at a path, if there is one.
+pub fn opened_record<'a, R: Files>(
     rt: &R,
     alloc: Global,
-    order: &Run<'a>,
+    path: Option<&'a str>,
 ) -> Result<Option<RecordFile<'a, R::File>>, Complaint<'a>> {
-    let Some(path) = order.record else {
+    let Some(path) = path else {
         return Ok(None);
     };
     let target = Target::asked(rt, alloc, path)?;
@@ -302,6 +303,34 @@ fn whole<R: Clock + Drop, F: Drop>(
     }
 }
 
+/// Gives the file of a record its name, as `give_record` does. Returns `true` if there is no file.
+pub fn is_given<R: Files + Eprint + Clock + Drop>(
+    rt: &R,
+    alloc: Global,
+    target: &Option<Target<'_>>,
+    file: &Option<SyncedFile<R, R::File>>,
+    log: Option<LogWriteFault>,
+) -> bool {
+    match (target, file) {
+        (Some(target), Some(file)) => give_record(rt, alloc, target, whole(file, log)),
+        _ => true,
+    }
+}
+
+/// Removes the file of a record if its scripts were not served, unless memory was refused. Returns
+/// the complaint.
+pub fn unserved<'a, R: Files>(
+    rt: &R,
+    target: &Option<Target<'_>>,
+    fault: DriveFault,
+    sources: &[&'a str],
+) -> Complaint<'a> {
+    if let (DriveFault::Serve(_), Some(target)) = (&fault, target) {
+        target.remove(rt);
+    }
+    Complaint::of_drive(fault, sources)
+}
+
 /// Runs an order's scripts, and writes their record to its file, if there is one. Returns the
 /// results of the run, and the record appended to `kept`. If the scripts were not served, returns a
 /// complaint, and removes the file unless memory was refused.
@@ -335,17 +364,12 @@ fn run_recorded<
     } = match ran {
         Ok(driven) => driven,
         Err(fault) => {
-            if let (DriveFault::Serve(_), Some(target)) = (&fault, &target) {
-                target.remove(&rt);
-            }
-            return Err(Complaint::of_drive(fault, order));
+            let sources = order.scripts.sources.as_slice();
+            return Err(unserved(&rt, &target, fault, sources));
         }
     };
     let (file, kept) = record.into_parts();
-    let is_recorded = match (&target, &file) {
-        (Some(target), Some(file)) => give_record(&rt, alloc, target, whole(file, log)),
-        _ => true,
-    };
+    let is_recorded = is_given(&rt, alloc, &target, &file, log);
     Ok(Ran {
         outcome,
         is_recorded,
@@ -427,18 +451,29 @@ fn run_open<
 /// `errors`, if requested. A signal that this process has blocked stops the run.
 pub fn run_files<
     'a,
-    R: Files + Eprint + Pages + Threads + Wait + Clock + Programs + Copy + Send + Drop + 'static,
+    R: Files
+        + Env
+        + Eprint
+        + Pages
+        + Threads
+        + Wait
+        + Clock
+        + Programs
+        + Copy
+        + Send
+        + Drop
+        + 'static,
     E: Write + IsTerminal + Copy + Send + Drop + 'static,
     O: Write + Copy + Send + Drop + 'static,
 >(rt: R, alloc: Global, order: &Run<'a>, errors: E, out: O) -> Result<Outcome, Complaint<'a>> {
-    let scripts = scripts(&Disk { rt: &rt }, alloc, &order.scripts)?;
+    let scripts = scripts(&System { rt: &rt }, alloc, &order.scripts)?;
     judge_run(&rt, alloc, order)?;
     let stop = Arc::new(alloc, Stop::new(&rt))?;
     let account = match order.explain {
         Some(path) => Some(opened_account(&rt, alloc, path, scripts.as_slice())?),
         None => None,
     };
-    let record = match opened_record(&rt, alloc, order) {
+    let record = match opened_record(&rt, alloc, order.record) {
         Ok(record) => record,
         Err(complaint) => {
             remove_account(&rt, account);

@@ -14,7 +14,7 @@ fn script(alloc: Global, source: &[u8]) -> Result<Script, Fail> {
         settings: Settings {
             steps: 1_000_000,
             limit_ms: None,
-            env: Pairs::new(alloc),
+            vars: Pairs::new(alloc),
             tells_vars: true,
         },
     })

@@ -3,7 +3,7 @@
 use crate::keeper::{LINE, Line, Liner, Turnstile};
 use child_events::{Answer, Cause, Counted};
 use child_hands::pump::pump;
-use child_hands::{Fresh, Item, Outcome, Work, start_hand};
+use child_hands::{Fresh, Outcome, RingItem, Work, start_hand};
 use expect_core::{Act, Request};
 use feed_rings::{Bell, FeedIn, FeedOut, feed_pair, take_waiting};
 use std::io;
@@ -35,9 +35,9 @@ impl Read for Flaky {
 }
 
 /// Returns whether an item is the line of this child of script 3.
-fn is_line(item: Item<Liner>, of: u8) -> bool {
+fn is_line(item: RingItem<Liner>, of: u8) -> bool {
     match item {
-        Item::Out {
+        RingItem::Out {
             script,
             child,
             piece,
@@ -47,9 +47,9 @@ fn is_line(item: Item<Liner>, of: u8) -> bool {
 }
 
 /// Returns whether an item is the end of this child's output, of script 3.
-fn is_end(item: Option<Item<Liner>>, of: u8) -> bool {
+fn is_end(item: Option<RingItem<Liner>>, of: u8) -> bool {
     match item {
-        Some(Item::End { script, child }) => script == 3 && child == of,
+        Some(RingItem::End { script, child }) => script == 3 && child == of,
         _ => false,
     }
 }
@@ -58,7 +58,7 @@ fn is_end(item: Option<Item<Liner>>, of: u8) -> bool {
 fn a_reader_puts_pieces_and_then_the_end(rt: HostRuntime) -> Result<(), Fail> {
     let alloc = rt.alloc();
     let bell = Bell::new(alloc)?;
-    let (feed, mut out) = feed_pair::<Item<Liner>>(alloc, 2, &bell, &bell)?;
+    let (feed, mut out) = feed_pair::<RingItem<Liner>>(alloc, 2, &bell, &bell)?;
     let mut device = Counted::new(Line::new(None));
     assert!(rt; pump(&rt, alloc, &bell, 3, 2, &mut device, feed).is_some());
     assert!(rt; is_line(take_waiting(&rt, &bell, &mut out), 2));
@@ -71,14 +71,14 @@ fn a_reader_puts_pieces_and_then_the_end(rt: HostRuntime) -> Result<(), Fail> {
 fn a_reader_puts_what_it_read_and_then_the_failure(rt: HostRuntime) -> Result<(), Fail> {
     let alloc = rt.alloc();
     let bell = Bell::new(alloc)?;
-    let (feed, mut out) = feed_pair::<Item<Liner>>(alloc, 2, &bell, &bell)?;
+    let (feed, mut out) = feed_pair::<RingItem<Liner>>(alloc, 2, &bell, &bell)?;
     let mut device = Counted::new(Flaky { turn: 0 });
     assert!(rt; pump(&rt, alloc, &bell, 3, 2, &mut device, feed).is_some());
-    assert!(rt; matches!(out.take(), Some(Item::Out { .. })));
+    assert!(rt; matches!(out.take(), Some(RingItem::Out { .. })));
     assert!(rt;
         matches!(
             out.take(),
-            Some(Item::ReadFail {
+            Some(RingItem::ReadFail {
                 cause: Cause::Other,
                 ..
             })
@@ -87,17 +87,17 @@ fn a_reader_puts_what_it_read_and_then_the_failure(rt: HostRuntime) -> Result<()
     Ok(())
 }
 
-fn ask(asks: &mut FeedIn<Item<Liner>>, child: u8, act: Act) -> bool {
-    asks.put(Item::Ask(Request { child, act })).is_ok()
+fn ask(asks: &mut FeedIn<RingItem<Liner>>, child: u8, act: Act) -> bool {
+    asks.put(RingItem::Ask(Request { child, act })).is_ok()
 }
 
 /// Checks that the answers to a start, a write and a wait come in this order, with the numbers of
 /// their calls.
-fn answers_come<R: Wait + Abort>(rt: &R, desk: &Bell, answers: &mut FeedOut<Item<Liner>>) {
+fn answers_come<R: Wait + Abort>(rt: &R, desk: &Bell, answers: &mut FeedOut<RingItem<Liner>>) {
     let wanted = [Answer::Ok, Answer::Fail(Cause::Broken), Answer::Exit(5)];
     for (answer, call) in wanted.into_iter().zip(1u64..) {
         match take_waiting(rt, desk, answers) {
-            Item::Answer { script, answered } => {
+            RingItem::Answer { script, answered } => {
                 assert_eq!(rt; (script, answered.name, answered.call), (3, 7, call));
                 assert!(rt; answered.answer == answer);
             }
@@ -136,7 +136,7 @@ fn a_hand_asks_its_keeper(rt: HostRuntime) -> Result<(), Fail> {
     assert!(rt; ask(&mut asks, 2, Act::Wait));
     answers_come(&rt, &desk, &mut answers);
     assert!(rt; is_line(take_waiting(&rt, &desk, &mut output), 1));
-    assert!(rt; asks.put(Item::Stop).is_ok());
+    assert!(rt; asks.put(RingItem::Stop).is_ok());
     let mut end = hand.join(&rt);
     assert!(rt; is_end(output.take(), 1));
     assert!(rt; end.outcome == Outcome::Stopped);

@@ -43,7 +43,7 @@ fn reports(alloc: Global, source: &[u8], log: &[u8]) -> Result<Reports, Fail> {
         settings: Settings {
             steps: 1_000_000,
             limit_ms: None,
-            env: Pairs::new(alloc),
+            vars: Pairs::new(alloc),
             tells_vars: true,
         },
     };

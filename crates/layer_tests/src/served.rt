@@ -27,7 +27,7 @@ pub fn script(alloc: Global, source: &[u8]) -> Result<Script, AllocError> {
         settings: Settings {
             steps: 1_000_000,
             limit_ms: None,
-            env: Pairs::new(alloc),
+            vars: Pairs::new(alloc),
             tells_vars: true,
         },
     })

@@ -9,7 +9,7 @@ use Rattle.session.specs.declared.report.Report.{Report}
 use Rattle.expect_core.specs.declared.request.Request.{Request}
 use Rattle.report_texts.specs.declared.acts.Spelling.TheVariants.{Hex}
 use Rattle.report_texts.specs.declared.texts.Shown.{Shown}
-use Rattle.report_texts.specs.declared.escape.Place.TheVariants.{Lines}
+use Rattle.report_texts.specs.declared.escape.Escaping.TheVariants.{Lines}
 use Rattle.report_texts.specs.Acts.{act_text}
 use Rattle.report_texts.specs.Escape.{escaped}
 

@@ -10,7 +10,7 @@ use tcl_words::Text;
 
 /// Where the text is written.
 #[derive(Clone, Copy)]
-pub enum Place {
+pub enum Escaping {
     /// Outside quotes, on lines of its own.
     Lines,
     /// Between quotes.
@@ -67,28 +67,28 @@ fn begins_line(bytes: &[u8]) -> bool
 }
 
 /// Returns whether a control character is kept before these bytes: a tab, or the end of a line.
-fn stays(place: Place, byte: u8, next: &[u8]) -> bool
+fn stays(place: Escaping, byte: u8, next: &[u8]) -> bool
     ensures { result ≡ stays_of place byte next.now }
 {
     match place {
-        Place::Lines => byte == b'\t' || byte == b'\n' || (byte == b'\r' && begins_line(next)),
-        Place::Quotes => false,
+        Escaping::Lines => byte == b'\t' || byte == b'\n' || (byte == b'\r' && begins_line(next)),
+        Escaping::Quotes => false,
     }
 }
 
 /// Returns whether a byte would be read as something else.
-fn is_mark(place: Place, byte: u8) -> bool
+fn is_mark(place: Escaping, byte: u8) -> bool
     ensures { result ≡ is_mark_of place byte }
 {
     match place {
-        Place::Lines => byte == b'\\',
-        Place::Quotes => byte == b'\\' || byte == b'"',
+        Escaping::Lines => byte == b'\\',
+        Escaping::Quotes => byte == b'\\' || byte == b'"',
     }
 }
 
 /// Returns the number of first bytes that are kept. If it is 0, the first byte is escaped.
 #[tactic(auto, unfolding(crate::specs::Escape::kept_len))]
-fn kept_len(place: Place, bytes: &[u8]) -> usize
+fn kept_len(place: Escaping, bytes: &[u8]) -> usize
     ensures { result ≡ kept_len_of place bytes.now }
 {
     match bytes {
@@ -129,7 +129,7 @@ fn push_escape(alloc: Global, text: &mut Text, byte: u8) -> Result<(), AllocErro
 }
 
 /// Returns the number of first bytes that are kept, if `kept` bytes are still to be kept.
-fn still_kept(place: Place, kept: usize, bytes: &[u8]) -> usize
+fn still_kept(place: Escaping, kept: usize, bytes: &[u8]) -> usize
     ensures { result ≡ still_kept_of place kept bytes.now }
 {
     if kept == 0 {
@@ -152,7 +152,7 @@ fn push_byte(alloc: Global, text: &mut Text, kept: usize, byte: u8) -> Result<()
 pub fn push_text(
     alloc: Global,
     text: &mut Text,
-    place: Place,
+    place: Escaping,
     bytes: &[u8],
 ) -> Result<(), AllocError>
     ensures { OnOk result (text.new ≡ text.old ++ escaped place bytes.now) }
@@ -172,6 +172,6 @@ pub fn push_quoted(alloc: Global, text: &mut Text, bytes: &[u8]) -> Result<(), A
     ensures { OnOk result (text.new ≡ text.old ++ quoted bytes.now) }
 {
     text.push(b'"')?;
-    push_text(alloc, text, Place::Quotes, bytes)?;
+    push_text(alloc, text, Escaping::Quotes, bytes)?;
     text.push(b'"')
 }

@@ -19,7 +19,7 @@ mod texts;
 
 pub use acts::{Spelling, push_act};
 pub use devices::{MOST_CALLS, ReadFault, Unwritten, read_all, write_all};
-pub use escape::{Place, push_quoted, push_text};
+pub use escape::{Escaping, push_quoted, push_text};
 pub use form::{Form, Format, Spares, made_spares};
 pub use line::push_line;
 pub use reporting::write_reports;

@@ -6,7 +6,7 @@ ghost use Rattle.child_events.specs.Log.{hex_text};
 ghost use Rattle.report_texts.specs.Report.{labelled, ended_text, ending_text, head_words, head_line, tail_part, fault_part, var_line, vars_lines, vars_part, report_bytes, bare_report, escaped_report, is_done as is_done_of};
 
 use crate::asks::push_shown_asks;
-use crate::escape::{Place, push_text};
+use crate::escape::{Escaping, push_text};
 use session::{Ending, Report};
 use std::alloc::{AllocError, Global};
 use tcl_words::Text;
@@ -228,8 +228,13 @@ pub fn escaped_text(
 {
     let mut text = head_text(alloc, number, report)?;
     let mut told = Text::new(alloc);
-    push_text(alloc, &mut text, Place::Lines, report.transcript.as_slice())?;
-    push_text(alloc, &mut told, Place::Lines, report.fault.as_slice())?;
+    push_text(
+        alloc,
+        &mut text,
+        Escaping::Lines,
+        report.transcript.as_slice(),
+    )?;
+    push_text(alloc, &mut told, Escaping::Lines, report.fault.as_slice())?;
     let tail = tail_text(alloc, shown, told.as_slice(), report)?;
     text.extend(tail.as_slice())?;
     Ok(text)

@@ -10,7 +10,7 @@ use Rattle.command_table.specs.declared.commands.ExpectCommand.{ExpectCommand}
 use Rattle.command_table.specs.declared.commands.TclCommand.{TclCommand}
 use Rattle.command_table.specs.declared.commands.TclCommand.TheVariants.{Value, If, Foreach, Expr, Eval as EvalCommand, Exit, While, For, Proc, Catch, Switch as SwitchCommand}
 use Rattle.command_table.specs.declared.commands.ValueCommand.{ValueCommand}
-use Rattle.command_table.specs.declared.commands.ValueCommand.TheVariants.{String, Info, Lsearch, Lsort}
+use Rattle.command_table.specs.declared.commands.ValueCommand.TheVariants.{String, Info, Array, Lsearch, Lsort, Regexp, Regsub}
 use Rattle.command_table.specs.declared.counts.Count.{Count}
 use Rattle.command_table.specs.declared.options.StringOption.{StringOption}
 use Rattle.command_table.specs.declared.options.StringOption.TheVariants as string
@@ -19,6 +19,7 @@ use Rattle.command_table.specs.declared.switches.Switch.TheVariants as switch
 use Rattle.command_table.specs.declared.switches.Switches.{Switches}
 use Rattle.command_table.specs.declared.switches.Switches.TheVariants as switches
 use Rattle.command_table.specs.declared.options.InfoOption.{InfoOption}
+use Rattle.command_table.specs.declared.options.ArrayOption.{ArrayOption}
 use Rattle.command_table.specs.declared.reading.Kind.{Kind}
 use Rattle.command_table.specs.declared.reading.Kind.TheVariants.{Text, Script}
 use Rattle.command_table.specs.declared.reading.Stage.{Stage}
@@ -26,15 +27,19 @@ use Rattle.command_table.specs.declared.reading.Stage.TheVariants.{Each, Test, T
 use Rattle.command_table.specs.Commands.{tcl_command, language_command, or_redefinable, expect_command, tcl_or_expect, command_of}
 use Rattle.command_table.specs.Counts.{exactly, at_least, fits}
 use Rattle.command_table.specs.Flags.{begins_with_minus}
-use Rattle.command_table.specs.Switches.{switch_of, takes_value}
-use Rattle.command_table.specs.Options.{string_option, string_count, string_switches, info_option, info_count, option_count, option_switches}
+use Rattle.command_table.specs.Switches.{switch_of, takes_value, is_end, words_behind}
+use Rattle.command_table.specs.Options.{string_option, string_count, string_switches, info_option, info_count, array_option, array_count, option_count, option_switches}
 use Rattle.command_table.specs.Reading.{step, is_short}
 use Rattle.command_table.specs.Rows.{value_row, tcl_row}
 use Rattle.tcl_commands.specs.declared.code.Code.TheVariants as code
 use Rattle.tcl_commands.specs.Texts.{wrong_args}
-use Rattle.tcl_commands.specs.Said.{Said, Outcome, told, ◌>>=◌}
+use Rattle.tcl_commands.specs.Said.{Said, Outcome, told, ◌>>=◌, on_said as on_value}
+use Rattle.tcl_commands.specs.Front.{Front, with_flag, at_flag, front_from, front_of}
+use Rattle.tcl_commands.specs.Regexps.{matched}
+use Rattle.tcl_commands.specs.Replacing.{changed}
 use Rattle.tcl_commands.specs.Given.{if_fits}
 use Rattle.tcl_commands.specs.Plain.{plain, allowed, info_by, info_named, info}
+use Rattle.tcl_commands.specs.Arrays.{array_by, array_named, array}
 use Rattle.tcl_commands.specs.Switches.{nothing, with_switch, if_switch, flag_step, on_flag, flags_from, flags_of}
 use Rattle.tcl_commands.specs.Classes.{classed}
 use Rattle.tcl_commands.specs.Strings.{string_by, string_named, string}
@@ -49,7 +54,7 @@ use Rattle.tcl_eval.specs.Tree.{State, Tree}
 use Rattle.tcl_eval.specs.Meaning.{Next, Eval, on_said, after, invoked, redefinable_or_begun, called_or_begun, named}
 use Rattle.script_check.specs.declared.placed.Placed.{Placed}
 use Rattle.script_check.specs.declared.problem.Problem.{Problem}
-use Rattle.script_check.specs.Faults.{wrong, counted, by_switch, maybe_switch, switched, if_counted, chosen, last_stage, fault_of}
+use Rattle.script_check.specs.Faults.{wrong, counted, by_switch, maybe_switch, switched, if_counted, chosen, at_front, fronted, last_stage, fault_of}
 use Rattle.script_check.specs.Texts.{text_of}
 use Rattle.script_check.specs.Runs.{MayBe, AreWords, FindingsHold}
 
@@ -214,16 +219,96 @@ module _ (c : Count) (name : List ℕ) (s : Switches) (n : ℕ) (args : List Pla
       (λ is. weaker (switched name s n false args) (FlagsEnd name s n words nothing 0 words) says (ends (ap (λ (i : ℕ). fits c i) same ∙ is))
       (flags_told name s n words args words nothing 0 are refl))
 
+-- ---- flags before all other words
+
+no_fewer : (n : ℕ) → nat_le 0 n ≡ true
+no_fewer n = grind (arith, nat_tests)
+
+some_left : (n : ℕ) → nat_lt 0 (suc n) ≡ true
+some_left n = grind (arith, nat_tests)
+
+module _ (name : List ℕ) (s : Switches) where
+  abbrev if_counts : Said Front → Said Front
+  if_counts f = f >>= λ p. if_fits (words_behind s) name p.1 (Ok p)
+
+  -- the words end in this error
+  abbrev FrontEnds : Bool → List (List ℕ) → List ℕ → Type 0
+  FrontEnds due words text = if_counts (front_from s 0 due words) ≡ Err text
+
+  other_front : (b : Bool) (p q : Front) (text : List ℕ) → (if b then Ok p else Err (wrong_args name)) ≡ Err text → (if b then Ok q else Err (wrong_args name)) ≡ Err text
+  other_front true p q text ends = cc
+  other_front false p q text ends = ends
+
+  -- a flag more in front
+  behind_flag : (x : List ℕ) (said : Said Front) (text : List ℕ) → if_counts said ≡ Err text → if_counts (said >>= λ p. Ok (with_flag x p)) ≡ Err text
+  behind_flag x (Err t) text ends = ends
+  behind_flag x (Ok p) text ends = other_front (fits (words_behind s) (length p.1)) p (with_flag x p) text ends
+
+  module _ (x : List ℕ) (xs : List (List ℕ)) (ws : List Placed) (long : length xs ≡ length ws) (later : (due : Bool) → Foretold (fronted name s (words_behind s) due ws) (FrontEnds due xs)) where
+    abbrev onwards : Bool → Said Front
+    onwards due = front_from s 0 due xs
+
+    steps_by : (minus : Bool) → begins_with_minus x ≡ minus → front_from s 0 false (x ∷ xs) ≡ (if minus then at_flag x (switch_of s x) xs onwards else Ok ([], x ∷ xs))
+    steps_by minus is =
+        ap (λ (b : Bool). if b && begins_with_minus x then at_flag x (switch_of s x) xs onwards else Ok ([], x ∷ xs)) (some_left (length xs))
+        ∙ ap (λ (b : Bool). if b then at_flag x (switch_of s x) xs onwards else Ok ([], x ∷ xs)) is
+
+    ends_at : (b : Bool) (y : Switch) → is_end y ≡ b → switch_of s x ≡ Some y → begins_with_minus x ≡ true
+        → front_from s 0 false (x ∷ xs) ≡ (if b then Ok ([], xs) else (onwards (takes_value y) >>= λ p. Ok (with_flag x p)))
+    ends_at b y ends is minus =
+        steps_by true minus ∙ ap (λ (o : Option Switch). at_flag x o xs onwards) is
+        ∙ ap (λ (e : Bool). if e then Ok ([], xs) else (onwards (takes_value y) >>= λ p. Ok (with_flag x p))) ends
+
+    end_told : (b : Bool) (y : Switch) → is_end y ≡ b → switch_of s x ≡ Some y → begins_with_minus x ≡ true
+        → Foretold (if b then counted name (words_behind s) (length ws) else fronted name s (words_behind s) (takes_value y) ws) (FrontEnds false (x ∷ xs))
+    end_told true y ends is minus =
+        counted_is (words_behind s) name (length ws) (length xs) (FrontEnds false (x ∷ xs)) long
+        (λ unfits. ap if_counts (ends_at true y ends is minus) ∙ unfit (words_behind s) name xs (Ok ([], xs)) unfits)
+    end_told false y ends is minus =
+        weaker (fronted name s (words_behind s) (takes_value y) ws) (FrontEnds (takes_value y) xs) (FrontEnds false (x ∷ xs))
+        (λ text holds. ap if_counts (ends_at false y ends is minus) ∙ behind_flag x (onwards (takes_value y)) text holds) (later (takes_value y))
+
+    abbrev flag_found : List ℕ → Option Switch → Option Problem
+    flag_found = at_front (λ due. fronted name s (words_behind s) due ws) (counted name (words_behind s) (length ws))
+
+    flag_told : (o : Option Switch) → switch_of s x ≡ o → begins_with_minus x ≡ true → Foretold (flag_found x o) (FrontEnds false (x ∷ xs))
+    flag_told None is minus = ap if_counts (steps_by true minus ∙ ap (λ (o : Option Switch). at_flag x o xs onwards) is)
+    flag_told (Some y) is minus = end_told (is_end y) y refl is minus
+
+    abbrev word_found : List ℕ → Option Problem
+    word_found text = if begins_with_minus text then flag_found text (switch_of s text) else counted name (words_behind s) (suc (length ws))
+
+    word_told : (b : Bool) → begins_with_minus x ≡ b → Foretold (if b then flag_found x (switch_of s x) else counted name (words_behind s) (suc (length ws))) (FrontEnds false (x ∷ xs))
+    word_told true is = flag_told (switch_of s x) refl is
+    word_told false is =
+        counted_is (words_behind s) name (suc (length ws)) (suc (length xs)) (FrontEnds false (x ∷ xs)) (ap (λ (n : ℕ). suc n) long)
+        (λ unfits. ap if_counts (steps_by false is) ∙ unfit (words_behind s) name (x ∷ xs) (Ok ([], x ∷ xs)) unfits)
+
+    literal_told : (v : Option (List ℕ)) → MayBe v x → Foretold (option_and_then word_found v) (FrontEnds false (x ∷ xs))
+    literal_told None is = tt
+    literal_told (Some text) is = subst (λ (y : List ℕ). Foretold (word_found y) (FrontEnds false (x ∷ xs))) is (word_told (begins_with_minus x) refl)
+
+  front_told : (args : List Placed) (words : List (List ℕ)) (due : Bool) → AreWords args words → Foretold (fronted name s (words_behind s) due args) (FrontEnds due words)
+  front_told [] [] due are = counted_is (words_behind s) name 0 0 (FrontEnds due []) refl (λ unfits. unfit (words_behind s) name [] (Ok ([], [])) unfits)
+  front_told [] (x ∷ xs) due are = absurd are
+  front_told (w ∷ ws) [] due are = absurd are
+  front_told (w ∷ ws) (x ∷ xs) true are =
+      weaker (fronted name s (words_behind s) false ws) (FrontEnds false xs) (FrontEnds true (x ∷ xs)) (λ text holds. behind_flag x (front_from s 0 false xs) text holds) (front_told ws xs false are.1)
+  front_told (w ∷ ws) (x ∷ xs) false are = literal_told x xs ws (lengths ws xs are.1) (λ due. front_told ws xs due are.1) w.value are.0
+
 -- ---- options
+
+outcome_told : (found : Option Problem) (name : List ℕ) (n m : ℕ) (outcome : Variables → Outcome) → Foretold found (λ text. (vars : Variables) → outcome vars ≡ (code.Error, text, vars))
+    → Foretold (if nat_le 1 (suc n) then found else wrong name) (λ text. (vars : Variables) → (if nat_le 1 (suc m) then outcome vars else told (Err (wrong_args name)) vars) ≡ (code.Error, text, vars))
+outcome_told found name n m outcome holds =
+    subst (λ (b : Bool). Foretold (if b then found else wrong name) (λ text. (vars : Variables) → (if nat_le 1 (suc m) then outcome vars else told (Err (wrong_args name)) vars) ≡ (code.Error, text, vars)))
+    (sym (one_fits n))
+    (weaker found _ _ (λ text is vars. ap (λ (b : Bool). if b then outcome vars else told (Err (wrong_args name)) vars) (one_fits m) ∙ is vars) holds)
 
 option_told : (found : Option Problem) (name : List ℕ) (n m : ℕ) (said : Variables → Said (List ℕ)) → Foretold found (λ text. (vars : Variables) → said vars ≡ Err text)
     → Foretold (if nat_le 1 (suc n) then found else wrong name) (λ text. (vars : Variables) → (if nat_le 1 (suc m) then told (said vars) vars else told (Err (wrong_args name)) vars) ≡ (code.Error, text, vars))
 option_told found name n m said holds =
-    subst (λ (b : Bool). Foretold (if b then found else wrong name) (λ text. (vars : Variables) → (if nat_le 1 (suc m) then told (said vars) vars else told (Err (wrong_args name)) vars) ≡ (code.Error, text, vars)))
-    (sym (one_fits n))
-    (weaker found _ _
-    (λ text is vars. ap (λ (b : Bool). if b then told (said vars) vars else told (Err (wrong_args name)) vars) (one_fits m) ∙ ap (λ (s : Said (List ℕ)). told s vars) (is vars))
-    holds)
+    outcome_told found name n m (λ vars. told (said vars) vars) (weaker found _ _ (λ text is vars. ap (λ (s : Said (List ℕ)). told s vars) (is vars)) holds)
 
 tail_are : (args : List Placed) (words : List (List ℕ)) → AreWords args words → AreWords (drop 1 args) (drop 1 words)
 tail_are [] [] are = tt
@@ -272,6 +357,18 @@ module _ (name : List ℕ) (args : List Placed) (words : List (List ℕ)) (are :
       subst (λ y. Foretold (if_counted name args text (option_count (Tcl (Value Info)) text) None) (λ t. (vars : Variables) → info name (y ∷ words) vars ≡ Err t)) (sym is)
       (info_known text (info_option text))
 
+  array_known : (text : List ℕ) (o : Option ArrayOption) → Foretold (if_counted name args text (option_map array_count o) None) (λ t. (vars : Variables) → array_named name text o words vars ≡ (code.Error, t, vars))
+  array_known text None = λ vars. refl
+  array_known text (Some o) =
+      counted_is (array_count o) name (length args) (length words) (λ t. (vars : Variables) → array_named name text (Some o) words vars ≡ (code.Error, t, vars)) (lengths args words are)
+      (λ is vars. ap (λ (b : Bool). if b then array_by o words vars else told (Err (wrong_args name)) vars) is)
+
+  array_told : (value : Option (List ℕ)) (x : List ℕ) → MayBe value x → Foretold (chosen (Tcl (Value Array)) name args value) (λ t. (vars : Variables) → array name (x ∷ words) vars ≡ (code.Error, t, vars))
+  array_told None x is = tt
+  array_told (Some text) x is =
+      subst (λ y. Foretold (if_counted name args text (option_count (Tcl (Value Array)) text) None) (λ t. (vars : Variables) → array name (y ∷ words) vars ≡ (code.Error, t, vars))) (sym is)
+      (array_known text (array_option text))
+
 -- ---- commands that evaluate nothing
 
 unfit_row : (c : ValueCommand) (name : List ℕ) (words : List (List ℕ)) → fits (value_row c).count (length words) ≡ false → ValueEnds (wrong_args name) name words c
@@ -296,12 +393,25 @@ value_foretold Info name [] (x ∷ xs) are = absurd are
 value_foretold Info name (w ∷ ws) [] are = absurd are
 value_foretold Info name (w ∷ ws) (x ∷ xs) are =
     option_told (chosen (Tcl (Value Info)) name ws w.value) name (length ws) (length xs) (λ vars. info name (x ∷ xs) vars) (info_told name ws xs are.1 w.value x are.0)
+value_foretold Array name [] [] are = λ vars. refl
+value_foretold Array name [] (x ∷ xs) are = absurd are
+value_foretold Array name (w ∷ ws) [] are = absurd are
+value_foretold Array name (w ∷ ws) (x ∷ xs) are =
+    outcome_told (chosen (Tcl (Value Array)) name ws w.value) name (length ws) (length xs) (λ vars. array name (x ∷ xs) vars) (array_told name ws xs are.1 w.value x are.0)
 value_foretold Lsearch name args words are =
     flagged_told (at_least 2) name switches.Search 2 args words are (length args) (length words) (λ text. ValueEnds text name words Lsearch) (lengths args words are) (unfit_row Lsearch name words)
     (λ fit text is vars. fit_row Lsearch name words fit vars ∙ ap (λ (s : Said (List ℕ)). told s vars) (bind_ends (flags_of switches.Search 2 name words) text _ is))
 value_foretold Lsort name args words are =
     flagged_told (at_least 1) name switches.Sort 1 args words are (length args) (length words) (λ text. ValueEnds text name words Lsort) (lengths args words are) (unfit_row Lsort name words)
     (λ fit text is vars. fit_row Lsort name words fit vars ∙ ap (λ (s : Said (List ℕ)). told s vars) (bind_ends (flags_of switches.Sort 1 name words) text _ is))
+value_foretold Regexp name args words are =
+    weaker (fronted name switches.Match (words_behind switches.Match) false args) (FrontEnds name switches.Match false words) (λ text. ValueEnds text name words Regexp)
+    (λ text is vars. fit_row Regexp name words (no_fewer (length words)) vars ∙ ap (λ (f : Said Front). on_value f vars (λ p. matched p.0 p.1 vars)) is)
+    (front_told name switches.Match args words false are)
+value_foretold Regsub name args words are =
+    weaker (fronted name switches.Replace (words_behind switches.Replace) false args) (FrontEnds name switches.Replace false words) (λ text. ValueEnds text name words Regsub)
+    (λ text is vars. fit_row Regsub name words (no_fewer (length words)) vars ∙ ap (λ (f : Said Front). on_value f vars (λ p. changed p.0 p.1 vars)) is)
+    (front_told name switches.Replace args words false are)
 value_foretold other name args words are = by_row other name args words are
 
 -- ---- if

@@ -10,14 +10,14 @@ use Rattle.command_table.specs.declared.flags.Role.TheVariants as role
 use Rattle.command_table.specs.declared.switches.Switch.{Switch}
 use Rattle.command_table.specs.declared.switches.Switches.{Switches}
 use Rattle.command_table.specs.declared.reading.Stage.{Stage}
-use Rattle.command_table.specs.declared.reading.Stage.TheVariants.{Choice, Test, Pattern, Output}
+use Rattle.command_table.specs.declared.reading.Stage.TheVariants.{Choice, Front, Test, Pattern, Output}
 use Rattle.command_table.specs.declared.rows.Row.{Row}
 use Rattle.command_table.specs.Counts.{exactly, fits}
 use Rattle.command_table.specs.Flags.{begins_with_minus, flag_role}
 use Rattle.command_table.specs.Options.{option_count, option_switches}
 use Rattle.command_table.specs.Reading.{step, is_short}
 use Rattle.command_table.specs.Rows.{row_of}
-use Rattle.command_table.specs.Switches.{switch_of, takes_value, words_before}
+use Rattle.command_table.specs.Switches.{switch_of, takes_value, is_end, words_before, words_behind}
 use Rattle.script_check.specs.declared.placed.Placed.{Placed}
 use Rattle.script_check.specs.declared.problem.Problem.{Problem}
 use Rattle.script_check.specs.declared.problem.Problem.TheVariants.{WrongArgs, BadOption, BadFlag}
@@ -84,6 +84,20 @@ abbrev pub by_flags : List ℕ → Row → List Placed → Option Flags → Opti
 by_flags name r args None = if_switched name r.count args r.switches
 by_flags name r args (Some f) = flagged name f r.count false args
 
+-- `on` gives the error after this flag; its argument tells whether the next word is the flag's value. `end` is the error
+-- if the flags end here.
+abbrev pub at_front : (Bool → Option Problem) → Option Problem → List ℕ → Option Switch → Option Problem
+at_front on end word None = Some (BadFlag word)
+at_front on end word (Some x) = if is_end x then end else on (takes_value x)
+
+-- Flags before all other words, of which c says how many there may be. `due` is true if the next word is the value of a
+-- flag.
+abbrev pub fronted : List ℕ → Switches → Count → Bool → List Placed → Option Problem
+fronted name s c due [] = counted name c 0
+fronted name s c true (w ∷ ws) = fronted name s c false ws
+fronted name s c false (w ∷ ws) =
+    option_and_then (λ text. if begins_with_minus text then at_front (λ due. fronted name s c due ws) (counted name c (length ws)) text (switch_of s text) else counted name c (suc (length ws))) w.value
+
 -- The stage after the words.
 abbrev pub last_stage : Stage → List Placed → Stage
 last_stage s [] = s
@@ -115,6 +129,7 @@ abbrev pub by_stage : Command → Row → List ℕ → List Placed → Stage →
 by_stage command r name args Test = if_fault name args
 by_stage command r name args Pattern = expect_fault args
 by_stage command r name args Choice = choice_fault command name args
+by_stage command r name args (Front s) = fronted name s (words_behind s) false args
 by_stage command r name args Output = output_fault name args
 by_stage command r name args other = by_flags name r args r.flags
 

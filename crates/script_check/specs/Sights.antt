@@ -11,7 +11,7 @@ use Rattle.command_table.specs.declared.commands.TclCommand.TheVariants as tcl
 use Rattle.command_table.specs.declared.reading.Kind.{Kind}
 use Rattle.command_table.specs.declared.reading.Kind.TheVariants.{Expression}
 use Rattle.command_table.specs.declared.reading.Stage.{Stage}
-use Rattle.command_table.specs.Commands.{redefinable_command, command_of}
+use Rattle.command_table.specs.Commands.{is_redefinable, command_of}
 use Rattle.command_table.specs.Reading.{step, begin}
 use Rattle.command_table.specs.Rows.{row_of}
 use Rattle.script_check.specs.declared.span.Span.{Span}
@@ -38,7 +38,7 @@ doubted name at p = Unless name (record { at = at; what = p }) ∷ []
 
 -- A problem of a command. A procedure can have the name of some commands.
 abbrev pub found_in : List ℕ → ℕ → Problem → List Sight
-found_in name at p = if is_some (redefinable_command name) then doubted name at p else found at p
+found_in name at p = if is_redefinable name then doubted name at p else found at p
 
 -- A text that is read as an expression.
 abbrev pub by_parse : ℕ → List ℕ → Result Tree ExprFault → List Sight

@@ -2,15 +2,16 @@
 
 ghost use Rattle.std.specs.Prelude.{◌≡◌, false, IfOk};
 ghost use Rattle.command_table.specs.Counts.{exactly};
-ghost use Rattle.script_check.specs.Faults.{wrong, counted, switched, if_switched, chosen, choice_fault, flagged, last_stage, channel, output_fault, fault_of};
+ghost use Rattle.script_check.specs.Faults.{wrong, counted, switched, if_switched, chosen, choice_fault, flagged, fronted, last_stage, channel, output_fault, fault_of};
 
 use crate::expects::expect_fault;
 use crate::placed::Placed;
 use crate::problem::Problem;
 use crate::stretch::{begins_with, behind};
 use command_table::{
-    Command, Count, Flags, Role, Stage, Switches, begins_with_minus, fits, flag_role, is, is_short,
-    option_count, option_switches, row_of, step, switch_of, takes_value, words_before,
+    Command, Count, Flags, Role, Stage, Switches, begins_with_minus, fits, flag_role, is, is_end,
+    is_short, option_count, option_switches, row_of, step, switch_of, takes_value, words_before,
+    words_behind,
 };
 use std::alloc::{AllocError, Global};
 use tcl_words::Text;
@@ -157,6 +158,36 @@ fn flagged(alloc: Global, name: &[u8], flags: Flags, count: Count, args: &[Place
     counted(alloc, name, count, 0)
 }
 
+/// Checks flags before all other words, and the number of words after them.
+fn fronted(alloc: Global, name: &[u8], switches: Switches, count: Count, args: &[Placed]) -> Judged
+    ensures { IfOk result (λ p. p ≡ fronted name.now switches count false args.now) }
+{
+    let mut due = false;
+    let mut rest = args;
+    while let [word, more @ ..] = rest {
+        if due {
+            due = false;
+            rest = more;
+            continue;
+        }
+        let Some(text) = &word.value else {
+            return Ok(None);
+        };
+        if !begins_with_minus(text.as_slice()) {
+            return counted(alloc, name, count, rest.len());
+        }
+        let Some(flag) = switch_of(switches, text.as_slice()) else {
+            return Ok(Some(Problem::BadFlag(text.copied(alloc)?)));
+        };
+        if is_end(flag) {
+            return counted(alloc, name, count, more.len());
+        }
+        due = takes_value(flag);
+        rest = more;
+    }
+    counted(alloc, name, count, 0)
+}
+
 /// Returns the stage after the arguments of `if`.
 fn last_stage(stage: Stage, words: &[Placed]) -> Stage
     ensures { result ≡ last_stage stage words.now }
@@ -212,6 +243,7 @@ pub(crate) fn fault_of(alloc: Global, command: Command, name: &[u8], args: &[Pla
         Stage::Test => Ok(None),
         Stage::Pattern => expect_fault(alloc, args),
         Stage::Choice => choice_fault(alloc, command, name, args),
+        Stage::Front(switches) => fronted(alloc, name, switches, words_behind(switches), args),
         Stage::Output => output_fault(alloc, name, args),
         _ => match row.flags {
             None => if_switched(alloc, name, row.count, args, row.switches),

@@ -13,7 +13,7 @@ use crate::problem::{Finding, Problem};
 use crate::readings::{Reading, readings_in};
 use crate::span::{Done, Span};
 use command_table::{
-    Command, Kind, Stage, TclCommand, begin, command_of, redefinable_command, row_of, step,
+    Command, Kind, Stage, TclCommand, begin, command_of, is_redefinable, row_of, step,
 };
 use std::alloc::{AllocError, Global};
 use tcl_expr::{ExprFault, parse};
@@ -54,7 +54,7 @@ fn push_doubted(alloc: Global, name: &[u8], at: usize, what: Problem, out: &mut 
 fn push_found_in(alloc: Global, name: &[u8], at: usize, what: Problem, out: &mut Seen) -> Done
     ensures { OnOk result (out.new.items ≡ out.old.items ++ found_in name.now at what) }
 {
-    if redefinable_command(name).is_some() {
+    if is_redefinable(name) {
         return push_doubted(alloc, name, at, what, out);
     }
     push_found(at, what, out)

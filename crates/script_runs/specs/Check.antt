@@ -9,7 +9,7 @@ use Rattle.script_check.specs.Texts.{text_of}
 use Rattle.script_runs.specs.declared.checking.CheckFault.{CheckFault}
 use Rattle.script_runs.specs.declared.checking.CheckFault.TheVariants.{Write, Memory}
 use Rattle.report_texts.specs.Report.{labelled}
-use Rattle.report_texts.specs.declared.escape.Place.TheVariants.{Lines, Quotes}
+use Rattle.report_texts.specs.declared.escape.Escaping.TheVariants.{Lines, Quotes}
 use Rattle.report_texts.specs.Escape.{escaped}
 use Rattle.report_texts.specs.Devices.{WasPut, GaveUp}
 

@@ -1,7 +1,7 @@
 -- How a script's output is printed while the script runs.
 use Rattle.std.specs.Prelude.{◌≡◌, ℕ, Bool, true, ◌==◌, if◌then◌else◌, List, [], ◌∷◌, ◌++◌, codes}
 use Rattle.tcl_words.specs.Bytes as ascii
-use Rattle.report_texts.specs.declared.escape.Place.TheVariants.{Lines}
+use Rattle.report_texts.specs.declared.escape.Escaping.TheVariants.{Lines}
 use Rattle.script_runs.specs.declared.following.Manner.{Manner}
 use Rattle.script_runs.specs.declared.following.Manner.TheVariants.{Plain, Escaped, Numbered}
 use Rattle.report_texts.specs.Report.{labelled}

@@ -5,7 +5,7 @@ ghost use Rattle.script_check.specs.Lines.{line_of as line_at};
 ghost use Rattle.script_runs.specs.Check.{is_control as is_control_of, within_line, lines_within, in_line, finding_text, finding_line, finding_lines, checked as checked_text, is_nothing as is_nothing_of, Checks};
 
 use child_events::Counted;
-use report_texts::{Place, push_labelled, push_text, write_all};
+use report_texts::{Escaping, push_labelled, push_text, write_all};
 use script_check::{Finding, Span, check, line_of, newlines};
 use std::alloc::{AllocError, Global};
 use std::io::Write;
@@ -50,7 +50,7 @@ fn push_within(alloc: Global, text: &mut Text, byte: u8) -> Result<(), AllocErro
     ensures { OnOk result (text.new ≡ text.old ++ within_line byte) }
 {
     if is_control(byte) {
-        return push_text(alloc, text, Place::Quotes, &[byte]);
+        return push_text(alloc, text, Escaping::Quotes, &[byte]);
     }
     text.push(byte)
 }
@@ -70,7 +70,7 @@ fn push_in_line(alloc: Global, text: &mut Text, bytes: &[u8]) -> Result<(), Allo
     ensures { OnOk result (text.new ≡ text.old ++ in_line bytes.now) }
 {
     let mut lines = Text::new(alloc);
-    push_text(alloc, &mut lines, Place::Lines, bytes)?;
+    push_text(alloc, &mut lines, Escaping::Lines, bytes)?;
     push_lines_within(alloc, text, lines.as_slice())
 }
 

@@ -10,7 +10,7 @@ use child_hands::Clock;
 use child_pipes::{Cancellation, Stop, Wall};
 use child_serve::{Audience, Stopping};
 use dialogue_sched::Hall;
-use report_texts::{Place, push_labelled, push_text};
+use report_texts::{Escaping, push_labelled, push_text};
 use session::Ending;
 use std::alloc::{AllocError, Global};
 use std::sync::{Arc, Wait};
@@ -75,12 +75,12 @@ fn push_told(alloc: Global, text: &mut Text, manner: Manner, bytes: &[u8]) -> Re
 {
     match manner {
         Manner::Plain => text.extend(bytes),
-        Manner::Escaped => push_text(alloc, text, Place::Lines, bytes),
+        Manner::Escaped => push_text(alloc, text, Escaping::Lines, bytes),
         Manner::Numbered(number) => {
             let mut mark = Text::new(alloc);
             push_mark(alloc, &mut mark, number)?;
             let mut lines = Text::new(alloc);
-            push_text(alloc, &mut lines, Place::Lines, bytes)?;
+            push_text(alloc, &mut lines, Escaping::Lines, bytes)?;
             push_lines(text, mark.as_slice(), lines.as_slice())
         }
     }

@@ -6,6 +6,7 @@
 //! `specs/Drive`, `specs/Planning` and `specs/Check` define what these functions write.
 #![tactic(auto)]
 
+mod alone;
 mod checking;
 mod driving;
 mod early;
@@ -24,6 +25,7 @@ mod teller;
 mod telling;
 mod voice;
 
+pub use alone::{Played, Player};
 pub use checking::{CheckFault, check_source};
 pub use driving::{DriveFault, Written, drive, drive_early};
 pub use early::{Early, Told};
@@ -33,6 +35,6 @@ pub use laws::run_is_replay;
 pub use log_writer::LogWriteFault;
 pub use planning::{PlanLogFault, plan_log};
 pub use record::Record;
-pub use replaying::replay;
+pub use replaying::{replay, reports_read};
 pub use shelf::{NoShelf, Shelf};
 pub use telling::{Telling, clocks};

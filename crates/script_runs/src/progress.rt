@@ -278,14 +278,14 @@ impl Board {
 
 /// The line of a run, shared by its workers.
 #[derive(Drop)]
-pub struct Line<R: Drop> {
+pub struct ProgressLine<R: Drop> {
     rt: R,
     alloc: Global,
     voice: Voice<R>,
     board: Arc<Mutex<Board>>,
 }
 
-impl<R: Wait + Copy + Drop> Line<R> {
+impl<R: Wait + Copy + Drop> ProgressLine<R> {
     /// Creates the line of a run, which is not written yet.
     pub fn new(
         rt: R,
@@ -293,9 +293,9 @@ impl<R: Wait + Copy + Drop> Line<R> {
         voice: Voice<R>,
         scripts: usize,
         workers: u8,
-    ) -> Result<Line<R>, AllocError> {
+    ) -> Result<ProgressLine<R>, AllocError> {
         let board = Arc::new(alloc, Mutex::new(Board::new(alloc, scripts, workers)?))?;
-        Ok(Line {
+        Ok(ProgressLine {
             rt,
             alloc,
             voice,
@@ -304,8 +304,8 @@ impl<R: Wait + Copy + Drop> Line<R> {
     }
 
     /// Returns the same line, for another holder.
-    pub fn shared(&self) -> Result<Line<R>, AllocError> {
-        Ok(Line {
+    pub fn shared(&self) -> Result<ProgressLine<R>, AllocError> {
+        Ok(ProgressLine {
             rt: self.rt,
             alloc: self.alloc,
             voice: self.voice.shared()?,
@@ -335,7 +335,7 @@ impl<R: Wait + Copy + Drop> Line<R> {
 /// What one worker reports on the line of a run.
 #[derive(Drop)]
 pub struct Progress<R: Drop> {
-    line: Line<R>,
+    line: ProgressLine<R>,
     worker: usize,
     scripts: Vec<Course>,
     moment: u64,
@@ -347,7 +347,7 @@ impl<R: Wait + Copy + Drop> Progress<R> {
     /// Creates a worker's part of a line, given the numbers of its scripts.
     pub fn new(
         alloc: Global,
-        line: Line<R>,
+        line: ProgressLine<R>,
         worker: u8,
         numbers: &[u8],
     ) -> Result<Progress<R>, AllocError> {

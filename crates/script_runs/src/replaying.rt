@@ -70,7 +70,7 @@ fn log_bytes<R: Read>(alloc: Global, log: &mut Counted<R>, cut: bool) -> Result<
 
 /// Returns the reports of scripts over the remaining log of a reader. If `cut`, the log may be cut
 /// off.
-fn reports_read<R: Read>(
+pub fn reports_read<R: Read>(
     alloc: Global,
     log: &mut Counted<R>,
     cut: bool,

@@ -6,7 +6,7 @@ use crate::driving::DriveFault;
 use crate::early::Early;
 use crate::following::{Follower, Live, Manner, Tale, Told};
 use crate::labelling::Listener;
-use crate::progress::{Line, Progress};
+use crate::progress::{Progress, ProgressLine};
 use crate::shelf::Shelf;
 use crate::teller::Teller;
 use crate::voice::Speaking;
@@ -69,7 +69,7 @@ enum Matter<R: Drop> {
     /// What they show, and whether it goes to a terminal.
     Shown(bool),
     /// Their progress.
-    Far(Line<R>),
+    Far(ProgressLine<R>),
     Nothing,
 }
 
@@ -107,7 +107,7 @@ impl<
         let matter = if follow {
             Matter::Shown(is_terminal)
         } else if is_terminal {
-            Matter::Far(Line::new(rt, alloc, speaking.voice.shared()?, scripts, workers)?)
+            Matter::Far(ProgressLine::new(rt, alloc, speaking.voice.shared()?, scripts, workers)?)
         } else {
             Matter::Nothing
         };

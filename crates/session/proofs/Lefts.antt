@@ -16,7 +16,7 @@ use Rattle.expect_core.specs.declared.own.Own.{Own}
 use Rattle.expect_core.specs.declared.request.Request.{Request}
 use Rattle.expect_core.specs.declared.dialogue.Dialogue.{Dialogue}
 use Rattle.expect_core.specs.Lanes.{offered, extended}
-use Rattle.session.specs.declared.place.Place.{Place}
+use Rattle.session.specs.declared.place.ErrorPlace.{ErrorPlace}
 use Rattle.session.specs.declared.report.Report.{Report}
 use Rattle.session.specs.declared.session.Session.TheInside.{Inside}
 use Rattle.session.specs.Left.{Kept, left, Fed, HandsOut}
@@ -32,7 +32,7 @@ pub extended_append : (es later : List Event) (d : Dialogue) → extended later 
 extended_append [] later d = refl
 extended_append (e ∷ es) later d = extended_append es later (offered e d)
 
-said_by : Ending → List ℕ → List Place → ℕ → Variables → Own → Report
+said_by : Ending → List ℕ → List ErrorPlace → ℕ → Variables → Own → Report
 said_by e fault trail steps vars o = record {
   ending = e;
   fault = fault;
@@ -44,7 +44,7 @@ said_by e fault trail steps vars o = record {
   steps = steps;
 }
 
-pub said_extended : (e : Ending) (fault : List ℕ) (trail : List Place) (steps : ℕ) (vars : Variables) (es : List Event) (d : Dialogue) → said e fault trail steps vars (extended es d) ≡ said e fault trail steps vars d
+pub said_extended : (e : Ending) (fault : List ℕ) (trail : List ErrorPlace) (steps : ℕ) (vars : Variables) (es : List Event) (d : Dialogue) → said e fault trail steps vars (extended es d) ≡ said e fault trail steps vars d
 unfolding said_by
 said_extended e fault trail steps vars es d = ap (said_by e fault trail steps vars) (own_extended es d)
 

@@ -422,7 +422,7 @@ end-spared AgainLater v st = tt
 pub tree_spared : (source : List ℕ) (settings : Settings) → SparedTree (tree_of source settings)
 unfolding tree_of
 tree_spared source settings =
-    eval-spared 200 source at_the_end (record { vars = first_variables settings.env; procs = []; left = steps_of settings.steps; trail = [] }) end-spared
+    eval-spared 200 source at_the_end (record { vars = first_variables settings.vars; procs = []; left = steps_of settings.steps; trail = [] }) end-spared
 
 -- ---- with a dialogue
 

@@ -1,5 +1,5 @@
 -- The initial variables of a script.
-use Rattle.std.specs.Prelude.{ℕ, List, [], ◌∷◌, ◌++◌, codes, Result, Ok, Err}
+use Rattle.std.specs.Prelude.{ℕ, List, [], ◌∷◌, codes, Result, Ok, Err}
 use Rattle.tcl_subst.specs.declared.faults.SubstFault.{SubstFault}
 use Rattle.tcl_subst.specs.Variables.{Variables, no_variables, with_value, without_value}
 use Rattle.tcl_subst.specs.Writes.{set_to}
@@ -12,13 +12,10 @@ or_same old (Err f) = old
 abbrev pub setting : List ℕ → List ℕ → Variables → Variables
 setting name value vars = or_same vars (with_value (set_to value) name vars)
 
-abbrev pub env_name : List ℕ → List ℕ
-env_name name = codes "env(" ++ name ++ codes ")"
-
--- Sets the elements of `env`, one after another. If a name occurs twice, the last value counts.
-abbrev pub with_env : List (List ℕ × List ℕ) → Variables → Variables
-with_env [] vars = vars
-with_env (p ∷ ps) vars = with_env ps (setting (env_name p.0) p.1 vars)
+-- Sets variables, one after another.
+abbrev pub with_variables : List (List ℕ × List ℕ) → Variables → Variables
+with_variables [] vars = vars
+with_variables (p ∷ ps) vars = with_variables ps (setting p.0 p.1 vars)
 
 -- Makes `env` an array, without elements.
 abbrev pub with_array : Variables → Variables
@@ -26,6 +23,6 @@ with_array vars =
     let set = setting (codes "env()") [] vars in
     or_same set (without_value (codes "env()") set)
 
--- `timeout` is 10, and `env` is the array from the settings.
+-- `timeout` is 10, and `env` is an array without elements. Then the variables of the settings are set.
 abbrev pub first_variables : List (List ℕ × List ℕ) → Variables
-first_variables env = with_env env (with_array (setting (codes "timeout") (codes "10") no_variables))
+first_variables pairs = with_variables pairs (with_array (setting (codes "timeout") (codes "10") no_variables))

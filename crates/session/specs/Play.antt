@@ -17,12 +17,12 @@ use Rattle.tcl_eval.specs.Meaning.{outside_loop}
 use Rattle.expect_core.specs.declared.dialogue.Dialogue.{Dialogue}
 use Rattle.expect_core.specs.Answered.{Outcome}
 use Rattle.expect_core.specs.Calls.{outcome, knows}
-use Rattle.session.specs.declared.place.Place.{Place}
-use Rattle.session.specs.declared.place.Place.TheVariants.{Command, Procedure}
+use Rattle.session.specs.declared.place.ErrorPlace.{ErrorPlace}
+use Rattle.session.specs.declared.place.ErrorPlace.TheVariants.{Command, Procedure}
 use Rattle.session.specs.declared.report.Report.{Report}
 
 -- The report with these variables.
-abbrev pub said_with : Ending → List ℕ → List Place → ℕ → List (List ℕ × List ℕ) → Dialogue → Report
+abbrev pub said_with : Ending → List ℕ → List ErrorPlace → ℕ → List (List ℕ × List ℕ) → Dialogue → Report
 said_with e fault trail steps values st = record {
   ending = e;
   fault = fault;
@@ -34,7 +34,7 @@ said_with e fault trail steps values st = record {
   steps = steps;
 }
 
-abbrev pub said : Ending → List ℕ → List Place → ℕ → Variables → Dialogue → Report
+abbrev pub said : Ending → List ℕ → List ErrorPlace → ℕ → Variables → Dialogue → Report
 said e fault trail steps vars st = said_with e fault trail steps (values_of vars.globals) st
 
 -- A report with its variables only if the settings ask for them.
@@ -66,12 +66,12 @@ name_of [] = []
 name_of (name ∷ args) = name
 
 -- A place that an error passed.
-abbrev pub place_of : Origin → Place
+abbrev pub place_of : Origin → ErrorPlace
 place_of (origin.Command script at) = Command script at
 place_of (origin.Procedure words) = Procedure (name_of words)
 
 -- The places that the error passed which ended a script.
-abbrev pub trail_at : Code → List Origin → List Place
+abbrev pub trail_at : Code → List Origin → List ErrorPlace
 trail_at Ok trail = []
 trail_at Return trail = []
 trail_at Error trail = map place_of trail
@@ -95,7 +95,7 @@ fault_of (end.Stopped e) = []
 fault_of end.StepLimit = []
 fault_of end.Memory = []
 
-abbrev pub trail_of : End → List Origin → List Place
+abbrev pub trail_of : End → List Origin → List ErrorPlace
 trail_of (end.Finished c value) trail = trail_at c trail
 trail_of (end.Stopped e) trail = []
 trail_of end.StepLimit trail = []

@@ -15,7 +15,7 @@ mod watcher;
 
 pub use expect_core::{Act, Pairs, Request, Requests, Settings};
 pub use laws::{growth, limit_law, no_meaning_is_memory, request_law};
-pub use place::{Place, Places};
+pub use place::{ErrorPlace, ErrorPlaces};
 pub use report::{Counts, Report};
 pub use session::{NewFault, SOURCE_LIMIT, STEPS_LIMIT, Session};
 pub use tcl_host::Ending;

@@ -11,7 +11,7 @@ use tcl_words::Text;
 
 /// A place that an error passed.
 #[derive(Drop)]
-pub enum Place {
+pub enum ErrorPlace {
     /// A command of the script with this text. `at` is the index in the text from which the command
     /// was read: the end of the command before it.
     Command { script: Text, at: usize },
@@ -21,74 +21,74 @@ pub enum Place {
 
 /// The places that an error passed, the innermost one first. A contract sees a list.
 #[derive(Drop)]
-pub struct Places {
+pub struct ErrorPlaces {
     /// The places.
-    pub list: Vec<Place>,
+    pub list: Vec<ErrorPlace>,
 }
 
-impl Model for Places {
+impl Model for ErrorPlaces {
     ghost use Rattle.std.specs.Prelude.{List};
-    ghost use Rattle.session.specs.declared.place.Place.{Place};
+    ghost use Rattle.session.specs.declared.place.ErrorPlace.{ErrorPlace};
 
-    ghost Value = { List Place };
+    ghost Value = { List ErrorPlace };
 
     ghost view = { λ p. p.list.items };
 }
 
-impl Place {
+impl ErrorPlace {
     /// Returns a copy.
-    fn copied(&self, alloc: Global) -> Result<Place, AllocError>
+    fn copied(&self, alloc: Global) -> Result<ErrorPlace, AllocError>
         ensures { IfOk result (λ p. p ≡ self.now) }
     {
         match self {
-            Place::Command { script, at } => Ok(Place::Command {
+            ErrorPlace::Command { script, at } => Ok(ErrorPlace::Command {
                 script: script.copied(alloc)?,
                 at: *at,
             }),
-            Place::Procedure { name } => Ok(Place::Procedure {
+            ErrorPlace::Procedure { name } => Ok(ErrorPlace::Procedure {
                 name: name.copied(alloc)?,
             }),
         }
     }
 }
 
-impl Places {
+impl ErrorPlaces {
     /// Creates an empty list.
-    pub fn new(alloc: Global) -> Places
+    pub fn new(alloc: Global) -> ErrorPlaces
         ensures { result ≡ [] }
     {
-        Places {
+        ErrorPlaces {
             list: Vec::new(alloc),
         }
     }
 
     /// Returns the places as a slice.
-    pub fn as_slice(&self) -> &[Place]
+    pub fn as_slice(&self) -> &[ErrorPlace]
         ensures { result.now ≡ self.now }
     {
         self.list.as_slice()
     }
 
     /// Returns a copy.
-    pub fn copied(&self, alloc: Global) -> Result<Places, AllocError>
+    pub fn copied(&self, alloc: Global) -> Result<ErrorPlaces, AllocError>
         ensures { IfOk result (λ p. p ≡ self.now) }
     {
         let mut list = Vec::new(alloc);
         for place in self.list.as_slice() {
             list.push(place.copied(alloc)?)?;
         }
-        Ok(Places { list })
+        Ok(ErrorPlaces { list })
     }
 
     /// Converts the trail of an error.
-    pub(crate) fn of(alloc: Global, trail: &[Origin]) -> Result<Places, AllocError>
+    pub(crate) fn of(alloc: Global, trail: &[Origin]) -> Result<ErrorPlaces, AllocError>
         ensures { IfOk result (λ p. p ≡ map place_meant trail.now) }
     {
         let mut list = Vec::new(alloc);
         for origin in trail {
             list.push(place_of(alloc, origin)?)?;
         }
-        Ok(Places { list })
+        Ok(ErrorPlaces { list })
     }
 }
 
@@ -102,15 +102,15 @@ fn name_of(alloc: Global, words: &Values) -> Result<Text, AllocError>
     }
 }
 
-fn place_of(alloc: Global, origin: &Origin) -> Result<Place, AllocError>
+fn place_of(alloc: Global, origin: &Origin) -> Result<ErrorPlace, AllocError>
     ensures { IfOk result (λ p. p ≡ place_meant origin.now) }
 {
     match origin {
-        Origin::Command { script, at } => Ok(Place::Command {
+        Origin::Command { script, at } => Ok(ErrorPlace::Command {
             script: Text::from_slice(alloc, script.text())?,
             at: *at,
         }),
-        Origin::Procedure { words } => Ok(Place::Procedure {
+        Origin::Procedure { words } => Ok(ErrorPlace::Procedure {
             name: name_of(alloc, words)?,
         }),
     }

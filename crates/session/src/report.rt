@@ -3,7 +3,7 @@
 ghost use Rattle.std.specs.Prelude.{◌≡◌, IfOk};
 ghost use Rattle.session.specs.Spent.{memory_report};
 
-use crate::place::Places;
+use crate::place::ErrorPlaces;
 use expect_core::{Pairs, Requests};
 use std::alloc::{AllocError, Global};
 use std::marker::Model;
@@ -51,7 +51,7 @@ pub struct Report {
     /// The message of the error that ended the script. Empty for any other ending.
     pub fault: Text,
     /// The places that this error passed, the innermost one first. Empty for any other ending.
-    pub trail: Places,
+    pub trail: ErrorPlaces,
     /// The bytes that the script wrote, and the output of its children that it took.
     pub transcript: Text,
     /// The global variables that have a value, in byte order of their names. Empty if the settings
@@ -74,7 +74,7 @@ impl Report {
         Report {
             ending: Ending::Memory,
             fault: Text::new(alloc),
-            trail: Places::new(alloc),
+            trail: ErrorPlaces::new(alloc),
             transcript: Text::new(alloc),
             vars: Pairs::new(alloc),
             requests: Requests::new(alloc),

@@ -5,7 +5,7 @@ ghost use Rattle.tcl_subst.specs.Report.{values_of};
 ghost use Rattle.session.specs.Play.{ending_at as ending_told, ending_of as ending_meant, fault_at as fault_told, fault_of as fault_meant, trail_at as trail_told, trail_of as trail_meant, said_with, told};
 ghost use Rattle.session.specs.Shown.{shown as shown_of};
 
-use crate::place::Places;
+use crate::place::ErrorPlaces;
 use crate::report::{Counts, Report};
 use expect_core::{DialogueHost, Pairs};
 use std::alloc::{AllocError, Global};
@@ -67,23 +67,23 @@ fn fault_of(alloc: Global, end: &End) -> Result<Text, AllocError>
 }
 
 /// Returns the places that the error passed which ended a script.
-fn trail_at(alloc: Global, code: Code, trail: &[Origin]) -> Result<Places, AllocError>
+fn trail_at(alloc: Global, code: Code, trail: &[Origin]) -> Result<ErrorPlaces, AllocError>
     ensures { IfOk result (λ p. p ≡ trail_told code trail.now) }
 {
     match code {
-        Code::Error => Places::of(alloc, trail),
-        _ => Ok(Places::new(alloc)),
+        Code::Error => ErrorPlaces::of(alloc, trail),
+        _ => Ok(ErrorPlaces::new(alloc)),
     }
 }
 
-fn trail_of(alloc: Global, end: &End, trail: &[Origin]) -> Result<Places, AllocError>
+fn trail_of(alloc: Global, end: &End, trail: &[Origin]) -> Result<ErrorPlaces, AllocError>
     ensures { IfOk result (λ p. p ≡ trail_meant end.now trail.now) }
 {
     match end {
         End::Finished(code, _) => trail_at(alloc, *code, trail),
-        End::Stopped(_) => Ok(Places::new(alloc)),
-        End::StepLimit => Ok(Places::new(alloc)),
-        End::Memory => Ok(Places::new(alloc)),
+        End::Stopped(_) => Ok(ErrorPlaces::new(alloc)),
+        End::StepLimit => Ok(ErrorPlaces::new(alloc)),
+        End::Memory => Ok(ErrorPlaces::new(alloc)),
     }
 }
 
@@ -104,7 +104,7 @@ fn said(
     alloc: Global,
     ending: Ending,
     fault: Text,
-    trail: Places,
+    trail: ErrorPlaces,
     steps: u64,
     vars: Pairs,
     dialogue: &DialogueHost,
@@ -152,7 +152,7 @@ pub(crate) fn shown(
             alloc,
             Ending::Waiting,
             Text::new(alloc),
-            Places::new(alloc),
+            ErrorPlaces::new(alloc),
             steps,
             vars,
             dialogue,
@@ -165,7 +165,7 @@ fn said_last(
     alloc: Global,
     ending: Ending,
     fault: Text,
-    trail: Places,
+    trail: ErrorPlaces,
     steps: u64,
     vars: Pairs,
     dialogue: &mut DialogueHost,
@@ -213,7 +213,7 @@ pub(crate) fn shown_last(
             alloc,
             Ending::Waiting,
             Text::new(alloc),
-            Places::new(alloc),
+            ErrorPlaces::new(alloc),
             steps,
             vars,
             dialogue,

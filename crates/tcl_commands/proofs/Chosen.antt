@@ -1,8 +1,10 @@
 -- The patterns and bodies of a `switch` from a place on, a pair more.
-use Rattle.std.proofs.Common.{◌≡◌, ℕ, suc, ◌+◌, ◌-◌, ◌<◌, ◌≤◌, Bool, true, false, cond, List, [], ◌∷◌, length, drop, get_or, Some, None, sym, ap, ◌∙◌, arith, length-drop, refl}
+use Rattle.std.proofs.Common.{◌≡◌, ℕ, suc, ◌+◌, ◌-◌, ◌<◌, ◌≤◌, Bool, true, false, cond, List, [], ◌∷◌, length, drop, get_or, Option, Some, None, Ok, Err, if◌then◌else◌, sym, ap, ◌∙◌, arith, length-drop, refl}
 use Rattle.std.specs.Prelude.{nat_le}
 use Rattle.std.proofs.lemmas.Bool.Decides.{nat_tests}
 use Rattle.std.proofs.Math.Seq.{drop-cons}
+use Rattle.tcl_commands.specs.declared.ways.Way.{Way}
+use Rattle.tcl_commands.specs.Said.{Said, ◌>>=◌}
 use Rattle.tcl_commands.specs.Choosing.{is_dash, body, is_taken, is_over, chosen}
 
 over_is : (l : List (List ℕ)) → is_over l ≡ nat_le (length l) 0
@@ -38,18 +40,28 @@ module _ (ws : List (List ℕ)) (n : ℕ) where
     over : is_over (drop (n + 2) ws) ≡ nat_le (length ws) (n + 2)
     over = over_is (drop (n + 2) ws) ∙ ap (λ (m : ℕ). nat_le m 0) (length-drop (n + 2) ws) ∙ fewer (length ws) (n + 2)
 
-    module _ (glob : Bool) (text : List ℕ) where
-      case_is : chosen glob text (drop n ws) ≡ cond (is_taken glob text (get_or ws n []) (nat_le (length ws) (n + 2))) (body (drop n ws)) (chosen glob text (drop (n + 2) ws))
+    module _ (way : Way) (text : List ℕ) where
+      abbrev taken : Said Bool
+      taken = is_taken way text (get_or ws n []) (nat_le (length ws) (n + 2))
+
+      -- what comes of the test of the next pattern
+      abbrev by_test : Said Bool → Said (Option (List ℕ))
+      by_test s = s >>= λ t. if t then Ok (body (drop n ws)) else chosen way text (drop (n + 2) ws)
+
+      case_is : chosen way text (drop n ws) ≡ by_test taken
       case_is =
-          ap (chosen glob text) pair
-          ∙ ap (λ (l : List (List ℕ)). cond (is_taken glob text (get_or ws n []) (is_over (drop (n + 2) ws))) (body l) (chosen glob text (drop (n + 2) ws))) (sym pair)
-          ∙ ap (λ (b : Bool). cond (is_taken glob text (get_or ws n []) b) (body (drop n ws)) (chosen glob text (drop (n + 2) ws))) over
+          ap (chosen way text) pair
+          ∙ ap (λ (l : List (List ℕ)). is_taken way text (get_or ws n []) (is_over (drop (n + 2) ws)) >>= λ t. if t then Ok (body l) else chosen way text (drop (n + 2) ws)) (sym pair)
+          ∙ ap (λ (b : Bool). by_test (is_taken way text (get_or ws n []) b)) over
 
-      pub case_on : is_taken glob text (get_or ws n []) (nat_le (length ws) (n + 2)) ≡ false → chosen glob text (drop (n + 2) ws) ≡ chosen glob text (drop n ws)
-      case_on is = sym (case_is ∙ ap (λ (b : Bool). cond b (body (drop n ws)) (chosen glob text (drop (n + 2) ws))) is)
+      pub case_on : (b : Bool) → is_taken way text (get_or ws n []) (nat_le (length ws) (n + 2)) ≡ Ok b → b ≡ false → chosen way text (drop (n + 2) ws) ≡ chosen way text (drop n ws)
+      case_on b is unfit = sym (case_is ∙ ap by_test is ∙ ap (λ (b : Bool). by_test (Ok b)) unfit)
 
-      pub case_at : is_taken glob text (get_or ws n []) (nat_le (length ws) (n + 2)) ≡ true → chosen glob text (drop n ws) ≡ body (drop n ws)
-      case_at is = case_is ∙ ap (λ (b : Bool). cond b (body (drop n ws)) (chosen glob text (drop (n + 2) ws))) is
+      pub case_at : (b : Bool) (found : Option (List ℕ)) → is_taken way text (get_or ws n []) (nat_le (length ws) (n + 2)) ≡ Ok b → b ≡ true → found ≡ body (drop n ws) → chosen way text (drop n ws) ≡ Ok found
+      case_at b found is fit same = case_is ∙ ap by_test is ∙ ap (λ (b : Bool). by_test (Ok b)) fit ∙ ap (λ (o : Option (List ℕ)). Ok o) (sym same)
+
+      pub case_bad : (fault : List ℕ) → is_taken way text (get_or ws n []) (nat_le (length ws) (n + 2)) ≡ Err fault → chosen way text (drop n ws) ≡ Err fault
+      case_bad fault is = case_is ∙ ap by_test is
 
 -- fewer than two words have no body
 short_body : (l : List (List ℕ)) → length l ≤ 1 → body l ≡ None
@@ -57,10 +69,10 @@ short_body [] h = refl
 short_body (p ∷ []) h = refl
 short_body (p ∷ b ∷ more) h = absurd (omega (arith, h))
 
-short_case : (glob : Bool) (text : List ℕ) (l : List (List ℕ)) → length l ≤ 1 → chosen glob text l ≡ None
-short_case glob text [] h = refl
-short_case glob text (p ∷ []) h = refl
-short_case glob text (p ∷ b ∷ more) h = absurd (omega (arith, h))
+short_case : (way : Way) (text : List ℕ) (l : List (List ℕ)) → length l ≤ 1 → chosen way text l ≡ Ok None
+short_case way text [] h = refl
+short_case way text (p ∷ []) h = refl
+short_case way text (p ∷ b ∷ more) h = absurd (omega (arith, h))
 
 module _ (ws : List (List ℕ)) (n : ℕ) (all : length ws - n ≤ 1) where
   short : length (drop n ws) ≤ 1
@@ -69,5 +81,5 @@ module _ (ws : List (List ℕ)) (n : ℕ) (all : length ws - n ≤ 1) where
   pub body_end : body (drop n ws) ≡ None
   body_end = short_body (drop n ws) short
 
-  pub case_end : (glob : Bool) (text : List ℕ) → chosen glob text (drop n ws) ≡ None
-  case_end glob text = short_case glob text (drop n ws) short
+  pub case_end : (way : Way) (text : List ℕ) → chosen way text (drop n ws) ≡ Ok None
+  case_end way text = short_case way text (drop n ws) short

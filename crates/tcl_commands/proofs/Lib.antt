@@ -12,3 +12,12 @@ pub mod Sorts
 pub mod Ordered
 mod Chosen
 mod Fronts
+pub mod Matched
+pub mod Pairwise
+pub mod Parts
+pub mod Fielded
+pub mod Capped
+pub mod Signs
+pub mod Turns
+pub mod Replaced
+pub mod Inlined

@@ -7,19 +7,20 @@ use Rattle.tcl_commands.specs.Said.{limited}
 use Rattle.tcl_commands.specs.Texts.{too_long}
 use Rattle.tcl_commands.proofs.Splits.{longer, limited_over}
 
+-- the next two elements, and those behind them
+pub drop_two : (es : List (List ℕ)) (n : ℕ) → 2 * n + 1 < length es → drop (2 * n) es ≡ get_or es (2 * n) [] ∷ get_or es (2 * n + 1) [] ∷ drop (2 * (n + 1)) es
+drop_two es n some =
+    let second : suc (2 * n) ≡ 2 * n + 1 = omega arith in
+    let third : suc (2 * n + 1) ≡ 2 * (n + 1) = omega arith in
+    drop-cons es (2 * n) [] (omega arith)
+    ∙ ap (λ (m : ℕ). get_or es (2 * n) [] ∷ drop m es) second
+    ∙ ap (λ (l : List (List ℕ)). get_or es (2 * n) [] ∷ l) (drop-cons es (2 * n + 1) [] some)
+    ∙ ap (λ (m : ℕ). get_or es (2 * n) [] ∷ get_or es (2 * n + 1) [] ∷ drop m es) third
+
 module _ (nocase : Bool) where
   module _ (es : List (List ℕ)) (text : List ℕ) (n : ℕ) where
-    drop_two : 2 * n + 1 < length es → drop (2 * n) es ≡ get_or es (2 * n) [] ∷ get_or es (2 * n + 1) [] ∷ drop (2 * (n + 1)) es
-    drop_two some =
-        let second : suc (2 * n) ≡ 2 * n + 1 = omega arith in
-        let third : suc (2 * n + 1) ≡ 2 * (n + 1) = omega arith in
-        drop-cons es (2 * n) [] (omega arith)
-        ∙ ap (λ (m : ℕ). get_or es (2 * n) [] ∷ drop m es) second
-        ∙ ap (λ (l : List (List ℕ)). get_or es (2 * n) [] ∷ l) (drop-cons es (2 * n + 1) [] some)
-        ∙ ap (λ (m : ℕ). get_or es (2 * n) [] ∷ get_or es (2 * n + 1) [] ∷ drop m es) third
-
     pair_is : 2 * n + 1 < length es → first_pair nocase (drop (2 * n) es) text ≡ (if stands nocase (get_or es (2 * n) []) text then Some (get_or es (2 * n) [], get_or es (2 * n + 1) []) else first_pair nocase (drop (2 * (n + 1)) es) text)
-    pair_is some = ap (λ (l : List (List ℕ)). first_pair nocase l text) (drop_two some)
+    pair_is some = ap (λ (l : List (List ℕ)). first_pair nocase l text) (drop_two es n some)
 
     -- the next key doesn't stand there
     pub pair_on : 2 * n + 1 < length es → stands nocase (get_or es (2 * n) []) text ≡ false → first_pair nocase (drop (2 * (n + 1)) es) text ≡ first_pair nocase (drop (2 * n) es) text
@@ -79,7 +80,7 @@ module _ (nocase : Bool) where
         ∙ ap (λ (l : List ℕ). l ++ mapped_from nocase es 0 (drop (length key) text)) (sym is)
 
 -- what is made already is too long
-front_over : (front more whole : List ℕ) → whole ≡ front ++ more → is_too_long (length front) ≡ true → limited whole ≡ Err too_long
+pub front_over : (front more whole : List ℕ) → whole ≡ front ++ more → is_too_long (length front) ≡ true → limited whole ≡ Err too_long
 front_over front more whole is long =
     let size : length front ≤ length whole = omega (arith, ap length is, length-append front more) in
     limited_over whole (longer (length front) (length whole) size long)

@@ -35,8 +35,12 @@ is_even n = (n % 2) == 0
 abbrev pub pairs : List (List ℕ) → Said (List (List ℕ))
 pairs es = if is_even (length es) then Ok es else Err bad_list
 
+-- The elements of a list of keys and replacements.
+abbrev pub pairs_of : List ℕ → Said (List (List ℕ))
+pairs_of l = list_of l >>= λ es. pairs es
+
 abbrev pub mapped_by : Bool → List ℕ → List ℕ → Said (List ℕ)
-mapped_by nocase mapping text = list_of mapping >>= λ l. pairs l >>= λ es. limited (mapped_from nocase es 0 text)
+mapped_by nocase mapping text = pairs_of mapping >>= λ es. limited (mapped_from nocase es 0 text)
 
 -- string map ?-nocase? mapping string
 abbrev pub mapped : List ℕ → List (List ℕ) → Said (List ℕ)

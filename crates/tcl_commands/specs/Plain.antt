@@ -15,17 +15,22 @@ use Rattle.command_table.specs.declared.options.InfoOption.TheVariants.{Exists}
 use Rattle.command_table.specs.Counts.{fits}
 use Rattle.command_table.specs.Options.{info_option, info_count}
 use Rattle.command_table.specs.Rows.{value_row}
-use Rattle.command_table.specs.declared.commands.ValueCommand.TheVariants.{Set, Unset, Incr, Append, Lappend, List as ListOf, Llength, Lindex, Lrange, Break, Continue, Return, Global, Error, String, Info, Split, Join, Concat, Linsert, Lreplace, Lset, Lreverse, Lrepeat, Lassign, Lsearch, Lsort}
+use Rattle.command_table.specs.declared.commands.ValueCommand.TheVariants.{Set, Array, Format, Unset, Incr, Append, Lappend, List as ListOf, Llength, Lindex, Lrange, Break, Continue, Return, Global, Error, String, Info, Split, Join, Concat, Linsert, Lreplace, Lset, Lreverse, Lrepeat, Lassign, Lsearch, Lsort, Scan, Regexp, Regsub}
 use Rattle.tcl_commands.specs.Texts.{is_missing, wrong_args, bad_option, not_read, not_set, not_unset}
 use Rattle.tcl_commands.specs.Said.{Said, ◌>>=◌, Outcome, told, on_changed, limited, list_of, as_number}
 use Rattle.tcl_commands.specs.Given.{arg, if_fits}
 use Rattle.tcl_commands.specs.Indices.{index_of, element_at, between}
-use Rattle.tcl_commands.specs.Setting.{read, written_to, set_if_said}
+use Rattle.tcl_commands.specs.Setting.{read, written_to, set_if_said, unset_quietly}
 use Rattle.tcl_commands.specs.Strings.{count_text, bit_text, string}
+use Rattle.tcl_commands.specs.Arrays.{array}
+use Rattle.tcl_commands.specs.Formats.{format}
+use Rattle.tcl_commands.specs.Scanning.{scan}
 use Rattle.tcl_commands.specs.Joining.{concat}
 use Rattle.tcl_commands.specs.Splitting.{split, join}
 use Rattle.tcl_commands.specs.Searching.{lsearch}
 use Rattle.tcl_commands.specs.Sorting.{lsort}
+use Rattle.tcl_commands.specs.Regexps.{regexp}
+use Rattle.tcl_commands.specs.Replacing.{regsub}
 use Rattle.tcl_commands.specs.Editing.{linsert, lreplace, lset, lreverse, lrepeat, lassign}
 
 abbrev pub set : List (List ℕ) → Variables → Outcome
@@ -36,16 +41,6 @@ set args vars = told (read (arg 0 args) vars) vars
 abbrev pub unset : List (List ℕ) → Variables → Outcome
 unset [] vars = told (Ok []) vars
 unset (name ∷ names) vars = on_changed vars (not_unset name) (without_value name vars) (unset names)
-
--- The variables after a change, or the old ones if it failed.
-abbrev pub changed_or : Variables → Result Variables SubstFault → Variables
-changed_or old (Ok new) = new
-changed_or old (Err f) = old
-
--- Unsets variables in order. One that can't be unset is skipped.
-abbrev pub unset_quietly : List (List ℕ) → Variables → Outcome
-unset_quietly [] vars = told (Ok []) vars
-unset_quietly (name ∷ names) vars = unset_quietly names (changed_or vars (without_value name vars))
 
 -- The word is the flag, and not the name of an existing variable.
 abbrev pub is_quiet : List ℕ → Variables → Bool
@@ -152,6 +147,11 @@ allowed Lrepeat command args vars = told (lrepeat args) vars
 allowed Lassign command args vars = lassign args vars
 allowed Lsearch command args vars = told (lsearch command args) vars
 allowed Lsort command args vars = told (lsort command args) vars
+allowed Array command args vars = array command args vars
+allowed Format command args vars = told (format command args) vars
+allowed Scan command args vars = scan command args vars
+allowed Regexp command args vars = regexp command args vars
+allowed Regsub command args vars = regsub command args vars
 
 -- A command, given its word and its arguments.
 abbrev pub plain : ValueCommand → List ℕ → List (List ℕ) → Variables → Outcome

@@ -1,7 +1,7 @@
--- Reading and setting a variable in a command.
-use Rattle.std.specs.Prelude.{ℕ, List, Result, Ok, Err}
+-- Reading, setting and unsetting a variable in a command.
+use Rattle.std.specs.Prelude.{ℕ, List, [], ◌∷◌, Result, Ok, Err}
 use Rattle.tcl_subst.specs.declared.faults.SubstFault.{SubstFault}
-use Rattle.tcl_subst.specs.Variables.{Variables, value_of, with_value}
+use Rattle.tcl_subst.specs.Variables.{Variables, value_of, with_value, without_value}
 use Rattle.tcl_subst.specs.Writes.{set_to}
 use Rattle.tcl_commands.specs.Texts.{not_read, not_set}
 use Rattle.tcl_commands.specs.Said.{Said, Outcome, told, on_changed}
@@ -22,3 +22,13 @@ written_to name old new = on_changed old (not_set name) new (λ vars. told (read
 abbrev pub set_if_said : List ℕ → Said (List ℕ) → Variables → Outcome
 set_if_said name (Err text) vars = told (Err text) vars
 set_if_said name (Ok value) vars = on_changed vars (not_set name) (with_value (set_to value) name vars) (λ new. told (Ok value) new)
+
+-- The variables after a change, or the old ones if it failed.
+abbrev pub changed_or : Variables → Result Variables SubstFault → Variables
+changed_or old (Ok new) = new
+changed_or old (Err f) = old
+
+-- Unsets variables in order. One that can't be unset is skipped.
+abbrev pub unset_quietly : List (List ℕ) → Variables → Outcome
+unset_quietly [] vars = told (Ok []) vars
+unset_quietly (name ∷ names) vars = unset_quietly names (changed_or vars (without_value name vars))

@@ -1,12 +1,13 @@
 -- Flags before the last `tail` arguments of a command. An argument is a flag only if at least `tail` others follow.
 use Rattle.std.specs.Prelude.{ℕ, ◌+◌, nat_lt, Bool, true, false, ◌&&◌, List, [], ◌∷◌, length, drop, Option, Some, None, Ok, Err, if◌then◌else◌}
 use Rattle.command_table.specs.declared.switches.Switch.{Switch}
-use Rattle.command_table.specs.declared.switches.Switch.TheVariants.{All, Decreasing, End, Exact, Glob, Index, Inline, Integer, Nocase, Not, Start, Strict, Unique}
+use Rattle.command_table.specs.declared.switches.Switch.TheVariants.{All, Decreasing, End, Exact, Glob, Index, Indices, Inline, Integer, LineAnchor, Nocase, Not, Regexp, Start, Strict, Unique}
 use Rattle.command_table.specs.declared.switches.Switches.{Switches}
 use Rattle.command_table.specs.Counts.{exactly}
 use Rattle.command_table.specs.Flags.{begins_with_minus}
 use Rattle.command_table.specs.Switches.{switch_of}
 use Rattle.tcl_commands.specs.declared.switches.Given.{Given}
+use Rattle.tcl_commands.specs.declared.ways.Way.TheVariants as ways
 use Rattle.tcl_commands.specs.Given.{if_fits}
 use Rattle.tcl_commands.specs.Texts.{bad_flag}
 use Rattle.tcl_commands.specs.Said.{Said, ◌>>=◌}
@@ -17,7 +18,6 @@ nothing = record {
   all = false;
   decreasing = false;
   due = false;
-  exact = false;
   index = None;
   inline = false;
   integer = false;
@@ -26,20 +26,24 @@ nothing = record {
   start = None;
   strict = false;
   unique = false;
+  way = ways.Glob;
 }
 
--- The flags with one added. n is the index of the argument after it. The last of `-exact` and `-glob` counts.
+-- The flags with one added. n is the index of the argument after it. The last of `-exact`, `-glob` and `-regexp` counts.
 abbrev pub with_switch : Switch → ℕ → Given → Given
 with_switch All n g = record g { all = true }
 with_switch Decreasing n g = record g { decreasing = true }
 with_switch End n g = g
-with_switch Exact n g = record g { exact = true }
-with_switch Glob n g = record g { exact = false }
+with_switch Exact n g = record g { way = ways.Exact }
+with_switch Glob n g = record g { way = ways.Glob }
 with_switch Index n g = record g { index = Some n; due = true }
+with_switch Indices n g = g
 with_switch Inline n g = record g { inline = true }
 with_switch Integer n g = record g { integer = true }
+with_switch LineAnchor n g = g
 with_switch Nocase n g = record g { nocase = true }
 with_switch Not n g = record g { not = true }
+with_switch Regexp n g = record g { way = ways.Regular }
 with_switch Start n g = record g { start = Some n; due = true }
 with_switch Strict n g = record g { strict = true }
 with_switch Unique n g = record g { unique = true }

@@ -22,11 +22,17 @@ bad_option option = quoted (codes "bad option ") option
 abbrev pub bad_flag : List ℕ → List ℕ
 bad_flag flag = quoted (codes "bad flag ") flag
 
+abbrev pub bad_format : List ℕ → List ℕ
+bad_format template = quoted (codes "bad format ") template
+
 abbrev pub bad_index : List ℕ → List ℕ
 bad_index text = quoted (codes "bad index ") text
 
 abbrev pub expected_number : List ℕ → List ℕ
 expected_number text = quoted (codes "expected number but got ") text
+
+abbrev pub bad_regular : List ℕ → List ℕ
+bad_regular pattern = quoted (codes "bad regular expression ") pattern
 
 abbrev pub bad_list : List ℕ
 bad_list = codes "bad list"

@@ -1,17 +1,20 @@
 //! Chooses the body that a `switch` evaluates.
 
 ghost use Rattle.std.specs.Prelude.{◌≡◌, ◌+◌, drop, length, slice_index_or, [], IfOk};
-ghost use Rattle.tcl_commands.specs.Choosing.{is_dash, are_cases, body, fits_text, is_taken, chosen, chosen_of, switched, is_glob, body_of_switch, case_words};
+ghost use Rattle.tcl_commands.specs.Choosing.{is_dash, are_cases, body, matches_in, fits_text, is_taken, chosen, chosen_of, switched, way_by, way_of, body_of_switch, case_words};
 ghost use Rattle.tcl_commands.specs.Says.{Says};
 
 use crate::complaint::Complaint;
 use crate::front::front;
 use crate::given::{arg, before, behind};
 use crate::indices::element;
+use crate::matches::{finds, pattern_of};
 use crate::strings::matches;
 use crate::texts::wrong;
 use crate::values::list_of;
+use crate::ways::Way;
 use command_table::{Switches, is};
+use exp_match::Compiled;
 use std::alloc::{AllocError, Global};
 use tcl_values::{Elements, Value};
 
@@ -106,49 +109,78 @@ fn body(alloc: Global, cases: &Cases, from: usize) -> Result<Option<Value>, Allo
     Ok(None)
 }
 
-/// Returns whether a text has a pattern: it is equal, or a glob matches it as a whole.
-fn fits_text(alloc: Global, glob: bool, text: &[u8], pattern: &[u8]) -> Result<bool, AllocError>
-    ensures { IfOk result (λ b. b ≡ fits_text glob text.now pattern.now) }
+/// Returns whether a regular pattern matches in a text.
+fn matches_in(
+    alloc: Global,
+    patterns: &mut Compiled,
+    text: &[u8],
+    pattern: &[u8],
+) -> Result<bool, Complaint>
+    ensures { Says result (matches_in text.now pattern.now) }
 {
-    if glob {
-        return matches(alloc, false, pattern, text);
+    let regular = pattern_of(alloc, patterns, pattern, false, false)?;
+    Ok(finds(alloc, &regular, text)?)
+}
+
+/// Returns whether a text has a pattern: it is equal, a glob matches it as a whole, or a regular
+/// pattern matches in it.
+fn fits_text(
+    alloc: Global,
+    patterns: &mut Compiled,
+    way: Way,
+    text: &[u8],
+    pattern: &[u8],
+) -> Result<bool, Complaint>
+    ensures { Says result (fits_text way text.now pattern.now) }
+{
+    match way {
+        Way::Exact => Ok(is(pattern, text)),
+        Way::Glob => Ok(matches(alloc, false, pattern, text)?),
+        Way::Regular => matches_in(alloc, patterns, text, pattern),
     }
-    Ok(is(pattern, text))
 }
 
 /// Returns whether a text has a pattern. Every text has a last pattern `default`.
 fn is_taken(
     alloc: Global,
-    glob: bool,
+    patterns: &mut Compiled,
+    way: Way,
     text: &[u8],
     pattern: &[u8],
     last: bool,
-) -> Result<bool, AllocError>
-    ensures { IfOk result (λ b. b ≡ is_taken glob text.now pattern.now last) }
+) -> Result<bool, Complaint>
+    ensures { Says result (is_taken way text.now pattern.now last) }
 {
     if last && is(pattern, b"default") {
         return Ok(true);
     }
-    fits_text(alloc, glob, text, pattern)
+    fits_text(alloc, patterns, way, text, pattern)
 }
 
-/// Returns the body of the first pattern that a text has.
-#[tactic(auto, using(crate::proofs::Chosen::case_on, crate::proofs::Chosen::case_at, crate::proofs::Chosen::case_end))]
+/// Returns the body of the first pattern that a text has. It is an error if a pattern up to there
+/// is no regular pattern, but has to be one.
+#[tactic(auto, using(crate::proofs::Chosen::case_on, crate::proofs::Chosen::case_at, crate::proofs::Chosen::case_bad, crate::proofs::Chosen::case_end))]
 fn chosen(
     alloc: Global,
-    glob: bool,
+    patterns: &mut Compiled,
+    way: Way,
     text: &[u8],
     cases: &Cases,
-) -> Result<Option<Value>, AllocError>
-    ensures { IfOk result (λ b. b ≡ chosen glob text.now (case_words cases.now)) }
+) -> Result<Option<Value>, Complaint>
+    ensures { Says result (chosen way text.now (case_words cases.now)) }
 {
     let mut at = 0;
     while 1 < cases.len().saturating_sub(at) {
         let last = cases.len() <= at + 2;
-        if is_taken(alloc, glob, text, cases.word(at), last)? {
-            return body(alloc, cases, at);
+        match is_taken(alloc, patterns, way, text, cases.word(at), last) {
+            Err(complaint) => return Err(complaint),
+            Ok(taken) => {
+                if taken {
+                    return Ok(body(alloc, cases, at)?);
+                }
+                at += 2;
+            }
         }
-        at += 2;
     }
     Ok(None)
 }
@@ -157,15 +189,16 @@ fn chosen(
 #[tactic(auto, unfolding(crate::specs::Choosing::chosen_of))]
 fn chosen_of(
     alloc: Global,
+    patterns: &mut Compiled,
     command: &[u8],
-    glob: bool,
+    way: Way,
     text: &[u8],
     cases: &Cases,
 ) -> Result<Option<Value>, Complaint>
-    ensures { Says result (chosen_of command.now glob text.now (case_words cases.now)) }
+    ensures { Says result (chosen_of command.now way text.now (case_words cases.now)) }
 {
     if are_cases(cases) {
-        return Ok(chosen(alloc, glob, text, cases)?);
+        return chosen(alloc, patterns, way, text, cases);
     }
     Err(wrong(alloc, command))
 }
@@ -173,41 +206,58 @@ fn chosen_of(
 /// Returns the chosen body, given the text and what follows it.
 fn switched(
     alloc: Global,
+    patterns: &mut Compiled,
     command: &[u8],
-    glob: bool,
+    way: Way,
     words: &[Value],
 ) -> Result<Option<Value>, Complaint>
-    ensures { Says result (switched command.now glob words.now) }
+    ensures { Says result (switched command.now way words.now) }
 {
     match words {
         [] => Err(wrong(alloc, command)),
         [_] => Err(wrong(alloc, command)),
         [text, list] => {
             let cases = Cases::Listed(list_of(alloc, list)?);
-            chosen_of(alloc, command, glob, text.as_slice(), &cases)
+            chosen_of(alloc, patterns, command, way, text.as_slice(), &cases)
         }
         [text, cases @ ..] => {
-            chosen_of(alloc, command, glob, text.as_slice(), &Cases::Words(cases))
+            let cases = Cases::Words(cases);
+            chosen_of(alloc, patterns, command, way, text.as_slice(), &cases)
         }
     }
 }
 
-/// Returns whether patterns are globs. The last flag decides.
-fn is_glob(flags: &[Value]) -> bool
-    ensures { result ≡ is_glob flags.now }
+/// Returns how a flag of `switch` has texts compared.
+fn way_by(flag: &[u8]) -> Way
+    ensures { result ≡ way_by flag.now }
 {
-    is(arg(flags, flags.len().saturating_sub(1)), b"-glob")
+    if is(flag, b"-glob") {
+        Way::Glob
+    } else if is(flag, b"-regexp") {
+        Way::Regular
+    } else {
+        Way::Exact
+    }
 }
 
-/// Returns the body that a `switch` evaluates, or `None` if no pattern fits (switch(n)).
+/// Returns how texts are compared. The last flag decides.
+fn way_of(flags: &[Value]) -> Way
+    ensures { result ≡ way_of flags.now }
+{
+    way_by(arg(flags, flags.len().saturating_sub(1)))
+}
+
+/// Returns the body that a `switch` evaluates, or `None` if no pattern fits (switch(n)). `patterns`
+/// is a cache.
 pub fn body_of_switch(
     alloc: Global,
+    patterns: &mut Compiled,
     command: &[u8],
     args: &[Value],
 ) -> Result<Option<Value>, Complaint>
     ensures { Says result (body_of_switch command.now args.now) }
 {
     let (count, from) = front(alloc, Switches::Choice, 2, args)?;
-    let glob = is_glob(before(args, count));
-    switched(alloc, command, glob, behind(args, from))
+    let way = way_of(before(args, count));
+    switched(alloc, patterns, command, way, behind(args, from))
 }

@@ -3,12 +3,17 @@
 ghost use Rattle.std.specs.Prelude.{◌≡◌, IfOk};
 ghost use Rattle.tcl_commands.specs.Plain.{allowed, plain};
 
+use crate::arrays::array;
 use crate::code::Code;
 use crate::editing::{lassign, linsert, lrepeat, lreplace, lreverse, lset};
 use crate::ends::returns;
+use crate::formats::format;
 use crate::given::arg;
 use crate::joining::concat;
 use crate::lists::{lindex, list, llength, lrange};
+use crate::regexps::regexp;
+use crate::replacing::regsub;
+use crate::scanning::scan;
 use crate::searching::lsearch;
 use crate::sorting::lsort;
 use crate::splitting::{join, split};
@@ -16,6 +21,7 @@ use crate::strings::string;
 use crate::told::{error, told, wrong_call};
 use crate::variables::{append, global, incr, info, lappend, set, unset_names};
 use command_table::{ValueCommand, fits, value_row};
+use exp_match::Compiled;
 use std::alloc::{AllocError, Global};
 use tcl_subst::Vars;
 use tcl_values::Value;
@@ -24,6 +30,7 @@ use tcl_words::Text;
 /// Runs a command. Its row must allow the number of arguments.
 fn allowed(
     alloc: Global,
+    patterns: &mut Compiled,
     kind: ValueCommand,
     command: &[u8],
     args: &[Value],
@@ -57,16 +64,23 @@ fn allowed(
         ValueCommand::Lreverse => told(alloc, lreverse(alloc, args)),
         ValueCommand::Lrepeat => told(alloc, lrepeat(alloc, args)),
         ValueCommand::Lassign => lassign(alloc, args, vars),
-        ValueCommand::Lsearch => told(alloc, lsearch(alloc, command, args)),
+        ValueCommand::Lsearch => told(alloc, lsearch(alloc, patterns, command, args)),
         ValueCommand::Lsort => told(alloc, lsort(alloc, command, args)),
+        ValueCommand::Array => array(alloc, command, args, vars),
+        ValueCommand::Format => told(alloc, format(alloc, command, args)),
+        ValueCommand::Scan => scan(alloc, command, args, vars),
+        ValueCommand::Regexp => regexp(alloc, patterns, command, args, vars),
+        ValueCommand::Regsub => regsub(alloc, patterns, command, args, vars),
     }
 }
 
-/// Runs a command. Returns how it ended, and its value or the text of its error.
+/// Runs a command. Returns how it ended, and its value or the text of its error. `patterns` is a
+/// cache.
 ///
 /// On `AllocError` variables may have changed.
 pub fn plain(
     alloc: Global,
+    patterns: &mut Compiled,
     kind: ValueCommand,
     command: &[u8],
     args: &[Value],
@@ -77,5 +91,5 @@ pub fn plain(
     if !fits(value_row(kind).count, args.len()) {
         return wrong_call(alloc, command);
     }
-    allowed(alloc, kind, command, args, vars)
+    allowed(alloc, patterns, kind, command, args, vars)
 }

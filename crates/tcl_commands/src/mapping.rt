@@ -1,7 +1,7 @@
 //! Replaces keys in texts (`string map`).
 
 ghost use Rattle.std.specs.Prelude.{◌≡◌, ◌≢◌, ◌<◌, ◌++◌, false, drop, length, None, Some, Err, IfOk, IfErr, OnOk, MatchOption};
-ghost use Rattle.tcl_commands.specs.Mapping.{stands, first_pair, mapped_from, pairs, mapped_by, mapped};
+ghost use Rattle.tcl_commands.specs.Mapping.{stands, first_pair, mapped_from, pairs_of, mapped_by, mapped};
 ghost use Rattle.tcl_commands.specs.Said.{limited};
 ghost use Rattle.tcl_commands.specs.Says.{Says, text_of};
 ghost use Rattle.tcl_subst.specs.Faults.{is_too_long};
@@ -51,13 +51,21 @@ pub(crate) fn mapped(alloc: Global, command: &[u8], args: &[Value]) -> Result<Va
     }
 }
 
-fn mapped_by(alloc: Global, nocase: bool, mapping: &Value, text: &[u8]) -> Result<Value, Complaint>
-    ensures { Says result (mapped_by nocase mapping.now text.now) }
+/// Returns the elements of a list of pairs. The error is `bad list` if their number is odd.
+pub(crate) fn pairs_of(alloc: Global, list: &Value) -> Result<Elements, Complaint>
+    ensures { Says result (pairs_of list.now) }
 {
-    let elements = list_of(alloc, mapping)?;
+    let elements = list_of(alloc, list)?;
     if elements.len() % 2 == 1 {
         return Err(no_list(alloc));
     }
+    Ok(elements)
+}
+
+fn mapped_by(alloc: Global, nocase: bool, mapping: &Value, text: &[u8]) -> Result<Value, Complaint>
+    ensures { Says result (mapped_by nocase mapping.now text.now) }
+{
+    let elements = pairs_of(alloc, mapping)?;
     let made = mapped_text(alloc, nocase, &elements, text)?;
     Ok(Value::from_text(alloc, made)?)
 }
@@ -90,7 +98,7 @@ fn push_mapped(
 }
 
 /// Returns the bytes of a text from an index on.
-fn after(text: &[u8], n: usize) -> &[u8]
+pub(crate) fn after(text: &[u8], n: usize) -> &[u8]
     ensures { result.now ≡ drop n text.now }
 {
     if text.len() < n {

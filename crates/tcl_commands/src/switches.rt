@@ -7,18 +7,18 @@ ghost use Rattle.tcl_commands.specs.Switches.{nothing, with_switch, if_switch, f
 use crate::complaint::Complaint;
 use crate::given::behind;
 use crate::texts::{bad_flag, wrong};
+use crate::ways::Way;
 use command_table::{Switch, Switches, begins_with_minus, switch_of};
 use std::alloc::Global;
 use tcl_values::Value;
 
-/// The flags of a call. The last one of `-exact` and `-glob` counts.
+/// The flags of a call. The last one of `-exact`, `-glob` and `-regexp` counts.
 #[derive(Clone, Copy)]
 pub(crate) struct Given {
     pub(crate) all: bool,
     pub(crate) decreasing: bool,
     /// The next argument is the value of the last flag.
     pub(crate) due: bool,
-    pub(crate) exact: bool,
     /// The index of the argument that is the value of `-index`.
     pub(crate) index: Option<usize>,
     pub(crate) inline: bool,
@@ -29,6 +29,8 @@ pub(crate) struct Given {
     pub(crate) start: Option<usize>,
     pub(crate) strict: bool,
     pub(crate) unique: bool,
+    /// How texts are compared with a pattern.
+    pub(crate) way: Way,
 }
 
 /// Returns an empty set of flags.
@@ -39,7 +41,6 @@ fn nothing() -> Given
         all: false,
         decreasing: false,
         due: false,
-        exact: false,
         index: None,
         inline: false,
         integer: false,
@@ -48,6 +49,7 @@ fn nothing() -> Given
         start: None,
         strict: false,
         unique: false,
+        way: Way::Glob,
     }
 }
 
@@ -60,16 +62,19 @@ fn with_switch(switch: Switch, next: usize, given: Given) -> Given
         Switch::All => given.all = true,
         Switch::Decreasing => given.decreasing = true,
         Switch::End => {}
-        Switch::Exact => given.exact = true,
-        Switch::Glob => given.exact = false,
+        Switch::Exact => given.way = Way::Exact,
+        Switch::Glob => given.way = Way::Glob,
         Switch::Index => {
             given.index = Some(next);
             given.due = true;
         }
+        Switch::Indices => {}
         Switch::Inline => given.inline = true,
         Switch::Integer => given.integer = true,
+        Switch::LineAnchor => {}
         Switch::Nocase => given.nocase = true,
         Switch::Not => given.not = true,
+        Switch::Regexp => given.way = Way::Regular,
         Switch::Start => {
             given.start = Some(next);
             given.due = true;

@@ -2,7 +2,7 @@
 
 ghost use Rattle.std.specs.Prelude.{◌≡◌, ◌≢◌, ◌++◌, take, IfOk};
 ghost use Rattle.tcl_commands.specs.Says.{Complains};
-ghost use Rattle.tcl_commands.specs.Texts.{bad_list, too_long, too_deep, is_missing, quoted, wrong_args, bad_option, bad_flag, bad_index, expected_number, variable_fault, not_read, not_set, not_unset, word_fault, expr_fault};
+ghost use Rattle.tcl_commands.specs.Texts.{bad_list, too_long, too_deep, is_missing, quoted, wrong_args, bad_option, bad_flag, bad_format, bad_index, expected_number, variable_fault, not_read, not_set, not_unset, word_fault, expr_fault, bad_regular};
 
 use crate::complaint::Complaint;
 use std::alloc::{AllocError, Global};
@@ -88,6 +88,13 @@ pub fn bad_option(alloc: Global, option: &[u8]) -> Result<Text, AllocError>
     quoted(alloc, b"bad option ", option)
 }
 
+/// Returns the text of the error that a template has another form.
+pub(crate) fn bad_format(alloc: Global, template: &[u8]) -> Result<Text, AllocError>
+    ensures { IfOk result (λ t. t ≡ bad_format template.now) }
+{
+    quoted(alloc, b"bad format ", template)
+}
+
 /// Returns the text of the error that a text is no index.
 pub fn bad_index(alloc: Global, text: &[u8]) -> Result<Text, AllocError>
     ensures { IfOk result (λ t. t ≡ bad_index text.now) }
@@ -100,6 +107,13 @@ pub fn expected_number(alloc: Global, text: &[u8]) -> Result<Text, AllocError>
     ensures { IfOk result (λ t. t ≡ expected_number text.now) }
 {
     quoted(alloc, b"expected number but got ", text)
+}
+
+/// Returns the text of the error that a text is no regular pattern.
+pub(crate) fn bad_regular(alloc: Global, pattern: &[u8]) -> Result<Text, AllocError>
+    ensures { IfOk result (λ t. t ≡ bad_regular pattern.now) }
+{
+    quoted(alloc, b"bad regular expression ", pattern)
 }
 
 /// Returns why a variable can't be read or set. `front_text` says which. `AllocError` for `Memory`.

@@ -38,8 +38,9 @@ pub fn as_number(alloc: Global, text: &[u8]) -> Result<i64, Complaint>
     }
 }
 
+/// Returns whether a value of this many bytes would be too long.
 #[tactic(auto, unfolding(tcl_subst::specs::Faults::is_too_long))]
-fn is_too_long(count: usize) -> bool
+pub(crate) fn is_too_long(count: usize) -> bool
     ensures { result ≡ is_too_long count }
 {
     VALUE_LIMIT < count

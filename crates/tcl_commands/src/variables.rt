@@ -2,10 +2,10 @@
 
 ghost use Rattle.std.specs.Prelude.{◌≡◌, ℕ, List, IfOk, OnOk, Ok};
 ghost use Rattle.std.specs.List.{flat_map};
-ghost use Rattle.tcl_commands.specs.Plain.{set, changed_or, unset, unset_quietly, is_quiet, unset_names, global, old_number, sum, incremented, increment, incr, append, lappend, info_by, info};
+ghost use Rattle.tcl_commands.specs.Plain.{set, unset, is_quiet, unset_names, global, old_number, sum, incremented, increment, incr, append, lappend, info_by, info};
 ghost use Rattle.tcl_commands.specs.Said.{Said as Meant, told, on_changed};
 ghost use Rattle.tcl_commands.specs.Says.{Says};
-ghost use Rattle.tcl_commands.specs.Setting.{read, written_to, set_if_said};
+ghost use Rattle.tcl_commands.specs.Setting.{read, written_to, set_if_said, changed_or, unset_quietly};
 ghost use Rattle.tcl_commands.specs.Texts.{not_set};
 ghost use Rattle.tcl_subst.specs.Variables.{with_value, without_value};
 ghost use Rattle.tcl_subst.specs.Writes.{set_to, appended, elements_appended};
@@ -81,7 +81,7 @@ fn unset_one(name: &[u8], vars: &mut Vars) -> Result<(), AllocError>
 }
 
 /// Unsets all variables that can be unset.
-fn unset_quietly(
+pub(crate) fn unset_quietly(
     alloc: Global,
     args: &[Value],
     vars: &mut Vars,

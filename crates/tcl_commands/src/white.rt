@@ -7,7 +7,8 @@ ghost use Rattle.tcl_words.specs.Lists.{is_white};
 
 use tcl_words::is_white;
 
-fn white_front(text: &[u8]) -> usize
+/// Returns the number of bytes of white space at the front of a text.
+pub(crate) fn white_front(text: &[u8]) -> usize
     ensures value { result ≡ prefix_len is_white text.now }
     ensures within { result ≤ length text.now }
 {

@@ -52,7 +52,8 @@ impl Engine {
     {
         match verb {
             Verb::Plain(kind) => {
-                let (code, value) = plain(self.alloc, kind, name, args, &mut self.vars)?;
+                let patterns = &mut self.patterns;
+                let (code, value) = plain(self.alloc, patterns, kind, name, args, &mut self.vars)?;
                 came(code, value)
             }
             Verb::If => self.if_command(name, args, depth),
@@ -210,7 +211,8 @@ impl Engine {
         ensures measures { Spent self.old self.new 6 (owed 0 result) }
         ensures rest { CameIs self.old result self.new (λ k st. invoked (eval depth) Verb.Switch name.now args.now k st) }
     {
-        match given(self.alloc, body_of_switch(self.alloc, name, args))? {
+        let body = body_of_switch(self.alloc, &mut self.patterns, name, args);
+        match given(self.alloc, body)? {
             None => Ok(Value::new(self.alloc)),
             Some(body) => self.text(&body, depth),
         }

@@ -7,6 +7,7 @@ use crate::frame::Frame;
 use crate::procedure::Procedure;
 use crate::read_texts::ReadTexts;
 use crate::trail::Trail;
+use exp_match::Compiled;
 use std::alloc::{AllocError, Global};
 use tcl_host::Pile;
 use tcl_subst::{Names, Vars};
@@ -27,6 +28,8 @@ pub struct Engine {
     pub(crate) trail: Trail,
     /// A cache of parsed texts.
     pub(crate) read: ReadTexts,
+    /// A cache of compiled patterns.
+    pub(crate) patterns: Compiled,
     /// The number of steps left.
     pub(crate) left: u64,
 }

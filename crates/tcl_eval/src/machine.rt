@@ -13,6 +13,7 @@ use crate::frame::{End, Mode};
 use crate::meter::Meter;
 use crate::read_texts::ReadTexts;
 use crate::trail::{Origin, Trail};
+use exp_match::Compiled;
 use std::alloc::{AllocError, Global};
 use std::mem;
 use tcl_commands::Code;
@@ -62,6 +63,7 @@ fn begin(alloc: Global, source: &[u8], vars: Vars, depth: u32) -> Result<Machine
             procs: Names::new(alloc),
             trail: Trail::new(alloc),
             read: ReadTexts::new(alloc),
+            patterns: Compiled::new(alloc),
             left: 0,
         },
         mode: Mode::Run { script, depth },

@@ -153,6 +153,22 @@ link_of (Some e) name scope = Ok scope
 abbrev pub link : List ℕ → Scope → Result Scope SubstFault
 link name scope = link_of (element name) name scope
 
+-- Arrays.
+
+-- The elements of an array, in byte order of indexes. `None` for a variable that is no array.
+abbrev pub elements_in : Option Slot → Option (Entries (List ℕ))
+elements_in None = None
+elements_in (Some (Text value)) = None
+elements_in (Some (Array es)) = Some es
+elements_in (Some Link) = None
+
+-- A missing variable becomes an array without elements.
+abbrev pub array_made : Option Slot → Result Slot SubstFault
+array_made None = Ok (Array [])
+array_made (Some (Text value)) = Err NotArray
+array_made (Some (Array es)) = Ok (Array es)
+array_made (Some Link) = Ok (Array [])
+
 -- Lists.
 
 abbrev pub some_list : Option (List (List ℕ)) → Result (List (List ℕ)) SubstFault

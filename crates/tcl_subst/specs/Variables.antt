@@ -3,8 +3,8 @@ use Rattle.std.specs.Prelude.{ℕ, Bool, true, false, List, [], ◌∷◌, Optio
 use Rattle.tcl_subst.specs.declared.faults.SubstFault.{SubstFault}
 use Rattle.tcl_subst.specs.declared.scope.Slot.{Slot}
 use Rattle.tcl_subst.specs.declared.scope.Slot.TheVariants.{Text, Array, Link}
-use Rattle.tcl_subst.specs.Entries.{find}
-use Rattle.tcl_subst.specs.Slots.{Scope, element, element_in, read, is_there, written, unset, link, list_in}
+use Rattle.tcl_subst.specs.Entries.{Entries, find}
+use Rattle.tcl_subst.specs.Slots.{Scope, element, element_in, read, is_there, entered, written, unset, link, elements_in, array_made, list_in}
 
 pub record Variables : Type 0 where
   -- The outermost scope.
@@ -67,6 +67,10 @@ value_of name vars = read name (home name vars)
 abbrev pub member_of : List ℕ → List ℕ → Variables → Result (List ℕ) SubstFault
 member_of array index vars = element_in index (find array (home_in array vars.globals vars.locals))
 
+-- The elements of an array. `None` if there is no such array.
+abbrev pub array_of : List ℕ → Variables → Option (Entries (List ℕ))
+array_of name vars = elements_in (find name (home name vars))
+
 -- The list that a variable or an element is.
 abbrev pub list_of : List ℕ → Variables → Result (List (List ℕ)) SubstFault
 list_of name vars = list_in (value_of name vars)
@@ -78,6 +82,10 @@ has name vars = is_there name (home name vars)
 -- The variables after g was applied to a variable or an element. A missing value counts as empty.
 abbrev pub with_value : (List ℕ → Result (List ℕ) SubstFault) → List ℕ → Variables → Result Variables SubstFault
 with_value g name vars = in_home name vars (written g name (home name vars))
+
+-- The variables with an array. A missing one has no elements. The name isn't that of an element.
+abbrev pub with_array : List ℕ → Variables → Result Variables SubstFault
+with_array name vars = in_home name vars (entered name (home name vars) (array_made (find name (home name vars))))
 
 -- The variables without a variable or an element.
 abbrev pub without_value : List ℕ → Variables → Result Variables SubstFault

@@ -5,6 +5,7 @@
 //! `filling_is_fill` states its meaning.
 #![tactic(auto)]
 
+mod arrays;
 mod byte_names;
 mod element;
 mod faults;
@@ -31,6 +32,7 @@ mod writes;
 pub use faults::SubstFault;
 pub use fill_step::FillStep;
 pub use filler::Filler;
+pub use joined::element_name;
 pub use laws::filling_is_fill;
 pub use limits::VALUE_LIMIT;
 pub use names::Names;

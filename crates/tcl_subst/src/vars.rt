@@ -1,13 +1,15 @@
 //! The variables of a script.
 
 ghost use Rattle.std.specs.Prelude.{◌≡◌, ◌≢◌, ◌<◌, ◌==◌, ◌∷◌, [], length, drop, true, Ok, Err, MatchResult, IfOk, IfSome, IfNone};
+ghost use Rattle.std.specs.Option.{option_copied};
 ghost use Rattle.tcl_subst.specs.Faults.{Gives, Changes, Tells};
 ghost use Rattle.tcl_subst.specs.Report.{values_of};
 ghost use Rattle.tcl_subst.specs.Slots.{read};
-ghost use Rattle.tcl_subst.specs.Variables.{list_of, base, home, home_in, member_of, is_global, has, is_link, value_of, with_value, without_value, linked, no_variables};
+ghost use Rattle.tcl_subst.specs.Variables.{list_of, base, home, home_in, member_of, is_global, has, is_link, value_of, array_of, with_value, with_array, without_value, linked, no_variables};
 ghost use Rattle.tcl_subst.specs.Entries.{find};
 ghost use Rattle.tcl_subst.specs.Writes.{write_of, set_to, appended, elements_appended};
 
+use crate::arrays::{elements, make_array};
 use crate::byte_names::ByteNames;
 use crate::element::element;
 use crate::faults::SubstFault;
@@ -236,6 +238,25 @@ impl Vars {
         ensures { result ≡ has name.now self.now }
     {
         is_there(self.home(name), name)
+    }
+
+    /// Returns the elements of an array. `None` if there is no such array.
+    pub fn array(&self, name: &[u8]) -> Option<&Names<Value>>
+        ensures { option_copied result ≡ array_of name.now self.now }
+    {
+        elements(self.home(name), name)
+    }
+
+    /// Makes a missing variable an array without elements. `NotArray` if it is a text. On an error
+    /// nothing changes. The name is not that of an element.
+    pub fn make_array(&mut self, name: &[u8]) -> Result<(), SubstFault>
+        ensures { Changes result (with_array name.now self.old) self.old self.new }
+    {
+        let alloc = self.alloc;
+        if let Some(scope) = self.local_mut(name) {
+            return make_array(scope, alloc, name);
+        }
+        make_array(&mut self.globals, alloc, name)
     }
 
     /// Sets the value of a variable or an element. The errors are `IsArray`, `NotArray`, `TooLong`

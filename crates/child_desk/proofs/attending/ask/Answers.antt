@@ -1,5 +1,5 @@
 use Rattle.std.proofs.Common.{inr, ap, subst, ◌∙◌}
-use Rattle.child_desk.specs.declared.line.Line.{Line}
+use Rattle.child_desk.specs.declared.line.ScriptState.{ScriptState}
 use Rattle.child_desk.specs.Line.{Keeps}
 use Rattle.child_desk.specs.Told.{Rings, heard_of_hand, rings_of}
 use Rattle.child_desk.proofs.Kept.{keeps_then, keeps_then_left, keeps_rings, leaves_all, rings_kept}
@@ -18,7 +18,7 @@ returns-then-is_waiting-clause-kept g c =
     keeps_rings (rings_of ends) (rings_of new) c.args.at c.args.line.now c.args.book.now c.args.book.now (rings_kept ends new (ap heard_of_hand c.flush-put.ensures.rings.1) c.flush-put.ensures.asked) (leaves_all c.args.book.now)
 
 pub prepare-requires-clause-open : goal.prepare-requires-clause-open
-prepare-requires-clause-open g c κs within = ap (λ (l : Line). l.over) c.ask_next.ensures.line ∙ c.if-line.false
+prepare-requires-clause-open g c κs within = ap (λ (l : ScriptState). l.over) c.ask_next.ensures.line ∙ c.if-line.false
 
 pub returns-in_err-prepare-clause-kept : goal.returns-in_err-prepare-clause-kept
 returns-in_err-prepare-clause-kept g c =

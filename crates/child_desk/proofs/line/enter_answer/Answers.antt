@@ -2,7 +2,7 @@ use Rattle.std.proofs.Common.{◌≡◌, ℕ, Bool, false, true, [], ◌∷◌, 
 use Rattle.std.specs.Prelude.{Contains}
 use Rattle.std.proofs.lemmas.List.Elements.{Contains-append_left, Contains-push}
 use Rattle.child_events.specs.declared.event.What.TheVariants as what
-use Rattle.child_desk.specs.declared.line.Line.{Line}
+use Rattle.child_desk.specs.declared.line.ScriptState.{ScriptState}
 use Rattle.child_desk.specs.Book.{Enters}
 use Rattle.child_desk.specs.Told.{telling_of, telling}
 use Rattle.child_desk.specs.Line.{Keeps}
@@ -47,7 +47,7 @@ returns-clause-kept g c = λ rings.
     let more = telling_of a ∷ [] in
     let line = c.args.line.now in
     let awaited = c.is_awaited.ensures.0 c.if-not-is_awaited.false in
-    subst (λ (x : Line). Keeps rings (telling rings more) c.args.at line c.args.book.now x c.enter.new.book) (sym c.go_on.ensures)
+    subst (λ (x : ScriptState). Keeps rings (telling rings more) c.args.at line c.args.book.now x c.enter.new.book) (sym c.go_on.ensures)
     (subst (λ (n : ℕ). Keeps rings (telling rings more) c.args.at line c.args.book.now (record line { last = n; awaited = None; sent = false }) c.enter.new.book) (sym awaited.3)
     (keeps_answered rings (rings.told ++ more) c.args.at line c.answer_event-event.result c.args.book.now c.enter.new.book a.request a.answer
     (subst (λ (b : Bool). Enters c.answer_event-event.result b c.args.book.now c.enter.new.book) c.if-not-enter.false c.enter.ensures)

@@ -9,7 +9,7 @@ use Rattle.child_serve.specs.Opened.{AreOpened}
 use Rattle.child_serve.proofs.Settling.{linked_all, linked_still, given_all, unheard_all}
 use Rattle.feed_rings.specs.Ends.{SameIn}
 use Rattle.child_hands.specs.Record.{events_in}
-use Rattle.child_serve.specs.declared.served.Part.{Part}
+use Rattle.child_serve.specs.declared.served.WorkerResult.{WorkerResult}
 use Rattle.child_serve.specs.Teams.{IsWork}
 use Rattle.child_serve.proofs.Taking.{then_in, kept_in}
 use Rattle.child_serve.proofs.Working.{begun_length, first_length, line_of, is_work}
@@ -53,11 +53,11 @@ returns g c =
     let hands = c.open_all-outcome.new.opened.hands.items in
     let outcome = c.into_outcome.result in
     let children = c.in_ok-settled.settled in
-    let part : Part = record { served = record { reports = outcome.reports; unsettled = children.unsettled; forced = children.forced; stopped = false }; log = outcome.log } in
+    let part : WorkerResult = record { served = record { reports = outcome.reports; unsettled = children.unsettled; forced = children.forced; stopped = false }; log = outcome.log } in
     let first = ap (λ (b : Book). b.log) c.new-desk.ensures.book ∙ c.new-book.ensures.log in
     let empty = ap ring_log first ∙ ap events_in c.requires.1 in
     let are_opened = subst (λ es. AreOpened workers worker keepers es hands) (sym c.new-desk.ensures.ends) c.in_default.ensures.opened in
-    subst (λ (p : Part). IsWork g.K.Keeper.told g.K.Keeper.gives g.K.Keeper.named g.K.Keeper.made workers worker c.args.seat.team p × SameIn c.args.seat.log p.log) (sym c.part_of.ensures) (
+    subst (λ (p : WorkerResult). IsWork g.K.Keeper.told g.K.Keeper.gives g.K.Keeper.named g.K.Keeper.made workers worker c.args.seat.team p × SameIn c.args.seat.log p.log) (sym c.part_of.ensures) (
       is_work workers worker c.args.seat.team desk.lines.items turned.lines.items desk.ends.items turned.ends.items settled.ends.items begun turned.book settled.book part
           c.requires.0
           (c.new-desk.ensures.lines ∙ c.in_ok-lines.ensures ∙ ap (map (line_of g.K.Keeper.named g.K.Keeper.made)) c.as_slice.ensures.value)

@@ -10,5 +10,5 @@ returns c =
     let names = map (option_map string_bytes) parsed.names.items in
     let reads : Reads c.config.result c.args.given.now parsed.hir names = search rules in
     λ source for.
-    text_opens c.args.given.now c.args.nocase parsed.hir names (subst (λ k. Reads k c.args.given.now parsed.hir names) c.config.ensures reads)
+    text_opens c.args.given.now c.args.nocase c.args.lines parsed.hir names (subst (λ k. Reads k c.args.given.now parsed.hir names) c.config.ensures reads)
     c.extent_of-known.result.opening c.extent_of-known.ensures.begins source for

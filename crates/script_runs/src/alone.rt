@@ -1,0 +1,111 @@
+//! A script that runs as a command: what it shows is printed as it appears.
+
+use child_events::Counted;
+use child_hands::Clock;
+use child_pipes::{Cancellation, Stop, Wall};
+use child_serve::{Audience, Stopping};
+use dialogue_sched::Hall;
+use report_texts::write_all;
+use session::Report;
+use std::io::Write;
+use std::mem;
+use std::sync::{Arc, Mutex, Wait};
+use std::time::Clock as SystemClock;
+
+/// What is known of a script once it has ended.
+#[derive(Drop)]
+pub struct Played {
+    /// Its report.
+    pub report: Option<Report>,
+    /// Whether a write of what it showed failed. Then it was given up.
+    pub is_lost: bool,
+}
+
+impl Played {
+    /// Nothing is known yet.
+    pub fn new() -> Played {
+        Played {
+            report: None,
+            is_lost: false,
+        }
+    }
+}
+
+/// The clock of such a script. It also prints what the script shows, and keeps its report.
+#[derive(Drop)]
+pub struct Player<R: SystemClock + Drop, O: Drop> {
+    rt: R,
+    wall: Wall<R>,
+    out: O,
+    is_lost: bool,
+    cancellation: Option<Arc<Cancellation>>,
+    stop: Arc<Stop>,
+    played: Arc<Mutex<Played>>,
+}
+
+impl<R: SystemClock + Drop, O: Drop> Player<R, O> {
+    pub fn new(
+        rt: R,
+        wall: Wall<R>,
+        out: O,
+        cancellation: Arc<Cancellation>,
+        stop: Arc<Stop>,
+        played: Arc<Mutex<Played>>,
+    ) -> Player<R, O> {
+        stop.enter();
+        Player {
+            rt,
+            wall,
+            out,
+            is_lost: false,
+            cancellation: Some(cancellation),
+            stop,
+            played,
+        }
+    }
+}
+
+impl<R: SystemClock + Wait + Copy + Drop, O: Drop> Player<R, O> {
+    /// Keeps the script's report, and cancels its requests, unless that was done before.
+    fn end(&mut self, hall: &Hall) {
+        let Some(cancellation) = mem::take(&mut self.cancellation) else {
+            return;
+        };
+        let mut played = self.played.lock(&self.rt);
+        played.report = hall.report(1);
+        played.is_lost = self.is_lost;
+        drop(played);
+        cancellation.cancel();
+    }
+}
+
+impl<R: SystemClock + Drop, O: Drop> Clock for Player<R, O> {
+    fn now(&mut self) -> u64 {
+        self.stop.lowered(self.wall.now())
+    }
+}
+
+impl<R: SystemClock + Drop, O: Drop> Stopping for Player<R, O> {
+    fn is_stopped(&mut self) -> bool {
+        self.is_lost || self.stop.is_due(self.wall.now())
+    }
+}
+
+impl<R: SystemClock + Wait + Copy + Drop, O: Write + Copy + Drop> Audience for Player<R, O> {
+    fn hear(&mut self, _place: usize, bytes: &[u8]) {
+        if self.is_lost {
+            return;
+        }
+        let mut out = Counted::new(self.out);
+        self.is_lost = write_all(&mut out, bytes).is_err();
+    }
+
+    fn part(&mut self, _place: usize, hall: &Hall) {
+        self.end(hall);
+    }
+
+    fn leave(&mut self, hall: &Hall) {
+        self.end(hall);
+        self.stop.leave();
+    }
+}

@@ -1,6 +1,0 @@
-use Rattle.std.proofs.Common.{◌≡◌, map, take}
-use Rattle.session.specs.Play.{place_of}
-use Rattle.session.proofs.place.Places.of.Given as goal
-
-abbrev pub invariant-loop-origin : goal.invariant-loop-origin
-invariant-loop-origin l = l.list.items ≡ map place_of (take l.origin-index l.trail)
