@@ -23,6 +23,9 @@ NESTED = 200
 # The other commands of the language.
 LEFT_OUT = b"unset append lrange for eval string info concat join lassign linsert lrepeat lreplace lreverse lsearch lset lsort split array format scan regexp regsub".split()
 
+# The simulated commands that a procedure may replace.
+REDEFINABLE = b"sleep exp_sleep after".split()
+
 
 class NotSimulated(Exception):
     """The model doesn't know this of the language."""
@@ -298,6 +301,8 @@ class Interpreter:
 
     def do_proc(self, words):
         name, formals, body = words
+        if name not in REDEFINABLE and hasattr(self, "do_" + name.decode("latin-1")):
+            raise failed(b"can't redefine", name)
         self.procedures[name] = elements(formals), body
         return b""
 
