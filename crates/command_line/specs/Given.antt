@@ -1,9 +1,10 @@
 -- The meaning of the words of the command line.
-use Rattle.std.specs.Prelude.{ℕ, List, [], ◌∷◌, map, Option, Some, None, unwrap_or, option_map, codes, Bool, true, false, not, ◌&&◌, ◌==◌, if◌then◌else◌}
+use Rattle.std.specs.Prelude.{ℕ, List, [], ◌∷◌, length, map, is_some, Option, Some, None, unwrap_or, option_map, codes, Bool, true, false, not, ◌&&◌, ◌==◌, if◌then◌else◌}
 use Rattle.std.specs.Str.{bytes_eq}
 use Rattle.std.specs.Borrow.{Bor}
 use Rattle.clap.specs.Matches.{found_of, matched_of, raw_values}
 use Rattle.clap.specs.declared.parser.matches.ArgMatches.{ArgMatches}
+use Rattle.command_line.specs.declared.order.Scripts.{Scripts}
 use Rattle.report_texts.specs.declared.form.Format.{Format}
 use Rattle.report_texts.specs.declared.form.Format.TheVariants.{Text, Bare, Escaped, Summary, Json, JsonLines, Tap}
 
@@ -71,10 +72,14 @@ format_behind_shown Json = Json
 format_behind_shown JsonLines = JsonLines
 format_behind_shown Tap = Tap
 
--- The format of the reports of `count` scripts. If a single script is followed on the terminal of the reports, its
+-- There is a single script: one file, and no list on whose rows it runs.
+abbrev pub is_single : Scripts → Bool
+is_single scripts = (length scripts.sources.items == 1) && not (is_some scripts.each)
+
+-- The format of the reports. If a single script is followed on the terminal of the reports, its
 -- transcript is shown once, unless a format was named.
-abbrev pub format_on_terminal : Bool → Bool → ℕ → Bool → Format → Format
-format_on_terminal one follow count named format = if one && (follow && ((count == 1) && not named)) then format_behind_shown format else format
+abbrev pub format_on_terminal : Bool → Bool → Bool → Bool → Format → Format
+format_on_terminal one follow single named format = if one && (follow && (single && not named)) then format_behind_shown format else format
 
 -- The file whose lines may be bad: the timing file if there is one, otherwise the timeline.
 abbrev pub file_of_lines : Bor (List ℕ) → Option (Bor (List ℕ)) → Bor (List ℕ)

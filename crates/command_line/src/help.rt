@@ -111,7 +111,7 @@ hexadecimal digits, a carriage return as \\r, and a backslash as two. A byte tha
 isn't UTF-8 is written as \\x and digits too. Tabs and ends of lines are kept,
 with their carriage returns. Counts are those of the unescaped bytes.
 
---set, --env and --env-all set variables: see `exprun run --help`.
+--set, --env, --env-all and --each set variables: see `exprun run --help`.
 
 --transcripts also writes each transcript, unescaped, to a file DIR/N-NAME. N is
 the script's number, NAME the last part of its file's name. DIR is created if it
@@ -187,6 +187,16 @@ empty otherwise: `--env TO=ada@gate` to this value, `--env USER` to exprun's
 own, if it has one. --env-all first sets env to all of exprun's own environment.
 Programs have the environment of exprun in any case. A log contains no
 variables, so give replay the same options.
+
+--each runs each FILE once per row of LIST, a file of comma-separated values
+(CSV). Its first line names variables, and each later line, a row, has their
+values:
+
+    device,password
+    sw001,\"s3,same\"
+
+--each sets them after --set. A report then names its script FILE:VALUE, with
+the row's first value. LIST has at most 64 rows, or fewer for several FILEs.
 
 --explain writes to FILE, once all scripts have finished, what each script did
 at each event and what it then waited for: see `exprun explain --help`. If FILE

@@ -111,6 +111,12 @@ const SET: Offer = Offer {
     help: "Set the variable NAME of scripts to VALUE",
 };
 
+const EACH: Offer = Offer {
+    name: "each",
+    takes: Takes::Word("LIST"),
+    help: "Run each FILE once per row of the CSV file LIST",
+};
+
 const ENV: Offer = Offer {
     name: "env",
     takes: Takes::Words("NAME=VALUE"),
@@ -243,8 +249,9 @@ const TIMELINE: Offer = Offer {
     help: "The timeline of its children, or /dev/stdin",
 };
 
-static RUN: [Offer; 20] = [
+static RUN: [Offer; 21] = [
     WORKERS,
+    EACH,
     LIMIT,
     STEPS,
     SET,
@@ -266,8 +273,9 @@ static RUN: [Offer; 20] = [
     SOURCES,
 ];
 
-static REPLAY: [Offer; 14] = [
+static REPLAY: [Offer; 15] = [
     CUT,
+    EACH,
     LIMIT,
     STEPS,
     SET,
@@ -297,7 +305,17 @@ static SCRIPT: [Offer; 9] = [
 
 static SHOW: [Offer; 2] = [SHOWN_SCRIPT, LOG];
 
-static EXPLAIN: [Offer; 8] = [TOLD_SCRIPT, LIMIT, STEPS, SET, ENV, ENV_ALL, LOG, SOURCES];
+static EXPLAIN: [Offer; 9] = [
+    TOLD_SCRIPT,
+    EACH,
+    LIMIT,
+    STEPS,
+    SET,
+    ENV,
+    ENV_ALL,
+    LOG,
+    SOURCES,
+];
 
 static PLAN: [Offer; 8] = [LIMIT, STEPS, SET, ENV, ENV_ALL, TIMING, SOURCE, TIMELINE];
 

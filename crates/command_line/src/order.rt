@@ -1,7 +1,7 @@
 //! The requests of a command line.
 
-ghost use Rattle.std.specs.Prelude.{◌≡◌, length};
-ghost use Rattle.command_line.specs.Given.{file_of_lines, format_behind_shown, format_on_terminal};
+ghost use Rattle.std.specs.Prelude.{◌≡◌};
+ghost use Rattle.command_line.specs.Given.{file_of_lines, format_behind_shown, format_on_terminal, is_single};
 
 use child_pipes::Terms;
 use report_texts::{Form, Format};
@@ -31,8 +31,19 @@ pub struct Scripts<'a> {
     pub transcripts: Option<&'a str>,
     /// Their variables at the start.
     pub variables: Variables<'a>,
+    /// The list on whose rows each of them runs once.
+    pub each: Option<&'a str>,
     /// The files of their sources.
     pub sources: Vec<&'a str>,
+}
+
+impl Scripts<'_> {
+    /// Returns whether there is a single script: one file, and no list.
+    fn is_single(&self) -> bool
+        ensures { result ≡ is_single self.now }
+    {
+        self.sources.len() == 1 && self.each.is_none()
+    }
 }
 
 /// The variables of scripts at the start. If a name occurs twice, the last value counts.
@@ -93,9 +104,9 @@ impl Run<'_> {
     /// Returns the format of the reports. `is_one_terminal` tells whether what scripts show and the
     /// reports go to one terminal.
     fn format_on(&self, is_one_terminal: bool) -> Format
-        ensures { result ≡ format_on_terminal is_one_terminal self.now.follow (length self.now.scripts.sources.items) self.now.has_format self.now.scripts.form.format }
+        ensures { result ≡ format_on_terminal is_one_terminal self.now.follow (is_single self.now.scripts) self.now.has_format self.now.scripts.form.format }
     {
-        let is_shown = is_one_terminal && self.follow && self.scripts.sources.len() == 1;
+        let is_shown = is_one_terminal && self.follow && self.scripts.is_single();
         if is_shown && !self.has_format {
             return behind_shown(self.scripts.form.format);
         }
@@ -105,10 +116,10 @@ impl Run<'_> {
     /// Omits the transcript from the report of a single script that is followed on the terminal of
     /// the report. If a format was named, the report is unchanged.
     pub fn show_once(&mut self, is_one_terminal: bool)
-        ensures format { self.new.scripts.form.format ≡ format_on_terminal is_one_terminal self.old.follow (length self.old.scripts.sources.items) self.old.has_format self.old.scripts.form.format }
+        ensures format { self.new.scripts.form.format ≡ format_on_terminal is_one_terminal self.old.follow (is_single self.old.scripts) self.old.has_format self.old.scripts.form.format }
         ensures form { (self.new.scripts.form.shown ≡ self.old.scripts.form.shown) × (self.new.scripts.form.files ≡ self.old.scripts.form.files) }
         ensures limits { (self.new.scripts.steps ≡ self.old.scripts.steps) × (self.new.scripts.limit_ms ≡ self.old.scripts.limit_ms) }
-        ensures files { (self.new.scripts.transcripts ≡ self.old.scripts.transcripts) × (self.new.scripts.variables ≡ self.old.scripts.variables) × (self.new.scripts.sources ≡ self.old.scripts.sources) }
+        ensures files { (self.new.scripts.transcripts ≡ self.old.scripts.transcripts) × (self.new.scripts.variables ≡ self.old.scripts.variables) × (self.new.scripts.each ≡ self.old.scripts.each) × (self.new.scripts.sources ≡ self.old.scripts.sources) }
         ensures products { (self.new.record ≡ self.old.record) × (self.new.explain ≡ self.old.explain) }
         ensures rest { (self.new.workers ≡ self.old.workers) × (self.new.follow ≡ self.old.follow) × (self.new.has_format ≡ self.old.has_format) × (self.new.terms ≡ self.old.terms) × (self.new.guard ≡ self.old.guard) × (self.new.labels ≡ self.old.labels) }
     {

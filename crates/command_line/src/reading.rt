@@ -135,6 +135,7 @@ fn scripts_of<'a>(alloc: Global, matches: &ArgMatches<'a>) -> Result<Scripts<'a>
         },
         transcripts: matches.get_str("transcripts"),
         variables: variables_of(alloc, matches)?,
+        each: matches.get_str("each"),
         sources: files,
     })
 }

@@ -8,6 +8,6 @@ use Rattle.tcl_words.specs.Bytes as ascii
 abbrev pub number_text : ℕ → ℕ → List ℕ
 number_text count n = if nat_lt 9 count && nat_lt n 10 then ascii.digit_0 ∷ decimal n else decimal n
 
--- The path in a folder for the transcript of script `n`, which has this file, among `count` scripts.
+-- The path in a folder for the transcript of script `n`, which has this name, among `count` scripts.
 unfoldable pub transcript_path : List ℕ → ℕ → ℕ → List ℕ → List ℕ
-transcript_path folder count n file = folder ++ ascii.slash ∷ [] ++ number_text count n ++ ascii.minus ∷ [] ++ unwrap_or (path_file_name file) []
+transcript_path folder count n name = folder ++ ascii.slash ∷ [] ++ number_text count n ++ ascii.minus ∷ [] ++ unwrap_or (path_file_name name) []

@@ -1,6 +1,8 @@
 -- The scripts made from an order's settings and files.
-use Rattle.std.specs.Prelude.{◌≡◌, ℕ, List, map, Bool, false}
+use Rattle.std.specs.Prelude.{◌≡◌, ◌++◌, ℕ, List, map, Bool, false}
+use Rattle.std.specs.List.{flat_map}
 use Rattle.std.specs.Borrow.{Bor}
+use Rattle.command_line.specs.Given.{names_of}
 use Rattle.command_line.specs.declared.order.Alone.{Alone}
 use Rattle.command_line.specs.declared.order.Scripts.{Scripts}
 use Rattle.report_texts.specs.declared.form.Format.{Format}
@@ -9,6 +11,8 @@ use Rattle.expect_core.specs.declared.settings.Settings.{Settings}
 use Rattle.dialogue_sched.specs.declared.script.Script.{Script}
 use Rattle.dialogue_sched.specs.Pairs.{Paired}
 use Rattle.expect_prog.specs.Variables.{Variables, AreGiven, AreAlone}
+use Rattle.expect_prog.specs.Each.{AreRowsGiven, names_given}
+use Rattle.expect_prog.specs.declared.files.Cast.{Cast}
 
 -- Whether reports in a format contain the variables, given whether they were requested. Summaries and TAP never do.
 abbrev pub vars_told : Format → Bool → Bool
@@ -33,14 +37,21 @@ scripts_given settings sources = map (λ source. record { source = source; setti
 abbrev pub AreHeld : (List ℕ → List ℕ → Type 0) → List (Bor (List ℕ)) → List (List ℕ) → Type 0
 AreHeld holds files sources = Paired (λ file source. holds file.now source) files sources
 
--- The scripts of an order's files, in their order. Each file has one script, whose source was read at the file's path.
--- All have the order's settings, and the variables that it requests.
-pub record AreOfFiles (holds : List ℕ → List ℕ → Type 0) (sets : List (List ℕ) → Type 0) (order : Scripts) (scripts : List Script) : Type 0 where
+-- The scripts of an order's sources: those of each row, with the variables of all scripts and then those of the row.
+abbrev pub all_scripts : Scripts → Variables → List Variables → List (List ℕ) → List Script
+all_scripts order vars rows sources = flat_map (λ row. scripts_given (settings_given order (vars ++ row)) sources) rows
+
+-- The scripts of an order's files, in their order, and their names. Each file has one script per row, whose source was
+-- read at the file's path. All have the order's settings, and the variables that it requests.
+pub record AreOfFiles (holds : List ℕ → List ℕ → Type 0) (sets : List (List ℕ) → Type 0) (order : Scripts) (cast : Cast) : Type 0 where
+  pub rows : List Variables
+  pub each : AreRowsGiven holds order.each rows
   pub vars : Variables
   pub asked : AreGiven sets order.variables vars
   pub sources : List (List ℕ)
   pub held : AreHeld holds order.sources.items sources
-  pub given : scripts ≡ scripts_given (settings_given order vars) sources
+  pub given : cast.scripts.items ≡ all_scripts order vars rows sources
+  pub named : cast.names ≡ names_given rows (names_of order.sources.items)
 
 -- The settings of a script that is run as a command: its step limit, its last moment in milliseconds, and these
 -- variables at the start. It has no report that could include its variables.

@@ -1,5 +1,6 @@
 pub mod Complaint
 pub mod Variables
+pub mod Each
 pub mod Given
 pub mod Folder
 pub mod Outcome

@@ -84,7 +84,7 @@ pub record AreAlone (holds : List (List ℕ) → Type 0) (order : Alone) (vars :
   pub named : 0 < length order.variables.env.items → holds entries
   pub given : vars ≡ alone_given order.source.now (names_of order.args.items) order.variables entries
 
--- A name that `--set` can set: it is not empty, no element's, and not `env`.
+-- A name that a variable of a script can get: it is not empty, no element's, and not `env`.
 abbrev pub is_settable : List ℕ → Bool
 is_settable name = not (bytes_eq name []) && (not (bytes_eq name (codes "env")) && not (list_any (λ c. c == ascii.open_paren) name))
 

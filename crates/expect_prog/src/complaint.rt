@@ -55,6 +55,22 @@ pub enum Complaint<'a> {
     NoName(&'a str),
     #[error("--set {0} sets no variable: write NAME=VALUE, with a NAME that isn't env and has no parenthesis")]
     BadSet(&'a str),
+    #[error("{0} has more than 1048576 bytes")]
+    LongList(&'a str),
+    #[error("{0} isn't UTF-8")]
+    NotText(&'a str),
+    #[error("{0} has no row below the names of its columns")]
+    NoRows(&'a str),
+    #[error("{path}: row {row} doesn't have one value per column")]
+    UnevenRow {
+        path: &'a str,
+        row: usize,
+    },
+    #[error("{path}: column {column} sets no variable: its name is empty, is env, or has a parenthesis")]
+    BadColumn {
+        path: &'a str,
+        column: usize,
+    },
     #[error("log fault {number} at line {line}")]
     Log {
         number: u8,

@@ -1,10 +1,11 @@
 //! Reads and runs the files of an order.
 
-ghost use Rattle.std.specs.Prelude.{◌≡◌, ◌≤◌, ◌<◌, ℕ, List, length, IsTrue, IfOk, OnOk};
+ghost use Rattle.std.specs.Prelude.{◌≡◌, ◌++◌, ◌≤◌, ◌<◌, ℕ, List, length, IsTrue, IfOk, OnOk};
 ghost use Rattle.expect_prog.specs.Variables.{AreGiven, AreAlone};
-ghost use Rattle.expect_prog.specs.Given.{settings_given, alone_settings, scripts_given, vars_told, AreHeld, AreOfFiles, IsOfFile};
+ghost use Rattle.expect_prog.specs.Given.{settings_given, alone_settings, all_scripts, scripts_given, vars_told, AreHeld, AreOfFiles, IsOfFile};
 
 use crate::complaint::Complaint;
+use crate::each::{names_given, rows_given};
 use crate::folder::{Folder, Pages, paths_of};
 use crate::names::{Names, Role};
 use crate::outcome::Outcome;
@@ -174,19 +175,52 @@ fn read_sources<'a, S: Sources>(
     Ok(texts)
 }
 
-/// Returns the scripts of sources, in their order, with the same settings.
-fn scripts_of(alloc: Global, settings: &Settings, sources: Texts) -> Result<Vec<Script>, AllocError>
-    ensures { IfOk result (λ ss. ss.items ≡ scripts_given settings.now sources) }
+/// Appends the scripts of sources, in their order, with the same settings.
+fn push_scripts(
+    alloc: Global,
+    scripts: &mut Vec<Script>,
+    settings: &Settings,
+    sources: &[Text],
+) -> Result<(), AllocError>
+    ensures { OnOk result (scripts.new.items ≡ scripts.old.items ++ scripts_given settings.now sources.now) }
 {
-    let mut scripts = Vec::new(alloc);
-    for source in sources.list {
+    for source in sources {
         let script = Script {
-            source,
+            source: source.copied(alloc)?,
             settings: settings.copied(alloc)?,
         };
         let Ok(()) = scripts.push(script) else {
             return Err(AllocError);
         };
+    }
+    Ok(())
+}
+
+/// Returns a script's variables at the start: those of all scripts, and then those of its row.
+fn vars_of(alloc: Global, vars: &Pairs, row: &Pairs) -> Result<Pairs, AllocError>
+    ensures { IfOk result (λ ps. ps ≡ vars.now ++ row.now) }
+{
+    let mut all = vars.copied(alloc)?;
+    for variable in row.as_slice() {
+        all.push(variable.0.copied(alloc)?, variable.1.copied(alloc)?)?;
+    }
+    Ok(all)
+}
+
+/// Returns the scripts of an order's sources, which run once per row.
+fn scripts_of(
+    alloc: Global,
+    order: &Scripts<'_>,
+    vars: &Pairs,
+    rows: &[Pairs],
+    sources: &[Text],
+) -> Result<Vec<Script>, AllocError>
+    ensures { IfOk result (λ ss. ss.items ≡ all_scripts order.now vars.now rows.now sources.now) }
+{
+    let mut scripts = Vec::new(alloc);
+    for row in rows {
+        let settings = settings_of(order, vars_of(alloc, vars, row)?);
+        push_scripts(alloc, &mut scripts, &settings, sources)?;
     }
     Ok(scripts)
 }
@@ -218,20 +252,31 @@ fn settings_of(asked: &Scripts<'_>, vars: Pairs) -> Settings
     }
 }
 
-/// Reads exprun's own environment, if needed, and then the sources of an order, in order. Returns
-/// their scripts. Returns the complaint for the first word that sets no variable, or the first source
-/// that can't be read.
-pub fn scripts<'a, S: Sources>(
+/// The scripts of an order, and the names that reports give them.
+#[derive(Drop)]
+pub struct Cast {
+    pub scripts: Vec<Script>,
+    pub names: Texts,
+}
+
+/// Reads the list of an order, then exprun's own environment, as far as they are needed, and then its
+/// sources, in order. Returns their scripts. Returns the complaint for what is wrong in the list, for
+/// the first word that sets no variable, or for the first source that can't be read.
+pub fn cast_of<'a, S: Sources>(
     from: &S,
     alloc: Global,
     order: &Scripts<'a>,
-) -> Result<Vec<Script>, Complaint<'a>>
-    ensures { IfOk result (λ ss. AreOfFiles S.holds S.sets order.now ss.items) }
+) -> Result<Cast, Complaint<'a>>
+    ensures { IfOk result (AreOfFiles S.holds S.sets order.now) }
 {
-    let settings = settings_of(order, variables(from, alloc, &order.variables)?);
-    let sources = read_sources(from, alloc, order.sources.as_slice())?;
-    let scripts = scripts_of(alloc, &settings, sources)?;
-    Ok(scripts)
+    let rows = rows_given(from, alloc, order.each)?;
+    let vars = variables(from, alloc, &order.variables)?;
+    let files = order.sources.as_slice();
+    let sources = read_sources(from, alloc, files)?;
+    Ok(Cast {
+        scripts: scripts_of(alloc, order, &vars, rows.as_slice(), sources.as_slice())?,
+        names: names_given(alloc, rows.as_slice(), files)?,
+    })
 }
 
 /// Returns the variables at the start of a script that is run as a command. Returns the complaint
@@ -319,10 +364,7 @@ fn judge_replay<'a, R: Files>(
     folder: &'a str,
     paths: &Texts,
 ) -> Result<(), Complaint<'a>> {
-    let mut names = Names::new(alloc);
-    for path in &order.scripts.sources {
-        names.push_read(rt, alloc, Role::Script, path)?;
-    }
+    let mut names = Names::of_scripts(rt, alloc, &order.scripts)?;
     names.push_read(rt, alloc, Role::Log, order.log)?;
     names.push_transcripts(rt, alloc, folder, paths.as_slice())?;
     names.judged(alloc)
@@ -335,15 +377,16 @@ fn judge_replay<'a, R: Files>(
 pub fn replay_files<'a, R: Files + Env + Print + Eprint + Pages + Copy + Drop>(
     rt: &R,
     alloc: Global,
-    order: &Replay<'a>,
+    order: &mut Replay<'a>,
 ) -> Result<Outcome, Complaint<'a>> {
-    let scripts = scripts(&System { rt }, alloc, &order.scripts)?;
+    let Cast { scripts, names } = cast_of(&System { rt }, alloc, &order.scripts)?;
+    order.scripts.form.files = names;
     let log = opened_log(rt, order.log, order.cut)?;
     let Some(path) = order.scripts.transcripts else {
         let well = replay_order(rt, alloc, order, scripts, log, &mut NoShelf)?;
         return Ok(Outcome::of(well, true));
     };
-    let paths = paths_of(alloc, path, order.scripts.sources.as_slice())?;
+    let paths = paths_of(alloc, path, order.scripts.form.files.as_slice())?;
     judge_replay(rt, alloc, order, path, &paths)?;
     let mut folder = Folder::new(*rt, alloc, path, paths)?;
     let well = replay_order(rt, alloc, order, scripts, log, &mut folder)?;
@@ -376,7 +419,7 @@ pub fn explain_files<'a, R: Files + Env + Print>(
     alloc: Global,
     order: &Explain<'a>,
 ) -> Result<Outcome, Complaint<'a>> {
-    let scripts = scripts(&System { rt }, alloc, &order.scripts)?;
+    let Cast { scripts, .. } = cast_of(&System { rt }, alloc, &order.scripts)?;
     let mut log = Counted::new(opened_log(rt, order.log, false)?);
     let mut out = Counted::new(Patient(io::writer(rt)));
     match explain(alloc, order.only, &mut log, scripts, &mut out) {

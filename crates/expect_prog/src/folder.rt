@@ -62,7 +62,7 @@ fn push_number(
     text.extend(digits.as_bytes())
 }
 
-/// Returns the path in a folder for the transcript of script `number`, which has this file, among
+/// Returns the path in a folder for the transcript of script `number`, which has this name, among
 /// `count` scripts.
 #[tactic(auto, unfolding(crate::specs::Folder::transcript_path))]
 fn path_of(
@@ -70,16 +70,16 @@ fn path_of(
     folder: &str,
     count: usize,
     number: usize,
-    file: &str,
+    name: &str,
 ) -> Result<Text, AllocError>
-    ensures { IfOk result (λ t. t ≡ transcript_path folder.now count number file.now) }
+    ensures { IfOk result (λ t. t ≡ transcript_path folder.now count number name.now) }
 {
     let mut path = Text::new(alloc);
     path.extend(folder.as_bytes())?;
     path.push(b'/')?;
     push_number(alloc, &mut path, count, number)?;
     path.push(b'-')?;
-    path.extend(Path::new(file).file_name().unwrap_or("").as_bytes())?;
+    path.extend(Path::new(name).file_name().unwrap_or("").as_bytes())?;
     Ok(path)
 }
 
@@ -118,11 +118,12 @@ fn try_folder<R: Files>(rt: &R, alloc: Global, path: &str) -> io::Result<()> {
     Ok(())
 }
 
-/// Returns the paths in a folder for the transcripts of these files' scripts.
-pub fn paths_of(alloc: Global, folder: &str, files: &[&str]) -> Result<Texts, AllocError> {
+/// Returns the paths in a folder for the transcripts of scripts with these names.
+pub fn paths_of(alloc: Global, folder: &str, names: &[Text]) -> Result<Texts, AllocError> {
     let mut paths = Texts::new(alloc);
-    for at in 0..files.len() {
-        paths.push(path_of(alloc, folder, files.len(), at + 1, files[at])?)?;
+    for at in 0..names.len() {
+        let name = std::str::from_utf8(names[at].as_slice()).unwrap_or("");
+        paths.push(path_of(alloc, folder, names.len(), at + 1, name)?)?;
     }
     Ok(paths)
 }

@@ -5,6 +5,7 @@
 mod account;
 mod alone;
 mod complaint;
+mod each;
 mod files;
 mod folder;
 mod names;
@@ -91,7 +92,7 @@ fn main(rt: HostRuntime) -> ExitCode {
     if let Order::Run(run) = &mut order {
         run.show_once(rt.stdout().is_terminal() && rt.stderr().is_terminal());
     }
-    let outcome = match &order {
+    let outcome = match &mut order {
         Order::Replay(replay) => replay_files(&rt, rt.alloc(), replay),
         Order::Run(run) => run_files(rt, rt.alloc(), run, rt.stderr(), Patient(rt.stdout())),
         Order::Script(alone) => run_alone(rt, rt.alloc(), alone, rt.stderr(), Patient(rt.stdout())),

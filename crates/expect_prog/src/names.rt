@@ -4,6 +4,7 @@ use crate::complaint::Complaint;
 use crate::files::opened;
 use crate::part::found;
 use child_events::Counted;
+use command_line::Scripts;
 use product_files::{Entry, Found, Node, Way, clash, part_name, way_to};
 use report_texts::read_all;
 use std::alloc::{AllocError, Global};
@@ -17,6 +18,8 @@ use tcl_words::Text;
 #[derive(Clone, Copy)]
 pub enum Role {
     Script,
+    /// The list of a script's rows.
+    List,
     Log,
     Record,
     Account,
@@ -30,6 +33,7 @@ impl Role {
     fn option(self) -> &'static str {
         match self {
             Role::Script => "a script",
+            Role::List => "--each",
             Role::Log => "the log",
             Role::Record => "--record",
             Role::Account => "--explain",
@@ -100,6 +104,22 @@ impl Names {
             names: Vec::new(alloc),
             entries: Vec::new(alloc),
         }
+    }
+
+    /// Creates the list of the files that an order's scripts are made from.
+    pub fn of_scripts<R: Files>(
+        rt: &R,
+        alloc: Global,
+        order: &Scripts<'_>,
+    ) -> Result<Names, AllocError> {
+        let mut names = Names::new(alloc);
+        for path in &order.sources {
+            names.push_read(rt, alloc, Role::Script, path)?;
+        }
+        if let Some(path) = order.each {
+            names.push_read(rt, alloc, Role::List, path)?;
+        }
+        Ok(names)
     }
 
     /// Adds a name that belongs to an owner and leads to a file.
@@ -221,6 +241,7 @@ fn clash_text(alloc: Global, a: &Name, b: &Name) -> Result<String, AllocError> {
     }
     match a.role {
         Role::Script => text.push_str(" is a script of this run and can't be written")?,
+        Role::List => text.push_str(" is the list of this run and can't be written")?,
         Role::Log => text.push_str(" is the log and can't be written")?,
         _ => {
             text.push_str(" is asked for twice: ")?;

@@ -4,7 +4,7 @@ ghost use Rattle.std.specs.Prelude.{◌≡◌, ◌≤◌, length, vec_len, IfOk}
 
 use crate::account::{Account, opened_account, remove_account, tell_account};
 use crate::complaint::{Complaint, tell};
-use crate::files::{System, scripts};
+use crate::files::{Cast, System, cast_of};
 use crate::folder::{Folder, Pages, paths_of};
 use crate::names::{Names, Role, judge_old};
 use crate::outcome::Outcome;
@@ -241,17 +241,14 @@ fn opened_folder<'a, R: Files + Pages + Drop>(
     let Some(path) = order.scripts.transcripts else {
         return Ok(None);
     };
-    let paths = paths_of(alloc, path, order.scripts.sources.as_slice())?;
+    let paths = paths_of(alloc, path, order.scripts.form.files.as_slice())?;
     Ok(Some(Folder::new(rt, alloc, path, paths)?))
 }
 
 /// Returns the complaint for the first two names of a run's files that clash. Otherwise, for a file
 /// with a product's name that is not an earlier product.
 fn judge_run<'a, R: Files>(rt: &R, alloc: Global, order: &Run<'a>) -> Result<(), Complaint<'a>> {
-    let mut names = Names::new(alloc);
-    for path in &order.scripts.sources {
-        names.push_read(rt, alloc, Role::Script, path)?;
-    }
+    let mut names = Names::of_scripts(rt, alloc, &order.scripts)?;
     if let Some(path) = order.record {
         names.push_product(rt, alloc, Role::Record, path)?;
     }
@@ -259,7 +256,7 @@ fn judge_run<'a, R: Files>(rt: &R, alloc: Global, order: &Run<'a>) -> Result<(),
         names.push_product(rt, alloc, Role::Account, path)?;
     }
     if let Some(path) = order.scripts.transcripts {
-        let paths = paths_of(alloc, path, order.scripts.sources.as_slice())?;
+        let paths = paths_of(alloc, path, order.scripts.form.files.as_slice())?;
         names.push_transcripts(rt, alloc, path, paths.as_slice())?;
     }
     names.judged(alloc)?;
@@ -465,8 +462,9 @@ pub fn run_files<
         + 'static,
     E: Write + IsTerminal + Copy + Send + Drop + 'static,
     O: Write + Copy + Send + Drop + 'static,
->(rt: R, alloc: Global, order: &Run<'a>, errors: E, out: O) -> Result<Outcome, Complaint<'a>> {
-    let scripts = scripts(&System { rt: &rt }, alloc, &order.scripts)?;
+>(rt: R, alloc: Global, order: &mut Run<'a>, errors: E, out: O) -> Result<Outcome, Complaint<'a>> {
+    let Cast { scripts, names } = cast_of(&System { rt: &rt }, alloc, &order.scripts)?;
+    order.scripts.form.files = names;
     judge_run(&rt, alloc, order)?;
     let stop = Arc::new(alloc, Stop::new(&rt))?;
     let account = match order.explain {

@@ -183,8 +183,8 @@ fn has_parenthesis(name: &[u8]) -> bool
     name.iter().any(|byte| *byte == b'(')
 }
 
-/// Returns whether `--set` can set the variable with this name.
-fn is_settable(name: &[u8]) -> bool
+/// Returns whether a variable can have this name.
+pub fn is_settable(name: &[u8]) -> bool
     ensures { result ≡ is_settable name.now }
 {
     name.len() != 0 && (name != b"env".as_slice() && !has_parenthesis(name))

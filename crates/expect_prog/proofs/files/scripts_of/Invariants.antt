@@ -1,6 +1,6 @@
-use Rattle.std.proofs.Common.{◌≡◌, ◌++◌}
-use Rattle.expect_prog.specs.Given.{scripts_given}
+use Rattle.std.proofs.Common.{◌≡◌, take}
+use Rattle.expect_prog.specs.Given.{all_scripts}
 use Rattle.expect_prog.proofs.files.scripts_of.Given as goal
 
-abbrev pub invariant-loop-source : goal.invariant-loop-source
-invariant-loop-source l = l.scripts.items ++ scripts_given l.settings l.source-iterator.rest.items ≡ scripts_given l.settings l.fn.sources
+abbrev pub invariant-loop-row : goal.invariant-loop-row
+invariant-loop-row l = l.scripts.items ≡ all_scripts l.order l.vars (take l.row-index l.rows) l.sources
