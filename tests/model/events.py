@@ -22,19 +22,20 @@ class Event(NamedTuple):
         return front + (b" " + held if held else b"") + b"\n"
 
 
-HEADING = b"exprun-log 2"
+HEADINGS = b"exprun-log 2", b"exprun-log 3"
 
 
 def write_log(events, script):
-    """The log of a script's events, in version 2."""
-    return HEADING + b"\n" + b"".join(event.line(script) for event in events) + b"total %d\n" % len(events)
+    """The log of a script's events: in version 2 where each child is 1 to 16, else in version 3."""
+    heading = HEADINGS[not all(event.kind == "tick" or 1 <= event.child <= 16 for event in events)]
+    return heading + b"\n" + b"".join(event.line(script) for event in events) + b"total %d\n" % len(events)
 
 
 def read_log(log, script):
-    """The events of a script and the ticks in a log that has no fault, of either version."""
+    """The events of a script and the ticks in a log that has no fault, of any version."""
     found = []
     lines = log.splitlines()
-    for line in lines[1:-1] if lines[:1] == [HEADING] else lines:
+    for line in lines[1:-1] if lines and lines[0] in HEADINGS else lines:
         kind, *fields = line.split(b" ")
         if kind == b"tick":
             found.append(Event("tick", 0, int(fields[0])))

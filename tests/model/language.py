@@ -21,7 +21,7 @@ OPERATIONS = {
 NESTED = 200
 
 # The other commands of the language.
-LEFT_OUT = b"unset append lrange for eval string info concat join lassign linsert lrepeat lreplace lreverse lsearch lset lsort split array format scan regexp regsub".split()
+LEFT_OUT = b"unset append lrange for eval string info concat join lassign linsert lrepeat lreplace lreverse lsearch lset lsort split array format scan regexp regsub package exp_version expect_version exp_internal debug exp_debug strace exp_strace trap exp_trap".split()
 
 # The simulated commands that a procedure may replace.
 REDEFINABLE = b"sleep exp_sleep after".split()

@@ -198,10 +198,23 @@ impl<K: Keeper> Desk<K> {
         ensures lines { self.new.lines.items ≡ self.old.lines.items }
         ensures book { self.new.book ≡ self.old.book }
     {
-        for ends in &mut self.ends {
-            ends.stop();
-            ends.flush();
-        }
+        stop_all(&mut self.ends);
+    }
+
+    /// Returns the endpoints of the rings. The rest of the desk is dropped.
+    pub fn into_ends(self) -> Vec<Ends<K>>
+        ensures { result ≡ self.ends }
+    {
+        let Desk { ends, .. } = self;
+        ends
+    }
+}
+
+/// Sends the stop to each hand whose ring has room.
+pub fn stop_all<K: Keeper>(ends: &mut Vec<Ends<K>>) {
+    for ends in ends {
+        ends.stop();
+        ends.flush();
     }
 }
 

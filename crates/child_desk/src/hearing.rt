@@ -36,7 +36,7 @@ fn output_event(at: usize, child: u8, moment: u64, what: What) -> HallEvent
 {
     HallEvent::Child {
         script: (at + 1) as u8,
-        child,
+        child: u16::from(child),
         moment,
         what,
     }

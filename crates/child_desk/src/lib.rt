@@ -12,7 +12,7 @@ mod line;
 mod readers;
 
 pub use book::Book;
-pub use desk::{Desk, Outcome};
+pub use desk::{Desk, Outcome, stop_all};
 pub use ends::Ends;
 pub use laws::limits;
 pub use line::ScriptState;

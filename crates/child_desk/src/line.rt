@@ -95,7 +95,7 @@ fn answer_event(at: usize, child: u8, moment: u64, answer: Answer) -> HallEvent
 {
     HallEvent::Child {
         script: (at + 1) as u8,
-        child,
+        child: u16::from(child),
         moment,
         what: What::Answer(answer),
     }

@@ -1,19 +1,21 @@
--- No front of a log of version 2 is a log, but the empty one.
+-- No front of a log of version 2 or 3 is a log, but the empty one.
 use Rattle.std.proofs.Common.{◌≡◌, ◌⊎◌, inl, inr, ℕ, ◌+◌, ◌-◌, ◌<◌, ◌^◌, List, [], ◌∷◌, ◌++◌, length, Bool, true, false, None, Result, Ok, Err, refl, sym, ap, ◌∙◌, append_assoc, append-nil, length-append, arith}
-use Rattle.std.specs.Prelude.{◌≢◌, ◌==◌, not, if◌then◌else◌, nat_lt, codes}
+use Rattle.std.specs.Prelude.{◌≢◌, ◌==◌, not, if◌then◌else◌, nat_lt}
 use Rattle.std.proofs.lemmas.List.{nil_from_length}
 use Rattle.std.proofs.lemmas.Bool.{eqb-true}
+use Rattle.child_events.specs.declared.child_numbers.ChildNumbers.{ChildNumbers}
+use Rattle.child_events.specs.declared.child_numbers.ChildNumbers.TheVariants.{To16, To999}
 use Rattle.child_events.specs.declared.event.HallEvent.{HallEvent}
 use Rattle.child_events.specs.declared.faults.LogFault.{LogFault}
 use Rattle.child_events.specs.declared.faults.LogFault.TheVariants as fault
-use Rattle.child_events.specs.declared.version.Version.TheVariants.{First, Second}
-use Rattle.child_events.specs.Log.{line_of, lines_text, heading, total_line, fields_of, joined, LogText2, LogText}
+use Rattle.child_events.specs.declared.version.Version.TheVariants.{Plain, Counted}
+use Rattle.child_events.specs.Log.{longest, version_name, line_of, lines_text, heading, total_line, fields_of, joined, CountedLog, LogText}
 use Rattle.child_events.specs.Reading.{in_front, parts, first_word, version_of, line_event, line_total, closed, last_part, none_where, with_line, lines_events, log_events, first_fault, ◌>>=◌}
 use Rattle.child_events.proofs.Parts.{parts_first}
 use Rattle.child_events.proofs.Plain.{without_joined, joined-parts}
 use Rattle.child_events.proofs.Lines.{lines_more, parts_some}
 use Rattle.child_events.proofs.Meant.{plain_fields}
-use Rattle.child_events.proofs.Whole.{event_no_version, headed, log_meant, log_complete, second_meant}
+use Rattle.child_events.proofs.Whole.{event_no_version, headed, log_meant, log_complete, counted_meant}
 
 -- the parts of a text, and those of another one that stands behind it
 abbrev glued : List (List ℕ) → List (List ℕ) → List (List ℕ)
@@ -57,8 +59,8 @@ nothing_is (w ∷ []) some none = ap (λ (x : List ℕ). x ∷ []) (sym (append-
 nothing_is ([] ∷ x ∷ ws) some none = absurd (cc)
 nothing_is ((b ∷ w) ∷ x ∷ ws) some none = absurd (cc)
 
-last_never : (n : ℕ) (w : List ℕ) (es : List HallEvent) → none_where (last_part Second n w) ≡ Ok es → ⊥
-last_never n w es h = by_tests (nat_lt 8219 (length w)) (length w == 0) h
+last_never : (nums : ChildNumbers) (n : ℕ) (w : List ℕ) (es : List HallEvent) → none_where (last_part (Counted nums) n w) ≡ Ok es → ⊥
+last_never nums n w es h = by_tests (nat_lt (longest nums) (length w)) (length w == 0) h
   where
     by_tests : (p q : Bool) → none_where (if p then Err (fault.TooLong n) else if not q then Err (fault.Shape n) else Err (fault.Total n)) ≡ Ok es → ⊥
     by_tests true q said = absurd (cc)
@@ -75,13 +77,13 @@ closed_nothing n seen k behind es h = by_tests (k == seen) (length (joined 10 be
     by_tests true true none said = nil_from_length (joined 10 behind) (eqb-true (length (joined 10 behind)) 0 none)
 
 -- where a front reads as events, nothing stands behind it
-front_is_all : (n : ℕ) (ws : List (List ℕ)) (v : List ℕ) (vs : List (List ℕ)) (es fs : List HallEvent) → 0 < length ws →
-    lines_events Second n ws ≡ Ok fs → lines_events Second n (glued ws (v ∷ vs)) ≡ Ok es → joined 10 (v ∷ vs) ≡ []
-front_is_all n [] v vs es fs some front all = absurd (omega arith)
-front_is_all n (w ∷ []) v vs es fs some front all = absurd (last_never n w fs front)
-front_is_all n (w ∷ x ∷ ws) v vs es fs some front all =
-    by_line (line_event n w) (lines_events Second (n + 1) (x ∷ ws)) (lines_events Second (n + 1) (glued (x ∷ ws) (v ∷ vs))) (λ es fs. front_is_all (n + 1) (x ∷ ws) v vs es fs (omega arith)) front
-    (sym (lines_more Second n w (glued (x ∷ ws) (v ∷ vs)) (glued_some (x ∷ ws) v vs)) ∙ all)
+front_is_all : (nums : ChildNumbers) (n : ℕ) (ws : List (List ℕ)) (v : List ℕ) (vs : List (List ℕ)) (es fs : List HallEvent) → 0 < length ws →
+    lines_events (Counted nums) n ws ≡ Ok fs → lines_events (Counted nums) n (glued ws (v ∷ vs)) ≡ Ok es → joined 10 (v ∷ vs) ≡ []
+front_is_all nums n [] v vs es fs some front all = absurd (omega arith)
+front_is_all nums n (w ∷ []) v vs es fs some front all = absurd (last_never nums n w fs front)
+front_is_all nums n (w ∷ x ∷ ws) v vs es fs some front all =
+    by_line (line_event nums n w) (lines_events (Counted nums) (n + 1) (x ∷ ws)) (lines_events (Counted nums) (n + 1) (glued (x ∷ ws) (v ∷ vs))) (λ es fs. front_is_all nums (n + 1) (x ∷ ws) v vs es fs (omega arith)) front
+    (sym (lines_more (Counted nums) n w (glued (x ∷ ws) (v ∷ vs)) (glued_some (x ∷ ws) v vs)) ∙ all)
   where
     by_total : (total : Result ℕ LogFault) → none_where (total >>= λ k. closed n (n - 2) k (x ∷ ws)) ≡ Ok fs → none_where (total >>= λ k. closed n (n - 2) k (glued (x ∷ ws) (v ∷ vs))) ≡ Ok es → joined 10 (v ∷ vs) ≡ []
     by_total (Err f) front all = absurd (cc)
@@ -90,19 +92,19 @@ front_is_all n (w ∷ x ∷ ws) v vs es fs some front all =
         sym (ap (λ (us : List (List ℕ)). joined 10 (glued us (v ∷ vs))) alone) ∙ closed_nothing n (n - 2) k (glued (x ∷ ws) (v ∷ vs)) es all
 
     by_line : (first : Result HallEvent LogFault) (less more : Result (List HallEvent) LogFault) → ((es fs : List HallEvent) → less ≡ Ok fs → more ≡ Ok es → joined 10 (v ∷ vs) ≡ []) →
-        with_line Second n w first (x ∷ ws) less ≡ Ok fs → with_line Second n w first (glued (x ∷ ws) (v ∷ vs)) more ≡ Ok es → joined 10 (v ∷ vs) ≡ []
+        with_line (Counted nums) n w first (x ∷ ws) less ≡ Ok fs → with_line (Counted nums) n w first (glued (x ∷ ws) (v ∷ vs)) more ≡ Ok es → joined 10 (v ∷ vs) ≡ []
     by_line (Ok e) (Err f) more others front all = absurd (cc)
     by_line (Ok e) (Ok gs) (Err f) others front all = absurd (cc)
     by_line (Ok e) (Ok gs) (Ok hs) others front all = others hs gs refl refl
-    by_line (Err f) less more others front all = by_total (line_total Second n f w) front all
+    by_line (Err f) less more others front all = by_total (line_total (Counted nums) n f w) front all
 
-text_is_all : (n : ℕ) (front rest : List ℕ) (es fs : List HallEvent) → lines_events Second n (parts 10 front) ≡ Ok fs → lines_events Second n (parts 10 (front ++ rest)) ≡ Ok es → rest ≡ []
-text_is_all n front rest es fs less all =
-    sym (joined-parts 10 rest) ∙ by_parts (parts 10 rest) (parts_some 10 rest) (sym (ap (lines_events Second n) (parts_glued 10 front rest)) ∙ all)
+text_is_all : (nums : ChildNumbers) (n : ℕ) (front rest : List ℕ) (es fs : List HallEvent) → lines_events (Counted nums) n (parts 10 front) ≡ Ok fs → lines_events (Counted nums) n (parts 10 (front ++ rest)) ≡ Ok es → rest ≡ []
+text_is_all nums n front rest es fs less all =
+    sym (joined-parts 10 rest) ∙ by_parts (parts 10 rest) (parts_some 10 rest) (sym (ap (lines_events (Counted nums) n) (parts_glued 10 front rest)) ∙ all)
   where
-    by_parts : (vs : List (List ℕ)) → 0 < length vs → lines_events Second n (glued (parts 10 front) vs) ≡ Ok es → joined 10 vs ≡ []
+    by_parts : (vs : List (List ℕ)) → 0 < length vs → lines_events (Counted nums) n (glued (parts 10 front) vs) ≡ Ok es → joined 10 vs ≡ []
     by_parts [] some said = absurd (omega arith)
-    by_parts (v ∷ vs) some said = front_is_all n (parts 10 front) v vs es fs (parts_some 10 front) less said
+    by_parts (v ∷ vs) some said = front_is_all nums n (parts 10 front) v vs es fs (parts_some 10 front) less said
 
 -- of two fronts of a text, one is a front of the other
 record Behind (h a b t : List ℕ) : Type 0 where
@@ -128,31 +130,45 @@ either_front (y ∷ h) (x ∷ a) b t same =
     by_case byte (inr is) = inr (record { more = is.more; front = ap (λ (l : List ℕ). y ∷ l) is.front ∙ ap (λ (c : ℕ). c ∷ (a ++ is.more)) (sym byte); some = is.some })
 
 -- a front of the first line is no log
-heading_front : (front more : List ℕ) (fs : List HallEvent) → heading ≡ front ++ more → 0 < length more → 0 < length front → LogText front fs → ⊥
-heading_front front more fs is behind some (inr h) =
+pub heading_len : (nums : ChildNumbers) → length (heading nums) ≡ 13
+heading_len To16 = refl
+heading_len To999 = refl
+
+heading_front : (nums : ChildNumbers) (front more : List ℕ) (fs : List HallEvent) → heading nums ≡ front ++ more → 0 < length more → 0 < length front → LogText front fs → ⊥
+heading_front nums front more fs is behind some (inr h) =
     let all = length-append front more in
-    let thirteen : length (front ++ more) ≡ 13 = sym (ap length is) in
-    let long : length front ≡ length (heading ++ (lines_text fs ++ total_line (length fs))) = ap length h.0.0 in
+    let thirteen : length (front ++ more) ≡ 13 = sym (ap length is) ∙ heading_len nums in
+    let long : length front ≡ length (heading h.0 ++ (lines_text fs ++ total_line (length fs))) = ap length h.1.0 in
+    let first = length-append (heading h.0) (lines_text fs ++ total_line (length fs)) in
+    let other = heading_len h.0 in
     absurd (omega arith)
-heading_front front more [] is behind some (inl h) = absurd (omega (arith, ap length h.0))
-heading_front front more (f ∷ fs) is behind some (inl h) =
+heading_front nums front more [] is behind some (inl h) = absurd (omega (arith, ap length h.0))
+heading_front nums front more (f ∷ fs) is behind some (inl h) =
     let fit = h.1.0.0 in
     let of_bytes = h.1.1.0 in
     let text : front ++ more ≡ line_of f ++ 10 ∷ (lines_text fs ++ more) = ap (λ (b : List ℕ). b ++ more) h.0 ∙ append_assoc (line_of f ++ 10 ∷ []) (lines_text fs) more ∙ append_assoc (line_of f) (10 ∷ []) (lines_text fs ++ more) in
-    let first : codes "exprun-log 2" ≡ line_of f = ap (λ (b : List ℕ). first_word (parts 10 b)) (is ∙ text) ∙ ap first_word (parts_first 10 (line_of f) (lines_text fs ++ more) (without_joined (fields_of f) (plain_fields f fit of_bytes))) in
-    let version : Ok Second ≡ Ok First = ap version_of first ∙ event_no_version f fit of_bytes in
+    let first : version_name nums ≡ line_of f = sym (first_of nums) ∙ ap (λ (b : List ℕ). first_word (parts 10 b)) (is ∙ text) ∙ ap first_word (parts_first 10 (line_of f) (lines_text fs ++ more) (without_joined (fields_of f) (plain_fields To16 f fit of_bytes))) in
+    let version : Ok (Counted nums) ≡ Ok Plain = sym (names nums) ∙ ap version_of first ∙ event_no_version f fit of_bytes in
     absurd (cc)
-
-pub cut_off : (front rest : List ℕ) (es : List HallEvent) → LogText2 (front ++ rest) es → length es < 10 ^ 16 → 0 < length front → 0 < length rest → first_fault front ≢ None
-cut_off front rest es h few some behind none =
-    let log = log_complete front none in
-    by_case log.0 log.1 (either_front heading front rest (lines_text es ++ total_line (length es)) h.0)
   where
-    by_case : (fs : List HallEvent) → LogText front fs → Behind heading front rest (lines_text es ++ total_line (length es)) ⊎ Within heading front → ⊥
-    by_case fs log (inr within) = heading_front front within.more fs within.front within.some some log
+    first_of : (k : ChildNumbers) → first_word (parts 10 (heading k)) ≡ version_name k
+    first_of To16 = refl
+    first_of To999 = refl
+
+    names : (k : ChildNumbers) → version_of (version_name k) ≡ Ok (Counted k)
+    names To16 = refl
+    names To999 = refl
+
+pub cut_off : (nums : ChildNumbers) (front rest : List ℕ) (es : List HallEvent) → CountedLog nums (front ++ rest) es → length es < 10 ^ 16 → 0 < length front → 0 < length rest → first_fault front ≢ None
+cut_off nums front rest es h few some behind none =
+    let log = log_complete front none in
+    by_case log.0 log.1 (either_front (heading nums) front rest (lines_text es ++ total_line (length es)) h.0)
+  where
+    by_case : (fs : List HallEvent) → LogText front fs → Behind (heading nums) front rest (lines_text es ++ total_line (length es)) ⊎ Within (heading nums) front → ⊥
+    by_case fs log (inr within) = heading_front nums front within.more fs within.front within.some some log
     by_case fs log (inl is) =
-        let less : lines_events Second 2 (parts 10 is.more) ≡ Ok fs = sym (ap log_events is.front ∙ headed is.more) ∙ log_meant front fs log in
-        let whole : front ++ rest ≡ heading ++ (is.more ++ rest) = ap (λ (b : List ℕ). b ++ rest) is.front in
-        let all : lines_events Second 2 (parts 10 (is.more ++ rest)) ≡ Ok es = sym (ap log_events whole ∙ headed (is.more ++ rest)) ∙ second_meant (front ++ rest) es h few in
-        let nothing = text_is_all 2 is.more rest es fs less all in
+        let less : lines_events (Counted nums) 2 (parts 10 is.more) ≡ Ok fs = sym (ap log_events is.front ∙ headed nums is.more) ∙ log_meant front fs log in
+        let whole : front ++ rest ≡ heading nums ++ (is.more ++ rest) = ap (λ (b : List ℕ). b ++ rest) is.front ∙ append_assoc (heading nums) is.more rest in
+        let all : lines_events (Counted nums) 2 (parts 10 (is.more ++ rest)) ≡ Ok es = sym (ap log_events whole ∙ headed nums (is.more ++ rest)) ∙ counted_meant nums (front ++ rest) es h few in
+        let nothing = text_is_all nums 2 is.more rest es fs less all in
         absurd (omega (arith, ap length nothing))

@@ -7,12 +7,13 @@ use Rattle.std.proofs.lemmas.Bool.{and_parts}
 use Rattle.hex.specs.declared.error.FromHexError.{FromHexError}
 use Rattle.hex.specs.Hex.{decode_of}
 use Rattle.hex.proofs.HexLemmas.{decode_of-even}
+use Rattle.child_events.specs.declared.child_numbers.ChildNumbers.{ChildNumbers}
 use Rattle.child_events.specs.declared.event.HallEvent.{HallEvent}
 use Rattle.child_events.specs.declared.faults.LogFault.{LogFault}
 use Rattle.child_events.specs.declared.faults.LogFault.TheVariants as fault
 use Rattle.child_events.specs.declared.version.Version.{Version}
 use Rattle.child_events.specs.Log.{LogText}
-use Rattle.child_events.specs.Reading.{parts, is_lower_hex_digit, all_lower_hex, piece_of, decoded, ◌>>=◌, line_event, lines_events, log_events, fault_in, Refused}
+use Rattle.child_events.specs.Reading.{parts, is_lower_hex_digit, all_lower_hex, piece_of, decoded, ◌>>=◌, line_event, numbers_in, lines_events, log_events, fault_in, Refused}
 use Rattle.child_events.specs.Judging.{judged, lines_read, events_in, Judges, SaysLog, front_of}
 use Rattle.child_events.proofs.Parts.{Without, parts_whole}
 use Rattle.child_events.proofs.Hexes.{pairs_decode}
@@ -71,46 +72,46 @@ says_log bytes (Ok es) is = judged_found bytes (Ok es) (sym is)
 says_log bytes (Err f) is = judged_refused bytes (Err f) (sym is)
 
 -- the events that so many lines are
-lines_len : (n k : ℕ) (ws : List (List ℕ)) (es : List HallEvent) → lines_read n k ws ≡ Ok es → length es ≡ k
-lines_len n zero ws es is = let e : [] ≡ es = cc in sym (ap length e)
-lines_len n (suc k) [] es is = absurd (cc)
-lines_len n (suc k) (w ∷ []) es is = absurd (cc)
-lines_len n (suc k) (w ∷ x ∷ ws) es is = by_cases (line_event n w) (lines_read (n + 1) k (x ∷ ws)) (lines_len (n + 1) k (x ∷ ws)) is
+lines_len : (nums : ChildNumbers) (n k : ℕ) (ws : List (List ℕ)) (es : List HallEvent) → lines_read nums n k ws ≡ Ok es → length es ≡ k
+lines_len nums n zero ws es is = let e : [] ≡ es = cc in sym (ap length e)
+lines_len nums n (suc k) [] es is = absurd (cc)
+lines_len nums n (suc k) (w ∷ []) es is = absurd (cc)
+lines_len nums n (suc k) (w ∷ x ∷ ws) es is = by_cases (line_event nums n w) (lines_read nums (n + 1) k (x ∷ ws)) (lines_len nums (n + 1) k (x ∷ ws)) is
   where
     by_cases : (r : Result HallEvent LogFault) (q : Result (List HallEvent) LogFault) → ((fs : List HallEvent) → q ≡ Ok fs → length fs ≡ k) → (r >>= λ e. q >>= λ fs. Ok (e ∷ fs)) ≡ Ok es → length es ≡ suc k
     by_cases (Ok e) (Ok fs) others h = let same : e ∷ fs ≡ es = cc in sym (ap length same) ∙ ap suc (others fs refl)
     by_cases (Ok e) (Err f) others h = absurd (cc)
     by_cases (Err f) q others h = absurd (cc)
 
-pub events_len : (n k : ℕ) (ws : List (List ℕ)) → IsOk (lines_read n k ws) → length (events_in (lines_read n k ws)) ≡ k
-events_len n k ws ok = by_cases (lines_read n k ws) refl ok
+pub events_len : (nums : ChildNumbers) (n k : ℕ) (ws : List (List ℕ)) → IsOk (lines_read nums n k ws) → length (events_in (lines_read nums n k ws)) ≡ k
+events_len nums n k ws ok = by_cases (lines_read nums n k ws) refl ok
   where
-    by_cases : (r : Result (List HallEvent) LogFault) → lines_read n k ws ≡ r → IsOk r → length (events_in r) ≡ k
-    by_cases (Ok es) is ok = lines_len n k ws es is
+    by_cases : (r : Result (List HallEvent) LogFault) → lines_read nums n k ws ≡ r → IsOk r → length (events_in r) ≡ k
+    by_cases (Ok es) is ok = lines_len nums n k ws es is
     by_cases (Err f) is ok = absurd (cc)
 
 -- a line more
-read_more : (n k j : ℕ) (ws vs : List (List ℕ)) (w : List ℕ) (front : List HallEvent) (e : HallEvent) → j ≡ n + k → lines_read n k ws ≡ Ok front → drop k ws ≡ w ∷ vs → 0 < length vs → line_event j w ≡ Ok e → lines_read n (suc k) ws ≡ Ok (front ++ e ∷ [])
-read_more n zero j [] vs w front e at read split some is = absurd (cc)
-read_more n zero j (x ∷ []) [] w front e at read split some is = absurd (omega arith)
-read_more n zero j (x ∷ []) (v ∷ vs) w front e at read split some is = absurd (cc)
-read_more n zero j (x ∷ y ∷ ws) vs w front e at read split some is =
+read_more : (nums : ChildNumbers) (n k j : ℕ) (ws vs : List (List ℕ)) (w : List ℕ) (front : List HallEvent) (e : HallEvent) → j ≡ n + k → lines_read nums n k ws ≡ Ok front → drop k ws ≡ w ∷ vs → 0 < length vs → line_event nums j w ≡ Ok e → lines_read nums n (suc k) ws ≡ Ok (front ++ e ∷ [])
+read_more nums n zero j [] vs w front e at read split some is = absurd (cc)
+read_more nums n zero j (x ∷ []) [] w front e at read split some is = absurd (omega arith)
+read_more nums n zero j (x ∷ []) (v ∷ vs) w front e at read split some is = absurd (cc)
+read_more nums n zero j (x ∷ y ∷ ws) vs w front e at read split some is =
     let first : x ≡ w = cc in
     let none : [] ≡ front = cc in
     let number : n ≡ j = omega (arith, at) in
-    ap (λ (r : Result HallEvent LogFault). r >>= λ e. Ok (e ∷ [])) (ap (line_event n) first ∙ ap (λ (i : ℕ). line_event i w) number ∙ is)
+    ap (λ (r : Result HallEvent LogFault). r >>= λ e. Ok (e ∷ [])) (ap (line_event nums n) first ∙ ap (λ (i : ℕ). line_event nums i w) number ∙ is)
     ∙ ap (λ (es : List HallEvent). Ok (es ++ e ∷ [])) none
-read_more n (suc k) j [] vs w front e at read split some is = absurd (cc)
-read_more n (suc k) j (x ∷ []) vs w front e at read split some is = absurd (cc)
-read_more n (suc k) j (x ∷ y ∷ ws) vs w front e at read split some is =
-    by_cases (line_event n x) (lines_read (n + 1) k (y ∷ ws)) refl (λ front' read'. read_more (n + 1) k j (y ∷ ws) vs w front' e (omega (arith, at)) read' split some is) read
+read_more nums n (suc k) j [] vs w front e at read split some is = absurd (cc)
+read_more nums n (suc k) j (x ∷ []) vs w front e at read split some is = absurd (cc)
+read_more nums n (suc k) j (x ∷ y ∷ ws) vs w front e at read split some is =
+    by_cases (line_event nums n x) (lines_read nums (n + 1) k (y ∷ ws)) refl (λ front' read'. read_more nums (n + 1) k j (y ∷ ws) vs w front' e (omega (arith, at)) read' split some is) read
   where
-    by_cases : (r : Result HallEvent LogFault) (q : Result (List HallEvent) LogFault) → line_event n x ≡ r →
-        ((front' : List HallEvent) → q ≡ Ok front' → lines_read (n + 1) (suc k) (y ∷ ws) ≡ Ok (front' ++ e ∷ [])) →
-        (r >>= λ e'. q >>= λ es. Ok (e' ∷ es)) ≡ Ok front → lines_read n (suc (suc k)) (x ∷ y ∷ ws) ≡ Ok (front ++ e ∷ [])
+    by_cases : (r : Result HallEvent LogFault) (q : Result (List HallEvent) LogFault) → line_event nums n x ≡ r →
+        ((front' : List HallEvent) → q ≡ Ok front' → lines_read nums (n + 1) (suc k) (y ∷ ws) ≡ Ok (front' ++ e ∷ [])) →
+        (r >>= λ e'. q >>= λ es. Ok (e' ∷ es)) ≡ Ok front → lines_read nums n (suc (suc k)) (x ∷ y ∷ ws) ≡ Ok (front ++ e ∷ [])
     by_cases (Ok e') (Ok es) first others h =
         let same : e' ∷ es ≡ front = cc in
-        ap (λ (r : Result HallEvent LogFault). r >>= λ e'. lines_read (n + 1) (suc k) (y ∷ ws) >>= λ es. Ok (e' ∷ es)) first
+        ap (λ (r : Result HallEvent LogFault). r >>= λ e'. lines_read nums (n + 1) (suc k) (y ∷ ws) >>= λ es. Ok (e' ∷ es)) first
         ∙ ap (λ (q : Result (List HallEvent) LogFault). q >>= λ es. Ok (e' ∷ es)) (others es refl)
         ∙ ap (λ (es : List HallEvent). Ok (es ++ e ∷ [])) same
     by_cases (Ok e') (Err f) first others h = absurd (cc)
@@ -119,7 +120,7 @@ read_more n (suc k) j (x ∷ y ∷ ws) vs w front e at read split some is =
 -- so many lines were judged from line n on, each of them an event, and these are left
 pub record JudgedTo (v : Version) (n : ℕ) (bytes rest : List ℕ) (number seen : ℕ) : Type 0 where
   pub front : List HallEvent
-  pub read : lines_read n seen (parts 10 bytes) ≡ Ok front
+  pub read : lines_read (numbers_in v) n seen (parts 10 bytes) ≡ Ok front
   pub left : drop seen (parts 10 bytes) ≡ parts 10 rest
   pub same : front_of front (lines_events v number (parts 10 rest)) ≡ lines_events v n (parts 10 bytes)
   pub numbered : number ≡ n + seen
@@ -137,12 +138,12 @@ is_event : (r : Result HallEvent LogFault) → Ok tt ≡ judged r → (e : HallE
 is_event (Ok e) h = (e, refl)
 is_event (Err f) h = absurd (cc)
 
-pub judged_more : (v : Version) (n : ℕ) (bytes rest line behind : List ℕ) (number seen : ℕ) → JudgedTo v n bytes rest number seen → parts 10 rest ≡ line ∷ parts 10 behind → 0 < length (parts 10 behind) → Ok tt ≡ judged (line_event number line) → JudgedTo v n bytes behind (number + 1) (seen + 1)
+pub judged_more : (v : Version) (n : ℕ) (bytes rest line behind : List ℕ) (number seen : ℕ) → JudgedTo v n bytes rest number seen → parts 10 rest ≡ line ∷ parts 10 behind → 0 < length (parts 10 behind) → Ok tt ≡ judged (line_event (numbers_in v) number line) → JudgedTo v n bytes behind (number + 1) (seen + 1)
 judged_more v n bytes rest line behind number seen j split some fine =
-    let found = is_event (line_event number line) fine in
+    let found = is_event (line_event (numbers_in v) number line) fine in
     record {
       front = j.front ++ found.0 ∷ [];
-      read = rw add-one (read_more n seen number (parts 10 bytes) (parts 10 behind) line j.front found.0 j.numbered j.read (j.left ∙ split) some found.1);
+      read = rw add-one (read_more (numbers_in v) n seen number (parts 10 bytes) (parts 10 behind) line j.front found.0 j.numbered j.read (j.left ∙ split) some found.1);
       left = rw add-one (drop_next seen (parts 10 bytes) (parts 10 behind) line (j.left ∙ split));
       same = line_read v j.front number rest line behind (lines_events v n (parts 10 bytes)) split j.same found.0 found.1;
       numbered = omega (arith, j.numbered);
@@ -164,37 +165,37 @@ judged_lines r (Ok es) same ok = sym same
 judged_lines r (Err f) same ok = absurd (cc)
 
 -- where an event is left, a line is
-pub line_left : (n k : ℕ) (ws : List (List ℕ)) → 0 < length (events_in (lines_read n k ws)) → 0 < k
-line_left n zero ws some = absurd (omega arith)
-line_left n (suc k) ws some = omega arith
+pub line_left : (nums : ChildNumbers) (n k : ℕ) (ws : List (List ℕ)) → 0 < length (events_in (lines_read nums n k ws)) → 0 < k
+line_left nums n zero ws some = absurd (omega arith)
+line_left nums n (suc k) ws some = omega arith
 
 -- with a newline behind it
-pub newline_left : (n k : ℕ) (w : List ℕ) → 0 < k → IsOk (lines_read n k (w ∷ [])) → ⊥
-newline_left n zero w some ok = absurd (omega arith)
-newline_left n (suc k) w some ok = absurd (cc)
+pub newline_left : (nums : ChildNumbers) (n k : ℕ) (w : List ℕ) → 0 < k → IsOk (lines_read nums n k (w ∷ [])) → ⊥
+newline_left nums n zero w some ok = absurd (omega arith)
+newline_left nums n (suc k) w some ok = absurd (cc)
 
-pub record NextIs (n k : ℕ) (ws vs : List (List ℕ)) (e : HallEvent) : Type 0 where
-  pub judged : IsOk (lines_read (n + 1) (k - 1) vs)
-  pub events : events_in (lines_read n k ws) ≡ e ∷ events_in (lines_read (n + 1) (k - 1) vs)
+pub record NextIs (nums : ChildNumbers) (n k : ℕ) (ws vs : List (List ℕ)) (e : HallEvent) : Type 0 where
+  pub judged : IsOk (lines_read nums (n + 1) (k - 1) vs)
+  pub events : events_in (lines_read nums n k ws) ≡ e ∷ events_in (lines_read nums (n + 1) (k - 1) vs)
 
-next_at : (n k : ℕ) (w : List ℕ) (vs : List (List ℕ)) (e : HallEvent) → 0 < length vs → IsOk (lines_read n (suc k) (w ∷ vs)) → line_event n w ≡ Ok e → IsOk (lines_read (n + 1) k vs) × (events_in (lines_read n (suc k) (w ∷ vs)) ≡ e ∷ events_in (lines_read (n + 1) k vs))
-next_at n k w [] e some ok is = absurd (omega arith)
-next_at n k w (x ∷ vs) e some ok is =
-    let found = by_cases (lines_read (n + 1) k (x ∷ vs)) (subst (λ (r : Result (List HallEvent) LogFault). IsOk r) whole ok) in
+next_at : (nums : ChildNumbers) (n k : ℕ) (w : List ℕ) (vs : List (List ℕ)) (e : HallEvent) → 0 < length vs → IsOk (lines_read nums n (suc k) (w ∷ vs)) → line_event nums n w ≡ Ok e → IsOk (lines_read nums (n + 1) k vs) × (events_in (lines_read nums n (suc k) (w ∷ vs)) ≡ e ∷ events_in (lines_read nums (n + 1) k vs))
+next_at nums n k w [] e some ok is = absurd (omega arith)
+next_at nums n k w (x ∷ vs) e some ok is =
+    let found = by_cases (lines_read nums (n + 1) k (x ∷ vs)) (subst (λ (r : Result (List HallEvent) LogFault). IsOk r) whole ok) in
     (found.0, ap events_in whole ∙ found.1)
   where
-    whole : lines_read n (suc k) (w ∷ x ∷ vs) ≡ (lines_read (n + 1) k (x ∷ vs) >>= λ es. Ok (e ∷ es))
-    whole = ap (λ (r : Result HallEvent LogFault). r >>= λ e'. lines_read (n + 1) k (x ∷ vs) >>= λ es. Ok (e' ∷ es)) is
+    whole : lines_read nums n (suc k) (w ∷ x ∷ vs) ≡ (lines_read nums (n + 1) k (x ∷ vs) >>= λ es. Ok (e ∷ es))
+    whole = ap (λ (r : Result HallEvent LogFault). r >>= λ e'. lines_read nums (n + 1) k (x ∷ vs) >>= λ es. Ok (e' ∷ es)) is
 
     by_cases : (q : Result (List HallEvent) LogFault) → IsOk (q >>= λ es. Ok (e ∷ es)) → IsOk q × (events_in (q >>= λ es. Ok (e ∷ es)) ≡ e ∷ events_in q)
     by_cases (Ok es) ok = (refl, refl)
     by_cases (Err f) ok = absurd (cc)
 
-pub next_is : (n k : ℕ) (w : List ℕ) (ws vs : List (List ℕ)) (e : HallEvent) → ws ≡ w ∷ vs → 0 < length vs → 0 < k → IsOk (lines_read n k ws) → line_event n w ≡ Ok e → NextIs n k ws vs e
-next_is n k w ws vs e split some left ok is =
+pub next_is : (nums : ChildNumbers) (n k : ℕ) (w : List ℕ) (ws vs : List (List ℕ)) (e : HallEvent) → ws ≡ w ∷ vs → 0 < length vs → 0 < k → IsOk (lines_read nums n k ws) → line_event nums n w ≡ Ok e → NextIs nums n k ws vs e
+next_is nums n k w ws vs e split some left ok is =
     let one : k ≡ suc (k - 1) = omega (arith, left) in
-    let reads : lines_read n k ws ≡ lines_read n (suc (k - 1)) (w ∷ vs) = ap (λ (xs : List (List ℕ)). lines_read n k xs) split ∙ ap (λ (i : ℕ). lines_read n i (w ∷ vs)) one in
-    let found = next_at n (k - 1) w vs e some (subst (λ (r : Result (List HallEvent) LogFault). IsOk r) reads ok) is in
+    let reads : lines_read nums n k ws ≡ lines_read nums n (suc (k - 1)) (w ∷ vs) = ap (λ (xs : List (List ℕ)). lines_read nums n k xs) split ∙ ap (λ (i : ℕ). lines_read nums n i (w ∷ vs)) one in
+    let found = next_at nums n (k - 1) w vs e some (subst (λ (r : Result (List HallEvent) LogFault). IsOk r) reads ok) is in
     record { judged = found.0; events = ap events_in reads ∙ found.1 }
 
 -- an event more is given

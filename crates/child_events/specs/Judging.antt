@@ -7,12 +7,13 @@ use Rattle.child_events.specs.declared.event.HallEvent.{HallEvent}
 use Rattle.child_events.specs.declared.event.HallEvent.TheVariants as hall
 use Rattle.child_events.specs.declared.faults.LogFault.{LogFault}
 use Rattle.child_events.specs.declared.faults.LogFault.TheVariants as fault
+use Rattle.child_events.specs.declared.child_numbers.ChildNumbers.{ChildNumbers}
 use Rattle.child_events.specs.declared.version.Version.{Version}
 use Rattle.child_events.specs.declared.fields.Stamp.{Stamp}
 use Rattle.child_events.specs.declared.line.LogLine.{LogLine}
 use Rattle.child_events.specs.declared.line.LogLine.TheVariants as line
-use Rattle.child_events.specs.Log.{LogText}
-use Rattle.child_events.specs.Reading.{Refused, ◌>>=◌, parts, all_lower_hex, piece_of, stamped, line_event, lines_events}
+use Rattle.child_events.specs.Log.{least_child, most_child, LogText}
+use Rattle.child_events.specs.Reading.{Refused, ◌>>=◌, parts, all_lower_hex, piece_of, stamped, line_event, numbers_in, lines_events}
 
 -- The event that line n describes, or its error.
 abbrev pub said_event : ℕ → LogLine → Result HallEvent LogFault
@@ -27,24 +28,24 @@ abbrev pub judged : {A : Type 0} → Result A LogFault → Result ⊤ LogFault
 judged r = r >>= λ x. Ok tt
 
 -- The events of k lines from line n on. Each of these lines ends with a newline.
-abbrev pub lines_read : ℕ → ℕ → List (List ℕ) → Result (List HallEvent) LogFault
-lines_read n zero ws = Ok []
-lines_read n (suc k) [] = Err (fault.Shape n)
-lines_read n (suc k) (w ∷ []) = Err (fault.Shape n)
-lines_read n (suc k) (w ∷ x ∷ ws) = line_event n w >>= λ e. lines_read (n + 1) k (x ∷ ws) >>= λ es. Ok (e ∷ es)
+abbrev pub lines_read : ChildNumbers → ℕ → ℕ → List (List ℕ) → Result (List HallEvent) LogFault
+lines_read nums n zero ws = Ok []
+lines_read nums n (suc k) [] = Err (fault.Shape n)
+lines_read nums n (suc k) (w ∷ []) = Err (fault.Shape n)
+lines_read nums n (suc k) (w ∷ x ∷ ws) = line_event nums n w >>= λ e. lines_read nums (n + 1) k (x ∷ ws) >>= λ es. Ok (e ∷ es)
 
 abbrev pub events_in : Result (List HallEvent) LogFault → List HallEvent
 events_in (Ok es) = es
 events_in (Err f) = []
 
 -- k lines are left from line n on, and each describes an event.
-pub record AreJudged (n k : ℕ) (rest : List ℕ) : Type 0 where
-  pub events : IsOk (lines_read n k (parts ascii.newline rest))
+pub record AreJudged (nums : ChildNumbers) (n k : ℕ) (rest : List ℕ) : Type 0 where
+  pub events : IsOk (lines_read nums n k (parts ascii.newline rest))
   pub few : n + k < 2 ^ 64
 
 -- `Ok k`: the first k lines from line n on are the events of the log. `Err f`: f is the first error.
 abbrev pub Judges : Version → ℕ → List (List ℕ) → Result ℕ LogFault → Type 0
-Judges v n ws (Ok k) = (lines_events v n ws ≡ lines_read n k ws) × IsOk (lines_read n k ws)
+Judges v n ws (Ok k) = (lines_events v n ws ≡ lines_read (numbers_in v) n k ws) × IsOk (lines_read (numbers_in v) n k ws)
 Judges v n ws (Err f) = lines_events v n ws ≡ Err f
 
 -- The rest of a log that is checked while it is read: its length in bytes, and the events or the error in it.
@@ -73,9 +74,9 @@ GivesNext old (Some e) new = GivesPart old (e ∷ []) new
 GivesNext old None new = (old.said ≡ Ok []) × (new ≡ old)
 
 -- The three numbers are within their limits, and the stamp contains them.
-pub record IsStampOf (script child moment : ℕ) (stamp : Stamp) : Type 0 where
+pub record IsStampOf (nums : ChildNumbers) (script child moment : ℕ) (stamp : Stamp) : Type 0 where
   pub script_fits : IsTrue (nat_le 1 script && nat_le script 64)
-  pub child_fits : IsTrue (nat_le 1 child && nat_le child 16)
+  pub child_fits : IsTrue (nat_le (least_child nums) child && nat_le child (most_child nums))
   pub moment_fits : moment ≤ 9000000000000000
   pub same : stamp ≡ record { script = script; child = child; moment = moment }
 
@@ -92,10 +93,10 @@ Decodes w (Some bytes) = (length w % 2 ≡ 0) × (all_lower_hex w ≡ true) × (
 Decodes w None = (length w % 2 == 0 && all_lower_hex w) ≡ false
 
 -- The line describes these bytes as output, whatever its line number.
-abbrev pub SaysPiece : List ℕ → Stamp → List ℕ → Type 0
-SaysPiece text stamp bytes = (n : ℕ) → line_event n text ≡ Ok (hall.Child stamp.script stamp.child stamp.moment (what.Out bytes))
+abbrev pub SaysPiece : ChildNumbers → List ℕ → Stamp → List ℕ → Type 0
+SaysPiece nums text stamp bytes = (n : ℕ) → line_event nums n text ≡ Ok (hall.Child stamp.script stamp.child stamp.moment (what.Out bytes))
 
 -- A correct line of output, whatever its line number. These digits encode the output.
-pub record IsPieceLine (text : List ℕ) (stamp : Stamp) (digits : List ℕ) : Type 0 where
+pub record IsPieceLine (nums : ChildNumbers) (text : List ℕ) (stamp : Stamp) (digits : List ℕ) : Type 0 where
   pub pairs : ArePairs digits
-  pub event : (n : ℕ) → line_event n text ≡ said_event n (line.Piece stamp digits)
+  pub event : (n : ℕ) → line_event nums n text ≡ said_event n (line.Piece stamp digits)

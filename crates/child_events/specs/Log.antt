@@ -1,10 +1,12 @@
--- The text of a log: one line per event, each ended by a newline. Version 2 adds a first line that names the version
--- and a last line with the number of events.
-use Rattle.std.specs.Prelude.{◌≡◌, ◌⊎◌, ℕ, ◌<◌, ◌^◌, nat_le, List, [], ◌∷◌, ◌++◌, length, codes, Bool, ◌&&◌, IsTrue}
-use Rattle.std.specs.List.{flat_map, AllByRecursion}
+-- The text of a log: one line per event, each ended by a newline. Versions 2 and 3 add a first line that names the
+-- version and a last line with the number of events. They differ in the numbers of children.
+use Rattle.std.specs.Prelude.{◌≡◌, ◌⊎◌, ℕ, ◌<◌, ◌^◌, nat_le, List, [], ◌∷◌, ◌++◌, length, codes, Bool, ◌&&◌, if◌then◌else◌, IsTrue}
+use Rattle.std.specs.List.{flat_map, list_all, AllByRecursion}
 use Rattle.std.specs.Fmt.{decimal}
 use Rattle.tcl_words.specs.Bytes as ascii
 use Rattle.hex.specs.Hex.{encode_lower, IsBytes}
+use Rattle.child_events.specs.declared.child_numbers.ChildNumbers.{ChildNumbers}
+use Rattle.child_events.specs.declared.child_numbers.ChildNumbers.TheVariants.{To16, To999}
 use Rattle.child_events.specs.declared.event.Cause.{Cause}
 use Rattle.child_events.specs.declared.event.Cause.TheVariants as cause
 use Rattle.child_events.specs.declared.event.Answer.TheVariants as answer
@@ -62,17 +64,35 @@ line_of e = joined ascii.space (fields_of e)
 abbrev pub lines_text : List HallEvent → List ℕ
 lines_text es = flat_map (λ e. line_of e ++ ascii.newline ∷ []) es
 
--- The first line of version 2, with its newline.
-abbrev pub heading : List ℕ
-heading = codes "exprun-log 2" ++ ascii.newline ∷ []
+-- The numbers of children from 1 to 16, in versions 1 and 2, or from 0 to 999, in version 3.
+abbrev pub least_child : ChildNumbers → ℕ
+least_child To16 = 1
+least_child To999 = 0
 
--- The last line of version 2, with its newline. n is the number of events before it.
+abbrev pub most_child : ChildNumbers → ℕ
+most_child To16 = 16
+most_child To999 = 999
+
+-- The length of the longest line, without its newline.
+abbrev pub longest : ChildNumbers → ℕ
+longest To16 = 8219
+longest To999 = 8220
+
+abbrev pub version_name : ChildNumbers → List ℕ
+version_name To16 = codes "exprun-log 2"
+version_name To999 = codes "exprun-log 3"
+
+-- The first line of versions 2 and 3, with its newline.
+abbrev pub heading : ChildNumbers → List ℕ
+heading nums = version_name nums ++ ascii.newline ∷ []
+
+-- The last line of versions 2 and 3, with its newline. n is the number of events before it.
 abbrev pub total_line : ℕ → List ℕ
 total_line n = joined ascii.space (codes "total" ∷ decimal n ∷ []) ++ ascii.newline ∷ []
 
--- The text of a list of events in version 2.
-abbrev pub counted_text : List HallEvent → List ℕ
-counted_text es = heading ++ lines_text es ++ total_line (length es)
+-- The text of a list of events in version 2 or 3.
+abbrev pub counted_text : ChildNumbers → List HallEvent → List ℕ
+counted_text nums es = heading nums ++ (lines_text es ++ total_line (length es))
 
 abbrev pub piece_len : What → ℕ
 piece_len (what.Out piece) = length piece
@@ -80,13 +100,18 @@ piece_len what.Eof = 0
 piece_len (what.ReadFail c) = 0
 piece_len (what.Answer a) = 0
 
--- The event is within the limits of a log. Scripts are numbered 1 to 64, children 1 to 16.
-abbrev pub fits : HallEvent → Bool
-fits (hall.Child s c m w) = nat_le 1 s && nat_le s 64 && nat_le 1 c && nat_le c 16 && nat_le m 9000000000000000 && nat_le (piece_len w) 4096
-fits (hall.Tick m) = nat_le m 9000000000000000
+-- The event is within the limits of a log with these numbers of children. Scripts are numbered 1 to 64.
+abbrev pub fits : ChildNumbers → HallEvent → Bool
+fits nums (hall.Child s c m w) =
+    nat_le 1 s && nat_le s 64 && nat_le (least_child nums) c && nat_le c (most_child nums) && nat_le m 9000000000000000 && nat_le (piece_len w) 4096
+fits nums (hall.Tick m) = nat_le m 9000000000000000
 
-abbrev pub AllFit : List HallEvent → Type 0
-AllFit es = AllByRecursion (λ e. IsTrue (fits e)) es
+abbrev pub AllFit : ChildNumbers → List HallEvent → Type 0
+AllFit nums es = AllByRecursion (λ e. IsTrue (fits nums e)) es
+
+-- Events are written in version 2 if it allows them, otherwise in version 3.
+abbrev pub numbers_of : List HallEvent → ChildNumbers
+numbers_of es = if list_all (fits To16) es then To16 else To999
 
 -- A piece consists of bytes, and an exit status is one byte.
 abbrev pub HoldsBytes : What → Type 0
@@ -103,18 +128,18 @@ IsOfBytes (hall.Child s c m w) = HoldsBytes w
 IsOfBytes (hall.Tick m) = Unit {0}
 
 -- The events are within the limits and consist of bytes.
-abbrev pub AreLogged : List HallEvent → Type 0
-AreLogged es = AllFit es × AllByRecursion IsOfBytes es
+abbrev pub AreLogged : ChildNumbers → List HallEvent → Type 0
+AreLogged nums es = AllFit nums es × AllByRecursion IsOfBytes es
 
 -- The bytes are the log of these events in version 1.
-abbrev pub LogText1 : List ℕ → List HallEvent → Type 0
-LogText1 bytes es = (bytes ≡ lines_text es) × AreLogged es
+abbrev pub PlainLog : List ℕ → List HallEvent → Type 0
+PlainLog bytes es = (bytes ≡ lines_text es) × AreLogged To16 es
 
--- The bytes are the log of these events in version 2, as the program writes it.
-abbrev pub LogText2 : List ℕ → List HallEvent → Type 0
-LogText2 bytes es = (bytes ≡ counted_text es) × AreLogged es
+-- The bytes are the log of these events in version 2 or 3.
+abbrev pub CountedLog : ChildNumbers → List ℕ → List HallEvent → Type 0
+CountedLog nums bytes es = (bytes ≡ counted_text nums es) × AreLogged nums es
 
--- The bytes are a log of these events, in version 1 or 2. A number in a log has at most sixteen digits, so the total
--- does too.
+-- The bytes are a log of these events, in any version. A number in a log has at most sixteen digits, so the total does
+-- too.
 abbrev pub LogText : List ℕ → List HallEvent → Type 0
-LogText bytes es = LogText1 bytes es ⊎ (LogText2 bytes es × (length es < 10 ^ 16))
+LogText bytes es = PlainLog bytes es ⊎ ((nums : ChildNumbers) × CountedLog nums bytes es × (length es < 10 ^ 16))

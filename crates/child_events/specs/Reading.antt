@@ -1,6 +1,6 @@
 -- The meaning of the lines of a log, or the first error. Lines count from 1, and the first bad line decides. Within a
--- line the length is checked first, then the shape, then the fields from left to right. In version 2 the first line
--- names the version, and the last one is the total.
+-- line the length is checked first, then the shape, then the fields from left to right. In versions 2 and 3 the first
+-- line names the version, and the last one is the total.
 use Rattle.std.specs.Prelude.{◌≡◌, ◌≢◌, ◌<◌, ℕ, ◌+◌, ◌-◌, ◌%◌, nat_le, nat_lt, ◌==◌, List, [], ◌∷◌, length, codes, Bool, true, false, not, ◌&&◌, ◌||◌, if◌then◌else◌, Option, Some, None, Result, Ok, Err, ⊤}
 use Rattle.std.specs.Borrow.{Bor}
 use Rattle.std.specs.Str.{bytes_eq, all_ascii_digits}
@@ -18,9 +18,11 @@ use Rattle.child_events.specs.declared.event.HallEvent.TheVariants as hall
 use Rattle.child_events.specs.declared.fields.Stamp.{Stamp}
 use Rattle.child_events.specs.declared.faults.LogFault.{LogFault}
 use Rattle.child_events.specs.declared.faults.LogFault.TheVariants as fault
+use Rattle.child_events.specs.declared.child_numbers.ChildNumbers.{ChildNumbers}
+use Rattle.child_events.specs.declared.child_numbers.ChildNumbers.TheVariants.{To16, To999}
 use Rattle.child_events.specs.declared.version.Version.{Version}
-use Rattle.child_events.specs.declared.version.Version.TheVariants.{First, Second}
-use Rattle.child_events.specs.Log.{joined, LogText}
+use Rattle.child_events.specs.declared.version.Version.TheVariants.{Plain, Counted}
+use Rattle.child_events.specs.Log.{joined, least_child, most_child, longest, version_name, LogText}
 
 -- Reads one part and then the next. The first error ends the reading.
 infixl 10 ◌>>=◌
@@ -112,10 +114,10 @@ abbrev pub moment_of : ℕ → List ℕ → Result ℕ LogFault
 moment_of n m = number_within n m 0 9000000000000000 (fault.Number n)
 
 -- The script, the child and the moment of an event.
-abbrev pub stamp_of : ℕ → List ℕ → List ℕ → List ℕ → Result Stamp LogFault
-stamp_of n s c m = do
+abbrev pub stamp_of : ChildNumbers → ℕ → List ℕ → List ℕ → List ℕ → Result Stamp LogFault
+stamp_of nums n s c m = do
   script ← number_within n s 1 64 (fault.NoSuchScript n)
-  child ← number_within n c 1 16 (fault.NoSuchChild n)
+  child ← number_within n c (least_child nums) (most_child nums) (fault.NoSuchChild n)
   moment ← moment_of n m
   Ok (record { script = script; child = child; moment = moment })
 
@@ -136,27 +138,31 @@ held_event n k x stamp =
     else if bytes_eq k (codes "exit") then stamped stamp (number_within n x 0 255 (fault.Number n) >>= λ status. Ok (what.Answer (answer.Exit status)))
     else failed_event n k x stamp
 
-abbrev pub event_of : ℕ → List (List ℕ) → Result HallEvent LogFault
-event_of n [] = Err (fault.Shape n)
-event_of n (k ∷ []) = Err (fault.Shape n)
-event_of n (k ∷ m ∷ []) = if bytes_eq k (codes "tick") then (moment_of n m >>= λ moment. Ok (hall.Tick moment)) else Err (fault.Shape n)
-event_of n (k ∷ s ∷ m ∷ []) = Err (fault.Shape n)
-event_of n (k ∷ s ∷ c ∷ m ∷ []) = or_fault (fault.Shape n) (what_alone k) >>= λ w. stamped (stamp_of n s c m) (Ok w)
-event_of n (k ∷ s ∷ c ∷ m ∷ x ∷ []) = held_event n k x (stamp_of n s c m)
-event_of n (k ∷ s ∷ c ∷ m ∷ x ∷ y ∷ more) = Err (fault.Shape n)
+-- The event of a line of two fields.
+abbrev pub tick_of : ℕ → List ℕ → List ℕ → Result HallEvent LogFault
+tick_of n k m = if bytes_eq k (codes "tick") then (moment_of n m >>= λ moment. Ok (hall.Tick moment)) else Err (fault.Shape n)
+
+abbrev pub event_of : ChildNumbers → ℕ → List (List ℕ) → Result HallEvent LogFault
+event_of nums n [] = Err (fault.Shape n)
+event_of nums n (k ∷ []) = Err (fault.Shape n)
+event_of nums n (k ∷ m ∷ []) = tick_of n k m
+event_of nums n (k ∷ s ∷ m ∷ []) = Err (fault.Shape n)
+event_of nums n (k ∷ s ∷ c ∷ m ∷ []) = or_fault (fault.Shape n) (what_alone k) >>= λ w. stamped (stamp_of nums n s c m) (Ok w)
+event_of nums n (k ∷ s ∷ c ∷ m ∷ x ∷ []) = held_event n k x (stamp_of nums n s c m)
+event_of nums n (k ∷ s ∷ c ∷ m ∷ x ∷ y ∷ more) = Err (fault.Shape n)
 
 abbrev pub any_empty : List (List ℕ) → Bool
 any_empty [] = false
 any_empty (w ∷ ws) = length w == 0 || any_empty ws
 
 -- The event that the fields of a line describe.
-abbrev pub fields_event : ℕ → List (List ℕ) → Result HallEvent LogFault
-fields_event n fields = if any_empty fields then Err (fault.Shape n) else event_of n fields
+abbrev pub fields_event : ChildNumbers → ℕ → List (List ℕ) → Result HallEvent LogFault
+fields_event nums n fields = if any_empty fields then Err (fault.Shape n) else event_of nums n fields
 
-abbrev pub line_event : ℕ → List ℕ → Result HallEvent LogFault
-line_event n line = if nat_lt 8219 (length line) then Err (fault.TooLong n) else fields_event n (parts ascii.space line)
+abbrev pub line_event : ChildNumbers → ℕ → List ℕ → Result HallEvent LogFault
+line_event nums n line = if nat_lt (longest nums) (length line) then Err (fault.TooLong n) else fields_event nums n (parts ascii.space line)
 
--- Only version 2 has a first line with its name and a last line with the number of events.
+-- Only versions 2 and 3 have a first line with their name and a last line with the number of events.
 
 abbrev pub first_word : List (List ℕ) → List ℕ
 first_word [] = []
@@ -165,14 +171,19 @@ first_word (w ∷ ws) = w
 -- The version that a first line names, or version 1 if it names none.
 abbrev pub version_of : List ℕ → Result Version LogFault
 version_of line =
-    if nat_lt 8219 (length line) || not (bytes_eq (first_word (parts ascii.space line)) (codes "exprun-log")) then Ok First
-    else if bytes_eq line (codes "exprun-log 2") then Ok Second
+    if nat_lt (longest To16) (length line) || not (bytes_eq (first_word (parts ascii.space line)) (codes "exprun-log")) then Ok Plain
+    else if bytes_eq line (version_name To16) then Ok (Counted To16)
+    else if bytes_eq line (version_name To999) then Ok (Counted To999)
     else Err (fault.Version 1)
+
+abbrev pub numbers_in : Version → ChildNumbers
+numbers_in Plain = To16
+numbers_in (Counted nums) = nums
 
 -- The line number of the first event.
 abbrev pub first_line : Version → ℕ
-first_line First = 1
-first_line Second = 2
+first_line Plain = 1
+first_line (Counted nums) = 2
 
 -- The total in line n, if its fields are those of a total. Otherwise the error f, for which the line is no event.
 abbrev pub total_of : ℕ → LogFault → List (List ℕ) → Result ℕ LogFault
@@ -183,8 +194,8 @@ total_of n f (k ∷ m ∷ x ∷ more) = Err f
 
 -- The total in line n. A line that is too long is no total, and version 1 has no total.
 abbrev pub line_total : Version → ℕ → LogFault → List ℕ → Result ℕ LogFault
-line_total First n f line = Err f
-line_total Second n f line = if nat_lt 8219 (length line) then Err f else total_of n f (parts ascii.space line)
+line_total Plain n f line = Err f
+line_total (Counted nums) n f line = if nat_lt (longest nums) (length line) then Err f else total_of n f (parts ascii.space line)
 
 -- Line n contains the number of events, and no bytes follow it.
 abbrev pub closed : ℕ → ℕ → ℕ → List (List ℕ) → Result ⊤ LogFault
@@ -193,15 +204,15 @@ closed n seen total behind =
     else if not (length (joined ascii.newline behind) == 0) then Err (fault.Total (n + 1))
     else Ok tt
 
--- The log ends before line n. Version 1 may end so, and version 2 lacks its total.
+-- The log ends before line n. Version 1 may end so, and the others lack their total.
 abbrev pub at_end : Version → ℕ → Result ⊤ LogFault
-at_end First n = Ok tt
-at_end Second n = Err (fault.Total n)
+at_end Plain n = Ok tt
+at_end (Counted nums) n = Err (fault.Total n)
 
 -- No bytes may follow the last newline.
 abbrev pub last_part : Version → ℕ → List ℕ → Result ⊤ LogFault
 last_part v n w =
-    if nat_lt 8219 (length w) then Err (fault.TooLong n)
+    if nat_lt (longest (numbers_in v)) (length w) then Err (fault.TooLong n)
     else if not (length w == 0) then Err (fault.Shape n)
     else at_end v n
 
@@ -222,16 +233,16 @@ with_line v n w (Err f) behind others = none_where (ended v n w f behind)
 abbrev pub lines_events : Version → ℕ → List (List ℕ) → Result (List HallEvent) LogFault
 lines_events v n [] = Ok []
 lines_events v n (w ∷ []) = none_where (last_part v n w)
-lines_events v n (w ∷ x ∷ ws) = with_line v n w (line_event n w) (x ∷ ws) (lines_events v (n + 1) (x ∷ ws))
+lines_events v n (w ∷ x ∷ ws) = with_line v n w (line_event (numbers_in v) n w) (x ∷ ws) (lines_events v (n + 1) (x ∷ ws))
 
 -- The events of a log whose first line names this version.
 abbrev pub version_events : List ℕ → List (List ℕ) → Version → Result (List HallEvent) LogFault
-version_events w behind First = lines_events First 1 (w ∷ behind)
-version_events w behind Second = lines_events Second 2 behind
+version_events w behind Plain = lines_events Plain 1 (w ∷ behind)
+version_events w behind (Counted nums) = lines_events (Counted nums) 2 behind
 
 abbrev pub parts_events : List (List ℕ) → Result (List HallEvent) LogFault
 parts_events [] = Ok []
-parts_events (w ∷ []) = lines_events First 1 (w ∷ [])
+parts_events (w ∷ []) = lines_events Plain 1 (w ∷ [])
 parts_events (w ∷ x ∷ ws) = version_of w >>= version_events w (x ∷ ws)
 
 abbrev pub log_events : List ℕ → Result (List HallEvent) LogFault

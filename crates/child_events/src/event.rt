@@ -71,7 +71,7 @@ pub enum Item {
 /// milliseconds.
 #[derive(Drop)]
 pub enum Event {
-    Child { child: u8, moment: u64, what: What },
+    Child { child: u16, moment: u64, what: What },
     Tick { moment: u64 },
 }
 
@@ -80,7 +80,7 @@ pub enum Event {
 pub enum HallEvent {
     Child {
         script: u8,
-        child: u8,
+        child: u16,
         moment: u64,
         what: What,
     },

@@ -14,13 +14,13 @@ pub enum LogFault {
     Hex(usize),
     /// A script number outside 1 to 64.
     NoSuchScript(usize),
-    /// A child number outside 1 to 16.
+    /// A child number that the version doesn't allow.
     NoSuchChild(usize),
-    /// A line of more than 8,219 bytes, or a piece of more than 4,096.
+    /// A line of more than 8,219 bytes, in version 3 8,220, or a piece of more than 4,096.
     TooLong(usize),
     /// A total that isn't the number of events before it, a line after it, or no total.
     Total(usize),
-    /// A version that isn't 2.
+    /// A version that is neither 2 nor 3.
     Version(usize),
     /// Memory was refused.
     Memory,

@@ -5,6 +5,7 @@ ghost use Rattle.std.specs.Str.{bytes_eq};
 ghost use Rattle.child_events.specs.Judging.{judged};
 ghost use Rattle.child_events.specs.Reading.{SplitsAt, starts_number as starts, digits_number as digits_number_of, number_of, or_fault, number_within as within, is_lower_hex_digit as is_digit, all_lower_hex, piece_of, cause_of, what_alone as alone_of, failed as failed_of, what_failed as failed_with, moment_of, stamp_of, any_empty as any_empty_of, Reads};
 
+use crate::child_numbers::ChildNumbers;
 use crate::digits::{Digits, decoded};
 use crate::event::{Answer, Cause, HallEvent, What};
 use crate::faults::LogFault;
@@ -17,9 +18,6 @@ pub(crate) const MOST_MOMENT: u64 = 9_000_000_000_000_000;
 
 /// The most decimal digits in a number.
 pub const MOST_DECIMALS: usize = 16;
-
-/// The most bytes in a line, without its newline.
-pub const LONGEST: usize = 8219;
 
 /// The most hexadecimal digits in a piece.
 pub const MOST_DIGITS: usize = 8192;
@@ -147,7 +145,7 @@ pub fn moment(line: usize, word: &[u8]) -> Result<u64, LogFault>
 #[derive(Clone, Copy)]
 pub struct Stamp {
     pub script: u8,
-    pub child: u8,
+    pub child: u16,
     pub moment: u64,
 }
 
@@ -166,15 +164,16 @@ impl Stamp {
 }
 
 /// Reads the script, the child and the moment of a line.
-pub fn read_stamp(line: usize, words: &StampWords) -> Result<Stamp, LogFault>
-    ensures { result ≡ stamp_of line words.now.script.now words.now.child.now words.now.moment.now }
+pub fn read_stamp(numbers: ChildNumbers, line: usize, words: &StampWords) -> Result<Stamp, LogFault>
+    ensures { result ≡ stamp_of numbers line words.now.script.now words.now.child.now words.now.moment.now }
 {
     let script = number_within(line, words.script, 1, 64, LogFault::NoSuchScript(line))?;
-    let child = number_within(line, words.child, 1, 16, LogFault::NoSuchChild(line))?;
+    let outside = LogFault::NoSuchChild(line);
+    let child = number_within(line, words.child, numbers.least(), numbers.most(), outside)?;
     let moment = moment(line, words.moment)?;
     Ok(Stamp {
         script: script as u8,
-        child: child as u8,
+        child: child as u16,
         moment,
     })
 }

@@ -5,7 +5,7 @@ ghost use Rattle.child_events.specs.Reading.{parts, first_line, last_part as las
 ghost use Rattle.child_events.specs.Judging.{Judges};
 
 use crate::faults::LogFault;
-use crate::fields::{LONGEST, split_line};
+use crate::fields::split_line;
 use crate::line::judge_line;
 use crate::version::{Version, close, line_total, version_of};
 
@@ -15,11 +15,11 @@ pub fn opened(bytes: &[u8]) -> Result<(Version, &[u8]), LogFault>
     ensures refused { IfErr result (λ f. log_events bytes.now ≡ Err f) }
 {
     let Some((line, behind)) = split_line(bytes) else {
-        return Ok((Version::First, bytes));
+        return Ok((Version::Plain, bytes));
     };
     match version_of(line)? {
-        Version::First => Ok((Version::First, bytes)),
-        Version::Second => Ok((Version::Second, behind)),
+        Version::Plain => Ok((Version::Plain, bytes)),
+        Version::Counted(numbers) => Ok((Version::Counted(numbers), behind)),
     }
 }
 
@@ -27,15 +27,15 @@ pub fn opened(bytes: &[u8]) -> Result<(Version, &[u8]), LogFault>
 pub fn last_part(version: Version, number: usize, rest: &[u8]) -> Result<(), LogFault>
     ensures { result ≡ last_of version number rest.now }
 {
-    if rest.len() > LONGEST {
+    if rest.len() > version.numbers().longest() {
         return Err(LogFault::TooLong(number));
     }
     if !rest.is_empty() {
         return Err(LogFault::Shape(number));
     }
     match version {
-        Version::First => Ok(()),
-        Version::Second => Err(LogFault::Total(number)),
+        Version::Plain => Ok(()),
+        Version::Counted(_) => Err(LogFault::Total(number)),
     }
 }
 
@@ -66,7 +66,7 @@ pub fn judge_lines(version: Version, first: usize, bytes: &[u8]) -> Result<usize
     let mut rest = bytes;
     let mut number = first;
     'lines: while let Some((line, behind)) = split_line(rest) {
-        match judge_line(number, line) {
+        match judge_line(version.numbers(), number, line) {
             Ok(()) => {
                 seen += 1;
                 rest = behind;

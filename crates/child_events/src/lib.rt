@@ -1,6 +1,7 @@
 //! Events of the children of scripts, the world that a script knows by them, and the log of events.
 #![tactic(auto)]
 
+mod child_numbers;
 mod counted;
 mod digits;
 mod event;
@@ -20,6 +21,7 @@ mod version;
 mod world;
 mod writing;
 
+pub use child_numbers::ChildNumbers;
 pub use counted::Counted;
 pub use event::{Answer, Cause, Event, HallEvent, Item, What, own_event};
 pub use faults::LogFault;

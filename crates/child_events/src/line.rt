@@ -1,15 +1,16 @@
 //! Reads a line of a log: its content, its error, and its event.
 
-ghost use Rattle.std.specs.Prelude.{◌≡◌, ◌∷◌, []};
-ghost use Rattle.child_events.specs.Reading.{parts, stamp_of, failed_event as failed_of, fields_event, line_event, Reads, SplitsAt};
+ghost use Rattle.std.specs.Prelude.{◌≡◌, ◌∷◌, [], Err, if◌then◌else◌};
+ghost use Rattle.child_events.specs.Reading.{parts, any_empty as any_empty_of, tick_of, stamp_of, failed_event as failed_of, fields_event, line_event, Reads, SplitsAt};
 ghost use Rattle.child_events.specs.Judging.{said_event, says, judged};
 
+use crate::child_numbers::ChildNumbers;
 use crate::digits::Digits;
 use crate::event::{Answer, HallEvent, What};
 use crate::faults::LogFault;
 use crate::fields::{
-    LONGEST, Stamp, StampWords, check_piece, is, moment, piece, read_stamp, split_first, status,
-    what_alone, what_failed,
+    Stamp, StampWords, check_piece, is, moment, piece, read_stamp, split_first, status, what_alone,
+    what_failed,
 };
 use crate::piece_line::{piece_line, read_piece};
 use std::alloc::Global;
@@ -48,7 +49,7 @@ impl LogLine<'_> {
 }
 
 fn tick_event(line: usize, kind: &[u8], word: &[u8]) -> Result<HallEvent, LogFault>
-    ensures { result ≡ fields_event line (kind.now ∷ word.now ∷ []) }
+    ensures { result ≡ (if any_empty_of (kind.now ∷ word.now ∷ []) then Err (LogFault.Shape line) else tick_of line kind.now word.now) }
 {
     if word.is_empty() || !is(kind, b"tick") {
         return Err(LogFault::Shape(line));
@@ -58,8 +59,13 @@ fn tick_event(line: usize, kind: &[u8], word: &[u8]) -> Result<HallEvent, LogFau
 }
 
 /// Reads the event of a child whose first word determines its content.
-fn bare_event(line: usize, kind: &[u8], words: &StampWords) -> Result<HallEvent, LogFault>
-    ensures { result ≡ fields_event line (kind.now ∷ words.now.script.now ∷ words.now.child.now ∷ words.now.moment.now ∷ []) }
+fn bare_event(
+    numbers: ChildNumbers,
+    line: usize,
+    kind: &[u8],
+    words: &StampWords,
+) -> Result<HallEvent, LogFault>
+    ensures { result ≡ fields_event numbers line (kind.now ∷ words.now.script.now ∷ words.now.child.now ∷ words.now.moment.now ∷ []) }
 {
     if words.any_empty() {
         return Err(LogFault::Shape(line));
@@ -67,59 +73,62 @@ fn bare_event(line: usize, kind: &[u8], words: &StampWords) -> Result<HallEvent,
     let Some(what) = what_alone(kind) else {
         return Err(LogFault::Shape(line));
     };
-    Ok(read_stamp(line, words)?.bring(what))
+    Ok(read_stamp(numbers, line, words)?.bring(what))
 }
 
 /// Reads the event of a child whose last word is a cause.
 fn failed_event(
+    numbers: ChildNumbers,
     line: usize,
     kind: &[u8],
     words: &StampWords,
     held: &[u8],
 ) -> Result<HallEvent, LogFault>
-    ensures { result ≡ failed_of line kind.now held.now (stamp_of line words.now.script.now words.now.child.now words.now.moment.now) }
+    ensures { result ≡ failed_of line kind.now held.now (stamp_of numbers line words.now.script.now words.now.child.now words.now.moment.now) }
 {
     let Some(what) = what_failed(kind, held) else {
         return Err(LogFault::Shape(line));
     };
-    Ok(read_stamp(line, words)?.bring(what))
+    Ok(read_stamp(numbers, line, words)?.bring(what))
 }
 
 fn failed_line<'a>(
+    numbers: ChildNumbers,
     line: usize,
     kind: &[u8],
     words: &StampWords,
     held: &[u8],
 ) -> Result<LogLine<'a>, LogFault>
-    ensures { says line result ≡ failed_of line kind.now held.now (stamp_of line words.now.script.now words.now.child.now words.now.moment.now) }
+    ensures { says line result ≡ failed_of line kind.now held.now (stamp_of numbers line words.now.script.now words.now.child.now words.now.moment.now) }
 {
-    let event = failed_event(line, kind, words, held)?;
+    let event = failed_event(numbers, line, kind, words, held)?;
     Ok(LogLine::Event(event))
 }
 
 /// Reads the event of a child whose last word is its value.
 fn held_line<'a>(
+    numbers: ChildNumbers,
     line: usize,
     kind: &[u8],
     words: &StampWords,
     held: Digits<'a>,
 ) -> Result<LogLine<'a>, LogFault>
-    ensures { says line result ≡ fields_event line (kind.now ∷ words.now.script.now ∷ words.now.child.now ∷ words.now.moment.now ∷ held.entry ∷ []) }
+    ensures { says line result ≡ fields_event numbers line (kind.now ∷ words.now.script.now ∷ words.now.child.now ∷ words.now.moment.now ∷ held.entry ∷ []) }
 {
     let word = held.word();
     if words.any_empty() || word.is_empty() {
         return Err(LogFault::Shape(line));
     }
     if is(kind, b"out") {
-        let stamp = read_stamp(line, words)?;
+        let stamp = read_stamp(numbers, line, words)?;
         return Ok(LogLine::Piece(stamp, held));
     }
     if is(kind, b"exit") {
-        let stamp = read_stamp(line, words)?;
+        let stamp = read_stamp(numbers, line, words)?;
         let status = status(line, word)?;
         return Ok(LogLine::Event(stamp.bring(What::Answer(Answer::Exit(status)))));
     }
-    failed_line(line, kind, words, word)
+    failed_line(numbers, line, kind, words, word)
 }
 
 /// Splits the last word at its first space, if it has one. Hexadecimal digits contain no space.
@@ -134,8 +143,8 @@ fn further<'a>(held: &Digits<'a>) -> Option<(&'a [u8], &'a [u8])>
 }
 
 /// Reads the fields of a line.
-fn read_fields(number: usize, line: &[u8]) -> Result<LogLine, LogFault>
-    ensures { says number result ≡ fields_event number (parts 32 line.now) }
+fn read_fields(numbers: ChildNumbers, number: usize, line: &[u8]) -> Result<LogLine, LogFault>
+    ensures { says number result ≡ fields_event numbers number (parts 32 line.now) }
 {
     let Some((kind, rest)) = split_first(line, b' ') else {
         return Err(LogFault::Shape(number));
@@ -153,7 +162,7 @@ fn read_fields(number: usize, line: &[u8]) -> Result<LogLine, LogFault>
             child,
             moment: rest,
         };
-        let event = bare_event(number, kind, &words)?;
+        let event = bare_event(numbers, number, kind, &words)?;
         return Ok(LogLine::Event(event));
     };
     let held = Digits::new(held);
@@ -165,37 +174,42 @@ fn read_fields(number: usize, line: &[u8]) -> Result<LogLine, LogFault>
         child,
         moment,
     };
-    held_line(number, kind, &words, held)
+    held_line(numbers, number, kind, &words, held)
 }
 
 /// Reads a line, which is given without its newline.
-fn read_words(number: usize, line: &[u8]) -> Result<LogLine, LogFault>
-    ensures { says number result ≡ line_event number line.now }
+fn read_words(numbers: ChildNumbers, number: usize, line: &[u8]) -> Result<LogLine, LogFault>
+    ensures { says number result ≡ line_event numbers number line.now }
 {
-    if line.len() > LONGEST {
+    if line.len() > numbers.longest() {
         return Err(LogFault::TooLong(number));
     }
-    read_fields(number, line)
+    read_fields(numbers, number, line)
 }
 
 /// Checks that a line describes an event. It does not allocate.
-pub fn judge_line(number: usize, line: &[u8]) -> Result<(), LogFault>
-    ensures { result ≡ judged (line_event number line.now) }
+pub fn judge_line(numbers: ChildNumbers, number: usize, line: &[u8]) -> Result<(), LogFault>
+    ensures { result ≡ judged (line_event numbers number line.now) }
 {
-    if let Some(_) = piece_line(line) {
+    if let Some(_) = piece_line(numbers, line) {
         return Ok(());
     }
-    let said = read_words(number, line)?;
+    let said = read_words(numbers, number, line)?;
     said.check(number)
 }
 
 /// Reads the event that a line describes.
-pub fn read_line(alloc: Global, number: usize, line: &[u8]) -> Result<HallEvent, LogFault>
-    ensures { Reads result (line_event number line.now) }
+pub fn read_line(
+    alloc: Global,
+    numbers: ChildNumbers,
+    number: usize,
+    line: &[u8],
+) -> Result<HallEvent, LogFault>
+    ensures { Reads result (line_event numbers number line.now) }
 {
-    if let Some((stamp, piece)) = read_piece(alloc, line)? {
+    if let Some((stamp, piece)) = read_piece(alloc, numbers, line)? {
         return Ok(stamp.bring(What::Out(piece)));
     }
-    let said = read_words(number, line)?;
+    let said = read_words(numbers, number, line)?;
     said.event(alloc, number)
 }

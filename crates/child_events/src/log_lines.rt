@@ -3,7 +3,7 @@
 ghost use Rattle.std.specs.Prelude.{◌≡◌, ◌≢◌, ◌+◌, ◌<◌, ◌^◌, [], List, Result, length, Ok, Err, IfOk, IfErr, OnErr};
 ghost use Rattle.child_events.specs.declared.event.HallEvent.{HallEvent as HallEventOf};
 ghost use Rattle.child_events.specs.declared.faults.LogFault.{LogFault as LogFaultOf};
-ghost use Rattle.child_events.specs.Reading.{parts, line_event, none_where, with_line, Reads, Refused};
+ghost use Rattle.child_events.specs.Reading.{parts, line_event, numbers_in, none_where, with_line, Reads, Refused};
 ghost use Rattle.child_events.specs.Judging.{judged, SaysLog, GivesPart, GivesNext};
 
 use crate::event::HallEvent;
@@ -42,9 +42,9 @@ impl<'a> Model for LogLines<'a> {
 /// refused.
 fn end_at(version: Version, number: usize, line: &[u8], behind: &[u8]) -> Result<(), LogFault>
     requires { number + 1 < 2 ^ 64 }
-    ensures { (others : Result (List HallEventOf) LogFaultOf) → Reads (none_where result) (with_line version number line.now (line_event number line.now) (parts 10 behind.now) others) }
+    ensures { (others : Result (List HallEventOf) LogFaultOf) → Reads (none_where result) (with_line version number line.now (line_event (numbers_in version) number line.now) (parts 10 behind.now) others) }
 {
-    match judge_line(number, line) {
+    match judge_line(version.numbers(), number, line) {
         Ok(()) => Err(LogFault::Memory),
         Err(fault) => end(version, number, line, fault, behind),
     }
@@ -94,7 +94,7 @@ impl<'a> LogLines<'a> {
             last_part(self.version, self.number, self.rest)?;
             return Ok(None);
         };
-        match read_line(alloc, self.number, line) {
+        match read_line(alloc, self.version.numbers(), self.number, line) {
             Ok(event) => {
                 *self = LogLines {
                     version: self.version,

@@ -4,6 +4,7 @@ ghost use Rattle.std.specs.Prelude.{◌≡◌, ◌∷◌, ◌<◌, ◌≤◌, le
 ghost use Rattle.child_events.specs.Log.{LogText};
 ghost use Rattle.child_events.specs.Reading.{parts, first_line, last_part as last_of, lines_events, log_events, Refused};
 
+use crate::child_numbers::ChildNumbers;
 use crate::event::HallEvent;
 use crate::faults::LogFault;
 use crate::fields::split_line;
@@ -18,6 +19,7 @@ use std::marker::Model;
 /// the bytes.
 #[derive(Drop)]
 pub struct LogReader<'a> {
+    numbers: ChildNumbers,
     rest: &'a [u8],
     /// The number of the next line.
     number: usize,
@@ -33,9 +35,9 @@ impl<'a> Model for LogReader<'a> {
 
     ghost Value = { List HallEvent };
 
-    ghost view = { λ r. events_in (lines_read r.number r.left (parts 10 r.rest.now)) };
+    ghost view = { λ r. events_in (lines_read r.numbers r.number r.left (parts 10 r.rest.now)) };
 
-    ghost invariant = { λ r. AreJudged r.number r.left r.rest.now };
+    ghost invariant = { λ r. AreJudged r.numbers r.number r.left r.rest.now };
 }
 
 impl<'a> LogReader<'a> {
@@ -45,13 +47,14 @@ impl<'a> LogReader<'a> {
     {
         let left = judge_lines(version, version.first_line(), bytes)?;
         Ok(LogReader {
+            numbers: version.numbers(),
             rest: bytes,
             number: version.first_line(),
             left,
         })
     }
 
-    /// Checks a log of either version.
+    /// Checks a log of any version.
     fn of_log(bytes: &'a [u8]) -> Result<LogReader<'a>, LogFault>
         ensures { result ≡ log_events bytes.now }
     {
@@ -85,9 +88,10 @@ impl<'a> LogReader<'a> {
         let Some((line, behind)) = split_line(self.rest) else {
             unreachable!()
         };
-        match read_line(alloc, self.number, line) {
+        match read_line(alloc, self.numbers, self.number, line) {
             Ok(event) => {
                 *self = LogReader {
+                    numbers: self.numbers,
                     rest: behind,
                     number: self.number + 1,
                     left: self.left - 1,
@@ -106,6 +110,7 @@ impl<'a> LogReader<'a> {
     {
         let count = most.min(self.left);
         let mut reader = LogReader {
+            numbers: self.numbers,
             rest: self.rest,
             number: self.number,
             left: self.left,

@@ -5,8 +5,9 @@ ghost use Rattle.std.specs.Bool.{OnTrue};
 ghost use Rattle.child_events.specs.Reading.{parts, digits_number, NumberFirst};
 ghost use Rattle.child_events.specs.Judging.{ArePairs, IsPieceLine, IsStampOf, SaysPiece};
 
+use crate::child_numbers::ChildNumbers;
 use crate::digits::{decoded, is_lower_hex};
-use crate::fields::{LONGEST, MOST_DECIMALS, MOST_DIGITS, MOST_MOMENT, Stamp, starts_number};
+use crate::fields::{MOST_DECIMALS, MOST_DIGITS, MOST_MOMENT, Stamp, starts_number};
 use std::alloc::{AllocError, Global};
 use tcl_words::Text;
 
@@ -91,15 +92,18 @@ fn are_pairs(digits: &[u8]) -> bool
 }
 
 /// Returns the stamp, if the three numbers are within their limits.
-fn stamp_of(script: u64, child: u64, moment: u64) -> Option<Stamp>
-    ensures { IfSome result (λ stamp. IsStampOf script child moment stamp) }
+fn stamp_of(numbers: ChildNumbers, script: u64, child: u64, moment: u64) -> Option<Stamp>
+    ensures { IfSome result (λ stamp. IsStampOf numbers script child moment stamp) }
 {
-    if script < 1 || 64 < script || child < 1 || 16 < child || MOST_MOMENT < moment {
+    if script < 1 || 64 < script || MOST_MOMENT < moment {
+        return None;
+    }
+    if child < numbers.least() || numbers.most() < child {
         return None;
     }
     Some(Stamp {
         script: script as u8,
-        child: child as u8,
+        child: child as u16,
         moment,
     })
 }
@@ -108,26 +112,26 @@ fn stamp_of(script: u64, child: u64, moment: u64) -> Option<Stamp>
 /// contains the digits of a non-empty piece.
 ///
 /// `None` says nothing about the line.
-fn head(line: &[u8]) -> Option<(Stamp, &[u8])>
-    ensures { IfSome result (λ found. ArePairs found.1.now → IsPieceLine line.now found.0 found.1.now) }
+fn head(numbers: ChildNumbers, line: &[u8]) -> Option<(Stamp, &[u8])>
+    ensures { IfSome result (λ found. ArePairs found.1.now → IsPieceLine numbers line.now found.0 found.1.now) }
 {
-    if line.len() > LONGEST {
+    if line.len() > numbers.longest() {
         return None;
     }
     let rest = behind_out(line)?;
     let (script, rest) = small_number(rest)?;
     let (child, rest) = small_number(rest)?;
     let (moment, digits) = leading_number(rest)?;
-    let stamp = stamp_of(script, child, moment)?;
+    let stamp = stamp_of(numbers, script, child, moment)?;
     Some((stamp, digits))
 }
 
 /// Returns the stamp and the digits of a correct line of output. `None` says nothing about the
 /// line.
-pub fn piece_line(line: &[u8]) -> Option<(Stamp, &[u8])>
-    ensures { IfSome result (λ found. IsPieceLine line.now found.0 found.1.now) }
+pub fn piece_line(numbers: ChildNumbers, line: &[u8]) -> Option<(Stamp, &[u8])>
+    ensures { IfSome result (λ found. IsPieceLine numbers line.now found.0 found.1.now) }
 {
-    let (stamp, digits) = head(line)?;
+    let (stamp, digits) = head(numbers, line)?;
     if !are_pairs(digits) {
         return None;
     }
@@ -138,10 +142,14 @@ pub fn piece_line(line: &[u8]) -> Option<(Stamp, &[u8])>
 ///
 /// `None` says nothing about the line.
 #[tactic(auto, using(crate::proofs::Pieces::piece_read))]
-pub fn read_piece(alloc: Global, line: &[u8]) -> Result<Option<(Stamp, Text)>, AllocError>
-    ensures { IfOk result (λ found. IfSome found (λ p. SaysPiece line.now p.0 p.1)) }
+pub fn read_piece(
+    alloc: Global,
+    numbers: ChildNumbers,
+    line: &[u8],
+) -> Result<Option<(Stamp, Text)>, AllocError>
+    ensures { IfOk result (λ found. IfSome found (λ p. SaysPiece numbers line.now p.0 p.1)) }
 {
-    let Some((stamp, digits)) = head(line) else {
+    let Some((stamp, digits)) = head(numbers, line) else {
         return Ok(None);
     };
     if digits.is_empty() || digits.len() > MOST_DIGITS {

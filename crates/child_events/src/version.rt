@@ -1,29 +1,40 @@
-//! The versions of a log, and the first and the last line of version 2.
+//! The versions of a log, and the first and the last line of versions 2 and 3.
 
 ghost use Rattle.std.specs.Prelude.{◌≡◌, ◌+◌, ◌<◌, ◌^◌, codes};
 ghost use Rattle.std.specs.Str.{bytes_eq};
-ghost use Rattle.child_events.specs.Reading.{parts, first_word, version_of as version_of_line, first_line, total_of as total_of_fields, line_total as total_of_line, closed};
+ghost use Rattle.child_events.specs.Reading.{parts, first_word, version_of as version_of_line, numbers_in, first_line, total_of as total_of_fields, line_total as total_of_line, closed};
 
+use crate::child_numbers::ChildNumbers;
 use crate::faults::LogFault;
-use crate::fields::{LONGEST, any_number, is, split_first};
+use crate::fields::{any_number, is, split_first};
 
 /// The version of a log.
 #[derive(Clone, Copy, PartialEq, Eq)]
 pub enum Version {
-    /// Only lines of events.
-    First,
-    /// The line of the version, lines of events, and a line with their number.
-    Second,
+    /// Version 1: only lines of events.
+    Plain,
+    /// Version 2 or 3: the line of the version, lines of events, and a line with their number.
+    Counted(ChildNumbers),
 }
 
 impl Version {
+    /// Returns the numbers of children that the version allows.
+    pub fn numbers(self) -> ChildNumbers
+        ensures { result ≡ numbers_in self }
+    {
+        match self {
+            Version::Plain => ChildNumbers::To16,
+            Version::Counted(numbers) => numbers,
+        }
+    }
+
     /// Returns the line number of the first event, counted from 1.
     pub fn first_line(self) -> usize
         ensures { result ≡ first_line self }
     {
         match self {
-            Version::First => 1,
-            Version::Second => 2,
+            Version::Plain => 1,
+            Version::Counted(_) => 2,
         }
     }
 }
@@ -43,10 +54,12 @@ fn names_format(line: &[u8]) -> bool
 pub fn version_of(line: &[u8]) -> Result<Version, LogFault>
     ensures { result ≡ version_of_line line.now }
 {
-    if line.len() > LONGEST || !names_format(line) {
-        Ok(Version::First)
+    if line.len() > ChildNumbers::To16.longest() || !names_format(line) {
+        Ok(Version::Plain)
     } else if is(line, b"exprun-log 2") {
-        Ok(Version::Second)
+        Ok(Version::Counted(ChildNumbers::To16))
+    } else if is(line, b"exprun-log 3") {
+        Ok(Version::Counted(ChildNumbers::To999))
     } else {
         Err(LogFault::Version(1))
     }
@@ -78,9 +91,9 @@ pub fn line_total(
     ensures { result ≡ total_of_line version line fault text.now }
 {
     match version {
-        Version::First => Err(fault),
-        Version::Second if text.len() > LONGEST => Err(fault),
-        Version::Second => total_of(line, text, fault),
+        Version::Plain => Err(fault),
+        Version::Counted(numbers) if text.len() > numbers.longest() => Err(fault),
+        Version::Counted(_) => total_of(line, text, fault),
     }
 }
 

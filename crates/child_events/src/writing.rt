@@ -5,8 +5,10 @@ ghost use Rattle.std.specs.Prelude.{◌≡◌, ◌<◌, ◌++◌, ◌∷◌, [],
 ghost use Rattle.std.specs.List.{flat_map, AllByRecursion};
 ghost use Rattle.std.specs.Fmt.{decimal};
 ghost use Rattle.hex.specs.Hex.{IsBytes};
-ghost use Rattle.child_events.specs.Log.{cause_text, fits as fits_meant, piece_len as piece_len_of, hex_text, kind_text, held_text, line_of, heading, lines_text, total_line, AllFit, LogText2, HoldsBytes, IsOfBytes};
+ghost use Rattle.child_events.specs.declared.child_numbers.ChildNumbers.TheVariants.{To999};
+ghost use Rattle.child_events.specs.Log.{cause_text, fits as fits_meant, piece_len as piece_len_of, hex_text, kind_text, held_text, line_of, version_name, heading, lines_text, total_line, AllFit, numbers_of as numbers_meant, CountedLog, HoldsBytes, IsOfBytes};
 
+use crate::child_numbers::ChildNumbers;
 use crate::event::{Answer, Cause, HallEvent, What};
 use crate::fields::MOST_MOMENT;
 use std::alloc::{AllocError, Global};
@@ -157,9 +159,9 @@ fn piece_len(what: &What) -> usize
     }
 }
 
-/// Returns whether an event is within the limits of a log.
-fn fits_alone(event: &HallEvent) -> bool
-    ensures { result ≡ fits_meant event.now }
+/// Returns whether an event is within the limits of a log with these numbers of children.
+fn fits_alone(numbers: ChildNumbers, event: &HallEvent) -> bool
+    ensures { result ≡ fits_meant numbers event.now }
 {
     match event {
         HallEvent::Child {
@@ -169,7 +171,8 @@ fn fits_alone(event: &HallEvent) -> bool
             what,
         } => {
             (1..=64).contains(script)
-                && (1..=16).contains(child)
+                && numbers.least() <= u64::from(*child)
+                && u64::from(*child) <= numbers.most()
                 && *moment <= MOST_MOMENT
                 && piece_len(what) <= LONGEST_PIECE
         }
@@ -177,19 +180,44 @@ fn fits_alone(event: &HallEvent) -> bool
     }
 }
 
-/// Returns whether events can be written to a log. Scripts are numbered 1 to 64 and children 1 to
-/// 16. A moment is at most 9,000,000,000,000,000 milliseconds, and a piece at most 4,096 bytes.
-pub fn fits(events: &[HallEvent]) -> bool
-    ensures { Decides result (AllFit events.now) }
+/// Returns whether a log with these numbers of children can have the events. Scripts are numbered 1
+/// to 64. A moment is at most 9,000,000,000,000,000 milliseconds, and a piece at most 4,096 bytes.
+pub fn fits(numbers: ChildNumbers, events: &[HallEvent]) -> bool
+    ensures { Decides result (AllFit numbers events.now) }
 {
-    events.iter().all(|event| fits_alone(event))
+    events.iter().all(|event| fits_alone(numbers, event))
 }
 
-/// Appends the first line of a log in version 2.
-pub fn push_heading(text: &mut Text) -> Result<(), AllocError>
-    ensures { OnOk result (text.new ≡ text.old ++ heading) }
+/// Returns the numbers of children in the log that `write_log` writes of these events.
+#[tactic(auto, using(crate::proofs::Whole::in_version_2, crate::proofs::Whole::in_version_3))]
+fn numbers_of(events: &[HallEvent]) -> ChildNumbers
+    requires { AllFit To999 events.now }
+    ensures value { result ≡ numbers_meant events.now }
+    ensures fit { AllFit result events.now }
 {
-    text.extend(b"exprun-log 2\n")
+    if fits(ChildNumbers::To16, events) {
+        ChildNumbers::To16
+    } else {
+        ChildNumbers::To999
+    }
+}
+
+/// Returns the first line of a log in version 2 or 3, without its newline.
+fn version_line(numbers: ChildNumbers) -> &'static [u8]
+    ensures { result.now ≡ version_name numbers }
+{
+    match numbers {
+        ChildNumbers::To16 => b"exprun-log 2",
+        ChildNumbers::To999 => b"exprun-log 3",
+    }
+}
+
+/// Appends the first line of a log in version 2 or 3.
+pub fn push_heading(text: &mut Text, numbers: ChildNumbers) -> Result<(), AllocError>
+    ensures { OnOk result (text.new ≡ text.old ++ heading numbers) }
+{
+    text.extend(version_line(numbers))?;
+    end_line(text)
 }
 
 /// Appends one line per event.
@@ -204,7 +232,7 @@ pub fn push_lines(alloc: Global, text: &mut Text, events: &[HallEvent]) -> Resul
     Ok(())
 }
 
-/// Appends the last line of a log in version 2. `count` is the number of events before it.
+/// Appends the last line of a log in version 2 or 3. `count` is the number of events before it.
 pub fn push_total(alloc: Global, text: &mut Text, count: u64) -> Result<(), AllocError>
     ensures { OnOk result (text.new ≡ text.old ++ total_line count) }
 {
@@ -213,13 +241,15 @@ pub fn push_total(alloc: Global, text: &mut Text, count: u64) -> Result<(), Allo
     end_line(text)
 }
 
-/// Returns the log of these events in version 2. Requires that `fits` holds.
+/// Returns the log of these events: in version 2 if all children are numbered 1 to 16, otherwise in
+/// version 3. Requires that they fit into version 3.
 pub fn write_log(alloc: Global, events: &[HallEvent]) -> Result<Text, AllocError>
-    requires { AllFit events.now }
-    ensures { IfOk result (λ t. LogText2 t events.now) }
+    requires { AllFit To999 events.now }
+    ensures { IfOk result (λ t. CountedLog (numbers_meant events.now) t events.now) }
 {
+    let numbers = numbers_of(events);
     let mut text = Text::new(alloc);
-    push_heading(&mut text)?;
+    push_heading(&mut text, numbers)?;
     push_lines(alloc, &mut text, events)?;
     push_total(alloc, &mut text, events.len() as u64)?;
     Ok(text)

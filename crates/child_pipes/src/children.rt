@@ -32,12 +32,12 @@ const LONGEST_PAUSE: u64 = 20_000;
 
 /// A child that was started.
 #[derive(Drop)]
-struct Place {
+struct RunningChild {
     input: Option<PipeWriter>,
     held: Arc<Held>,
 }
 
-impl Place {
+impl RunningChild {
     /// Writes bytes to the child. Gives up once its script has ended.
     fn write(&mut self, bytes: &[u8]) -> Result<(), Cause> {
         let Some(input) = &mut self.input else {
@@ -72,7 +72,7 @@ pub(crate) struct Children<R: Programs + Wait + Clock + Drop> {
     alloc: Global,
     /// The number of the script.
     script: u64,
-    places: Vec<Option<Place>>,
+    children: Vec<Option<RunningChild>>,
     reaper: Reaper,
     /// Takes the standard errors of children, if each child has its own.
     errors: Option<ErrorPipes>,
@@ -106,8 +106,7 @@ fn split(argv: &Texts) -> Option<(&str, &[Text])> {
 }
 
 impl<R: Programs + Wait + Clock + Drop> Children<R> {
-    /// Creates the places of a script's children, with no child. `script` is the number of the
-    /// script.
+    /// Creates the children of a script: none yet. `script` is its number.
     pub(crate) fn new(
         rt: R,
         alloc: Global,
@@ -116,24 +115,24 @@ impl<R: Programs + Wait + Clock + Drop> Children<R> {
         errors: Option<ErrorPipes>,
         cancellation: Arc<Cancellation>,
     ) -> Result<Children<R>, AllocError> {
-        let mut places = Vec::with_capacity(alloc, CHILDREN)?;
+        let mut children = Vec::with_capacity(alloc, CHILDREN)?;
         for _ in 0..CHILDREN {
-            places.push(None)?;
+            children.push(None)?;
         }
         Ok(Children {
             rt,
             alloc,
             script,
-            places,
+            children,
             reaper,
             errors,
             cancellation,
         })
     }
 
-    fn place(&mut self, child: u8) -> Option<&mut Place> {
-        let place = self.places.get_mut(usize::from(child).checked_sub(1)?)?;
-        place.as_mut()
+    fn running(&mut self, child: u8) -> Option<&mut RunningChild> {
+        let running = self.children.get_mut(usize::from(child).checked_sub(1)?)?;
+        running.as_mut()
     }
 
     /// Shares a started program between its keeper, its reader and the reaper. Kills it if memory is refused.
@@ -179,7 +178,7 @@ impl<R: Programs + Wait + Clock + Drop> Children<R> {
         let Some(index) = usize::from(child).checked_sub(1) else {
             return Err(Cause::Other);
         };
-        if index >= self.places.len() {
+        if index >= self.children.len() {
             return Err(Cause::Other);
         }
         let started = match self
@@ -204,48 +203,48 @@ impl<R: Programs + Wait + Clock + Drop> Children<R> {
             held.kill(&self.rt);
             return Err(Cause::Memory);
         }
-        let place = Place {
+        let child = RunningChild {
             input: Some(input),
             held,
         };
-        drop(mem::replace(&mut self.places[index], Some(place)));
+        drop(mem::replace(&mut self.children[index], Some(child)));
         Ok(Output::new(out, theirs))
     }
 
     /// Writes bytes to a child.
     pub(crate) fn write(&mut self, child: u8, bytes: &[u8]) -> Result<(), Cause> {
-        match self.place(child) {
-            Some(place) => place.write(bytes),
+        match self.running(child) {
+            Some(running) => running.write(bytes),
             None => Err(Cause::Other),
         }
     }
 
     /// Ends the input of a child.
     pub(crate) fn end(&mut self, child: u8) -> Result<(), Cause> {
-        let Some(place) = self.place(child) else {
+        let Some(running) = self.running(child) else {
             return Err(Cause::Other);
         };
-        place.input = None;
+        running.input = None;
         Ok(())
     }
 
     /// Ends the input of a child, and drops its later output.
     pub(crate) fn close(&mut self, child: u8) -> Result<(), Cause> {
         self.end(child)?;
-        let Some(place) = self.place(child) else {
+        let Some(running) = self.running(child) else {
             return Err(Cause::Other);
         };
-        place.held.close();
+        running.held.close();
         Ok(())
     }
 
     /// Waits for a child to end. Gives up once its script has ended.
     pub(crate) fn wait(&mut self, child: u8) -> Answer {
-        let place = usize::from(child)
+        let running = usize::from(child)
             .checked_sub(1)
-            .and_then(|at| self.places.get(at));
-        match place {
-            Some(Some(place)) => wait_for(&self.rt, &place.held),
+            .and_then(|at| self.children.get(at));
+        match running {
+            Some(Some(running)) => wait_for(&self.rt, &running.held),
             _ => Answer::Fail(Cause::Other),
         }
     }
@@ -278,7 +277,7 @@ impl<R: Programs + Wait + Clock + Drop> Drop for Children<R> {
             rt: _,
             alloc: _,
             script: _,
-            places: _,
+            children: _,
             reaper: _,
             errors: _,
             cancellation: _,

@@ -1,6 +1,7 @@
 -- What a worker has served, from what its desk keeps.
 use Rattle.std.proofs.Common.{◌≡◌, ◌≢◌, ◌⊎◌, inl, inr, ℕ, zero, suc, ◌+◌, ◌-◌, ◌*◌, ◌≤◌, ◌<◌, List, [], ◌∷◌, length, map, Bool, true, false, ◌&&◌, Option, None, Some, refl, sym, ap, subst, ◌∙◌, arith}
 use Rattle.std.specs.Prelude.{slice_get, Contains, nat_le, IsTrue, if◌then◌else◌}
+use Rattle.child_events.specs.declared.child_numbers.ChildNumbers.TheVariants.{To16}
 use Rattle.child_events.specs.declared.event.Answer.{Answer}
 use Rattle.child_events.specs.declared.event.What.{What}
 use Rattle.child_events.specs.declared.event.What.TheVariants as what
@@ -68,27 +69,27 @@ six_true true false c d e f ha hb hc hd he hf = absurd (cc)
 six_true false b c d e f ha hb hc hd he hf = absurd (cc)
 
 -- under another number, too
-child_fits : (scripts s c m n : ℕ) (w : What) → Limits scripts s c m w → 1 ≤ n → n ≤ 64 → IsTrue (fits (hall.Child n c m w))
+child_fits : (scripts s c m n : ℕ) (w : What) → Limits scripts s c m w → 1 ≤ n → n ≤ 64 → IsTrue (fits To16 (hall.Child n c m w))
 child_fits scripts s c m n w l low high =
     six_true (nat_le 1 n) (nat_le n 64) (nat_le 1 c) (nat_le c 16) (nat_le m 9000000000000000) (nat_le (piece_len w) 4096)
     (le_true 1 n low) (le_true n 64 high) (le_true 1 c l.child_low) (le_true c 16 l.child_high) (le_true m 9000000000000000 l.moment_high)
     (le_true (piece_len w) 4096 (subst (λ (k : ℕ). k ≤ 4096) (same_len w) l.few))
 
-tick_fits : (scripts m : ℕ) → refusal_of scripts (hall.Tick m) ≡ None → IsTrue (fits (hall.Tick m))
+tick_fits : (scripts m : ℕ) → refusal_of scripts (hall.Tick m) ≡ None → IsTrue (fits To16 (hall.Tick m))
 tick_fits scripts m h = by_test (nat_le m 9000000000000000) refl h
   where
     by_test : (t : Bool) → nat_le m 9000000000000000 ≡ t → ◌≡◌ {A = Option HallRefusal} (if t then None else Some MomentTooLarge) None → nat_le m 9000000000000000 ≡ true
     by_test true e h = e
     by_test false e h = absurd (cc)
 
-all_fit : (scripts last : ℕ) (es : List HallEvent) → scripts ≤ 64 → AllTaken scripts last es → AllFit es
+all_fit : (scripts last : ℕ) (es : List HallEvent) → scripts ≤ 64 → AllTaken scripts last es → AllFit To16 es
 all_fit scripts last [] few t = tt
 all_fit scripts last (hall.Child s c m w ∷ es) few t =
     let l = limits scripts s c m w t.0.0 in
     (child_fits scripts s c m s w l l.script_low (let h = l.script_high in omega (arith, h, few)), all_fit scripts last es few t.1)
 all_fit scripts last (hall.Tick m ∷ es) few t = (tick_fits scripts m t.0.0, all_fit scripts last es few t.1)
 
-all_among : (n w scripts last : ℕ) (es : List HallEvent) → ((number : ℕ) → 1 ≤ number → number ≤ scripts → script_of n w number ≤ 64) → AllTaken scripts last es → AllFit (map (numbered n w) es)
+all_among : (n w scripts last : ℕ) (es : List HallEvent) → ((number : ℕ) → 1 ≤ number → number ≤ scripts → script_of n w number ≤ 64) → AllTaken scripts last es → AllFit To16 (map (numbered n w) es)
 all_among n w scripts last [] numbers t = tt
 all_among n w scripts last (hall.Child s c m x ∷ es) numbers t =
     let l = limits scripts s c m x t.0.0 in

@@ -1,6 +1,7 @@
 -- What serving scripts means.
 use Rattle.std.specs.Prelude.{◌≡◌, ◌≢◌, ◌⊎◌, ◌≤◌, ℕ, ◌+◌, List, [], ◌∷◌, map, length, slice_get, Bool, false, ◌||◌, IsTrue, Option, Some, None, option_map, Contains}
 use Rattle.std.specs.List.{flat_map}
+use Rattle.child_events.specs.declared.child_numbers.ChildNumbers.TheVariants.{To16}
 use Rattle.child_events.specs.declared.event.Answer.{Answer}
 use Rattle.child_events.specs.declared.event.Event.{Event}
 use Rattle.child_events.specs.declared.event.HallEvent.{HallEvent}
@@ -98,5 +99,5 @@ module _ (told : ℕ → ℕ → Request → Answer → Type 0) (gives : ℕ →
     pub records : List (List HallEvent)
     pub each : length records ≡ workers
     pub joined : IsJoined records es
-    pub fits : AllFit es
+    pub fits : AllFit To16 es
     pub taken : first_refusal (length scripts) 0 es ≡ None

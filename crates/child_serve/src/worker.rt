@@ -15,10 +15,11 @@ use crate::hands::{Hand, start};
 use crate::rounds::{end_record, turn_all};
 use crate::served::{Served, Unsettled, WorkerResult};
 use crate::stopping::Stopping;
-use child_desk::{Book, Desk, Ends, Outcome, ScriptState};
+use child_desk::{Book, Desk, Ends, Outcome, ScriptState, stop_all};
 use child_hands::{Clock, Fresh, Gate, HandEnd, Keeper, LogItem, RingItem, Work};
 use dialogue_sched::{Hall, HallFault, Script};
 use feed_rings::{Bell, FeedIn, Finished, Ringer};
+use run_records::WorkerIndex;
 use std::alloc::{AllocError, AllocFailed, Global};
 use std::sync::atomic::{AtomicU64, Ordering};
 use std::sync::{Arc, Wait};
@@ -64,16 +65,6 @@ impl Drop for Over {
         } = self;
         ended.fetch_add(1, Ordering::SeqCst);
     }
-}
-
-/// The number of workers, and a worker's index, from 0. Its scripts have the numbers worker + 1,
-/// worker + 1 + workers, ..
-#[derive(Clone, Copy)]
-pub struct WorkerIndex {
-    /// The number of workers.
-    pub workers: u8,
-    /// The worker's index.
-    pub worker: u8,
 }
 
 /// Why a worker couldn't serve its scripts.
@@ -181,11 +172,11 @@ fn hall_of(alloc: Global, scripts: Vec<Script>) -> Result<Hall, WorkFault>
     }
 }
 
-/// Ends a worker that can't go on: stops each hand and waits for it.
-fn let_go<K: Keeper, W: Threads>(rt: &W, desk: Desk<K>, hands: Vec<Hand<K>>) {
-    let mut desk = desk;
-    desk.stop_all();
-    drop(desk);
+/// Ends the hands of a worker that can't go on: stops each one and waits for it.
+fn let_go<K: Keeper, W: Threads>(rt: &W, ends: Vec<Ends<K>>, hands: Vec<Hand<K>>) {
+    let mut ends = ends;
+    stop_all(&mut ends);
+    drop(ends);
     for hand in hands {
         drop(hand.join(rt));
     }
@@ -443,20 +434,24 @@ pub fn work<
     } = team;
     let mut clock = clock;
     let lines = lines_of(alloc, keepers.as_slice())?;
-    let book = Book::new(hall_of(alloc, scripts)?, log);
     let mut opened = Opened {
         ends: Vec::new(alloc),
         hands: Vec::new(alloc),
     };
     let outcome = open_all(rt, alloc, place, keepers, &gate, &bell, &mut opened);
     let Opened { ends, hands } = opened;
-    let mut desk = Desk::new(alloc, book, lines, ends);
     if let Err(fault) = outcome {
-        let_go(&rt, desk, hands);
+        let_go(&rt, ends, hands);
         return Err(fault);
     }
+    let Ok(hall) = hall_of(alloc, scripts) else {
+        let_go(&rt, ends, hands);
+        return Err(WorkFault::Memory);
+    };
+    let book = Book::new(hall, log);
+    let mut desk = Desk::new(alloc, book, lines, ends);
     let Ok(stopped) = turn_all(&rt, alloc, &bell, &mut desk, &mut clock) else {
-        let_go(&rt, desk, hands);
+        let_go(&rt, desk.into_ends(), hands);
         return Err(WorkFault::Memory);
     };
     if stopped {

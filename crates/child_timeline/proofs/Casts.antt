@@ -10,8 +10,8 @@ use Rattle.child_timeline.specs.declared.cast.Reel.{Reel}
 use Rattle.child_timeline.specs.declared.fault.TimelineFault.{TimelineFault}
 use Rattle.child_timeline.specs.declared.fault.TimelineFault.TheVariants as fault
 use Rattle.child_timeline.specs.declared.line.When.TheVariants.{At, After}
-use Rattle.child_timeline.specs.declared.line.Line.{Line}
-use Rattle.child_timeline.specs.declared.line.Line.TheVariants as line
+use Rattle.child_timeline.specs.declared.line.TimelineLine.{TimelineLine}
+use Rattle.child_timeline.specs.declared.line.TimelineLine.TheVariants as line
 use Rattle.child_timeline.specs.declared.timeline.Timeline.{Timeline}
 use Rattle.child_timeline.specs.Line.{Reads, ◌>>=◌, or_fault, status_of, says_nothing}
 use Rattle.child_timeline.specs.Timeline.{with_line}
@@ -52,7 +52,7 @@ clock_is n false last time k h =
     (λ g. within_is n time k g)
     (λ g. absurd (no_ok (fault.Back n) k g))
 
-scene_is : (n clock : ℕ) (code text : List ℕ) (l : Line) → line_of_scene n clock code text ≡ Ok l → IsLine l
+scene_is : (n clock : ℕ) (code text : List ℕ) (l : TimelineLine) → line_of_scene n clock code text ≡ Ok l → IsLine l
 scene_is n clock code text l h =
     either (bytes_eq code (codes "o")) (Ok (line.Child (At (clock / 1000)) 1 (what.Out text))) (if bytes_eq code (codes "x") then (status_of n text >>= λ a. Ok (line.Exit (record { child = 1; answer = a }))) else Ok line.Nothing) l h
     (λ g. subst IsLine (ok_is (line.Child (At (clock / 1000)) 1 (what.Out text)) l g) (refl, refl))
@@ -61,7 +61,7 @@ scene_is n clock code text l h =
     (λ f. both (status_of n text) (λ a. Ok (line.Exit (record { child = 1; answer = a }))) l f (λ a is e. subst IsLine (ok_is (line.Exit (record { child = 1; answer = a })) l e) tt))
     (λ f. subst IsLine (ok_is line.Nothing l f) tt))
 
-clock_played : (n : ℕ) (t : Timeline) (clock : ℕ) (l : Line) (q : Reel) → at_clock n t clock l ≡ Ok q → IsLine l → Early clock → IsKept t → IsPlayed q
+clock_played : (n : ℕ) (t : Timeline) (clock : ℕ) (l : TimelineLine) (q : Reel) → at_clock n t clock l ≡ Ok q → IsLine l → Early clock → IsKept t → IsPlayed q
 clock_played n t clock l q h is early k =
     both (with_line n t l) (λ u. Ok (record { timeline = u; clock = clock })) q h
     (λ u made g. subst IsPlayed (ok_is (record { timeline = u; clock = clock }) q g) (record { kept = line_kept n t u l is made k; early = early }))

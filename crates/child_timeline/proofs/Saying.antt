@@ -2,8 +2,8 @@
 use Rattle.std.proofs.Common.{◌≡◌, ℕ, ◌+◌, ◌<◌, ◌≤◌, List, [], ◌∷◌, ◌++◌, length, drop, get_or, Option, Some, None, refl, sym, ap, ◌∙◌, append_assoc, append-nil}
 use Rattle.std.specs.Prelude.{option_map}
 use Rattle.std.proofs.lemmas.List.{drop_more, drop_all}
-use Rattle.child_timeline.specs.declared.quoted.Part.{Part}
-use Rattle.child_timeline.specs.declared.quoted.Part.TheVariants.{Plain}
+use Rattle.child_timeline.specs.declared.quoted.QuoteState.{QuoteState}
+use Rattle.child_timeline.specs.declared.quoted.QuoteState.TheVariants.{Plain}
 use Rattle.child_timeline.specs.Quoted.{Step, step, in_front, at_end, behind, text_from}
 
 -- bytes in front of the rest of a text
@@ -19,19 +19,19 @@ joined_more front said None = refl
 joined_more front said (Some r) = ap Some (front_more front r said)
 
 -- a byte more
-pub said_more : (bs front : List ℕ) (p : Part) (i : ℕ) (s : Step) → i < length bs → step p (get_or bs i 0) ≡ Some s → joined front (text_from p (drop i bs)) ≡ joined (front ++ in_front s.0 []) (text_from s.1 (drop (i + 1) bs))
+pub said_more : (bs front : List ℕ) (p : QuoteState) (i : ℕ) (s : Step) → i < length bs → step p (get_or bs i 0) ≡ Some s → joined front (text_from p (drop i bs)) ≡ joined (front ++ in_front s.0 []) (text_from s.1 (drop (i + 1) bs))
 said_more bs front p i s lt h =
     ap (λ (r : List ℕ). joined front (text_from p r)) (drop_more bs i 0 lt)
     ∙ ap (λ (o : Option Step). joined front (behind o (λ q. text_from q (drop (i + 1) bs)))) h
     ∙ joined_more front s.0 (text_from s.1 (drop (i + 1) bs))
 
 -- a byte that no text has there
-pub said_none : (bs front : List ℕ) (p : Part) (i : ℕ) → i < length bs → step p (get_or bs i 0) ≡ None → joined front (text_from p (drop i bs)) ≡ None
+pub said_none : (bs front : List ℕ) (p : QuoteState) (i : ℕ) → i < length bs → step p (get_or bs i 0) ≡ None → joined front (text_from p (drop i bs)) ≡ None
 said_none bs front p i lt h =
     ap (λ (r : List ℕ). joined front (text_from p r)) (drop_more bs i 0 lt)
     ∙ ap (λ (o : Option Step). joined front (behind o (λ q. text_from q (drop (i + 1) bs)))) h
 
-pub said_all : (bs front : List ℕ) (p : Part) (i : ℕ) → length bs ≤ i → joined front (text_from p (drop i bs)) ≡ joined front (at_end p)
+pub said_all : (bs front : List ℕ) (p : QuoteState) (i : ℕ) → length bs ≤ i → joined front (text_from p (drop i bs)) ≡ joined front (at_end p)
 said_all bs front p i le = ap (λ (r : List ℕ). joined front (text_from p r)) (drop_all i bs le)
 
 same_text : (o : Option (List ℕ)) → o ≡ joined [] o

@@ -11,7 +11,7 @@ use Rattle.child_timeline.specs.declared.typescript.Tape.{Tape}
 use Rattle.child_timeline.specs.declared.fault.TimelineFault.{TimelineFault}
 use Rattle.child_timeline.specs.declared.fault.TimelineFault.TheVariants as fault
 use Rattle.child_timeline.specs.declared.line.When.TheVariants.{At, After}
-use Rattle.child_timeline.specs.declared.line.Line.TheVariants as line
+use Rattle.child_timeline.specs.declared.line.TimelineLine.TheVariants as line
 use Rattle.child_timeline.specs.declared.timeline.Timeline.{Timeline}
 use Rattle.child_timeline.specs.Line.{Reads, ◌>>=◌, or_fault, status_of}
 use Rattle.child_timeline.specs.Words.{after_blanks, first_word, behind_word}

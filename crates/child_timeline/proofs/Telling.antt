@@ -13,11 +13,11 @@ use Rattle.child_events.specs.Reading.{number_of, cause_of}
 use Rattle.child_timeline.specs.declared.exits.Exit.{Exit}
 use Rattle.child_timeline.specs.declared.fault.TimelineFault.{TimelineFault}
 use Rattle.child_timeline.specs.declared.fault.TimelineFault.TheVariants as fault
-use Rattle.child_timeline.specs.declared.quoted.Part.TheVariants.{Plain}
+use Rattle.child_timeline.specs.declared.quoted.QuoteState.TheVariants.{Plain}
 use Rattle.child_timeline.specs.declared.line.When.{When}
 use Rattle.child_timeline.specs.declared.line.When.TheVariants.{At, After}
-use Rattle.child_timeline.specs.declared.line.Line.{Line}
-use Rattle.child_timeline.specs.declared.line.Line.TheVariants as line
+use Rattle.child_timeline.specs.declared.line.TimelineLine.{TimelineLine}
+use Rattle.child_timeline.specs.declared.line.TimelineLine.TheVariants as line
 use Rattle.child_timeline.specs.declared.timeline.Timeline.{Timeline}
 use Rattle.tcl_words.specs.Bytes.{quote}
 use Rattle.child_timeline.specs.Words.{after_blanks, first_word, behind_word}
@@ -50,7 +50,7 @@ alone_is n x y [] h = ok_is x y h
 alone_is n x y (b ∷ bs) h = absurd (no_ok (fault.Shape n) y h)
 
 -- a line's child is one, and it brings no answer
-abbrev pub IsLine : Line → Type 0
+abbrev pub IsLine : TimelineLine → Type 0
 IsLine line.Nothing = Unit {0}
 IsLine (line.Tick at) = Unit {0}
 IsLine (line.Child at c w) = (is_child c ≡ true) × (brings_answer w ≡ false)
@@ -92,23 +92,23 @@ what_is n (b ∷ bs) w h =
     (λ g. text_is n bs w g)
     (λ g. ending_is n (first_word (b ∷ bs)) (behind_word (b ∷ bs)) w g)
 
-child_line_is : (n : ℕ) (at : When) (t : List ℕ) (l : Line) → child_line n at t ≡ Ok l → IsLine l
+child_line_is : (n : ℕ) (at : When) (t : List ℕ) (l : TimelineLine) → child_line n at t ≡ Ok l → IsLine l
 child_line_is n at t l h =
     both (child_in n t) (λ c. what_of n (behind_child t) >>= λ w. Ok (line.Child at c w)) l h
     (λ c named g.
     both (what_of n (behind_child t)) (λ w. Ok (line.Child at c w)) l g
     (λ w brought f. subst IsLine (ok_is (line.Child at c w) l f) (child_in_is n t c named, what_is n (behind_child t) w brought)))
 
-event_line_is : (n : ℕ) (at : When) (t : List ℕ) (l : Line) → event_line n at t ≡ Ok l → IsLine l
+event_line_is : (n : ℕ) (at : When) (t : List ℕ) (l : TimelineLine) → event_line n at t ≡ Ok l → IsLine l
 event_line_is n at t l h =
     either (bytes_eq (first_word t) (codes "tick")) (alone n (line.Tick at) (behind_word t)) (child_line n at t) l h
     (λ g. subst IsLine (alone_is n (line.Tick at) l (behind_word t) g) tt)
     (λ g. child_line_is n at t l g)
 
-moment_line_is : (n : ℕ) (t : List ℕ) (l : Line) → moment_line n t ≡ Ok l → IsLine l
+moment_line_is : (n : ℕ) (t : List ℕ) (l : TimelineLine) → moment_line n t ≡ Ok l → IsLine l
 moment_line_is n t l h = both (or_fault (fault.Moment n) (when_of (first_word t))) (λ at. event_line n at (behind_word t)) l h (λ at is g. event_line_is n at (behind_word t) l g)
 
-exit_of_is : (n c : ℕ) (t : List ℕ) (l : Line) → exit_of_child n c t ≡ Ok l → IsLine l
+exit_of_is : (n c : ℕ) (t : List ℕ) (l : TimelineLine) → exit_of_child n c t ≡ Ok l → IsLine l
 exit_of_is n c t l h =
     either (bytes_eq (first_word t) (codes "exit")) (status_of n (first_word (behind_word t)) >>= λ a. alone n (line.Exit (record { child = c; answer = a })) (behind_word (behind_word t))) (Err (fault.Shape n)) l h
     (λ g.
@@ -116,10 +116,10 @@ exit_of_is n c t l h =
     (λ a is f. subst IsLine (alone_is n (line.Exit (record { child = c; answer = a })) l (behind_word (behind_word t)) f) tt))
     (λ g. absurd (no_ok (fault.Shape n) l g))
 
-exit_line_is : (n : ℕ) (t : List ℕ) (l : Line) → exit_line n t ≡ Ok l → IsLine l
+exit_line_is : (n : ℕ) (t : List ℕ) (l : TimelineLine) → exit_line n t ≡ Ok l → IsLine l
 exit_line_is n t l h = both (child_in n t) (λ c. exit_of_child n c (behind_child t)) l h (λ c is g. exit_of_is n c (behind_child t) l g)
 
-words_line_is : (n : ℕ) (t : List ℕ) (l : Line) → words_line n t ≡ Ok l → IsLine l
+words_line_is : (n : ℕ) (t : List ℕ) (l : TimelineLine) → words_line n t ≡ Ok l → IsLine l
 words_line_is n t l h =
     either (says_nothing t) (Ok line.Nothing) (if is_of_exit (first_word t) then exit_line n t else moment_line n t) l h
     (λ g. subst IsLine (ok_is line.Nothing l g) tt)
@@ -192,7 +192,7 @@ exit_kept n t u e h k =
     (λ g. absurd (no_ok (fault.Again n) u g))
     (λ g. subst IsKept (ok_is (record t { exits = t.exits ++ e ∷ [] }) u g) (record { told = k.told; early = k.early }))
 
-pub line_kept : (n : ℕ) (t u : Timeline) (l : Line) → IsLine l → with_line n t l ≡ Ok u → IsKept t → IsKept u
+pub line_kept : (n : ℕ) (t u : Timeline) (l : TimelineLine) → IsLine l → with_line n t l ≡ Ok u → IsKept t → IsKept u
 line_kept n t u line.Nothing is h k = subst IsKept (ok_is t u h) k
 line_kept n t u (line.Tick at) is h k =
     both (moment_after n t.moment at) (λ m. Ok (with_events t m (hall.Tick m ∷ []))) u h

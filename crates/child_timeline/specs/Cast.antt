@@ -11,8 +11,8 @@ use Rattle.child_timeline.specs.declared.fault.TimelineFault.{TimelineFault}
 use Rattle.child_timeline.specs.declared.fault.TimelineFault.TheVariants as fault
 use Rattle.child_timeline.specs.declared.cast.Reel.{Reel}
 use Rattle.child_timeline.specs.declared.line.When.TheVariants.{At, After}
-use Rattle.child_timeline.specs.declared.line.Line.{Line}
-use Rattle.child_timeline.specs.declared.line.Line.TheVariants as line
+use Rattle.child_timeline.specs.declared.line.TimelineLine.{TimelineLine}
+use Rattle.child_timeline.specs.declared.line.TimelineLine.TheVariants as line
 use Rattle.child_timeline.specs.declared.timeline.Timeline.{Timeline}
 use Rattle.child_timeline.specs.Line.{◌>>=◌, or_fault, status_of, says_nothing}
 use Rattle.child_timeline.specs.Timeline.{with_line, silence}
@@ -59,13 +59,13 @@ clock_after n true last time = within n (last + time)
 clock_after n false last time = if nat_le last time then within n time else Err (fault.Back n)
 
 -- The timeline's line for an event: output, the end of the program, or nothing.
-abbrev pub line_of_scene : ℕ → ℕ → List ℕ → List ℕ → Result Line TimelineFault
+abbrev pub line_of_scene : ℕ → ℕ → List ℕ → List ℕ → Result TimelineLine TimelineFault
 line_of_scene n clock code text =
     if bytes_eq code (codes "o") then Ok (line.Child (At (clock / 1000)) 1 (what.Out text))
     else if bytes_eq code (codes "x") then (status_of n text >>= λ a. Ok (line.Exit (record { child = 1; answer = a })))
     else Ok line.Nothing
 
-abbrev pub at_clock : ℕ → Timeline → ℕ → Line → Result Reel TimelineFault
+abbrev pub at_clock : ℕ → Timeline → ℕ → TimelineLine → Result Reel TimelineFault
 at_clock n t clock l = with_line n t l >>= λ u. Ok (record { timeline = u; clock = clock })
 
 -- The reel after the event of line n.

@@ -8,11 +8,11 @@ use Rattle.child_events.specs.declared.event.What.TheVariants as what
 use Rattle.child_events.specs.Reading.{number_of, cause_of}
 use Rattle.child_timeline.specs.declared.fault.TimelineFault.{TimelineFault}
 use Rattle.child_timeline.specs.declared.fault.TimelineFault.TheVariants as fault
-use Rattle.child_timeline.specs.declared.quoted.Part.TheVariants.{Plain}
+use Rattle.child_timeline.specs.declared.quoted.QuoteState.TheVariants.{Plain}
 use Rattle.child_timeline.specs.declared.line.When.{When}
 use Rattle.child_timeline.specs.declared.line.When.TheVariants.{At, After}
-use Rattle.child_timeline.specs.declared.line.Line.{Line}
-use Rattle.child_timeline.specs.declared.line.Line.TheVariants as line
+use Rattle.child_timeline.specs.declared.line.TimelineLine.{TimelineLine}
+use Rattle.child_timeline.specs.declared.line.TimelineLine.TheVariants as line
 use Rattle.tcl_words.specs.Bytes as ascii
 use Rattle.child_timeline.specs.Words.{after_blanks, first_word, behind_word}
 use Rattle.child_timeline.specs.Quoted.{text_from}
@@ -75,27 +75,27 @@ abbrev pub what_of : ℕ → List ℕ → Result What TimelineFault
 what_of n [] = Err (fault.Shape n)
 what_of n (b ∷ bs) = if b == ascii.quote then text_of n bs else ending_of n (first_word (b ∷ bs)) (behind_word (b ∷ bs))
 
-abbrev pub child_line : ℕ → When → List ℕ → Result Line TimelineFault
+abbrev pub child_line : ℕ → When → List ℕ → Result TimelineLine TimelineFault
 child_line n at t = do
   c ← child_in n t
   w ← what_of n (behind_child t)
   Ok (line.Child at c w)
 
 -- The event of a line that begins with a moment.
-abbrev pub event_line : ℕ → When → List ℕ → Result Line TimelineFault
+abbrev pub event_line : ℕ → When → List ℕ → Result TimelineLine TimelineFault
 event_line n at t = if bytes_eq (first_word t) (codes "tick") then alone n (line.Tick at) (behind_word t) else child_line n at t
 
-abbrev pub moment_line : ℕ → List ℕ → Result Line TimelineFault
+abbrev pub moment_line : ℕ → List ℕ → Result TimelineLine TimelineFault
 moment_line n t = or_fault (fault.Moment n) (when_of (first_word t)) >>= λ at. event_line n at (behind_word t)
 
-abbrev pub exit_of_child : ℕ → ℕ → List ℕ → Result Line TimelineFault
+abbrev pub exit_of_child : ℕ → ℕ → List ℕ → Result TimelineLine TimelineFault
 exit_of_child n c t =
     if bytes_eq (first_word t) (codes "exit")
     then (status_of n (first_word (behind_word t)) >>= λ a. alone n (line.Exit (record { child = c; answer = a })) (behind_word (behind_word t)))
     else Err (fault.Shape n)
 
 -- A line that tells how a child ends.
-abbrev pub exit_line : ℕ → List ℕ → Result Line TimelineFault
+abbrev pub exit_line : ℕ → List ℕ → Result TimelineLine TimelineFault
 exit_line n t = child_in n t >>= λ c. exit_of_child n c (behind_child t)
 
 abbrev pub is_of_exit : List ℕ → Bool
@@ -106,14 +106,14 @@ abbrev pub says_nothing : List ℕ → Bool
 says_nothing [] = true
 says_nothing (b ∷ bs) = b == ascii.hash
 
-abbrev pub words_line : ℕ → List ℕ → Result Line TimelineFault
+abbrev pub words_line : ℕ → List ℕ → Result TimelineLine TimelineFault
 words_line n t =
     if says_nothing t then Ok line.Nothing
     else if is_of_exit (first_word t) then exit_line n t
     else moment_line n t
 
 -- The content of line n.
-abbrev pub line_of : ℕ → List ℕ → Result Line TimelineFault
+abbrev pub line_of : ℕ → List ℕ → Result TimelineLine TimelineFault
 line_of n bytes = words_line n (after_blanks bytes)
 
 -- The result of a reading that may also fail because memory was refused.

@@ -1,7 +1,7 @@
 -- Reads a text between quotes: the bytes that it stands for.
 use Rattle.std.specs.Prelude.{ℕ, ◌+◌, ◌-◌, ◌*◌, ◌<◌, nat_le, List, [], ◌∷◌, ◌==◌, ◌&&◌, if◌then◌else◌, Option, Some, None, option_map}
-use Rattle.child_timeline.specs.declared.quoted.Part.{Part}
-use Rattle.child_timeline.specs.declared.quoted.Part.TheVariants.{Plain, Escape, High, Low, Closed}
+use Rattle.child_timeline.specs.declared.quoted.QuoteState.{QuoteState}
+use Rattle.child_timeline.specs.declared.quoted.QuoteState.TheVariants.{Plain, Escape, High, Low, Closed}
 use Rattle.tcl_words.specs.Bytes as ascii
 use Rattle.child_timeline.specs.Words.{is_blank}
 
@@ -25,13 +25,13 @@ hex_digit b =
 
 -- The byte that is read, or `None`, and the state after it.
 abbrev pub Step : Type 0
-Step = Option ℕ × Part
+Step = Option ℕ × QuoteState
 
 abbrev pub plain_byte : ℕ → Step
 plain_byte b = (Some b, Plain)
 
 -- Reads one byte in a state. A quote ends the text, and only blanks may follow it.
-abbrev pub step : Part → ℕ → Option Step
+abbrev pub step : QuoteState → ℕ → Option Step
 step Plain b =
     if b == ascii.quote then Some (None, Closed)
     else if b == ascii.backslash then Some (None, Escape)
@@ -46,30 +46,30 @@ in_front None bs = bs
 in_front (Some b) bs = b ∷ bs
 
 -- The text is complete once its closing quote was read.
-abbrev pub at_end : Part → Option (List ℕ)
+abbrev pub at_end : QuoteState → Option (List ℕ)
 at_end Plain = None
 at_end Escape = None
 at_end High = None
 at_end (Low h) = None
 at_end Closed = Some []
 
-abbrev pub behind : Option Step → (Part → Option (List ℕ)) → Option (List ℕ)
+abbrev pub behind : Option Step → (QuoteState → Option (List ℕ)) → Option (List ℕ)
 behind None more = None
 behind (Some s) more = option_map (in_front s.0) (more s.1)
 
 -- The bytes that a text stands for, from this state on. `None` if it is malformed.
-abbrev pub text_from : Part → List ℕ → Option (List ℕ)
+abbrev pub text_from : QuoteState → List ℕ → Option (List ℕ)
 text_from p [] = at_end p
 text_from p (b ∷ bs) = behind (step p b) (λ q. text_from q bs)
 
 -- The first digit in a state is a hexadecimal digit's value.
-abbrev pub IsPart : Part → Type 0
-IsPart Plain = Unit {0}
-IsPart Escape = Unit {0}
-IsPart High = Unit {0}
-IsPart (Low h) = h < 16
-IsPart Closed = Unit {0}
+abbrev pub IsQuoteState : QuoteState → Type 0
+IsQuoteState Plain = Unit {0}
+IsQuoteState Escape = Unit {0}
+IsQuoteState High = Unit {0}
+IsQuoteState (Low h) = h < 16
+IsQuoteState Closed = Unit {0}
 
 abbrev pub IsStep : Option Step → Type 0
 IsStep None = Unit {0}
-IsStep (Some s) = IsPart s.1
+IsStep (Some s) = IsQuoteState s.1

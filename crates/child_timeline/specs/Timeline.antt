@@ -10,8 +10,8 @@ use Rattle.child_timeline.specs.declared.fault.TimelineFault.{TimelineFault}
 use Rattle.child_timeline.specs.declared.fault.TimelineFault.TheVariants as fault
 use Rattle.child_timeline.specs.declared.line.When.{When}
 use Rattle.child_timeline.specs.declared.line.When.TheVariants.{At, After}
-use Rattle.child_timeline.specs.declared.line.Line.{Line}
-use Rattle.child_timeline.specs.declared.line.Line.TheVariants as line
+use Rattle.child_timeline.specs.declared.line.TimelineLine.{TimelineLine}
+use Rattle.child_timeline.specs.declared.line.TimelineLine.TheVariants as line
 use Rattle.child_timeline.specs.declared.timeline.Timeline.{Timeline}
 use Rattle.tcl_words.specs.Bytes as ascii
 use Rattle.child_timeline.specs.Exits.{exit_told}
@@ -54,7 +54,7 @@ abbrev pub with_exit : ℕ → Timeline → Exit → Result Timeline TimelineFau
 with_exit n t e = if is_some (exit_told e.child t.exits) then Err (fault.Again n) else Ok (record t { exits = t.exits ++ e ∷ [] })
 
 -- The timeline after line n.
-abbrev pub with_line : ℕ → Timeline → Line → Result Timeline TimelineFault
+abbrev pub with_line : ℕ → Timeline → TimelineLine → Result Timeline TimelineFault
 with_line n t line.Nothing = Ok t
 with_line n t (line.Tick at) = moment_after n t.moment at >>= λ m. Ok (with_events t m (hall.Tick m ∷ []))
 with_line n t (line.Child at c w) = moment_after n t.moment at >>= λ m. Ok (with_events t m (events_of c m w))

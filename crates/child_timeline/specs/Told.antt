@@ -5,6 +5,7 @@ use Rattle.child_events.specs.declared.event.What.{What}
 use Rattle.child_events.specs.declared.event.What.TheVariants as what
 use Rattle.child_events.specs.declared.event.HallEvent.{HallEvent}
 use Rattle.child_events.specs.declared.event.HallEvent.TheVariants as hall
+use Rattle.child_events.specs.declared.child_numbers.ChildNumbers.TheVariants.{To16}
 use Rattle.child_events.specs.Log.{fits}
 
 abbrev pub brings_answer : What → Bool
@@ -26,7 +27,7 @@ IsOfFirst (hall.Tick m) = Unit {0}
 -- An event of a timeline. It is of script 1, is within the limits of a log, and is no answer.
 pub record IsTold (e : HallEvent) : Type 0 where
   pub first : IsOfFirst e
-  pub within : IsTrue (fits e)
+  pub within : IsTrue (fits To16 e)
   pub other : is_answer e ≡ false
 
 abbrev pub AreTold : List HallEvent → Type 0

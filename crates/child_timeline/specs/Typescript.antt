@@ -9,8 +9,8 @@ use Rattle.tcl_words.specs.Bytes as ascii
 use Rattle.child_timeline.specs.declared.fault.TimelineFault.{TimelineFault}
 use Rattle.child_timeline.specs.declared.fault.TimelineFault.TheVariants as fault
 use Rattle.child_timeline.specs.declared.line.When.TheVariants.{At, After}
-use Rattle.child_timeline.specs.declared.line.Line.{Line}
-use Rattle.child_timeline.specs.declared.line.Line.TheVariants as line
+use Rattle.child_timeline.specs.declared.line.TimelineLine.{TimelineLine}
+use Rattle.child_timeline.specs.declared.line.TimelineLine.TheVariants as line
 use Rattle.child_timeline.specs.declared.timeline.Timeline.{Timeline}
 use Rattle.child_timeline.specs.declared.typescript.Tape.{Tape}
 use Rattle.child_timeline.specs.Words.{after_blanks, first_word, behind_word}
@@ -63,7 +63,7 @@ behind_kind t = if is_kind (first_word t) then behind_word t else t
 
 -- The line that an entry stands for, and the number of bytes shown after it.
 abbrev pub Said : Type 0
-Said = Line × ℕ
+Said = TimelineLine × ℕ
 
 -- An entry of output: the next `count` bytes of the text.
 abbrev pub output : ℕ → ℕ → List ℕ → ℕ → ℕ → Result Said TimelineFault

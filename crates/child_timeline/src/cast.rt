@@ -8,7 +8,7 @@ ghost use Rattle.child_timeline.specs.Cast.{value_of, counts_on as counts_on_of,
 
 use crate::exits::Exit;
 use crate::fault::TimelineFault;
-use crate::line::{Line, When, says_nothing, status};
+use crate::line::{TimelineLine, When, says_nothing, status};
 use crate::seconds::micros;
 use crate::timeline::{Timeline, with_line};
 use crate::words::split_line;
@@ -136,12 +136,12 @@ fn line_of_scene(
     clock: u64,
     code: &str,
     text: &str,
-) -> Result<Line, TimelineFault>
+) -> Result<TimelineLine, TimelineFault>
     ensures { Reads result (line_of_scene_of line clock code.now text.now) }
 {
     if code == "o" {
         let text = Text::from_slice(alloc, text.as_bytes())?;
-        return Ok(Line::Child {
+        return Ok(TimelineLine::Child {
             when: When::At(clock / 1000),
             child: 1,
             what: What::Out(text),
@@ -149,9 +149,9 @@ fn line_of_scene(
     }
     if code == "x" {
         let answer = status(line, text.as_bytes())?;
-        return Ok(Line::Exit(Exit { child: 1, answer }));
+        return Ok(TimelineLine::Exit(Exit { child: 1, answer }));
     }
-    Ok(Line::Nothing)
+    Ok(TimelineLine::Nothing)
 }
 
 /// A timeline, and its current clock in microseconds.
@@ -216,7 +216,7 @@ fn close(alloc: Global, reel: Reel) -> Result<Timeline, TimelineFault>
     ensures { Reads result (closed_of reel) }
 {
     let Reel { timeline, clock: _ } = reel;
-    let end = Line::Child {
+    let end = TimelineLine::Child {
         when: When::After(0),
         child: 1,
         what: What::Eof,

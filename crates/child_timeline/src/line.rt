@@ -22,7 +22,7 @@ pub(crate) enum When {
 
 /// The content of a line.
 #[derive(Drop)]
-pub(crate) enum Line {
+pub(crate) enum TimelineLine {
     Nothing,
     Tick(When),
     Child { when: When, child: u8, what: What },
@@ -168,16 +168,26 @@ fn what(alloc: Global, line: usize, words: &[u8]) -> Result<What, TimelineFault>
 }
 
 /// Reads a line with a child's event at a moment.
-fn child_line(alloc: Global, line: usize, when: When, words: &[u8]) -> Result<Line, TimelineFault>
+fn child_line(
+    alloc: Global,
+    line: usize,
+    when: When,
+    words: &[u8],
+) -> Result<TimelineLine, TimelineFault>
     ensures { Reads result (child_line_of line when words.now) }
 {
     let child = child(line, words)?;
     let what = what(alloc, line, behind_child(words))?;
-    Ok(Line::Child { when, child, what })
+    Ok(TimelineLine::Child { when, child, what })
 }
 
 /// Reads the rest of a line that begins with a moment.
-fn event_line(alloc: Global, line: usize, when: When, words: &[u8]) -> Result<Line, TimelineFault>
+fn event_line(
+    alloc: Global,
+    line: usize,
+    when: When,
+    words: &[u8],
+) -> Result<TimelineLine, TimelineFault>
     ensures { Reads result (event_line_of line when words.now) }
 {
     let (word, behind) = split_word(words);
@@ -185,11 +195,11 @@ fn event_line(alloc: Global, line: usize, when: When, words: &[u8]) -> Result<Li
         return child_line(alloc, line, when, words);
     }
     ended(line, behind)?;
-    Ok(Line::Tick(when))
+    Ok(TimelineLine::Tick(when))
 }
 
 /// Reads a line that begins with a moment.
-fn moment_line(alloc: Global, line: usize, words: &[u8]) -> Result<Line, TimelineFault>
+fn moment_line(alloc: Global, line: usize, words: &[u8]) -> Result<TimelineLine, TimelineFault>
     ensures { Reads result (moment_line_of line words.now) }
 {
     let (word, behind) = split_word(words);
@@ -200,7 +210,7 @@ fn moment_line(alloc: Global, line: usize, words: &[u8]) -> Result<Line, Timelin
 }
 
 /// Reads a line that tells how a child ends.
-fn exit_line(line: usize, words: &[u8]) -> Result<Line, TimelineFault>
+fn exit_line(line: usize, words: &[u8]) -> Result<TimelineLine, TimelineFault>
     ensures { result ≡ exit_line_of line words.now }
 {
     let child = child(line, words)?;
@@ -211,7 +221,7 @@ fn exit_line(line: usize, words: &[u8]) -> Result<Line, TimelineFault>
     let (word, behind) = split_word(behind);
     let answer = status(line, word)?;
     ended(line, behind)?;
-    Ok(Line::Exit(Exit { child, answer }))
+    Ok(TimelineLine::Exit(Exit { child, answer }))
 }
 
 fn is_of_exit(word: &[u8]) -> bool
@@ -230,11 +240,11 @@ pub(crate) fn says_nothing(words: &[u8]) -> bool
     }
 }
 
-fn words_line(alloc: Global, line: usize, words: &[u8]) -> Result<Line, TimelineFault>
+fn words_line(alloc: Global, line: usize, words: &[u8]) -> Result<TimelineLine, TimelineFault>
     ensures { Reads result (words_line_of line words.now) }
 {
     if says_nothing(words) {
-        return Ok(Line::Nothing);
+        return Ok(TimelineLine::Nothing);
     }
     let (word, _) = split_word(words);
     if is_of_exit(word) {
@@ -244,7 +254,11 @@ fn words_line(alloc: Global, line: usize, words: &[u8]) -> Result<Line, Timeline
 }
 
 /// Reads a line, which is given without its newline.
-pub(crate) fn read_line(alloc: Global, line: usize, bytes: &[u8]) -> Result<Line, TimelineFault>
+pub(crate) fn read_line(
+    alloc: Global,
+    line: usize,
+    bytes: &[u8],
+) -> Result<TimelineLine, TimelineFault>
     ensures { Reads result (line_of line bytes.now) }
 {
     words_line(alloc, line, skip_blanks(bytes))

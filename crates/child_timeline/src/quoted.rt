@@ -1,7 +1,7 @@
 //! Reads a text between quotes.
 
 ghost use Rattle.std.specs.Prelude.{◌≡◌, ◌<◌, ◌++◌, [], IfOk, IfSome, OnOk, option_map};
-ghost use Rattle.child_timeline.specs.Quoted.{escaped as escaped_of, hex_digit as hex_digit_of, step as step_of, in_front, text_from, at_end, IsPart, IsStep};
+ghost use Rattle.child_timeline.specs.Quoted.{escaped as escaped_of, hex_digit as hex_digit_of, step as step_of, in_front, text_from, at_end, IsQuoteState, IsStep};
 
 use crate::words::is_blank;
 use std::alloc::{AllocError, Global};
@@ -9,7 +9,7 @@ use tcl_words::Text;
 
 /// The state before a byte of the text.
 #[derive(Clone, Copy)]
-pub(crate) enum Part {
+pub(crate) enum QuoteState {
     /// The byte stands for itself, unless it is a quote or a backslash.
     Plain,
     /// After a backslash.
@@ -58,68 +58,68 @@ fn hex_digit(byte: u8) -> Option<u8>
 }
 
 /// The byte that is read, or `None`, and the state after it.
-type Step = (Option<u8>, Part);
+type Step = (Option<u8>, QuoteState);
 
 fn plain_step(byte: u8) -> Option<Step>
-    ensures { result ≡ step_of Part.Plain byte }
+    ensures { result ≡ step_of QuoteState.Plain byte }
 {
     if byte == b'"' {
-        Some((None, Part::Closed))
+        Some((None, QuoteState::Closed))
     } else if byte == b'\\' {
-        Some((None, Part::Escape))
+        Some((None, QuoteState::Escape))
     } else {
-        Some((Some(byte), Part::Plain))
+        Some((Some(byte), QuoteState::Plain))
     }
 }
 
 fn escape_step(byte: u8) -> Option<Step>
-    ensures { result ≡ step_of Part.Escape byte }
+    ensures { result ≡ step_of QuoteState.Escape byte }
 {
     if byte == b'x' {
-        return Some((None, Part::High));
+        return Some((None, QuoteState::High));
     }
     let byte = escaped(byte)?;
-    Some((Some(byte), Part::Plain))
+    Some((Some(byte), QuoteState::Plain))
 }
 
 fn high_step(byte: u8) -> Option<Step>
-    ensures next { result ≡ step_of Part.High byte }
-    ensures part { IsStep result }
+    ensures next { result ≡ step_of QuoteState.High byte }
+    ensures state { IsStep result }
 {
     let high = hex_digit(byte)?;
-    Some((None, Part::Low(high)))
+    Some((None, QuoteState::Low(high)))
 }
 
 fn low_step(high: u8, byte: u8) -> Option<Step>
     requires { high < 16 }
-    ensures { result ≡ step_of (Part.Low high) byte }
+    ensures { result ≡ step_of (QuoteState.Low high) byte }
 {
     let low = hex_digit(byte)?;
-    Some((Some(16 * high + low), Part::Plain))
+    Some((Some(16 * high + low), QuoteState::Plain))
 }
 
 fn closed_step(byte: u8) -> Option<Step>
-    ensures { result ≡ step_of Part.Closed byte }
+    ensures { result ≡ step_of QuoteState.Closed byte }
 {
     if is_blank(byte) {
-        Some((None, Part::Closed))
+        Some((None, QuoteState::Closed))
     } else {
         None
     }
 }
 
 /// Reads one byte in a state. `None` if it is not allowed there.
-fn step(part: Part, byte: u8) -> Option<Step>
-    requires { IsPart part }
-    ensures next { result ≡ step_of part byte }
-    ensures part { IsStep result }
+fn step(state: QuoteState, byte: u8) -> Option<Step>
+    requires { IsQuoteState state }
+    ensures next { result ≡ step_of state byte }
+    ensures state { IsStep result }
 {
-    match part {
-        Part::Plain => plain_step(byte),
-        Part::Escape => escape_step(byte),
-        Part::High => high_step(byte),
-        Part::Low(high) => low_step(high, byte),
-        Part::Closed => closed_step(byte),
+    match state {
+        QuoteState::Plain => plain_step(byte),
+        QuoteState::Escape => escape_step(byte),
+        QuoteState::High => high_step(byte),
+        QuoteState::Low(high) => low_step(high, byte),
+        QuoteState::Closed => closed_step(byte),
     }
 }
 
@@ -134,30 +134,30 @@ fn push_said(text: &mut Text, said: Option<u8>) -> Result<(), AllocError>
 }
 
 /// Returns the text if its closing quote was read.
-fn whole(part: Part, text: Text) -> Option<Text>
-    ensures { result ≡ option_map (λ rest. text ++ rest) (at_end part) }
+fn whole(state: QuoteState, text: Text) -> Option<Text>
+    ensures { result ≡ option_map (λ rest. text ++ rest) (at_end state) }
 {
-    match part {
-        Part::Closed => Some(text),
-        Part::Plain => None,
-        Part::Escape => None,
-        Part::High => None,
-        Part::Low(_) => None,
+    match state {
+        QuoteState::Closed => Some(text),
+        QuoteState::Plain => None,
+        QuoteState::Escape => None,
+        QuoteState::High => None,
+        QuoteState::Low(_) => None,
     }
 }
 
 /// Reads a text after its opening quote, up to its closing quote. `None` if the text is malformed.
 pub(crate) fn read_quoted(alloc: Global, bytes: &[u8]) -> Result<Option<Text>, AllocError>
-    ensures { IfOk result (λ text. text ≡ text_from Part.Plain bytes.now) }
+    ensures { IfOk result (λ text. text ≡ text_from QuoteState.Plain bytes.now) }
 {
     let mut text = Text::new(alloc);
-    let mut part = Part::Plain;
+    let mut state = QuoteState::Plain;
     for byte in bytes {
-        let Some((said, next)) = step(part, *byte) else {
+        let Some((said, next)) = step(state, *byte) else {
             return Ok(None);
         };
         push_said(&mut text, said)?;
-        part = next;
+        state = next;
     }
-    Ok(whole(part, text))
+    Ok(whole(state, text))
 }

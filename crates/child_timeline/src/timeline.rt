@@ -7,7 +7,7 @@ ghost use Rattle.child_timeline.specs.Timeline.{within as within_of, moment_afte
 
 use crate::exits::{Exit, Exits};
 use crate::fault::TimelineFault;
-use crate::line::{Line, When, read_line};
+use crate::line::{TimelineLine, When, read_line};
 use crate::words::split_line;
 use child_events::{HallEvent, HallEvents, What};
 use std::alloc::{AllocError, Global};
@@ -84,7 +84,7 @@ fn push_piece(
     let piece = Text::from_slice(alloc, piece)?;
     events.push(HallEvent::Child {
         script: 1,
-        child,
+        child: u16::from(child),
         moment,
         what: What::Out(piece),
     })
@@ -133,13 +133,13 @@ fn push_what(
         What::Answer(_) => Ok(()),
         What::Eof => events.push(HallEvent::Child {
             script: 1,
-            child,
+            child: u16::from(child),
             moment,
             what: What::Eof,
         }),
         What::ReadFail(cause) => events.push(HallEvent::Child {
             script: 1,
-            child,
+            child: u16::from(child),
             moment,
             what: What::ReadFail(cause),
         }),
@@ -227,22 +227,22 @@ pub(crate) fn with_line(
     alloc: Global,
     line: usize,
     timeline: Timeline,
-    said: Line,
+    said: TimelineLine,
 ) -> Result<Timeline, TimelineFault>
     requires { timeline.moment ≤ 9000000000000000 }
     ensures { Reads result (with_line_of line timeline said) }
 {
     match said {
-        Line::Nothing => Ok(timeline),
-        Line::Tick(when) => {
+        TimelineLine::Nothing => Ok(timeline),
+        TimelineLine::Tick(when) => {
             let moment = moment_after(line, timeline.moment, when)?;
             with_tick(timeline, moment)
         }
-        Line::Child { when, child, what } => {
+        TimelineLine::Child { when, child, what } => {
             let moment = moment_after(line, timeline.moment, when)?;
             with_what(alloc, timeline, child, moment, what)
         }
-        Line::Exit(exit) => with_exit(line, timeline, exit),
+        TimelineLine::Exit(exit) => with_exit(line, timeline, exit),
     }
 }
 

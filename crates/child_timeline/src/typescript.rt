@@ -9,7 +9,7 @@ ghost use Rattle.child_timeline.specs.Typescript.{begins_with as begins_with_of,
 use crate::cast::later;
 use crate::exits::Exit;
 use crate::fault::TimelineFault;
-use crate::line::{Line, When, status};
+use crate::line::{TimelineLine, When, status};
 use crate::seconds::micros;
 use crate::timeline::{Timeline, with_line};
 use crate::words::{is, number, skip_blanks, split_line, split_word};
@@ -104,7 +104,7 @@ fn split_kind(words: &[u8]) -> (&[u8], &[u8])
 }
 
 /// The line that an entry stands for, and the number of bytes shown after it.
-type Said = (Line, usize);
+type Said = (TimelineLine, usize);
 
 /// Returns an entry of output: the next `count` bytes of the text.
 fn output(
@@ -124,7 +124,7 @@ fn output(
     }
     let count = count as usize;
     let text = Text::from_slice(alloc, &rest[..count])?;
-    let said = Line::Child {
+    let said = TimelineLine::Child {
         when: When::At(clock / 1000),
         child: 1,
         what: What::Out(text),
@@ -140,9 +140,9 @@ fn header(line: usize, at: usize, words: &[u8]) -> Result<Said, TimelineFault>
     if is(name, b"EXIT_CODE") {
         let (word, _) = split_word(behind);
         let answer = status(line, word)?;
-        return Ok((Line::Exit(Exit { child: 1, answer }), at));
+        return Ok((TimelineLine::Exit(Exit { child: 1, answer }), at));
     }
-    Ok((Line::Nothing, at))
+    Ok((TimelineLine::Nothing, at))
 }
 
 /// Reads an entry of a kind, given the words after its time.
@@ -168,7 +168,7 @@ fn said_by(
     if is(kind, b"H") {
         return header(line, at, words);
     }
-    Ok((Line::Nothing, at))
+    Ok((TimelineLine::Nothing, at))
 }
 
 /// A timeline, its current clock in microseconds, and the number of bytes shown.
@@ -240,7 +240,7 @@ fn with_rest(alloc: Global, timeline: Timeline, rest: &[u8]) -> Result<Timeline,
         return Ok(timeline);
     }
     let text = Text::from_slice(alloc, rest)?;
-    let last = Line::Child {
+    let last = TimelineLine::Child {
         when: When::After(0),
         child: 1,
         what: What::Out(text),
@@ -260,7 +260,7 @@ fn wind_up(alloc: Global, body: &[u8], tape: Tape) -> Result<Timeline, TimelineF
         at,
     } = tape;
     let timeline = with_rest(alloc, timeline, body.split_at(at).1)?;
-    let end = Line::Child {
+    let end = TimelineLine::Child {
         when: When::After(0),
         child: 1,
         what: What::Eof,

@@ -2,7 +2,7 @@
 use Rattle.std.specs.Prelude.{ℕ, List, [], ◌∷◌, length, map, is_some, Option, Some, None, unwrap_or, option_map, codes, Bool, true, false, not, ◌&&◌, ◌==◌, if◌then◌else◌}
 use Rattle.std.specs.Str.{bytes_eq}
 use Rattle.std.specs.Borrow.{Bor}
-use Rattle.clap.specs.Matches.{found_of, matched_of, raw_values}
+use Rattle.clap.specs.Matches.{found_of, first_value, matched_of, raw_values}
 use Rattle.clap.specs.declared.parser.matches.ArgMatches.{ArgMatches}
 use Rattle.command_line.specs.declared.order.Scripts.{Scripts}
 use Rattle.report_texts.specs.declared.form.Format.{Format}
@@ -38,6 +38,10 @@ env_told matches = words_told (codes "env") matches
 -- The words of `--set`.
 abbrev pub sets_told : ArgMatches → List (List ℕ)
 sets_told matches = words_told (codes "set") matches
+
+-- The word of `--each`.
+abbrev pub each_told : ArgMatches → Option (List ℕ)
+each_told matches = first_value (found_of matches) (codes "each")
 
 -- The arguments of a script that is run as a command.
 abbrev pub args_told : ArgMatches → List (List ℕ)

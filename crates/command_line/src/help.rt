@@ -6,8 +6,9 @@ pub const VERSION: &str = "1.0";
 /// The version that `--version` prints.
 pub const LONG_VERSION: &str = "\
 1.0
-It reads logs of versions 1 and 2, and writes version 2. The file BUILT beside
-it names its commit and its kit. In the repository, ./exprun --version does so.";
+It reads logs of versions 1, 2 and 3, and writes version 2. The file BUILT
+beside it names its commit and its kit. In the repository, ./exprun --version
+does so.";
 
 /// The help of the program.
 pub const PROGRAM: &str = "\
@@ -74,7 +75,7 @@ milliseconds.
 There are no comments and no empty lines. One space separates two fields, and
 none comes before the first or after the last. Each line ends with LF and no CR,
 the last one too. Version 1, which has neither the first line nor the last, is
-read too.
+read too. Version 3 begins with `exprun-log 3`, and its children are 0 to 999.
 
 If a log has an error, no script runs and the status is 2. The first bad line is
 printed as `exprun: log fault F at line L`, where F is
@@ -83,10 +84,11 @@ printed as `exprun: log fault F at line L`, where F is
     2  a number that is none, has a leading 0, or is too great
     3  bytes that aren't pairs of lower-case hexadecimal digits
     4  a script outside 1 to 64
-    5  a child outside 1 to 16
-    6  more than 8,219 bytes in a line, or 8,192 digits in an out
+    5  a child outside 1 to 16, in version 3 outside 0 to 999
+    6  more than 8,219 bytes in a line, in version 3 8,220, or more than 8,192
+       digits in an out
     8  a total that is wrong, is missing, or has a line after it
-    9  a first line exprun-log that isn't `exprun-log 2`
+    9  a first line exprun-log that isn't `exprun-log 2` or `exprun-log 3`
 
 Fault 8 after the last line means that the log was cut off, as in the FILE.part
 of a run that was killed. --cut reads such a log up to its last complete line.

@@ -321,11 +321,6 @@ static PLAN: [Offer; 8] = [LIMIT, STEPS, SET, ENV, ENV_ALL, TIMING, SOURCE, TIME
 
 static CHECK: [Offer; 1] = [SOURCES];
 
-/// The names of the commands, in the order of the help.
-const COMMANDS: [&str; 7] = [
-    "run", "script", "replay", "show", "explain", "plan", "check",
-];
-
 /// Returns the words that an option accepts.
 fn words_of(name: &str) -> &'static [&'static str] {
     match name {
@@ -388,74 +383,70 @@ fn args_of<'a>(alloc: Global, offers: &[Offer]) -> Result<Vec<Arg<'a>>, AllocErr
     Ok(args)
 }
 
-/// A command: its name, its description, its help after the options, and its options and files.
-#[derive(Clone, Copy)]
-struct Part {
+/// A command: its name, its description, and its help after the options.
+struct CommandOffer {
     name: &'static str,
     about: &'static str,
     after: &'static str,
-    offers: &'static [Offer],
 }
 
-/// Returns the command with a name in `COMMANDS`.
-fn part_named(name: &str) -> Part {
-    match name {
-        "run" => Part {
-            name: "run",
-            about: "Runs scripts with real programs, and prints their reports",
-            after: help::RUN,
-            offers: RUN.as_slice(),
-        },
-        "script" => Part {
-            name: "script",
-            about: "Runs a script as a command, as expect(1) does",
-            after: help::SCRIPT,
-            offers: SCRIPT.as_slice(),
-        },
-        "replay" => Part {
-            name: "replay",
-            about: "Runs scripts over a log of a run, and prints their reports",
-            after: help::REPLAY,
-            offers: REPLAY.as_slice(),
-        },
-        "show" => Part {
-            name: "show",
-            about: "Shows a log of a run, one line per event",
-            after: help::SHOW,
-            offers: SHOW.as_slice(),
-        },
-        "explain" => Part {
-            name: "explain",
-            about: "Explains what scripts did over a log, and what they waited for",
-            after: help::EXPLAIN,
-            offers: EXPLAIN.as_slice(),
-        },
-        "plan" => Part {
-            name: "plan",
-            about: "Plans a log for replay, from a script and a timeline",
-            after: help::PLAN,
-            offers: PLAN.as_slice(),
-        },
-        _ => Part {
-            name: "check",
-            about: "Finds errors in scripts without running them",
-            after: help::CHECK,
-            offers: CHECK.as_slice(),
-        },
+/// The commands, in the order of the help.
+static COMMANDS: [CommandOffer; 7] = [
+    CommandOffer {
+        name: "run",
+        about: "Runs scripts with real programs, and prints their reports",
+        after: help::RUN,
+    },
+    CommandOffer {
+        name: "script",
+        about: "Runs a script as a command, as expect(1) does",
+        after: help::SCRIPT,
+    },
+    CommandOffer {
+        name: "replay",
+        about: "Runs scripts over a log of a run, and prints their reports",
+        after: help::REPLAY,
+    },
+    CommandOffer {
+        name: "show",
+        about: "Shows a log of a run, one line per event",
+        after: help::SHOW,
+    },
+    CommandOffer {
+        name: "explain",
+        about: "Explains what scripts did over a log, and what they waited for",
+        after: help::EXPLAIN,
+    },
+    CommandOffer {
+        name: "plan",
+        about: "Plans a log for replay, from a script and a timeline",
+        after: help::PLAN,
+    },
+    CommandOffer {
+        name: "check",
+        about: "Finds errors in scripts without running them",
+        after: help::CHECK,
+    },
+];
+
+/// Returns the options and files of a command.
+fn offers_of(command: &str) -> &'static [Offer] {
+    match command {
+        "run" => RUN.as_slice(),
+        "script" => SCRIPT.as_slice(),
+        "replay" => REPLAY.as_slice(),
+        "show" => SHOW.as_slice(),
+        "explain" => EXPLAIN.as_slice(),
+        "plan" => PLAN.as_slice(),
+        _ => CHECK.as_slice(),
     }
 }
 
-/// Returns a command without arguments.
-fn bare<'a>(alloc: Global, part: Part) -> Command<'a> {
-    Command::new(alloc, part.name)
-        .about(part.about)
-        .after_help(part.after)
-}
-
-fn command_named<'a>(alloc: Global, name: &str) -> Result<Command<'a>, AllocError> {
-    let part = part_named(name);
-    let args = args_of(alloc, part.offers)?;
-    bare(alloc, part).args(args)
+fn command_of<'a>(alloc: Global, offer: &CommandOffer) -> Result<Command<'a>, AllocError> {
+    Command::new(alloc, offer.name)
+        .about(offer.about)
+        .after_help(offer.after)
+        .args(args_of(alloc, offers_of(offer.name))?)
 }
 
 /// Adds the commands that the first word may mean: the one that it names, or all of them. A start
@@ -465,12 +456,14 @@ fn with_commands<'a>(
     program: Command<'a>,
     first: &str,
 ) -> Result<Command<'a>, AllocError> {
-    if COMMANDS.contains(&first) {
-        return program.subcommand(command_named(alloc, first)?);
+    for offer in &COMMANDS {
+        if offer.name == first {
+            return program.subcommand(command_of(alloc, offer)?);
+        }
     }
     let mut program = program;
-    for name in COMMANDS {
-        program = program.subcommand(command_named(alloc, name)?)?;
+    for offer in &COMMANDS {
+        program = program.subcommand(command_of(alloc, offer)?)?;
     }
     Ok(program)
 }

@@ -1,7 +1,7 @@
 //! Reads the words of the command line.
 
 ghost use Rattle.std.specs.Prelude.{◌≡◌, ◌≤◌, ◌*◌, option_map, IfOk, IfSome, Some, None};
-ghost use Rattle.command_line.specs.Given.{steps_given, alone_steps_given, grace_seconds, all_taken, names_of, words_told, files_told, env_told, sets_told, args_told, format_given, labels_given};
+ghost use Rattle.command_line.specs.Given.{steps_given, alone_steps_given, grace_seconds, all_taken, names_of, words_told, files_told, env_told, sets_told, each_told, args_told, format_given, labels_given};
 
 use crate::offers::command;
 use crate::order::{Alone, Check, Explain, Order, Plan, Replay, Run, Scripts, Show, Variables};
@@ -115,6 +115,7 @@ fn scripts_of<'a>(alloc: Global, matches: &ArgMatches<'a>) -> Result<Scripts<'a>
     ensures names { IfOk result (λ scripts. scripts.form.files ≡ files_told matches.now) }
     ensures env { IfOk result (λ scripts. names_of scripts.variables.env.items ≡ env_told matches.now) }
     ensures sets { IfOk result (λ scripts. names_of scripts.variables.sets.items ≡ sets_told matches.now) }
+    ensures each { IfOk result (λ scripts. option_map (λ w. w.now) scripts.each ≡ each_told matches.now) }
 {
     let files = files_of(alloc, matches)?;
     let names = texts_of(alloc, files.as_slice())?;

@@ -52,6 +52,22 @@ value_or_control None word = control_command word
 abbrev pub tcl_command : List ℕ → Option TclCommand
 tcl_command word = value_or_control (value_command word) word
 
+-- The word names a command for which nothing happens: debugging, and actions at signals (expect(1)).
+abbrev pub is_ignored : List ℕ → Bool
+is_ignored word =
+    bytes_eq word (codes "exp_internal")
+    || bytes_eq word (codes "debug") || bytes_eq word (codes "exp_debug")
+    || bytes_eq word (codes "strace") || bytes_eq word (codes "exp_strace")
+    || bytes_eq word (codes "trap") || bytes_eq word (codes "exp_trap")
+
+-- The value command that a word names, if it is about the interpreter. A procedure can have its name.
+abbrev pub interpreter_value : List ℕ → Option ValueCommand
+interpreter_value word =
+    if bytes_eq word (codes "package") then Some value.Package
+    else if bytes_eq word (codes "exp_version") || bytes_eq word (codes "expect_version") then Some value.ExpVersion
+    else if is_ignored word then Some value.Ignored
+    else None
+
 -- The value command that a word names, if a procedure can have its name.
 abbrev pub redefinable_value : List ℕ → Option ValueCommand
 redefinable_value word =
@@ -71,7 +87,7 @@ redefinable_value word =
     else if bytes_eq word (codes "scan") then Some value.Scan
     else if bytes_eq word (codes "regexp") then Some value.Regexp
     else if bytes_eq word (codes "regsub") then Some value.Regsub
-    else None
+    else interpreter_value word
 
 -- The command that a word names, if it evaluates a script and a procedure can have its name.
 abbrev pub redefinable_control : List ℕ → Option TclCommand

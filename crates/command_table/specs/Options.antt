@@ -1,4 +1,4 @@
--- The options of commands, their first arguments: string(n), info(n), array(n), and log_user of expect(1).
+-- The options of commands, their first arguments: string(n), info(n), array(n), package(n), and log_user of expect(1).
 use Rattle.std.specs.Prelude.{ℕ, ◌||◌, List, codes, Option, Some, None, option_map, bytes_eq, if◌then◌else◌, option_and_then}
 use Rattle.command_table.specs.declared.commands.Command.{Command}
 use Rattle.command_table.specs.declared.commands.Command.TheVariants.{Tcl, Expect}
@@ -12,6 +12,8 @@ use Rattle.command_table.specs.declared.options.InfoOption.{InfoOption}
 use Rattle.command_table.specs.declared.options.InfoOption.TheVariants as info
 use Rattle.command_table.specs.declared.options.ArrayOption.{ArrayOption}
 use Rattle.command_table.specs.declared.options.ArrayOption.TheVariants as array
+use Rattle.command_table.specs.declared.options.PackageOption.{PackageOption}
+use Rattle.command_table.specs.declared.options.PackageOption.TheVariants.{Require}
 use Rattle.command_table.specs.declared.switches.Switches.{Switches}
 use Rattle.command_table.specs.declared.switches.Switches.TheVariants.{Case, Strict}
 use Rattle.command_table.specs.Counts.{exactly, at_least, between}
@@ -34,6 +36,7 @@ string_option word =
     else if bytes_eq word (codes "map") then Some string.Map
     else if bytes_eq word (codes "is") then Some string.Is
     else if bytes_eq word (codes "reverse") then Some string.Reverse
+    else if bytes_eq word (codes "repeat") then Some string.Repeat
     else None
 
 abbrev pub string_count : StringOption → Count
@@ -69,6 +72,8 @@ string_count string.Map = at_least 2
 string_count string.Is = at_least 2
 -- string reverse string
 string_count string.Reverse = exactly 1
+-- string repeat string count
+string_count string.Repeat = exactly 2
 
 -- The flags before the last arguments of an option.
 abbrev pub string_switches : StringOption → Option Switches
@@ -110,11 +115,19 @@ array_count array.Size = exactly 1
 -- array unset arrayName ?pattern?
 array_count array.Unset = between 1 2
 
+abbrev pub package_option : List ℕ → Option PackageOption
+package_option word = if bytes_eq word (codes "require") then Some Require else None
+
+abbrev pub package_count : PackageOption → Count
+-- package require package ?requirement?
+package_count Require = at_least 1
+
 -- How many arguments an option takes, if the command has it.
 abbrev pub option_count : Command → List ℕ → Option Count
 option_count (Tcl (Value value.String)) word = option_map string_count (string_option word)
 option_count (Tcl (Value value.Info)) word = option_map info_count (info_option word)
 option_count (Tcl (Value value.Array)) word = option_map array_count (array_option word)
+option_count (Tcl (Value value.Package)) word = option_map package_count (package_option word)
 -- log_user -info|0|1
 option_count (Expect expect.LogUser) word = if bytes_eq word (codes "0") || bytes_eq word (codes "1") || bytes_eq word (codes "-info") then Some (exactly 0) else None
 option_count other word = None

@@ -15,7 +15,7 @@ use Rattle.command_table.specs.declared.reading.Kind.TheVariants.{Text, Name, Sc
 use Rattle.command_table.specs.declared.reading.Stage.{Stage}
 use Rattle.command_table.specs.declared.reading.Stage.TheVariants.{Each, Alone, Choice, Front, Test, Pattern, Output}
 use Rattle.command_table.specs.declared.switches.Switches.{Switches}
-use Rattle.command_table.specs.declared.switches.Switches.TheVariants.{Search, Sort, Match, Replace}
+use Rattle.command_table.specs.declared.switches.Switches.TheVariants.{Search, Sort, Match, Replace, Version}
 use Rattle.command_table.specs.declared.rows.Row.{Row}
 use Rattle.command_table.specs.Counts.{exactly, at_least, between}
 use Rattle.command_table.specs.Reading.{texts}
@@ -45,10 +45,14 @@ value_row value.Concat = plain (at_least 0) texts
 value_row value.Continue = plain (exactly 0) texts
 -- error message ?info? ?code?
 value_row value.Error = plain (between 1 3) texts
+-- exp_version ?version?
+value_row value.ExpVersion = plain (at_least 0) (Front Version)
 -- format formatString ?arg arg ...?
 value_row value.Format = plain (at_least 1) texts
 -- global ?varname ...?
 value_row value.Global = plain (at_least 0) (Each Name Name Name Name)
+-- exp_internal ?-f file? value, debug ??-now? 0|1?, strace level, trap ?command? signals
+value_row value.Ignored = plain (at_least 0) texts
 -- incr varName ?increment?
 value_row value.Incr = plain (between 1 2) (Each Name Text Text Text)
 -- info option ?arg arg ...?
@@ -81,6 +85,8 @@ value_row value.Lsearch = switched Search 2
 value_row value.Lset = plain (exactly 3) (Each Name Text Text Text)
 -- lsort ?-integer? ?-decreasing? ?-unique? ?-nocase? ?-index index? list
 value_row value.Lsort = switched Sort 1
+-- package option ?arg arg ...?
+value_row value.Package = plain (at_least 1) Choice
 -- regexp ?-all? ?-indices? ?-inline? ?-lineanchor? ?-nocase? ?-start index? ?--? exp string ?matchVar? ?subMatchVar subMatchVar ...?
 value_row value.Regexp = plain (at_least 0) (Front Match)
 -- regsub ?-all? ?-lineanchor? ?-nocase? ?-start index? ?--? exp string subSpec ?varName?

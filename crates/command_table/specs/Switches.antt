@@ -1,5 +1,5 @@
 -- The flags of value commands. They come before the last arguments: string(n), lsearch(n), lsort(n), switch(n), regexp(n),
--- regsub(n).
+-- regsub(n). No word is a flag of `package require` and of `exp_version`, but it may not look like one.
 use Rattle.std.specs.Prelude.{ℕ, Bool, true, false, List, codes, Option, Some, None, bytes_eq, if◌then◌else◌}
 use Rattle.command_table.specs.declared.counts.Count.{Count}
 use Rattle.command_table.specs.declared.switches.Switch.{Switch}
@@ -66,9 +66,11 @@ switch_of switches.Case word = if bytes_eq word (codes "-nocase") then Some swit
 switch_of switches.Choice word = case_switch word
 switch_of switches.Match word = match_switch word
 switch_of switches.Replace word = replace_switch word
+switch_of switches.Require word = None
 switch_of switches.Strict word = if bytes_eq word (codes "-strict") then Some switch.Strict else None
 switch_of switches.Search word = search_switch word
 switch_of switches.Sort word = sort_switch word
+switch_of switches.Version word = None
 
 -- The next word is the value of the flag.
 abbrev pub takes_value : Switch → Bool
@@ -82,10 +84,13 @@ is_end switch.End = true
 is_end other = false
 
 -- The number of words after the flags: `exp string ?matchVar? ?subMatchVar subMatchVar ...?` of `regexp`, with at most ten
--- names, and `exp string subSpec ?varName?` of `regsub`.
+-- names, `exp string subSpec ?varName?` of `regsub`, `package ?requirement?` of `package require`, and `?version?` of
+-- `exp_version`.
 abbrev pub words_behind : Switches → Count
 words_behind switches.Match = between 2 12
 words_behind switches.Replace = between 3 4
+words_behind switches.Require = between 1 2
+words_behind switches.Version = between 0 1
 words_behind other = at_least 0
 
 -- The number of words before the flags. `string is` has its class there.

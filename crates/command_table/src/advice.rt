@@ -116,12 +116,10 @@ fn telling(word: &[u8]) -> &'static [u8]
         || is(word, b"exp_send_log")
     {
         b"use send_user"
-    } else if is(word, b"tclLog") || is(word, b"strace") || is(word, b"exp_strace") {
+    } else if is(word, b"tclLog") {
         b"use puts"
     } else if is(word, b"log_file") || is(word, b"exp_log_file") {
         b"the report has the transcript; --record writes every event"
-    } else if is(word, b"exp_internal") || is(word, b"debug") || is(word, b"exp_debug") {
-        b"use --record, and exprun replay"
     } else {
         b""
     }

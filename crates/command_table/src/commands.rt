@@ -2,7 +2,7 @@
 
 ghost use Rattle.std.specs.Prelude.{◌≡◌};
 ghost use Rattle.std.specs.Str.{bytes_eq};
-ghost use Rattle.command_table.specs.Commands.{value_command, control_command, tcl_command, redefinable_value, redefinable_control, redefinable_command, fixed_expect, redefinable_expect, expect_command, is_redefinable, language_command, command_of};
+ghost use Rattle.command_table.specs.Commands.{value_command, control_command, tcl_command, is_ignored, interpreter_value, redefinable_value, redefinable_control, redefinable_command, fixed_expect, redefinable_expect, expect_command, is_redefinable, language_command, command_of};
 
 /// A value command: it evaluates no script.
 #[derive(Clone, Copy, PartialEq, Eq)]
@@ -13,8 +13,12 @@ pub enum ValueCommand {
     Concat,
     Continue,
     Error,
+    /// `exp_version` and `expect_version`.
+    ExpVersion,
     Format,
     Global,
+    /// A command for which nothing happens: debugging, and actions at signals.
+    Ignored,
     Incr,
     Info,
     Join,
@@ -31,6 +35,7 @@ pub enum ValueCommand {
     Lsearch,
     Lset,
     Lsort,
+    Package,
     Regexp,
     Regsub,
     Return,
@@ -171,6 +176,35 @@ pub fn tcl_command(word: &[u8]) -> Option<TclCommand>
     }
 }
 
+/// Returns whether a word names a command for which nothing happens.
+fn is_ignored(word: &[u8]) -> bool
+    ensures { result ≡ is_ignored word.now }
+{
+    is(word, b"exp_internal")
+        || is(word, b"debug")
+        || is(word, b"exp_debug")
+        || is(word, b"strace")
+        || is(word, b"exp_strace")
+        || is(word, b"trap")
+        || is(word, b"exp_trap")
+}
+
+/// Returns the value command that a word names, if it is about the interpreter. A procedure can have
+/// its name.
+fn interpreter_value(word: &[u8]) -> Option<ValueCommand>
+    ensures { result ≡ interpreter_value word.now }
+{
+    if is(word, b"package") {
+        Some(ValueCommand::Package)
+    } else if is(word, b"exp_version") || is(word, b"expect_version") {
+        Some(ValueCommand::ExpVersion)
+    } else if is_ignored(word) {
+        Some(ValueCommand::Ignored)
+    } else {
+        None
+    }
+}
+
 /// Returns the value command that a word names, if a procedure can have its name.
 fn redefinable_value(word: &[u8]) -> Option<ValueCommand>
     ensures { result ≡ redefinable_value word.now }
@@ -208,7 +242,7 @@ fn redefinable_value(word: &[u8]) -> Option<ValueCommand>
     } else if is(word, b"regsub") {
         Some(ValueCommand::Regsub)
     } else {
-        None
+        interpreter_value(word)
     }
 }
 

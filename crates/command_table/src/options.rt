@@ -1,7 +1,7 @@
 //! The options of commands: their first arguments.
 
 ghost use Rattle.std.specs.Prelude.{◌≡◌};
-ghost use Rattle.command_table.specs.Options.{string_option, string_count, string_switches, option_switches, info_option, info_count, array_option, array_count, option_count};
+ghost use Rattle.command_table.specs.Options.{string_option, string_count, string_switches, option_switches, info_option, info_count, array_option, array_count, package_option, package_count, option_count};
 
 use crate::commands::{Command, ExpectCommand, TclCommand, ValueCommand, is};
 use crate::counts::{Count, at_least, between, exactly};
@@ -26,6 +26,7 @@ pub enum StringOption {
     Map,
     Is,
     Reverse,
+    Repeat,
 }
 
 /// An option of `array`.
@@ -43,6 +44,12 @@ pub enum ArrayOption {
 #[derive(Clone, Copy, PartialEq, Eq)]
 pub enum InfoOption {
     Exists,
+}
+
+/// An option of `package`.
+#[derive(Clone, Copy, PartialEq, Eq)]
+pub enum PackageOption {
+    Require,
 }
 
 /// Returns the option of `string` that a word names, or `None`.
@@ -81,6 +88,8 @@ pub fn string_option(word: &[u8]) -> Option<StringOption>
         Some(StringOption::Is)
     } else if is(word, b"reverse") {
         Some(StringOption::Reverse)
+    } else if is(word, b"repeat") {
+        Some(StringOption::Repeat)
     } else {
         None
     }
@@ -107,6 +116,7 @@ pub fn string_count(option: StringOption) -> Count
         StringOption::Map => at_least(2),
         StringOption::Is => at_least(2),
         StringOption::Reverse => exactly(1),
+        StringOption::Repeat => exactly(2),
     }
 }
 
@@ -165,6 +175,26 @@ pub fn array_count(option: ArrayOption) -> Count
     }
 }
 
+/// Returns the option of `package` that a word names, or `None`.
+pub fn package_option(word: &[u8]) -> Option<PackageOption>
+    ensures { result ≡ package_option word.now }
+{
+    if is(word, b"require") {
+        Some(PackageOption::Require)
+    } else {
+        None
+    }
+}
+
+/// Returns how many arguments an option of `package` takes.
+pub fn package_count(option: PackageOption) -> Count
+    ensures { result ≡ package_count option }
+{
+    match option {
+        PackageOption::Require => at_least(1),
+    }
+}
+
 /// Returns how many arguments an option of a command takes. `None` if the command has no such
 /// option.
 pub fn option_count(command: Command, word: &[u8]) -> Option<Count>
@@ -182,6 +212,10 @@ pub fn option_count(command: Command, word: &[u8]) -> Option<Count>
         Command::Tcl(TclCommand::Value(ValueCommand::Array)) => match array_option(word) {
             None => None,
             Some(option) => Some(array_count(option)),
+        },
+        Command::Tcl(TclCommand::Value(ValueCommand::Package)) => match package_option(word) {
+            None => None,
+            Some(option) => Some(package_count(option)),
         },
         Command::Expect(ExpectCommand::LogUser) => {
             if is(word, b"0") || is(word, b"1") || is(word, b"-info") {

@@ -41,12 +41,16 @@ pub enum Switches {
     Match,
     /// The flags of `regsub`.
     Replace,
+    /// No flags, as of `package require`.
+    Require,
     /// `-strict`
     Strict,
     /// The flags of `lsearch`.
     Search,
     /// The flags of `lsort`.
     Sort,
+    /// No flags, as of `exp_version`.
+    Version,
 }
 
 /// Returns the flag of `switch` that a word is, or `None`.
@@ -165,6 +169,7 @@ pub fn switch_of(allowed: Switches, word: &[u8]) -> Option<Switch>
         Switches::Choice => case_switch(word),
         Switches::Match => match_switch(word),
         Switches::Replace => replace_switch(word),
+        Switches::Require => None,
         Switches::Strict => {
             if is(word, b"-strict") {
                 Some(Switch::Strict)
@@ -174,6 +179,7 @@ pub fn switch_of(allowed: Switches, word: &[u8]) -> Option<Switch>
         }
         Switches::Search => search_switch(word),
         Switches::Sort => sort_switch(word),
+        Switches::Version => None,
     }
 }
 
@@ -197,13 +203,15 @@ pub fn is_end(switch: Switch) -> bool
     }
 }
 
-/// Returns how many words follow the flags of `regexp` and `regsub`.
+/// Returns how many words follow the flags of a command that has them before all other words.
 pub fn words_behind(switches: Switches) -> Count
     ensures { result ≡ words_behind switches }
 {
     match switches {
         Switches::Match => between(2, 12),
         Switches::Replace => between(3, 4),
+        Switches::Require => between(1, 2),
+        Switches::Version => between(0, 1),
         _ => at_least(0),
     }
 }

@@ -1,3 +1,4 @@
 pub mod Meeting
 pub mod Coursing
 pub mod LogLines
+pub mod Fronts

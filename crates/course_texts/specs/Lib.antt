@@ -1,5 +1,6 @@
 pub mod Show
 pub mod Patterns
+pub mod Nearest
 pub mod Waits
 pub mod Meetings
 pub mod Trail

@@ -26,10 +26,10 @@ groups_of (want.Glob glob nocase) = codes "0"
 groups_of (want.Regular r) = codes "0123456789"
 groups_of (want.Keyword k) = []
 
--- A value. If it has more than 64 bytes, its length and its last 64 bytes.
+-- A value. If it has more than 200 bytes, its length and its last 200 bytes.
 unfoldable pub shown_text : List ℕ → List ℕ
 shown_text bytes =
-    if nat_le (length bytes) 64 then quoted bytes
+    if nat_le (length bytes) 200 then quoted bytes
     else labelled (codes "of ") (length bytes) ++ codes " bytes, the last are " ++ quoted (tail_of bytes)
 
 unfoldable pub stored_line : List ℕ → List ℕ → List ℕ

@@ -5,7 +5,6 @@ use Rattle.exp_glob.specs.declared.element.Element.{Element}
 use Rattle.exp_glob.specs.declared.element.Element.TheVariants.{Star, One, End}
 use Rattle.exp_glob.specs.declared.element.Single.{Single}
 use Rattle.exp_glob.specs.declared.element.Single.TheVariants.{Any, Byte, Class}
-use Rattle.exp_glob.specs.declared.pattern.Glob.{Glob}
 use Rattle.exp_match.specs.declared.entry.Keyword.{Keyword}
 use Rattle.exp_match.specs.declared.entry.Keyword.TheVariants as key
 use Rattle.exp_match.specs.declared.entry.Want.{Want}
@@ -33,9 +32,9 @@ abbrev pub elements_text : List Element → List ℕ
 elements_text [] = []
 elements_text (e ∷ es) = element_text e ++ elements_text es
 
--- A text of a glob pattern.
-abbrev pub glob_text : Glob → List ℕ
-glob_text g = (if g.anchored then codes "^" else []) ++ elements_text g.elements
+-- A text of the glob pattern with these elements, which may be bound to the start.
+abbrev pub glob_text : Bool → List Element → List ℕ
+glob_text anchored es = (if anchored then codes "^" else []) ++ elements_text es
 
 abbrev pub keyword_text : Keyword → List ℕ
 keyword_text key.Eof = codes "eof"
@@ -50,6 +49,6 @@ flagged nocase flag text = (if nocase then codes "-nocase " else []) ++ flag ++ 
 -- The pattern or keyword of an entry, as it is written in the list.
 abbrev pub want_text : Want → List ℕ
 want_text (want.Exact text nocase) = flagged nocase (codes "-ex ") text
-want_text (want.Glob glob nocase) = flagged nocase (codes "-gl ") (glob_text glob)
+want_text (want.Glob glob nocase) = flagged nocase (codes "-gl ") (glob_text glob.anchored glob.elements)
 want_text (want.Regular r) = flagged r.nocase (codes "-re ") r.source
 want_text (want.Keyword k) = keyword_text k

@@ -15,6 +15,7 @@ use Rattle.report_texts.specs.declared.acts.Spelling.TheVariants.{Quoted}
 use Rattle.report_texts.specs.Acts.{act_text}
 use Rattle.report_texts.specs.Report.{labelled}
 use Rattle.report_texts.specs.Escape.{quoted}
+use Rattle.course_texts.specs.Nearest.{front_of}
 use Rattle.course_texts.specs.Patterns.{want_text}
 
 -- The columns of an event's moment, as spaces. They are closed, so that the text of a line stays in pieces.
@@ -34,27 +35,37 @@ unfoldable pub answer_line : Option ℕ → List ℕ
 answer_line None = []
 answer_line (Some c) = margin ++ labelled (codes "waits for the answer of child ") c ++ codes "\n"
 
--- The verdict for a pattern that did not match, or for a keyword whose event has not happened.
-abbrev pub verdict : Want → List ℕ
-verdict (want.Exact text nocase) = codes "  no\n"
-verdict (want.Glob glob nocase) = codes "  no\n"
-verdict (want.Regular r) = codes "  no\n"
-verdict (want.Keyword k) = codes "\n"
+-- The verdict for a pattern of which only a front matches in the bytes.
+unfoldable pub only_line : List ℕ → List ℕ
+only_line front = codes "  no, only " ++ quoted front ++ codes "\n"
 
-unfoldable pub entry_line : Entry → List ℕ
-entry_line e = margin ++ codes "    " ++ want_text e.want ++ verdict e.want
+-- The verdict for a pattern that did not match in the bytes, given its longest front that does.
+abbrev pub verdict_by : List ℕ → List ℕ → List ℕ
+verdict_by [] front = codes "  no\n"
+verdict_by (b ∷ bytes) [] = codes "  no, nothing of it\n"
+verdict_by (b ∷ bytes) (c ∷ front) = only_line (c ∷ front)
+
+-- The verdict for a pattern that did not match, or for a keyword whose event has not happened.
+abbrev pub verdict : List ℕ → Want → List ℕ
+verdict bytes (want.Exact text nocase) = verdict_by bytes (front_of (want.Exact text nocase) bytes)
+verdict bytes (want.Glob glob nocase) = verdict_by bytes (front_of (want.Glob glob nocase) bytes)
+verdict bytes (want.Regular r) = codes "  no\n"
+verdict bytes (want.Keyword k) = codes "\n"
+
+unfoldable pub entry_line : List ℕ → Entry → List ℕ
+entry_line bytes e = margin ++ codes "    " ++ want_text e.want ++ verdict bytes e.want
 
 -- The line of an entry, if it belongs to one of these groups.
-abbrev pub own_line : List ℕ → Entry → List ℕ
-own_line groups e = if in_groups groups e then entry_line e else []
+abbrev pub own_line : List ℕ → List ℕ → Entry → List ℕ
+own_line bytes groups e = if in_groups groups e then entry_line bytes e else []
 
-abbrev pub own_lines : List ℕ → List Entry → List ℕ
-own_lines groups [] = []
-own_lines groups (e ∷ es) = own_line groups e ++ own_lines groups es
+abbrev pub own_lines : List ℕ → List ℕ → List Entry → List ℕ
+own_lines bytes groups [] = []
+own_lines bytes groups (e ∷ es) = own_line bytes groups e ++ own_lines bytes groups es
 
--- The last 64 bytes of a text, or all of a shorter one.
+-- The last 200 bytes of a text, or all of a shorter one.
 abbrev pub tail_of : List ℕ → List ℕ
-tail_of bytes = drop (length bytes - 64) bytes
+tail_of bytes = drop (length bytes - 200) bytes
 
 -- The number of bytes from a child that no pattern has consumed, and the last of them.
 unfoldable pub buffer_line : ℕ → List ℕ → List ℕ
@@ -65,7 +76,7 @@ buffer_line c bytes =
 abbrev pub side_lines : List Child → List Entry → List (ℕ × List ℕ) → List ℕ
 side_lines children entries [] = []
 side_lines children entries ((i, groups) ∷ sides) =
-    (buffer_line (i + 1) (buffer_of (i + 1) children) ++ own_lines groups entries) ++ side_lines children entries sides
+    (buffer_line (i + 1) (buffer_of (i + 1) children) ++ own_lines (buffer_of (i + 1) children) groups entries) ++ side_lines children entries sides
 
 unfoldable pub deadline_line : ℕ → List ℕ
 deadline_line m = margin ++ labelled (codes "waits for output until ") m ++ codes " ms\n"

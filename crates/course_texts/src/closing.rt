@@ -29,14 +29,14 @@ fn is_loss(what: &What) -> bool
 }
 
 /// Returns whether a request closes this child.
-fn closes(child: u8, request: &Request) -> bool
+fn closes(child: u16, request: &Request) -> bool
     ensures { result ≡ closes_of child request.now }
 {
-    request.child == child && is_close(&request.act)
+    u16::from(request.child) == child && is_close(&request.act)
 }
 
 /// Returns whether one of the requests closes this child.
-fn has_closed(requests: &[Request], child: u8) -> bool
+fn has_closed(requests: &[Request], child: u16) -> bool
     ensures { result ≡ list_any (closes_of child) requests.now }
 {
     requests.iter().any(|request| closes(child, request))

@@ -9,6 +9,7 @@ mod closing;
 mod events;
 mod explaining;
 mod meetings;
+mod nearest;
 mod patterns;
 mod showing;
 mod trail;

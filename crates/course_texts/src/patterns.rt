@@ -3,7 +3,7 @@
 ghost use Rattle.std.specs.Prelude.{◌≡◌, ◌++◌, IfOk, OnOk};
 ghost use Rattle.course_texts.specs.Patterns.{is_mark as is_mark_of, byte_text, single_text, element_text, elements_text, glob_text as glob_text_of, keyword_text as keyword_text_of, flagged, want_text};
 
-use exp_glob::{Element, Glob, Single};
+use exp_glob::{Element, Single};
 use exp_match::{Keyword, Want};
 use report_texts::push_quoted;
 use std::alloc::{AllocError, Global};
@@ -58,15 +58,29 @@ fn push_elements(text: &mut Text, elements: &[Element]) -> Result<(), AllocError
     Ok(())
 }
 
-/// Returns a text of a glob pattern.
-fn glob_text(alloc: Global, glob: &Glob) -> Result<Text, AllocError>
-    ensures { IfOk result (λ t. t ≡ glob_text_of glob.now) }
+/// Returns the text of elements.
+pub(crate) fn elements_text(alloc: Global, elements: &[Element]) -> Result<Text, AllocError>
+    ensures { IfOk result (λ t. t ≡ elements_text elements.now) }
 {
     let mut text = Text::new(alloc);
-    if glob.anchored {
+    push_elements(&mut text, elements)?;
+    Ok(text)
+}
+
+/// Returns a text of the glob pattern with these elements. If `anchored`, it matches only at the
+/// start.
+pub(crate) fn glob_text(
+    alloc: Global,
+    anchored: bool,
+    elements: &[Element],
+) -> Result<Text, AllocError>
+    ensures { IfOk result (λ t. t ≡ glob_text_of anchored elements.now) }
+{
+    let mut text = Text::new(alloc);
+    if anchored {
         text.extend(b"^")?;
     }
-    push_elements(&mut text, glob.elements.as_slice())?;
+    push_elements(&mut text, elements)?;
     Ok(text)
 }
 
@@ -109,7 +123,7 @@ pub fn push_want(alloc: Global, text: &mut Text, want: &Want) -> Result<(), Allo
             nocase,
         } => push_flagged(alloc, text, *nocase, b"-ex ", pattern.as_slice()),
         Want::Glob { glob, nocase } => {
-            let pattern = glob_text(alloc, glob)?;
+            let pattern = glob_text(alloc, glob.anchored, glob.elements.as_slice())?;
             push_flagged(alloc, text, *nocase, b"-gl ", pattern.as_slice())
         }
         Want::Regular(pattern) => {

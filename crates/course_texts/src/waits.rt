@@ -3,8 +3,9 @@
 ghost use Rattle.std.specs.Prelude.{◌≡◌, ◌++◌, IfOk, OnOk, Some, None, MatchOption};
 ghost use Rattle.exp_match.specs.Choice.{in_groups};
 ghost use Rattle.session.specs.Awaited.{answering, expecting};
-ghost use Rattle.course_texts.specs.Waits.{margin, request_line, request_lines, answer_line, verdict as verdict_of, entry_line, own_line, own_lines, tail_of, buffer_line, side_lines, deadline_line, endless_line, until_line, expect_lines, wait_lines};
+ghost use Rattle.course_texts.specs.Waits.{margin, request_line, request_lines, answer_line, only_line, verdict_by, verdict as verdict_of, entry_line, own_line, own_lines, tail_of, buffer_line, side_lines, deadline_line, endless_line, until_line, expect_lines, wait_lines};
 
+use crate::nearest::front_of;
 use crate::patterns::push_want;
 use exp_match::{Entry, Want};
 use expect_core::{Groups, Place, Plan};
@@ -14,7 +15,7 @@ use std::alloc::{AllocError, Global};
 use tcl_words::Text;
 
 /// The greatest number of a child's last bytes shown.
-pub(crate) const SHOWN: usize = 64;
+pub(crate) const SHOWN: usize = 200;
 
 /// Appends the columns of an event's moment, as spaces.
 #[tactic(auto, unfolding(crate::specs::Waits::margin))]
@@ -64,26 +65,55 @@ fn push_answer(alloc: Global, text: &mut Text, child: Option<u8>) -> Result<(), 
     text.extend(b"\n")
 }
 
-/// Returns the verdict for an entry that did not match.
-fn verdict(want: &Want) -> &'static [u8]
-    ensures { result.now ≡ verdict_of want.now }
+/// Appends the verdict for a pattern of which only a front matches.
+#[tactic(auto, unfolding(crate::specs::Waits::only_line))]
+fn push_only(alloc: Global, text: &mut Text, front: &[u8]) -> Result<(), AllocError>
+    ensures { OnOk result (text.new ≡ text.old ++ only_line front.now) }
 {
-    match want {
-        Want::Exact { .. } => b"  no\n",
-        Want::Glob { .. } => b"  no\n",
-        Want::Regular(_) => b"  no\n",
-        Want::Keyword(_) => b"\n",
+    text.extend(b"  no, only ")?;
+    push_quoted(alloc, text, front)?;
+    text.extend(b"\n")
+}
+
+/// Appends the verdict for a pattern that did not match in bytes, given its longest front that
+/// does.
+fn push_verdict_by(
+    alloc: Global,
+    text: &mut Text,
+    bytes: &[u8],
+    front: &[u8],
+) -> Result<(), AllocError>
+    ensures { OnOk result (text.new ≡ text.old ++ verdict_by bytes.now front.now) }
+{
+    match (bytes, front) {
+        ([], _) => text.extend(b"  no\n"),
+        (_, []) => text.extend(b"  no, nothing of it\n"),
+        _ => push_only(alloc, text, front),
     }
 }
 
+/// Appends the verdict for an entry that did not match in bytes.
+fn push_verdict(alloc: Global, text: &mut Text, bytes: &[u8], want: &Want) -> Result<(), AllocError>
+    ensures { OnOk result (text.new ≡ text.old ++ verdict_of bytes.now want.now) }
+{
+    match want {
+        Want::Regular(_) => return text.extend(b"  no\n"),
+        Want::Keyword(_) => return text.extend(b"\n"),
+        Want::Exact { .. } => {}
+        Want::Glob { .. } => {}
+    }
+    let front = front_of(alloc, want, bytes)?;
+    push_verdict_by(alloc, text, bytes, front.as_slice())
+}
+
 #[tactic(auto, unfolding(crate::specs::Waits::entry_line))]
-fn push_entry(alloc: Global, text: &mut Text, entry: &Entry) -> Result<(), AllocError>
-    ensures { OnOk result (text.new ≡ text.old ++ entry_line entry.now) }
+fn push_entry(alloc: Global, text: &mut Text, bytes: &[u8], entry: &Entry) -> Result<(), AllocError>
+    ensures { OnOk result (text.new ≡ text.old ++ entry_line bytes.now entry.now) }
 {
     push_margin(text)?;
     text.extend(b"    ")?;
     push_want(alloc, text, &entry.want)?;
-    text.extend(verdict(&entry.want))
+    push_verdict(alloc, text, bytes, &entry.want)
 }
 
 /// Returns whether an entry belongs to one of the groups.
@@ -98,13 +128,14 @@ fn is_own(groups: &[usize], entry: &Entry) -> bool
 fn push_own(
     alloc: Global,
     text: &mut Text,
+    bytes: &[u8],
     groups: &[usize],
     entry: &Entry,
 ) -> Result<(), AllocError>
-    ensures { OnOk result (text.new ≡ text.old ++ own_line groups.now entry.now) }
+    ensures { OnOk result (text.new ≡ text.old ++ own_line bytes.now groups.now entry.now) }
 {
     if is_own(groups, entry) {
-        return push_entry(alloc, text, entry);
+        return push_entry(alloc, text, bytes, entry);
     }
     Ok(())
 }
@@ -112,13 +143,14 @@ fn push_own(
 fn push_entries(
     alloc: Global,
     text: &mut Text,
+    bytes: &[u8],
     groups: &[usize],
     entries: &[Entry],
 ) -> Result<(), AllocError>
-    ensures { OnOk result (text.new ≡ text.old ++ own_lines groups.now entries.now) }
+    ensures { OnOk result (text.new ≡ text.old ++ own_lines bytes.now groups.now entries.now) }
 {
     for entry in entries {
-        push_own(alloc, text, groups, entry)?;
+        push_own(alloc, text, bytes, groups, entry)?;
     }
     Ok(())
 }
@@ -157,7 +189,7 @@ fn push_sides(
         let child = place.number();
         let bytes = session.buffer_copied(alloc, child)?;
         push_buffer(alloc, text, child, bytes.as_slice())?;
-        push_entries(alloc, text, groups.as_slice(), entries)?;
+        push_entries(alloc, text, bytes.as_slice(), groups.as_slice(), entries)?;
     }
     Ok(())
 }

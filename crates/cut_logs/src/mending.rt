@@ -1,7 +1,8 @@
 //! Makes a log of one that was cut off at any byte.
 
 ghost use Rattle.std.specs.Prelude.{◌≡◌, ◌++◌, ◌-◌, ◌<◌, ◌≤◌, ◌^◌, ℕ, List, length, take as first, OnOk, OnErr};
-ghost use Rattle.child_events.specs.Log.{heading, total_line, LogText, LogText2};
+ghost use Rattle.child_events.specs.Log.{heading, total_line, CountedLog, LogText};
+ghost use Rattle.child_events.specs.declared.child_numbers.ChildNumbers.{ChildNumbers};
 ghost use Rattle.child_events.specs.declared.event.HallEvent.{HallEvent};
 ghost use Rattle.cut_logs.specs.Cut.{whole, lines, mended, is_log as is_log_of};
 
@@ -70,10 +71,10 @@ pub fn mend(alloc: Global, text: &mut Text) -> Result<(), AllocError>
     close(alloc, text, count.saturating_sub(1) as u64)
 }
 
-/// States laws of every text and every list of events. Take a front of a log in version 2, with at
-/// least its heading. `mend` makes of it the log of the events whose lines are complete. A log is
-/// unchanged. It does nothing at run time.
+/// States laws of every text and every list of events. Take a front of a log in version 2 or 3,
+/// with at least its heading. `mend` makes of it the log of the events whose lines are complete, in
+/// the same version. A log is unchanged. It does nothing at run time.
 pub fn mending_law()
-    ensures front { (front rest : List ℕ) (es : List HallEvent) → LogText2 (front ++ rest) es → length es < 10 ^ 16 → length heading ≤ length front → LogText2 (mended front) (first (lines front - 1) es) }
+    ensures front { (nums : ChildNumbers) (front rest : List ℕ) (es : List HallEvent) → CountedLog nums (front ++ rest) es → length es < 10 ^ 16 → length (heading nums) ≤ length front → CountedLog nums (mended front) (first (lines front - 1) es) }
     ensures whole { (bytes : List ℕ) (es : List HallEvent) → LogText bytes es → mended bytes ≡ bytes }
 {}

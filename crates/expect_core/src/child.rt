@@ -225,7 +225,7 @@ impl Children {
     pub(crate) fn buffer_copied(&self, alloc: Global, child: u8) -> Result<Text, AllocError>
         ensures { IfOk result (λ t. t ≡ buffer_of child self.now) }
     {
-        let at = place(child);
+        let at = place(u16::from(child));
         if at < self.list.len() {
             return self.list[at].kept.copied(alloc);
         }

@@ -99,7 +99,7 @@ impl Dialogue {
     }
 
     /// Adds what an event of a child brings.
-    fn add(&mut self, child: u8, moment: u64, what: What) -> Result<(), AllocError>
+    fn add(&mut self, child: u16, moment: u64, what: What) -> Result<(), AllocError>
         ensures came { Good self.old → OnOk result (self.new ≡ offered (Event.Child child moment what) self.old) }
         ensures waits { (self.new.phase ≡ self.old.phase) × (self.new.own ≡ self.old.own) }
     {

@@ -80,7 +80,7 @@ impl Model for Lanes {
 }
 
 /// Returns the index of a child's lane. The child is numbered from 1. Number 0 has no lane.
-pub(crate) fn place(child: u8) -> usize
+pub(crate) fn place(child: u16) -> usize
     ensures { result ≡ place_of child }
 {
     if child == 0 {
@@ -105,7 +105,7 @@ impl Lanes {
 
     /// Adds what an event of a child brings. The moment must not be before an earlier one.
     #[tactic(auto, using(crate::proofs::Moments::items_by))]
-    pub(crate) fn add(&mut self, child: u8, moment: u64, what: What) -> Result<(), AllocError>
+    pub(crate) fn add(&mut self, child: u16, moment: u64, what: What) -> Result<(), AllocError>
         ensures { LanesBy moment self.old → OnOk result (self.new ≡ grown (lane_with moment what) (place_of child) self.old) }
     {
         let at = place(child);
@@ -120,7 +120,7 @@ impl Lanes {
     pub(crate) fn untaken(&self, child: u8) -> usize
         ensures { result ≡ untaken_of child self.now }
     {
-        let at = place(child);
+        let at = place(u16::from(child));
         if at < self.list.len() {
             return self.list[at].items.count_came();
         }

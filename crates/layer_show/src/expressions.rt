@@ -14,7 +14,10 @@ fn push_fault(text: &mut Text, fault: &ExprFault) -> Result<(), AllocError> {
         ExprFault::Syntax => text.extend(b"Syntax"),
         ExprFault::NotNumber(word) => push_labelled(text, b"NotNumber ", word.as_slice()),
         ExprFault::DivideByZero => text.extend(b"DivideByZero"),
+        ExprFault::ZeroToNegative => text.extend(b"ZeroToNegative"),
+        ExprFault::NegativeShift => text.extend(b"NegativeShift"),
         ExprFault::Overflow => text.extend(b"Overflow"),
+        ExprFault::BadList => text.extend(b"BadList"),
         ExprFault::TooDeep => text.extend(b"TooDeep"),
         ExprFault::Memory => Err(AllocError),
     }

@@ -29,7 +29,7 @@ fn hall(alloc: Global, sources: &[&[u8]]) -> Result<Hall, Fail> {
     Ok(opened.ok().ok_or("no hall")?)
 }
 
-fn answered(script: u8, child: u8, moment: u64) -> HallEvent {
+fn answered(script: u8, child: u16, moment: u64) -> HallEvent {
     HallEvent::Child {
         script,
         child,

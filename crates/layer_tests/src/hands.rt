@@ -1,6 +1,6 @@
 //! A hand over a keeper in memory, and a reader by itself.
 
-use crate::keeper::{LINE, Line, Liner, Turnstile};
+use crate::keeper::{LINE, LineDevice, Liner, Turnstile};
 use child_events::{Answer, Cause, Counted};
 use child_hands::pump::pump;
 use child_hands::{Fresh, Outcome, RingItem, Work, start_hand};
@@ -59,7 +59,7 @@ fn a_reader_puts_pieces_and_then_the_end(rt: HostRuntime) -> Result<(), Fail> {
     let alloc = rt.alloc();
     let bell = Bell::new(alloc)?;
     let (feed, mut out) = feed_pair::<RingItem<Liner>>(alloc, 2, &bell, &bell)?;
-    let mut device = Counted::new(Line::new(None));
+    let mut device = Counted::new(LineDevice::new(None));
     assert!(rt; pump(&rt, alloc, &bell, 3, 2, &mut device, feed).is_some());
     assert!(rt; is_line(take_waiting(&rt, &bell, &mut out), 2));
     assert!(rt; is_end(out.take(), 2));

@@ -16,19 +16,19 @@ pub const LINE: &[u8] = b"hi\n";
 
 /// Gives the line and then the end. With `pause`, gives the end after a second, and no line.
 #[derive(Drop)]
-pub struct Line {
+pub struct LineDevice {
     pause: Option<HostRuntime>,
     over: bool,
 }
 
-impl Line {
+impl LineDevice {
     /// Creates a device, with a pause or without.
-    pub fn new(pause: Option<HostRuntime>) -> Line {
-        Line { pause, over: false }
+    pub fn new(pause: Option<HostRuntime>) -> LineDevice {
+        LineDevice { pause, over: false }
     }
 }
 
-impl Read for Line {
+impl Read for LineDevice {
     fn read(&mut self, buf: &mut [u8]) -> io::Result<usize> {
         if self.over || buf.len() < LINE.len() {
             return Ok(0);
@@ -98,7 +98,7 @@ impl Liner {
 }
 
 impl Keeper for Liner {
-    type Out = Line;
+    type Out = LineDevice;
 
     ghost named = { λ _. 7 };
 
@@ -110,9 +110,9 @@ impl Keeper for Liner {
 
     ghost gives = { λ _ _ _. ⊤ };
 
-    fn spawn(&mut self, _child: u8, _argv: &Texts) -> Result<Line, Cause> {
+    fn spawn(&mut self, _child: u8, _argv: &Texts) -> Result<LineDevice, Cause> {
         self.count();
-        Ok(Line::new(self.pause))
+        Ok(LineDevice::new(self.pause))
     }
 
     fn write(&mut self, _child: u8, _bytes: &Text) -> Result<(), Cause> {

@@ -3,7 +3,7 @@
 ghost use Rattle.std.specs.Prelude.{◌≡◌, length, IfOk, ⊤};
 
 use crate::keeper::Liner;
-use child_events::{HallEvents, fits, read_log, write_log};
+use child_events::{ChildNumbers, HallEvents, fits, read_log, write_log};
 use child_hands::{Clock, Gate};
 use child_serve::{Audience, Served, Stopping, serve};
 use dialogue_sched::Script;
@@ -199,11 +199,14 @@ fn a_script_over_a_keeper(rt: HostRuntime) -> Result<(), Fail> {
     let (served, logged) = served(rt, alloc, CAT, Liner::new(None, true), 0, true)?;
     assert!(rt; all_of_cat(&served, 1));
     assert!(rt; served.unsettled.is_empty() && served.forced == 0);
-    if !fits(logged.as_slice()) {
+    if !fits(ChildNumbers::To999, logged.as_slice()) {
         return Err(Fail::from("no record"));
     }
     let record = write_log(alloc, logged.as_slice())?;
     let again = read_log(alloc, record.as_slice()).ok().ok_or("no log")?;
+    if !fits(ChildNumbers::To999, again.as_slice()) {
+        return Err(Fail::from("no log"));
+    }
     assert_eq!(rt; again.len(), logged.len());
     assert_eq!(rt;
         write_log(alloc, again.as_slice())?.as_slice(),

@@ -2,6 +2,7 @@
 use Rattle.std.proofs.Common.{◌≡◌, ◌≢◌, ℕ, ◌+◌, ◌≤◌, List, [], ◌∷◌, ◌++◌, length, Bool, true, false, Option, Some, None, refl, sym, ap, subst, ◌∙◌, append_assoc, append-nil, arith}
 use Rattle.std.specs.Prelude.{nat_lt, nat_le, IsTrue, max, slice_get, option_map, if◌then◌else◌}
 use Rattle.std.proofs.lemmas.Bool.Decides.{nat_tests}
+use Rattle.child_events.specs.declared.child_numbers.ChildNumbers.TheVariants.{To999}
 use Rattle.child_events.specs.declared.event.Event.{Event}
 use Rattle.child_events.specs.declared.event.HallEvent.{HallEvent}
 use Rattle.child_events.specs.World.{own, horizon_of}
@@ -129,7 +130,7 @@ stands_first s exits p b none zeroth =
         says = k.2.says;
       });
       due = λ lives. subst (λ (es : List HallEvent). AreDue s exits [] es) (sym none) tt;
-      fit = subst AllFit (sym none) tt;
+      fit = subst (AllFit To999) (sym none) tt;
       moment = zeroth ∙ sym (ap (λ (es : List HallEvent). horizon_of (own 1 es)) none);
       early = subst (λ (n : ℕ). n ≤ 9000000000000000) (sym zeroth) (omega arith);
     }
@@ -149,8 +150,8 @@ module _ (s : Script) (exits : List Exit) (p q : Planner) (e : HallEvent) (grown
   still_early : q.moment ≤ 9000000000000000
   still_early = subst (λ (n : ℕ). n ≤ 9000000000000000) (sym moved) (max_early p.moment (moment_in e) st.early (early_in e taken))
 
-  still_fit : AllFit q.events
-  still_fit = subst AllFit (sym grown) (fit_more p.events e st.fit (taken_fits e taken))
+  still_fit : AllFit To999 q.events
+  still_fit = subst (AllFit To999) (sym grown) (fit_more p.events e st.fit (taken_fits e taken))
 
   -- the answer that was due
   pub stands_answered : (r : Request) (ks : List Kept) → e ≡ answer_at exits p.moment r → Requested 1 p.hall (Some r) ks → AllTook 1 (e ∷ []) ks q.hall → Stands s exits q
@@ -205,7 +206,7 @@ module _ (s : Script) (exits : List Exit) (p q : Planner) (same : q.events ≡ p
         alone = out.2;
         follows = subst (λ (es : List HallEvent). Follows s es (length (answers es)) out.0) (sym same) (follow_none s p.events (length (answers p.events)) st.kept out.0 st.follows out.1);
         due = λ lives. subst (λ (es : List HallEvent). AreDue s exits [] es) (sym same) (st.due (subst (λ (b : Bool). IsTrue b) out.1.lives lives));
-        fit = subst AllFit (sym same) st.fit;
+        fit = subst (AllFit To999) (sym same) st.fit;
         moment = stays ∙ st.moment ∙ sym (ap (λ (es : List HallEvent). horizon_of (own 1 es)) same);
         early = subst (λ (n : ℕ). n ≤ 9000000000000000) (sym stays) st.early;
       }

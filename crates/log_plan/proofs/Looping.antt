@@ -2,6 +2,7 @@
 use Rattle.std.proofs.Common.{◌≡◌, ℕ, ◌+◌, ◌≤◌, List, [], ◌∷◌, ◌++◌, length, Bool, true, false, Some, None, refl, sym, ap, subst, ◌∙◌, append_assoc, append-nil, arith}
 use Rattle.std.specs.Prelude.{nat_lt, Result, Ok, Err, IfOk, IfErr, OnOk}
 use Rattle.std.proofs.lemmas.Bool.Decides.{nat_tests}
+use Rattle.child_events.specs.declared.child_numbers.ChildNumbers.TheVariants.{To999}
 use Rattle.child_events.specs.declared.event.HallEvent.{HallEvent}
 use Rattle.child_events.specs.World.{own, horizon_of}
 use Rattle.child_events.specs.Log.{AllFit}
@@ -155,6 +156,6 @@ plans_all s t front p (Ok es) short none told same whole memory =
     )
 plans_all s t front p (Err f) short none told same whole memory = subst (λ (g : PlanFault). Plans s t (Err g)) (sym memory) short
 
-pub all_fit : (s : Script) (exits : List Exit) (events : List HallEvent) (p : Planner) (r : Result (List HallEvent) PlanFault) → TellsAll s exits events p (Ok tt) → IfOk r (λ es. es ≡ p.events) → IfOk r (λ es. AllFit es)
-all_fit s exits events p (Ok es) told same = subst AllFit (sym same) (told.0).fit
+pub all_fit : (s : Script) (exits : List Exit) (events : List HallEvent) (p : Planner) (r : Result (List HallEvent) PlanFault) → TellsAll s exits events p (Ok tt) → IfOk r (λ es. es ≡ p.events) → IfOk r (λ es. AllFit To999 es)
+all_fit s exits events p (Ok es) told same = subst (AllFit To999) (sym same) (told.0).fit
 all_fit s exits events p (Err f) told same = tt

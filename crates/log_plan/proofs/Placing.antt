@@ -2,6 +2,7 @@
 use Rattle.std.proofs.Common.{◌≡◌, ℕ, ◌+◌, ◌≤◌, List, [], ◌∷◌, ◌++◌, length, Bool, true, false, Option, Some, None, refl, sym, ap, subst, ◌∙◌, append_assoc, append-nil, arith}
 use Rattle.std.specs.Prelude.{nat_le, IsTrue, max, ◌&&◌, if◌then◌else◌}
 use Rattle.std.proofs.lemmas.Bool.Decides.{nat_tests}
+use Rattle.child_events.specs.declared.child_numbers.ChildNumbers.TheVariants.{To999}
 use Rattle.child_events.specs.declared.event.Event.{Event}
 use Rattle.child_events.specs.declared.event.Event.TheVariants as event
 use Rattle.child_events.specs.declared.event.What.{What}
@@ -98,10 +99,10 @@ same_len (what.Answer a) = refl
 pub only_script : (n : ℕ) → is_number n 1 ≡ true → n ≡ 1
 only_script n h = grind (arith, nat_tests)
 
-child_fits : (c m l : ℕ) → is_number c 16 ≡ true → nat_le m 9000000000000000 ≡ true → nat_le l 4096 ≡ true → IsTrue (nat_le 1 1 && nat_le 1 64 && nat_le 1 c && nat_le c 16 && nat_le m 9000000000000000 && nat_le l 4096)
+child_fits : (c m l : ℕ) → is_number c 16 ≡ true → nat_le m 9000000000000000 ≡ true → nat_le l 4096 ≡ true → IsTrue (nat_le 1 1 && nat_le 1 64 && nat_le 0 c && nat_le c 999 && nat_le m 9000000000000000 && nat_le l 4096)
 child_fits c m l child moment len = grind (arith, nat_tests)
 
-pub taken_fits : (e : HallEvent) → refusal_of 1 e ≡ None → IsTrue (fits e)
+pub taken_fits : (e : HallEvent) → refusal_of 1 e ≡ None → IsTrue (fits To999 e)
 taken_fits (hall.Tick m) h = by_test (nat_le m 9000000000000000) h
   where
     by_test : (t : Bool) → (if t then None else Some MomentTooLarge) ≡ None → IsTrue t
@@ -111,7 +112,7 @@ taken_fits (hall.Child s c m w) h =
     let t = tests_of (is_number s 1) (is_number c 16) (nat_le m 9000000000000000) (nat_le (piece_len w) 4096) _ _ _ _ h in
     rw (only_script s t.0) (child_fits c m (logged_len w) t.1 t.2 (subst (λ (n : ℕ). nat_le n 4096 ≡ true) (same_len w) t.3))
 
-pub fit_more : (es : List HallEvent) (e : HallEvent) → AllFit es → IsTrue (fits e) → AllFit (es ++ e ∷ [])
+pub fit_more : (es : List HallEvent) (e : HallEvent) → AllFit To999 es → IsTrue (fits To999 e) → AllFit To999 (es ++ e ∷ [])
 fit_more [] e all h = (h, tt)
 fit_more (x ∷ es) e all h = (all.0, fit_more es e all.1 h)
 

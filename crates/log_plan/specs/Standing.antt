@@ -1,5 +1,6 @@
 -- A running script, with the events that it has taken.
 use Rattle.std.specs.Prelude.{◌≡◌, ◌≤◌, ℕ, List, [], ◌∷◌, ◌++◌, length, Bool, true, false, IsTrue, None, Result, Ok, Err}
+use Rattle.child_events.specs.declared.child_numbers.ChildNumbers.TheVariants.{To999}
 use Rattle.child_events.specs.declared.event.Event.{Event}
 use Rattle.child_events.specs.declared.event.HallEvent.{HallEvent}
 use Rattle.child_events.specs.declared.event.HallEvent.TheVariants as hall
@@ -39,7 +40,7 @@ pub record Stands (s : Script) (exits : List Exit) (p : Planner) : Type 0 where
   pub alone : p.hall ≡ kept ∷ []
   pub follows : Follows s p.events (length (answers p.events)) kept
   pub due : IsTrue kept.lives → AreDue s exits [] p.events
-  pub fit : AllFit p.events
+  pub fit : AllFit To999 p.events
   pub moment : p.moment ≡ horizon_of (own 1 p.events)
   pub early : p.moment ≤ 9000000000000000
 

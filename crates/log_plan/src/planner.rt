@@ -109,7 +109,7 @@ impl Planner {
     {
         HallEvent::Child {
             script: 1,
-            child: request.child,
+            child: u16::from(request.child),
             moment: self.moment,
             what: What::Answer(answer_to(exits, request)),
         }

@@ -2,6 +2,7 @@
 
 ghost use Rattle.std.specs.Prelude.{◌≡◌, IfOk};
 ghost use Rattle.child_events.specs.Log.{AllFit};
+ghost use Rattle.child_events.specs.declared.child_numbers.ChildNumbers.TheVariants.{To999};
 ghost use Rattle.child_timeline.specs.Told.{AreTold};
 ghost use Rattle.log_plan.specs.Plan.{Plans};
 
@@ -23,7 +24,7 @@ use std::alloc::Global;
 pub fn plan(alloc: Global, script: Script, timeline: Timeline) -> Result<HallEvents, PlanFault>
     requires told { AreTold timeline.events }
     ensures plans { Plans script timeline result }
-    ensures fit { IfOk result (λ es. AllFit es) }
+    ensures fit { IfOk result (λ es. AllFit To999 es) }
 {
     let Timeline {
         events,

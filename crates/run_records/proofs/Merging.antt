@@ -5,6 +5,7 @@ use Rattle.std.specs.Prelude.{nat_le, ◌==◌, if◌then◌else◌, slice_get, 
 use Rattle.std.proofs.lemmas.Bool.Decides.{nat_tests}
 use Rattle.std.proofs.lemmas.List.Elements.{filter-append}
 use Rattle.std.proofs.lemmas.Nat.{mod-mul-add, div-mul-add}
+use Rattle.child_events.specs.declared.child_numbers.ChildNumbers.TheVariants.{To16}
 use Rattle.child_events.specs.declared.event.What.{What}
 use Rattle.child_events.specs.declared.event.Event.{Event}
 use Rattle.child_events.specs.declared.event.Event.TheVariants as event
@@ -208,7 +209,7 @@ same_number n a b w lt e =
     let same : a * n + w ≡ b * n + w = omega (arith, e) in
     sym (div-mul-add a n w lt) ∙ ap (λ (x : ℕ). x / n) same ∙ div-mul-add b n w lt
 
-from_one : (s c m : ℕ) (x : What) → IsTrue (fits (hall.Child s c m x)) → 1 ≤ s
+from_one : (s c m : ℕ) (x : What) → IsTrue (fits To16 (hall.Child s c m x)) → 1 ≤ s
 from_one s c m x f = grind (arith, nat_tests, f)
 
 module _ (n w : ℕ) (here : w < n) (number : ℕ) (one : 1 ≤ number) where
@@ -233,7 +234,7 @@ module _ (n w : ℕ) (here : w < n) (number : ℕ) (one : 1 ≤ number) where
             u ∙ sym t
       ]
 
-  own_numbered : (r : Entries) → AllFit r → own k (map (numbered n w) r) ≡ own number r
+  own_numbered : (r : Entries) → AllFit To16 r → own k (map (numbered n w) r) ≡ own number r
   own_numbered [] f = refl
   own_numbered (hall.Child s c m x ∷ r) f =
       ap (λ (o : Option Event). after_own o (own k (map (numbered n w) r))) (mine s c m x (from_one s c m x f.0)) ∙ ap (after_own (own_of number (hall.Child s c m x))) (own_numbered r f.1)
@@ -297,7 +298,7 @@ module _ (P : HallEvent → Type 0) where
   each_merged workers w [] e = tt
   each_merged workers w (r ∷ rs) e = merged_each _ _ e.0 (each_merged workers (w + 1) rs e.1)
 
-each_fits : (workers w : ℕ) (rs : List Entries) → AllFitFrom workers w rs → EachFrom (λ e. IsTrue (fits e)) workers w rs
+each_fits : (workers w : ℕ) (rs : List Entries) → AllFitFrom workers w rs → EachFrom (λ e. IsTrue (fits To16 e)) workers w rs
 each_fits workers w [] f = tt
 each_fits workers w (r ∷ rs) f = (f.0.among, each_fits workers (w + 1) rs f.1)
 
@@ -349,5 +350,5 @@ module _ (records : List Entries) (es : Entries) (f : AllFits records) (j : IsJo
   pub joined_each : (P : HallEvent → Type 0) → EachFrom P (length records) 0 records → AllByRecursion P es
   joined_each P each = subst (AllByRecursion P) joined_is (each_merged P (length records) 0 records each)
 
-  pub joined_fit : AllFit es
-  joined_fit = joined_each (λ e. IsTrue (fits e)) (each_fits (length records) 0 records f)
+  pub joined_fit : AllFit To16 es
+  joined_fit = joined_each (λ e. IsTrue (fits To16 e)) (each_fits (length records) 0 records f)

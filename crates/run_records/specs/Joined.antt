@@ -1,6 +1,7 @@
 -- One record of the records of several workers.
 use Rattle.std.specs.Prelude.{◌≡◌, ◌≢◌, ℕ, ◌+◌, ◌-◌, ◌*◌, ◌≤◌, ◌==◌, List, [], ◌∷◌, ◌++◌, map, length, slice_get, Option, None, Some}
 use Rattle.std.specs.List.{filter}
+use Rattle.child_events.specs.declared.child_numbers.ChildNumbers.TheVariants.{To16}
 use Rattle.child_events.specs.declared.event.HallEvent.{HallEvent}
 use Rattle.child_events.specs.declared.event.HallEvent.TheVariants as hall
 use Rattle.child_events.specs.World.{own}
@@ -38,8 +39,8 @@ at_moment m es = filter (λ e. moment_in e == m) es
 -- hall and with those among all.
 pub record Fits (workers w : ℕ) (r : List HallEvent) : Type 0 where
   pub ascends : Ascends r
-  pub here : AllFit r
-  pub among : AllFit (map (numbered workers w) r)
+  pub here : AllFit To16 r
+  pub among : AllFit To16 (map (numbered workers w) r)
 
 abbrev pub AllFitFrom : ℕ → ℕ → List (List HallEvent) → Type 0
 AllFitFrom workers w [] = Unit {0}

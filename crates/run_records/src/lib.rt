@@ -11,5 +11,6 @@ mod recorder;
 mod reel;
 
 pub use merger::Merger;
+pub use numbering::WorkerIndex;
 pub use recorder::{NoRecorder, Recorder};
 pub use reel::Reel;

@@ -3,9 +3,9 @@
 ghost use Rattle.std.specs.Prelude.{◌≡◌, ◌≤◌, length, false, IsTrue, IfOk, OnOk};
 ghost use Rattle.run_records.specs.Merged.{IsMerging, HasMerged, HasOne, HandsOn, WasHanded, SameRings, ArePairs, AllTakeOn, AllTaken, AllMove, AllBehind, AreFresh};
 
-use crate::numbering::moment;
+use crate::numbering::{WorkerIndex, moment};
 use crate::recorder::Recorder;
-use crate::reel::{Place, Reel};
+use crate::reel::Reel;
 use child_events::HallEvents;
 use child_hands::LogItem;
 use feed_rings::FeedIn;
@@ -73,7 +73,7 @@ fn merged_before(alloc: Global, reels: &mut [Reel], bound: u64) -> Result<HallEv
     let mut all = HallEvents::new(alloc);
     for worker in 0..workers {
         let reel = &mut reels[worker as usize];
-        reel.move_before(bound, Place { workers, worker }, &mut all)?;
+        reel.move_before(bound, WorkerIndex { workers, worker }, &mut all)?;
     }
     all.list.sort_by_key(|e| moment(e))?;
     Ok(all)

@@ -7,6 +7,16 @@ ghost use Rattle.run_records.specs.Merged.{IsNumbered};
 
 use child_events::HallEvent;
 
+/// The number of workers, and a worker's index, from 0. Its scripts have the numbers worker + 1,
+/// worker + 1 + workers, ..
+#[derive(Clone, Copy)]
+pub struct WorkerIndex {
+    /// The number of workers.
+    pub workers: u8,
+    /// The worker's index.
+    pub worker: u8,
+}
+
 /// Returns the moment of an event, in milliseconds.
 pub(crate) fn moment(event: &HallEvent) -> u64
     ensures { result ≡ moment_in event.now }

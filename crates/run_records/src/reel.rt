@@ -5,7 +5,7 @@ ghost use Rattle.feed_rings.specs.Ends.{put_items, taken_items, IsPair, LooksOn,
 ghost use Rattle.child_hands.specs.Record.{events_at, moment_at};
 ghost use Rattle.run_records.specs.Merged.{TakesOn, TakesFirst, Moves, IsFresh};
 
-use crate::numbering::{moment, renumbered};
+use crate::numbering::{WorkerIndex, moment, renumbered};
 use child_events::{HallEvent, HallEvents};
 use child_hands::LogItem;
 use feed_rings::{FeedIn, FeedOut};
@@ -14,13 +14,6 @@ use std::collections::VecDeque;
 
 /// The most items that one turn takes from a ring.
 const ROUND: u32 = 1_024;
-
-/// A worker's index, from 0, and the number of workers.
-#[derive(Clone, Copy)]
-pub(crate) struct Place {
-    pub(crate) workers: u8,
-    pub(crate) worker: u8,
-}
 
 /// The taking endpoint of a worker's ring, and the events that were taken but not yet passed on.
 #[derive(Drop)]
@@ -129,17 +122,17 @@ impl Reel {
     pub(crate) fn move_before(
         &mut self,
         bound: u64,
-        place: Place,
+        index: WorkerIndex,
         all: &mut HallEvents,
     ) -> Result<(), AllocError>
         ensures out { (self.new.out ≡ self.old.out) }
-        ensures moves { OnOk result (Moves bound place.workers place.worker self.old all.old self.new all.new) }
+        ensures moves { OnOk result (Moves bound index.workers index.worker self.old all.old self.new all.new) }
     {
         for _ in 0..self.held.len() {
             let Some(event) = self.next_before(bound) else {
                 return Ok(());
             };
-            all.push(renumbered(place.workers, place.worker, event))?;
+            all.push(renumbered(index.workers, index.worker, event))?;
         }
         Ok(())
     }

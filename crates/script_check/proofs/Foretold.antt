@@ -10,7 +10,7 @@ use Rattle.command_table.specs.declared.commands.ExpectCommand.{ExpectCommand}
 use Rattle.command_table.specs.declared.commands.TclCommand.{TclCommand}
 use Rattle.command_table.specs.declared.commands.TclCommand.TheVariants.{Value, If, Foreach, Expr, Eval as EvalCommand, Exit, While, For, Proc, Catch, Switch as SwitchCommand}
 use Rattle.command_table.specs.declared.commands.ValueCommand.{ValueCommand}
-use Rattle.command_table.specs.declared.commands.ValueCommand.TheVariants.{String, Info, Array, Lsearch, Lsort, Regexp, Regsub}
+use Rattle.command_table.specs.declared.commands.ValueCommand.TheVariants.{String, Info, Array, Lsearch, Lsort, Regexp, Regsub, Package, ExpVersion}
 use Rattle.command_table.specs.declared.counts.Count.{Count}
 use Rattle.command_table.specs.declared.options.StringOption.{StringOption}
 use Rattle.command_table.specs.declared.options.StringOption.TheVariants as string
@@ -20,6 +20,7 @@ use Rattle.command_table.specs.declared.switches.Switches.{Switches}
 use Rattle.command_table.specs.declared.switches.Switches.TheVariants as switches
 use Rattle.command_table.specs.declared.options.InfoOption.{InfoOption}
 use Rattle.command_table.specs.declared.options.ArrayOption.{ArrayOption}
+use Rattle.command_table.specs.declared.options.PackageOption.{PackageOption}
 use Rattle.command_table.specs.declared.reading.Kind.{Kind}
 use Rattle.command_table.specs.declared.reading.Kind.TheVariants.{Text, Script}
 use Rattle.command_table.specs.declared.reading.Stage.{Stage}
@@ -28,7 +29,7 @@ use Rattle.command_table.specs.Commands.{tcl_command, language_command, or_redef
 use Rattle.command_table.specs.Counts.{exactly, at_least, fits}
 use Rattle.command_table.specs.Flags.{begins_with_minus}
 use Rattle.command_table.specs.Switches.{switch_of, takes_value, is_end, words_behind}
-use Rattle.command_table.specs.Options.{string_option, string_count, string_switches, info_option, info_count, array_option, array_count, option_count, option_switches}
+use Rattle.command_table.specs.Options.{string_option, string_count, string_switches, info_option, info_count, array_option, array_count, package_option, package_count, option_count, option_switches}
 use Rattle.command_table.specs.Reading.{step, is_short}
 use Rattle.command_table.specs.Rows.{value_row, tcl_row}
 use Rattle.tcl_commands.specs.declared.code.Code.TheVariants as code
@@ -36,6 +37,7 @@ use Rattle.tcl_commands.specs.Texts.{wrong_args}
 use Rattle.tcl_commands.specs.Said.{Said, Outcome, told, ◌>>=◌, on_said as on_value}
 use Rattle.tcl_commands.specs.Front.{Front, with_flag, at_flag, front_from, front_of}
 use Rattle.tcl_commands.specs.Regexps.{matched}
+use Rattle.tcl_commands.specs.Versions.{package_by, package_named, package_command}
 use Rattle.tcl_commands.specs.Replacing.{changed}
 use Rattle.tcl_commands.specs.Given.{if_fits}
 use Rattle.tcl_commands.specs.Plain.{plain, allowed, info_by, info_named, info}
@@ -369,6 +371,18 @@ module _ (name : List ℕ) (args : List Placed) (words : List (List ℕ)) (are :
       subst (λ y. Foretold (if_counted name args text (option_count (Tcl (Value Array)) text) None) (λ t. (vars : Variables) → array name (y ∷ words) vars ≡ (code.Error, t, vars))) (sym is)
       (array_known text (array_option text))
 
+  package_known : (text : List ℕ) (o : Option PackageOption) → Foretold (if_counted name args text (option_map package_count o) None) (λ t. (vars : Variables) → package_named name text o words ≡ Err t)
+  package_known text None = λ vars. refl
+  package_known text (Some o) =
+      counted_is (package_count o) name (length args) (length words) (λ t. (vars : Variables) → package_named name text (Some o) words ≡ Err t) (lengths args words are)
+      (λ is vars. unfit (package_count o) name words (package_by o name words) is)
+
+  package_told : (value : Option (List ℕ)) (x : List ℕ) → MayBe value x → Foretold (chosen (Tcl (Value Package)) name args value) (λ t. (vars : Variables) → package_command name (x ∷ words) ≡ Err t)
+  package_told None x is = tt
+  package_told (Some text) x is =
+      subst (λ y. Foretold (if_counted name args text (option_count (Tcl (Value Package)) text) None) (λ t. (vars : Variables) → package_command name (y ∷ words) ≡ Err t)) (sym is)
+      (package_known text (package_option text))
+
 -- ---- commands that evaluate nothing
 
 unfit_row : (c : ValueCommand) (name : List ℕ) (words : List (List ℕ)) → fits (value_row c).count (length words) ≡ false → ValueEnds (wrong_args name) name words c
@@ -398,6 +412,11 @@ value_foretold Array name [] (x ∷ xs) are = absurd are
 value_foretold Array name (w ∷ ws) [] are = absurd are
 value_foretold Array name (w ∷ ws) (x ∷ xs) are =
     outcome_told (chosen (Tcl (Value Array)) name ws w.value) name (length ws) (length xs) (λ vars. array name (x ∷ xs) vars) (array_told name ws xs are.1 w.value x are.0)
+value_foretold Package name [] [] are = λ vars. refl
+value_foretold Package name [] (x ∷ xs) are = absurd are
+value_foretold Package name (w ∷ ws) [] are = absurd are
+value_foretold Package name (w ∷ ws) (x ∷ xs) are =
+    option_told (chosen (Tcl (Value Package)) name ws w.value) name (length ws) (length xs) (λ vars. package_command name (x ∷ xs)) (package_told name ws xs are.1 w.value x are.0)
 value_foretold Lsearch name args words are =
     flagged_told (at_least 2) name switches.Search 2 args words are (length args) (length words) (λ text. ValueEnds text name words Lsearch) (lengths args words are) (unfit_row Lsearch name words)
     (λ fit text is vars. fit_row Lsearch name words fit vars ∙ ap (λ (s : Said (List ℕ)). told s vars) (bind_ends (flags_of switches.Search 2 name words) text _ is))
@@ -412,6 +431,10 @@ value_foretold Regsub name args words are =
     weaker (fronted name switches.Replace (words_behind switches.Replace) false args) (FrontEnds name switches.Replace false words) (λ text. ValueEnds text name words Regsub)
     (λ text is vars. fit_row Regsub name words (no_fewer (length words)) vars ∙ ap (λ (f : Said Front). on_value f vars (λ p. changed p.0 p.1 vars)) is)
     (front_told name switches.Replace args words false are)
+value_foretold ExpVersion name args words are =
+    weaker (fronted name switches.Version (words_behind switches.Version) false args) (FrontEnds name switches.Version false words) (λ text. ValueEnds text name words ExpVersion)
+    (λ text is vars. fit_row ExpVersion name words (no_fewer (length words)) vars ∙ ap (λ (s : Said (List ℕ)). told s vars) (bind_ends (front_of switches.Version name words) text _ is))
+    (front_told name switches.Version args words false are)
 value_foretold other name args words are = by_row other name args words are
 
 -- ---- if

@@ -1,9 +1,10 @@
 -- A run over children, and a replay of the record that it wrote.
 use Rattle.std.proofs.Common.{◌≡◌, ◌≢◌, ◌⊎◌, inl, inr, ◌<◌, ◌^◌, ℕ, ◌+◌, List, [], ◌∷◌, length, false, Option, Some, None, Ok, Err, refl, sym, ap, subst, ◌∙◌}
+use Rattle.child_events.specs.declared.child_numbers.ChildNumbers.TheVariants.{To16}
 use Rattle.child_events.specs.declared.event.Answer.{Answer}
 use Rattle.child_events.specs.declared.event.HallEvent.{HallEvent}
 use Rattle.child_events.specs.declared.faults.LogFault.{LogFault}
-use Rattle.child_events.specs.Log.{LogText2, counted_text}
+use Rattle.child_events.specs.Log.{CountedLog, counted_text}
 use Rattle.child_events.specs.Reading.{Refused}
 use Rattle.expect_core.specs.declared.request.Request.{Request}
 use Rattle.session.specs.declared.report.Report.{Report}
@@ -93,7 +94,7 @@ same_reports rs ts rs' ts' agree stand stand' =
     record { reports = agree; printed = printed; same = all_same ts ts' printed }
 
 module _ (told : ℕ → ℕ → Request → Answer → Type 0) (gives : ℕ → ℕ → Option (List ℕ) → Type 0) (workers : ℕ) (keepers : List Keeping) (scripts : List Script) (size : length keepers ≡ length scripts) (served : Served) (es : List HallEvent) (was : WasServed told gives workers keepers scripts es served) where
-  runs_again : (text : List ℕ) (rs : List Report) → served.stopped ≡ false → LogText2 text es → RunOver scripts text (Ok rs) → AllAgree served.reports rs
+  runs_again : (text : List ℕ) (rs : List Report) → served.stopped ≡ false → CountedLog To16 text es → RunOver scripts text (Ok rs) → AllAgree served.reports rs
   runs_again text rs running log over =
       let is = one_written_list text es over.events log over.log in
       all_agree 1 es scripts served.reports rs (serving_is_run told gives workers keepers scripts es served size was running).2 (subst (λ (es : List HallEvent). AllMean 1 es scripts rs) is over.runs.2)
@@ -109,16 +110,16 @@ module _ (told : ℕ → ℕ → Request → Answer → Type 0) (gives : ℕ →
   runs_unrefused (run.Refused at r) opens taken failed = absurd (no_refusal (at, r) (sym taken ∙ failed.1))
   runs_unrefused run.Memory opens taken failed = refl
 
-  run_unrefused : (text : List ℕ) (f : RunFault) → LogText2 text es → RunOver scripts text (Err f) → f ≡ run.Memory
+  run_unrefused : (text : List ℕ) (f : RunFault) → CountedLog To16 text es → RunOver scripts text (Err f) → f ≡ run.Memory
   run_unrefused text f log over =
       let is = one_written_list text es over.events log over.log in
       runs_unrefused f was.opens was.whole.taken (subst (λ (es : List HallEvent). Runs scripts es (Err f)) is over.runs)
 
-  log_unrefused : (text : List ℕ) (f : LogFault) → LogText2 text es → length text < 10 ^ 16 → Refused text f → ⊥
-  log_unrefused text f log few refused = refused.1 es (inr (log, below (length es) (length text) (10 ^ 16) (text_longer text es log) few))
+  log_unrefused : (text : List ℕ) (f : LogFault) → CountedLog To16 text es → length text < 10 ^ 16 → Refused text f → ⊥
+  log_unrefused text f log few refused = refused.1 es (inr (To16, log, below (length es) (length text) (10 ^ 16) (text_longer text es log) few))
 
   unrefused : (form : Form) (text : List ℕ) (shelf shelf' : Option (List (List ℕ))) (old new : Option (List ℕ)) (fault : ReplayFault) →
-      LogText2 text es → IsNoWant fault → Replays scripts form text shelf shelf' old new (Err fault) → IsOfDevices text fault
+      CountedLog To16 text es → IsNoWant fault → Replays scripts form text shelf shelf' old new (Err fault) → IsOfDevices text fault
   unrefused form text shelf shelf' old new Read log sound says = tt
   unrefused form text shelf shelf' old new (Log f) log sound says = λ few. log_unrefused text f log few says
   unrefused form text shelf shelf' old new (Run f) log sound says = sound.0 (run_unrefused text f log says)
@@ -126,7 +127,7 @@ module _ (told : ℕ → ℕ → Request → Answer → Type 0) (gives : ℕ →
   unrefused form text shelf shelf' old new Memory log sound says = tt
 
 -- what is read again is the text that was written
-is_log : (bytes : List ℕ) (es : List HallEvent) → bytes ≡ counted_text es → LogText2 (counted_text es) es → LogText2 bytes es
+is_log : (bytes : List ℕ) (es : List HallEvent) → bytes ≡ counted_text To16 es → CountedLog To16 (counted_text To16 es) es → CountedLog To16 bytes es
 is_log bytes es is log = (is, log.1)
 
 module _ (told : ℕ → ℕ → Request → Answer → Type 0) (gives : ℕ → ℕ → Option (List ℕ) → Type 0) where

@@ -1,6 +1,7 @@
 -- From what was served to what is written of its record.
 use Rattle.std.proofs.Common.{◌≡◌, ◌≢◌, ℕ, List, [], ◌++◌, length, Bool, true, false, Option, None, Result, Ok, Err, refl, sym, subst, append_assoc}
 use Rattle.std.proofs.KnownBytes.{Appends-nil}
+use Rattle.child_events.specs.declared.child_numbers.ChildNumbers.TheVariants.{To16}
 use Rattle.child_events.specs.declared.event.Answer.{Answer}
 use Rattle.child_events.specs.Log.{heading, lines_text, total_line}
 use Rattle.expect_core.specs.declared.request.Request.{Request}
@@ -28,26 +29,26 @@ writes_as form slice reports out out' failures calls result is = subst (λ (rs :
 
 -- a writer that began, what it was after it was handed the record, and at the end
 module _ {L : Type 0} (contents : L → Option (List ℕ)) (told : ℕ → ℕ → Request → Answer → Type 0) (gives : ℕ → ℕ → Option (List ℕ) → Type 0) (workers : ℕ) (keepers : List Keeping) (scripts : List Script) (before : Option (List ℕ)) (a b : LogWriter L) where
-  front_written : (recorded : Bool) → HasPut contents before (if_kept recorded heading) a → WasHanded (Notes contents) a b → (recorded ≡ false → b ≡ a) → FrontWritten told gives recorded workers keepers scripts before (contents b.log.device)
+  front_written : (recorded : Bool) → HasPut contents before (if_kept recorded (heading To16)) a → WasHanded (Notes contents) a b → (recorded ≡ false → b ≡ a) → FrontWritten told gives recorded workers keepers scripts before (contents b.log.device)
   front_written true first (es, handed) unkept =
-      let lines = (handed_noted contents a b es handed).put before heading first in
-      (es, subst (λ (t : List ℕ). WasPut before (contents b.log.device) t) (append_assoc heading (lines_text es) (total_line (length es))) (front_put contents before (heading ++ lines_text es) (total_line (length es)) b lines))
+      let lines = (handed_noted contents a b es handed).put before (heading To16) first in
+      (es, subst (λ (t : List ℕ). WasPut before (contents b.log.device) t) (append_assoc (heading To16) (lines_text es) (total_line (length es))) (front_put contents before (heading To16 ++ lines_text es) (total_line (length es)) b lines))
   front_written false first handed unkept = none_put contents before b (subst (λ (w : LogWriter L). HasPut contents before [] w) (sym (unkept refl)) first)
 
   -- where the scripts weren't served
-  unserved : (recorded : Bool) (fault : ServeFault) → HasPut contents before (if_kept recorded heading) a → IsServing told gives workers keepers scripts (Notes contents) a recorded (Err fault) b → (recorded ≡ false → b ≡ a) →
+  unserved : (recorded : Bool) (fault : ServeFault) → HasPut contents before (if_kept recorded (heading To16)) a → IsServing told gives workers keepers scripts (Notes contents) a recorded (Err fault) b → (recorded ≡ false → b ≡ a) →
       Unserved told gives recorded workers keepers scripts before (contents b.log.device) (fault_of fault)
   unserved recorded (serve.New f) first (is, handed) unkept = (is, front_written recorded first handed unkept)
   unserved recorded serve.NoThread first handed unkept = (tt, front_written recorded first handed unkept)
   unserved recorded serve.Memory first handed unkept = front_written recorded first handed unkept
 
-  pub unserved_as : (recorded : Bool) (fault : ServeFault) (told_as : DriveFault) → told_as ≡ fault_of fault → HasPut contents before (if_kept recorded heading) a → IsServing told gives workers keepers scripts (Notes contents) a recorded (Err fault) b → (recorded ≡ false → b ≡ a) →
+  pub unserved_as : (recorded : Bool) (fault : ServeFault) (told_as : DriveFault) → told_as ≡ fault_of fault → HasPut contents before (if_kept recorded (heading To16)) a → IsServing told gives workers keepers scripts (Notes contents) a recorded (Err fault) b → (recorded ≡ false → b ≡ a) →
       Unserved told gives recorded workers keepers scripts before (contents b.log.device) told_as
   unserved_as recorded fault told_as is first serving unkept =
       subst (λ (f : DriveFault). Unserved told gives recorded workers keepers scripts before (contents b.log.device) f) (sym is) (unserved recorded fault first serving unkept)
 
   -- where they were
-  pub were_served : (c : LogWriter L) (served : Served) (recorded : Bool) → HasPut contents before (if_kept recorded heading) a → a.count ≡ 0 → IsServing told gives workers keepers scripts (Notes contents) a recorded (Ok served) b → (recorded ≡ false → b ≡ a) →
+  pub were_served : (c : LogWriter L) (served : Served) (recorded : Bool) → HasPut contents before (if_kept recorded (heading To16)) a → a.count ≡ 0 → IsServing told gives workers keepers scripts (Notes contents) a recorded (Ok served) b → (recorded ≡ false → b ≡ a) →
       PutsOn contents (if_kept recorded (total_line b.count)) b c → (c.fault ≡ None → b.fault ≡ None) → (b.fault ≢ None → c ≡ b) → Recorded told gives recorded workers keepers scripts served c.fault before (contents c.log.device) c.log.failures c.log.calls
   were_served c served true first none (es, was, handed) unkept total well still = record {
     es = es;

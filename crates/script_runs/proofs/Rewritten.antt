@@ -2,15 +2,16 @@
 use Rattle.std.proofs.Common.{◌≡◌, inl, inr, ◌<◌, ◌≤◌, ◌^◌, ℕ, ◌+◌, suc, List, [], ◌∷◌, ◌++◌, length, Ok, Result, refl, sym, ap, subst, ◌∙◌, append_assoc, arith}
 use Rattle.std.specs.Prelude.{codes}
 use Rattle.std.specs.Fmt.{decimal}
+use Rattle.child_events.specs.declared.child_numbers.ChildNumbers.TheVariants.{To16}
 use Rattle.child_events.specs.declared.event.HallEvent.{HallEvent}
 use Rattle.child_events.specs.declared.event.HallEvent.TheVariants as hall
 use Rattle.child_events.specs.declared.faults.LogFault.{LogFault}
-use Rattle.child_events.specs.Log.{heading, line_of, lines_text, total_line, kind_text, held_text, fields_of, joined, counted_text, AreLogged, LogText1, LogText2, LogText}
+use Rattle.child_events.specs.Log.{version_name, heading, line_of, lines_text, total_line, kind_text, held_text, fields_of, joined, counted_text, AreLogged, PlainLog, CountedLog, LogText}
 use Rattle.child_events.specs.Reading.{parts, line_event}
 use Rattle.child_events.proofs.Parts.{parts_first}
 use Rattle.child_events.proofs.Plain.{ArePlain, without_joined, parts_joined}
 use Rattle.child_events.proofs.Meant.{line_meant, plain_fields, plain_decimal, fields_parts}
-use Rattle.child_events.proofs.Whole.{log_meant, second_said}
+use Rattle.child_events.proofs.Whole.{log_meant, counted_said}
 
 head_is : (a b : List ℕ) (xs ys : List (List ℕ)) → a ∷ xs ≡ b ∷ ys → a ≡ b
 head_is a b xs ys h = cc
@@ -29,10 +30,10 @@ plain_total : (k : ℕ) → k < 10 ^ 16 → ArePlain (total_words k)
 plain_total k small = (refl, (plain_decimal k (fits_word k small), tt))
 
 -- the first part of the lines of events is the first line
-first_part : (e : HallEvent) (es : List HallEvent) (rest : List ℕ) → AreLogged (e ∷ es) → parts 10 (lines_text (e ∷ es) ++ rest) ≡ line_of e ∷ parts 10 (lines_text es ++ rest)
+first_part : (e : HallEvent) (es : List HallEvent) (rest : List ℕ) → AreLogged To16 (e ∷ es) → parts 10 (lines_text (e ∷ es) ++ rest) ≡ line_of e ∷ parts 10 (lines_text es ++ rest)
 first_part e es rest logged =
     ap (parts 10) (append_assoc (line_of e ++ 10 ∷ []) (lines_text es) rest ∙ append_assoc (line_of e) (10 ∷ []) (lines_text es ++ rest))
-    ∙ parts_first 10 (line_of e) (lines_text es ++ rest) (without_joined (fields_of e) (plain_fields e logged.0.0 logged.1.0))
+    ∙ parts_first 10 (line_of e) (lines_text es ++ rest) (without_joined (fields_of e) (plain_fields To16 e logged.0.0 logged.1.0))
 
 total_part : (k : ℕ) → k < 10 ^ 16 → parts 10 (total_line k) ≡ joined 32 (total_words k) ∷ parts 10 []
 total_part k small = parts_first 10 (joined 32 (total_words k)) [] (without_joined (total_words k) (plain_total k small))
@@ -49,9 +50,9 @@ no_fields : (e : HallEvent) (k : ℕ) → fields_of e ≡ total_words k → ⊥
 no_fields (hall.Child s c m w) k h = two_words k (kind_text w) (decimal s) (decimal c) (decimal m) (held_text w) h
 no_fields (hall.Tick m) k h = no_tick k m h
 
-no_total : (e : HallEvent) (es : List HallEvent) (k : ℕ) → AreLogged (e ∷ es) → k < 10 ^ 16 → line_of e ≡ joined 32 (total_words k) → ⊥
+no_total : (e : HallEvent) (es : List HallEvent) (k : ℕ) → AreLogged To16 (e ∷ es) → k < 10 ^ 16 → line_of e ≡ joined 32 (total_words k) → ⊥
 no_total e es k logged small same =
-    no_fields e k (sym (fields_parts e (plain_fields e logged.0.0 logged.1.0)) ∙ ap (parts 32) same ∙ parts_joined (codes "total") (decimal k ∷ []) (plain_total k small))
+    no_fields e k (sym (fields_parts e (plain_fields To16 e logged.0.0 logged.1.0)) ∙ ap (parts 32) same ∙ parts_joined (codes "total") (decimal k ∷ []) (plain_total k small))
 
 ok_of : (e f : HallEvent) → ◌≡◌ {A = Result HallEvent LogFault} (Ok e) (Ok f) → e ≡ f
 ok_of e f h = cc
@@ -60,7 +61,7 @@ two_conses : (e f : HallEvent) (es fs : List HallEvent) → e ≡ f → es ≡ f
 two_conses e f es fs p q = ap (λ (z : HallEvent). z ∷ es) p ∙ ap (λ (zs : List HallEvent). f ∷ zs) q
 
 -- the lines of two lists of events of which one is known to be short enough
-same_lines : (m k : ℕ) (es fs : List HallEvent) → AreLogged es → AreLogged fs → k < 10 ^ 16 → m + length fs ≡ k + length es →
+same_lines : (m k : ℕ) (es fs : List HallEvent) → AreLogged To16 es → AreLogged To16 fs → k < 10 ^ 16 → m + length fs ≡ k + length es →
     parts 10 (lines_text es ++ total_line m) ≡ parts 10 (lines_text fs ++ total_line k) → fs ≡ es
 same_lines m k [] [] a b small count h = refl
 same_lines m k [] (f ∷ fs) a b small count h =
@@ -75,7 +76,7 @@ same_lines m k (e ∷ es) (f ∷ fs) a b small count h =
     let both = sym (first_part e es (total_line m) a) ∙ h ∙ first_part f fs (total_line k) b in
     let one : line_of e ≡ line_of f = head_is _ _ _ _ both in
     two_conses f e fs es
-    (ok_of f e (sym (line_meant 1 f b.0.0 b.1.0) ∙ ap (line_event 1) (sym one) ∙ line_meant 1 e a.0.0 a.1.0))
+    (ok_of f e (sym (line_meant To16 1 f b.0.0 b.1.0) ∙ ap (line_event To16 1) (sym one) ∙ line_meant To16 1 e a.0.0 a.1.0))
     (same_lines m k es fs (a.0.1, a.1.1) (b.0.1, b.1.1) small (omega (arith, count)) (tail_is _ _ _ _ both))
 
 -- a text is as long as its list of events at the least
@@ -102,11 +103,11 @@ lines_longer (e ∷ es) = up (length es) (length (lines_text es)) (length (lines
 no_longer : (a b c d : ℕ) → a ≤ b → b ≤ c → c ≤ d → a ≤ d
 no_longer a b c d p q r = omega (arith, p, q, r)
 
-pub text_longer : (bytes : List ℕ) (es : List HallEvent) → LogText2 bytes es → length es ≤ length bytes
+pub text_longer : (bytes : List ℕ) (es : List HallEvent) → CountedLog To16 bytes es → length es ≤ length bytes
 text_longer bytes es log =
     subst (λ (b : List ℕ). length es ≤ length b) (sym log.0)
-    (no_longer (length es) (length (lines_text es)) (length (lines_text es ++ total_line (length es))) (length (counted_text es))
-    (lines_longer es) (front_shorter (lines_text es) (total_line (length es))) (rest_shorter heading (lines_text es ++ total_line (length es))))
+    (no_longer (length es) (length (lines_text es)) (length (lines_text es ++ total_line (length es))) (length (counted_text To16 es))
+    (lines_longer es) (front_shorter (lines_text es) (total_line (length es))) (rest_shorter (heading To16) (lines_text es ++ total_line (length es))))
 
 pub below : (a b c : ℕ) → a ≤ b → b < c → a < c
 below a b c p q = omega (arith, p, q)
@@ -115,23 +116,26 @@ behind_heading : (front xs ys : List ℕ) → front ++ xs ≡ front ++ ys → xs
 behind_heading [] xs ys h = h
 behind_heading (x ∷ front) xs ys h = behind_heading front xs ys (cc)
 
-pub one_written_list : (bytes : List ℕ) (es fs : List HallEvent) → LogText2 bytes es → LogText bytes fs → fs ≡ es
-one_written_list bytes es fs log found = of_second found
+pub one_written_list : (bytes : List ℕ) (es fs : List HallEvent) → CountedLog To16 bytes es → LogText bytes fs → fs ≡ es
+one_written_list bytes es fs log found = by_version found
   where
-    both : LogText2 bytes fs → length fs < 10 ^ 16 → fs ≡ es
+    both : CountedLog To16 bytes fs → length fs < 10 ^ 16 → fs ≡ es
     both log' few =
         same_lines (length es) (length fs) es fs log.1 log'.1 few (let e : length es + length fs ≡ length fs + length es = omega arith in e)
-        (ap (parts 10) (behind_heading heading (lines_text es ++ total_line (length es)) (lines_text fs ++ total_line (length fs)) (sym log.0 ∙ log'.0)))
+        (ap (parts 10) (behind_heading (heading To16) (lines_text es ++ total_line (length es)) (lines_text fs ++ total_line (length fs)) (sym log.0 ∙ log'.0)))
+
+    again : CountedLog To16 bytes fs
+    again = counted_said To16 bytes (lines_text es ++ total_line (length es)) fs log.0 (log_meant bytes fs found)
 
     too_long : (a b c : ℕ) → a ≤ b → b + 1 ≤ c → c ≡ a → ⊥
     too_long a b c p q r = absurd (omega (arith, p, q, r))
 
     -- in version 1 there is no heading
-    no_shorter : LogText1 bytes fs → LogText2 bytes fs → ⊥
+    no_shorter : PlainLog bytes fs → CountedLog To16 bytes fs → ⊥
     no_shorter first second =
-        too_long (length (lines_text fs)) (length (lines_text fs ++ total_line (length fs))) (length (counted_text fs))
-        (front_shorter (lines_text fs) (total_line (length fs))) (one_shorter (codes "exprun-log 2") 10 (lines_text fs ++ total_line (length fs))) (ap length (sym second.0 ∙ first.0))
+        too_long (length (lines_text fs)) (length (lines_text fs ++ total_line (length fs))) (length (counted_text To16 fs))
+        (front_shorter (lines_text fs) (total_line (length fs))) (one_shorter (version_name To16) 10 (lines_text fs ++ total_line (length fs))) (ap length (sym second.0 ∙ first.0))
 
-    of_second : LogText bytes fs → fs ≡ es
-    of_second (inr second) = both second.0 second.1
-    of_second (inl first) = absurd (no_shorter first (second_said bytes (lines_text es ++ total_line (length es)) fs log.0 (log_meant bytes fs (inl first))))
+    by_version : LogText bytes fs → fs ≡ es
+    by_version (inr counted) = both again counted.2
+    by_version (inl first) = absurd (no_shorter first again)

@@ -5,6 +5,7 @@ use Rattle.std.specs.List.{AllByRecursion}
 use Rattle.std.proofs.lemmas.Grind.{flat_map-append}
 use Rattle.std.specs.Io.KnownBytes.{Appends}
 use Rattle.std.proofs.Math.Seq.{take-append_seam}
+use Rattle.child_events.specs.declared.child_numbers.ChildNumbers.TheVariants.{To16}
 use Rattle.child_events.specs.declared.event.HallEvent.{HallEvent}
 use Rattle.child_events.specs.Log.{line_of, lines_text, heading, total_line, counted_text, IsOfBytes}
 use Rattle.std.proofs.KnownBytes.{Appends-nil}
@@ -73,27 +74,27 @@ module _ {L : Type 0} (contents : L → Option (List ℕ)) where
       by_fault (Some Memory) (put, unfailed) = of_front put
 
   -- all of a record was put, or a front of it
-  pub all_put : (before : Option (List ℕ)) (a b c : LogWriter L) (es : List HallEvent) → HasPut contents before heading a → a.count ≡ 0 → Notes contents a es b → PutsOn contents (total_line b.count) b c → (b.fault ≢ None → c ≡ b) → HasPut contents before (counted_text es) c
+  pub all_put : (before : Option (List ℕ)) (a b c : LogWriter L) (es : List HallEvent) → HasPut contents before (heading To16) a → a.count ≡ 0 → Notes contents a es b → PutsOn contents (total_line b.count) b c → (b.fault ≢ None → c ≡ b) → HasPut contents before (counted_text To16 es) c
   all_put before a b c es first none notes total still = by_fault b.fault refl
     where
-      lines : HasPut contents before (heading ++ lines_text es) b
-      lines = notes.put before heading first
+      lines : HasPut contents before (heading To16 ++ lines_text es) b
+      lines = notes.put before (heading To16) first
 
-      text : (heading ++ lines_text es) ++ total_line (length es) ≡ counted_text es
-      text = append_assoc heading (lines_text es) (total_line (length es))
+      text : (heading To16 ++ lines_text es) ++ total_line (length es) ≡ counted_text To16 es
+      text = append_assoc (heading To16) (lines_text es) (total_line (length es))
 
-      by_fault : (fault : Option LogWriteFault) → b.fault ≡ fault → HasPut contents before (counted_text es) c
+      by_fault : (fault : Option LogWriteFault) → b.fault ≡ fault → HasPut contents before (counted_text To16 es) c
       by_fault None well =
           let n = (notes.counted well).1 in
           let count : b.count ≡ length es = omega (arith, n, none) in
-          subst (λ (t : List ℕ). HasPut contents before t c) (ap (λ (k : ℕ). (heading ++ lines_text es) ++ total_line k) count ∙ text) (total before (heading ++ lines_text es) lines)
+          subst (λ (t : List ℕ). HasPut contents before t c) (ap (λ (k : ℕ). (heading To16 ++ lines_text es) ++ total_line k) count ∙ text) (total before (heading To16 ++ lines_text es) lines)
       by_fault (Some fault) failed =
           let same : c ≡ b = still (λ well. absurd (let h : ◌≡◌ {A = Option LogWriteFault} (Some fault) None = sym failed ∙ well in cc)) in
-          subst (λ (w : LogWriter L). HasPut contents before (counted_text es) w) (sym same)
-          (subst (λ (f : Option LogWriteFault). PutUpTo f before (contents b.log.device) (counted_text es) b.log.failures b.log.calls) (sym failed)
+          subst (λ (w : LogWriter L). HasPut contents before (counted_text To16 es) w) (sym same)
+          (subst (λ (f : Option LogWriteFault). PutUpTo f before (contents b.log.device) (counted_text To16 es) b.log.failures b.log.calls) (sym failed)
           (subst (λ (t : List ℕ). PutUpTo (Some fault) before (contents b.log.device) t b.log.failures b.log.calls) text
-          (stays_put fault before (contents b.log.device) (heading ++ lines_text es) (total_line (length es)) b.log.failures b.log.calls
-          (subst (λ (f : Option LogWriteFault). PutUpTo f before (contents b.log.device) (heading ++ lines_text es) b.log.failures b.log.calls) failed lines))))
+          (stays_put fault before (contents b.log.device) (heading To16 ++ lines_text es) (total_line (length es)) b.log.failures b.log.calls
+          (subst (λ (f : Option LogWriteFault). PutUpTo f before (contents b.log.device) (heading To16 ++ lines_text es) b.log.failures b.log.calls) failed lines))))
 
   -- a writer to which nothing was handed
   pub first_put : (w : LogWriter L) → w.fault ≡ None → w.log.failures ≡ 0 → w.log.calls ≡ 0 → HasPut contents (contents w.log.device) [] w

@@ -1,6 +1,7 @@
 -- A run over children, and a replay of the record that it wrote.
 use Rattle.std.specs.Prelude.{◌≡◌, ◌≢◌, ◌⊎◌, ◌<◌, ◌^◌, ℕ, List, length, Bool, true, false, Option, None, Err}
 use Rattle.std.specs.List.{AllByRecursion}
+use Rattle.child_events.specs.declared.child_numbers.ChildNumbers.TheVariants.{To16}
 use Rattle.child_events.specs.declared.event.Answer.{Answer}
 use Rattle.expect_core.specs.declared.request.Request.{Request}
 use Rattle.session.specs.declared.report.Report.{Report}
@@ -52,17 +53,17 @@ module _ (told : ℕ → ℕ → Request → Answer → Type 0) (gives : ℕ →
   -- the run appended to its log.
   abbrev pub ReplaysSame : Type 0
   ReplaysSame = (workers : ℕ) (keepers : List Keeping) (scripts : List Script) (form form' : Form) (written : Written) (well' : Bool) (kept kept' shelf shelf' : Option (List (List ℕ))) (bytes : List ℕ) (log log' : Option (List ℕ)) (log_failures log_calls : ℕ) (out out' : Option (List ℕ)) (out_failures out_calls : ℕ) (old new : Option (List ℕ)) →
-      length keepers ≡ length scripts → (ran : Ran workers keepers scripts form written kept kept' log log' log_failures log_calls out out' out_failures out_calls) → written.log ≡ None → ran.served.stopped ≡ false → bytes ≡ counted_text ran.logged.es →
+      length keepers ≡ length scripts → (ran : Ran workers keepers scripts form written kept kept' log log' log_failures log_calls out out' out_failures out_calls) → written.log ≡ None → ran.served.stopped ≡ false → bytes ≡ counted_text To16 ran.logged.es →
       (again : Replayed scripts form' bytes well' shelf shelf' old new) → SameReports ran.served.reports ran.reported.told again.reports again.printed
 
   -- The same for a replay that wrote a front of its reports.
   abbrev pub ReplaysPart : Type 0
   ReplaysPart = (workers : ℕ) (keepers : List Keeping) (scripts : List Script) (form form' : Form) (written : Written) (kept kept' shelf shelf' : Option (List (List ℕ))) (bytes : List ℕ) (log log' : Option (List ℕ)) (log_failures log_calls : ℕ) (out out' : Option (List ℕ)) (out_failures out_calls : ℕ) (old new : Option (List ℕ)) →
-      length keepers ≡ length scripts → (ran : Ran workers keepers scripts form written kept kept' log log' log_failures log_calls out out' out_failures out_calls) → written.log ≡ None → ran.served.stopped ≡ false → bytes ≡ counted_text ran.logged.es →
+      length keepers ≡ length scripts → (ran : Ran workers keepers scripts form written kept kept' log log' log_failures log_calls out out' out_failures out_calls) → written.log ≡ None → ran.served.stopped ≡ false → bytes ≡ counted_text To16 ran.logged.es →
       (again : PartReplayed scripts form' bytes shelf shelf' old new) → SameReports ran.served.reports ran.reported.told again.reports again.printed
 
   -- A replay finds no error in the record, unless the record is too long. The run over the record refuses no entry.
   abbrev pub ReplaysUnrefused : Type 0
   ReplaysUnrefused = (workers : ℕ) (keepers : List Keeping) (scripts : List Script) (form form' : Form) (written : Written) (kept kept' shelf shelf' : Option (List (List ℕ))) (bytes : List ℕ) (log log' : Option (List ℕ)) (log_failures log_calls : ℕ) (out out' : Option (List ℕ)) (out_failures out_calls : ℕ) (old new : Option (List ℕ)) (fault : ReplayFault) →
-      length keepers ≡ length scripts → (ran : Ran workers keepers scripts form written kept kept' log log' log_failures log_calls out out' out_failures out_calls) → written.log ≡ None → bytes ≡ counted_text ran.logged.es →
+      length keepers ≡ length scripts → (ran : Ran workers keepers scripts form written kept kept' log log' log_failures log_calls out out' out_failures out_calls) → written.log ≡ None → bytes ≡ counted_text To16 ran.logged.es →
       IsNoWant fault → Replays scripts form' bytes shelf shelf' old new (Err fault) → IsOfDevices bytes fault

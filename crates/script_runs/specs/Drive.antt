@@ -1,9 +1,10 @@
 -- What a run over children returns and writes.
 use Rattle.std.specs.Prelude.{◌≡◌, ℕ, List, [], Bool, true, MatchBool, Option, Some, None, Result, Ok, Err}
 use Rattle.std.specs.Io.KnownBytes.{Appends}
+use Rattle.child_events.specs.declared.child_numbers.ChildNumbers.TheVariants.{To16}
 use Rattle.child_events.specs.declared.event.Answer.{Answer}
 use Rattle.child_events.specs.declared.event.HallEvent.{HallEvent}
-use Rattle.child_events.specs.Log.{LogText2, counted_text}
+use Rattle.child_events.specs.Log.{CountedLog, counted_text}
 use Rattle.expect_core.specs.declared.request.Request.{Request}
 use Rattle.dialogue_sched.specs.declared.script.Script.{Script}
 use Rattle.child_desk.specs.Line.{Keeping}
@@ -28,8 +29,8 @@ module _ (told : ℕ → ℕ → Request → Answer → Type 0) (gives : ℕ →
   pub record Recorded (served : Served) (fault : Option LogWriteFault) (log log' : Option (List ℕ)) (failures calls : ℕ) : Type 0 where
     pub es : List HallEvent
     pub serves : Serving.WasServed told gives workers keepers scripts es served
-    pub put : PutUpTo fault log log' (if_kept recorded (counted_text es)) failures calls
-    pub means : recorded ≡ true → fault ≡ None → LogText2 (counted_text es) es
+    pub put : PutUpTo fault log log' (if_kept recorded (counted_text To16 es)) failures calls
+    pub means : recorded ≡ true → fault ≡ None → CountedLog To16 (counted_text To16 es) es
 
   -- Why scripts were not served, for a reason other than memory.
   abbrev pub IsUnserved : ServeFault → Type 0
@@ -39,7 +40,7 @@ module _ (told : ℕ → ℕ → Request → Answer → Type 0) (gives : ℕ →
 
   -- A front of the log of some events was written, or nothing if the run isn't recorded.
   abbrev pub FrontWritten : Option (List ℕ) → Option (List ℕ) → Type 0
-  FrontWritten log log' = MatchBool recorded ((es : List HallEvent) × WasPut log log' (counted_text es)) (Appends log log' [])
+  FrontWritten log log' = MatchBool recorded ((es : List HallEvent) × WasPut log log' (counted_text To16 es)) (Appends log log' [])
 
   -- The scripts were not served.
   abbrev pub Unserved : Option (List ℕ) → Option (List ℕ) → DriveFault → Type 0

@@ -2,7 +2,7 @@
 use Rattle.std.specs.Prelude.{◌≡◌, ◌≢◌, ℕ, List, Option, Some, None, Result, Ok, Err}
 use Rattle.std.specs.Io.KnownBytes.{Appends}
 use Rattle.child_events.specs.declared.event.HallEvent.{HallEvent}
-use Rattle.child_events.specs.Log.{LogText2}
+use Rattle.child_events.specs.Log.{numbers_of, CountedLog}
 use Rattle.child_timeline.specs.declared.fault.TimelineFault.{TimelineFault}
 use Rattle.child_timeline.specs.declared.fault.TimelineFault.TheVariants as lines
 use Rattle.child_timeline.specs.declared.timeline.Timeline.{Timeline}
@@ -42,7 +42,7 @@ Tells bytes timing (Err fault.Memory) = Unit {0}
 pub record IsLog (s : Script) (t : Timeline) (text : List ℕ) : Type 0 where
   pub events : List HallEvent
   pub plan : Plans s t (Ok events)
-  pub log : LogText2 text events
+  pub log : CountedLog (numbers_of events) text events
 
 -- What making the log returns.
 abbrev pub Logs : Script → Timeline → Result (List ℕ) PlanLogFault → Type 0

@@ -1,12 +1,15 @@
 //! Writes the log of a run's record, as the record arises.
 
 ghost use Rattle.std.specs.Prelude.{◌≡◌, ◌≢◌, ◌+◌, ◌≤◌, List, ℕ, length, None, IfOk, IsOk};
+ghost use Rattle.child_events.specs.declared.child_numbers.ChildNumbers.TheVariants.{To16};
 ghost use Rattle.child_events.specs.Log.{heading, lines_text, total_line, IsOfBytes};
 ghost use Rattle.std.specs.List.{AllByRecursion};
 ghost use Rattle.script_runs.specs.Logging.{HasPut, PutsOn, if_kept};
 
 use crate::log_writer::{LogWriteFault, LogWriter};
-use child_events::{Counted, HallEvent, HallEvents, push_heading, push_lines, push_total};
+use child_events::{
+    ChildNumbers, Counted, HallEvent, HallEvents, push_heading, push_lines, push_total,
+};
 use report_texts::write_all;
 use run_records::Recorder;
 use std::alloc::{AllocError, Global};
@@ -15,10 +18,10 @@ use tcl_words::Text;
 
 /// Returns the first line of a log.
 fn heading_text(alloc: Global) -> Result<Text, AllocError>
-    ensures { IfOk result (λ text. text ≡ heading) }
+    ensures { IfOk result (λ text. text ≡ heading To16) }
 {
     let mut text = Text::new(alloc);
-    push_heading(&mut text)?;
+    push_heading(&mut text, ChildNumbers::To16)?;
     Ok(text)
 }
 
@@ -78,7 +81,7 @@ impl<L: Write + Drop> LogWriter<L> {
 
     /// Writes the first line of a log.
     fn begin(&mut self)
-        ensures put { PutsOn L.contents heading self.old self.new }
+        ensures put { PutsOn L.contents (heading To16) self.old self.new }
         ensures count { self.new.count ≡ self.old.count }
     {
         self.put(heading_text(self.alloc));
@@ -89,7 +92,7 @@ impl<L: Write + Drop> LogWriter<L> {
     pub fn begun(alloc: Global, log: Counted<L>, recorded: bool) -> LogWriter<L>
         requires failures { log.failures ≡ 0 }
         requires calls { log.calls ≡ 0 }
-        ensures put { HasPut L.contents (L.contents log.device) (if_kept recorded heading) result }
+        ensures put { HasPut L.contents (L.contents log.device) (if_kept recorded (heading To16)) result }
         ensures count { result.count ≡ 0 }
     {
         let mut writer = LogWriter::new(alloc, log);

@@ -1,5 +1,5 @@
 -- Lists with other elements, repeated and reversed, and how long their texts are at least.
-use Rattle.std.proofs.Common.{◌≡◌, ℕ, zero, suc, ◌+◌, ◌-◌, ◌*◌, ◌/◌, ◌^◌, ◌<◌, ◌≤◌, Bool, true, false, not, ◌&&◌, nat_lt, List, [], ◌∷◌, ◌++◌, length, take, drop, get_or, reverse, min, max, if◌then◌else◌, refl, sym, ap, subst, ◌∙◌, arith, length-append, append_assoc, append-nil}
+use Rattle.std.proofs.Common.{◌≡◌, ℕ, zero, suc, ◌+◌, ◌-◌, ◌*◌, ◌/◌, ◌^◌, ◌<◌, ◌≤◌, Bool, true, false, not, ◌&&◌, nat_lt, List, [], ◌∷◌, ◌++◌, length, take, drop, get_or, reverse, min, max, if◌then◌else◌, Ok, Err, refl, sym, ap, subst, ◌∙◌, arith, length-append, append_assoc, append-nil}
 use Rattle.std.specs.List.{splice, repeat}
 use Rattle.std.proofs.Math.Nat.{mul-le-mul_right}
 use Rattle.std.proofs.lemmas.Bool.Decides.{nat_tests}
@@ -9,6 +9,8 @@ use Rattle.tcl_words.specs.Bytes as ascii
 use Rattle.tcl_words.specs.Lists.{is_special, letter, escape, escape_first, begins_with, needs_quoting, fits_braces, written_element, written_rest, written}
 use Rattle.tcl_subst.specs.Faults.{is_too_long}
 use Rattle.tcl_commands.specs.Editing.{least_size}
+use Rattle.tcl_commands.specs.Said.{limited}
+use Rattle.tcl_commands.specs.Texts.{too_long}
 
 if_long : (t : Bool) (n : ℕ) (xs ys : List ℕ) → n ≤ length xs → n ≤ length ys → n ≤ length (if t then xs else ys)
 if_long true n xs ys h k = h
@@ -97,3 +99,21 @@ pub repeated_nothing : (es : List (List ℕ)) (n : ℕ) → length es ≡ 0 → 
 repeated_nothing [] zero none = refl
 repeated_nothing [] (suc n) none = repeated_nothing [] n none
 repeated_nothing (e ∷ es) n none = absurd (omega arith)
+
+-- a text, n times, has n times its bytes
+text_repeated : (text : List ℕ) (n : ℕ) → length (repeat n text) ≡ length text * n
+text_repeated text zero = omega arith
+text_repeated text (suc n) = length-append text (repeat n text) ∙ ap (λ (m : ℕ). length text + m) (text_repeated text n) ∙ (omega arith)
+
+text_long : (text : List ℕ) (n : ℕ) → is_too_long (length (repeat n text)) ≡ is_too_long (min (length text * n) (2 ^ 64 - 1))
+unfolding is_too_long
+text_long text n = let size = text_repeated text n in grind (arith, nat_tests)
+
+limited_by : (b : Bool) (value : List ℕ) → is_too_long (length value) ≡ b → limited value ≡ (if b then Err too_long else Ok value)
+limited_by b value is = ap (λ (t : Bool). if t then Err too_long else Ok value) is
+
+pub text_over : (text : List ℕ) (n : ℕ) → is_too_long (min (length text * n) (2 ^ 64 - 1)) ≡ true → limited (repeat n text) ≡ Err too_long
+text_over text n long = limited_by true (repeat n text) (text_long text n ∙ long)
+
+pub text_fits : (text : List ℕ) (n : ℕ) → is_too_long (min (length text * n) (2 ^ 64 - 1)) ≡ false → limited (repeat n text) ≡ Ok (repeat n text)
+text_fits text n short = limited_by false (repeat n text) (text_long text n ∙ short)

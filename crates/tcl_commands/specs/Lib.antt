@@ -26,6 +26,7 @@ pub mod Parts
 pub mod Templates
 pub mod Formats
 pub mod Scanning
+pub mod Versions
 pub mod Plain
 pub mod Verbs
 pub mod Joining

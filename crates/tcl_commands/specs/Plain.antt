@@ -15,7 +15,7 @@ use Rattle.command_table.specs.declared.options.InfoOption.TheVariants.{Exists}
 use Rattle.command_table.specs.Counts.{fits}
 use Rattle.command_table.specs.Options.{info_option, info_count}
 use Rattle.command_table.specs.Rows.{value_row}
-use Rattle.command_table.specs.declared.commands.ValueCommand.TheVariants.{Set, Array, Format, Unset, Incr, Append, Lappend, List as ListOf, Llength, Lindex, Lrange, Break, Continue, Return, Global, Error, String, Info, Split, Join, Concat, Linsert, Lreplace, Lset, Lreverse, Lrepeat, Lassign, Lsearch, Lsort, Scan, Regexp, Regsub}
+use Rattle.command_table.specs.declared.commands.ValueCommand.TheVariants.{Set, Array, Format, Unset, Incr, Append, Lappend, List as ListOf, Llength, Lindex, Lrange, Break, Continue, Return, Global, Error, String, Info, Split, Join, Concat, Linsert, Lreplace, Lset, Lreverse, Lrepeat, Lassign, Lsearch, Lsort, Scan, Regexp, Regsub, Package, ExpVersion, Ignored}
 use Rattle.tcl_commands.specs.Texts.{is_missing, wrong_args, bad_option, not_read, not_set, not_unset}
 use Rattle.tcl_commands.specs.Said.{Said, ◌>>=◌, Outcome, told, on_changed, limited, list_of, as_number}
 use Rattle.tcl_commands.specs.Given.{arg, if_fits}
@@ -31,6 +31,7 @@ use Rattle.tcl_commands.specs.Searching.{lsearch}
 use Rattle.tcl_commands.specs.Sorting.{lsort}
 use Rattle.tcl_commands.specs.Regexps.{regexp}
 use Rattle.tcl_commands.specs.Replacing.{regsub}
+use Rattle.tcl_commands.specs.Versions.{package_command, exp_version}
 use Rattle.tcl_commands.specs.Editing.{linsert, lreplace, lset, lreverse, lrepeat, lassign}
 
 abbrev pub set : List (List ℕ) → Variables → Outcome
@@ -152,6 +153,9 @@ allowed Format command args vars = told (format command args) vars
 allowed Scan command args vars = scan command args vars
 allowed Regexp command args vars = regexp command args vars
 allowed Regsub command args vars = regsub command args vars
+allowed Package command args vars = told (package_command command args) vars
+allowed ExpVersion command args vars = told (exp_version command args) vars
+allowed Ignored command args vars = told (Ok []) vars
 
 -- A command, given its word and its arguments.
 abbrev pub plain : ValueCommand → List ℕ → List (List ℕ) → Variables → Outcome

@@ -1,6 +1,6 @@
 -- The options of `string` (string(n)). Characters are bytes. Only ASCII letters have case.
-use Rattle.std.specs.Prelude.{ℕ, suc, Bool, true, false, List, [], ◌∷◌, length, map, drop, take, ◌-◌, reverse, Option, Some, None, option_map, Ok, Err, pos, if◌then◌else◌}
-use Rattle.std.specs.List.{prefix_len}
+use Rattle.std.specs.Prelude.{ℕ, suc, Bool, true, false, List, [], ◌∷◌, length, map, drop, take, ◌-◌, reverse, Option, Some, None, option_map, Ok, Err, ℤ, pos, negsuc, if◌then◌else◌}
+use Rattle.std.specs.List.{prefix_len, repeat}
 use Rattle.std.specs.Option.{option_or}
 use Rattle.std.specs.Ordering.{nat_cmp}
 use Rattle.std.specs.Char.{to_ascii_lowercase, to_ascii_uppercase}
@@ -11,7 +11,7 @@ use Rattle.tcl_words.specs.Bytes as ascii
 use Rattle.tcl_words.specs.Lists.{is_white}
 use Rattle.tcl_expr.specs.Number.{number_text}
 use Rattle.command_table.specs.declared.options.StringOption.{StringOption}
-use Rattle.command_table.specs.declared.options.StringOption.TheVariants.{Length, Index, Range, Equal, Compare, First, Last, ToLower, ToUpper, Trim, TrimLeft, TrimRight, Match, Map, Is, Reverse}
+use Rattle.command_table.specs.declared.options.StringOption.TheVariants.{Length, Index, Range, Equal, Compare, First, Last, ToLower, ToUpper, Trim, TrimLeft, TrimRight, Match, Map, Is, Reverse, Repeat}
 use Rattle.command_table.specs.declared.switches.Switches.TheVariants.{Case}
 use Rattle.command_table.specs.Options.{string_option, string_count}
 use Rattle.tcl_commands.specs.Texts.{bad_option}
@@ -22,7 +22,7 @@ use Rattle.tcl_commands.specs.Switches.{flags_of}
 use Rattle.tcl_commands.specs.Cases.{folded, are_same, begins_with}
 use Rattle.tcl_commands.specs.Mapping.{mapped}
 use Rattle.tcl_commands.specs.Classes.{classed}
-use Rattle.tcl_commands.specs.Said.{Said, ◌>>=◌}
+use Rattle.tcl_commands.specs.Said.{Said, ◌>>=◌, limited, as_number}
 use Rattle.tcl_commands.specs.Indices.{index_of, between}
 
 abbrev pub count_text : ℕ → List ℕ
@@ -90,6 +90,11 @@ compared command args =
 abbrev pub matched : List ℕ → List (List ℕ) → Said (List ℕ)
 matched command args = flags_of Case 2 command args >>= λ p. Ok (bit_text (matches p.0.nocase (arg 0 (drop p.1 args)) (arg 1 (drop p.1 args))))
 
+-- A text, n times. A negative number counts as 0.
+abbrev pub repeated : List ℕ → ℤ → Said (List ℕ)
+repeated text (pos n) = limited (repeat n text)
+repeated text (negsuc n) = Ok []
+
 -- The result of an option with the arguments after it.
 abbrev pub string_by : StringOption → List ℕ → List (List ℕ) → Said (List ℕ)
 string_by Length command args = Ok (count_text (length (arg 0 args)))
@@ -108,6 +113,7 @@ string_by Match command args = matched command args
 string_by Map command args = mapped command args
 string_by Is command args = classed command args >>= λ b. Ok (bit_text b)
 string_by Reverse command args = Ok (reverse (arg 0 args))
+string_by Repeat command args = as_number (arg 1 args) >>= λ n. repeated (arg 0 args) n
 
 -- An unknown option is reported before a wrong number of arguments.
 abbrev pub string_named : List ℕ → List ℕ → Option StringOption → List (List ℕ) → Said (List ℕ)

@@ -34,6 +34,13 @@ expected_number text = quoted (codes "expected number but got ") text
 abbrev pub bad_regular : List ℕ → List ℕ
 bad_regular pattern = quoted (codes "bad regular expression ") pattern
 
+abbrev pub no_package : List ℕ → List ℕ
+no_package name = codes "can't find package " ++ take 200 name
+
+-- The version `have` of a package doesn't serve where `need` is asked for.
+abbrev pub version_conflict : List ℕ → List ℕ → List ℕ → List ℕ
+version_conflict name have need = quoted (codes "version conflict for package ") name ++ (codes ": have " ++ (have ++ (codes ", need " ++ take 200 need)))
+
 abbrev pub bad_list : List ℕ
 bad_list = codes "bad list"
 
@@ -89,6 +96,9 @@ abbrev pub expr_fault : List ℕ → ExprFault → List ℕ
 expr_fault source expr.Syntax = quoted (codes "syntax error in expression ") source
 expr_fault source (expr.NotNumber text) = expected_number text
 expr_fault source expr.DivideByZero = codes "divide by zero"
+expr_fault source expr.ZeroToNegative = codes "exponentiation of zero by negative power"
+expr_fault source expr.NegativeShift = codes "negative shift argument"
 expr_fault source expr.Overflow = codes "integer overflow"
+expr_fault source expr.BadList = bad_list
 expr_fault source expr.TooDeep = codes "expression too deep"
 expr_fault source expr.Memory = []

@@ -20,6 +20,7 @@ use crate::splitting::{join, split};
 use crate::strings::string;
 use crate::told::{error, told, wrong_call};
 use crate::variables::{append, global, incr, info, lappend, set, unset_names};
+use crate::versions::{exp_version, package_command};
 use command_table::{ValueCommand, fits, value_row};
 use exp_match::Compiled;
 use std::alloc::{AllocError, Global};
@@ -71,6 +72,9 @@ fn allowed(
         ValueCommand::Scan => scan(alloc, command, args, vars),
         ValueCommand::Regexp => regexp(alloc, patterns, command, args, vars),
         ValueCommand::Regsub => regsub(alloc, patterns, command, args, vars),
+        ValueCommand::Package => told(alloc, package_command(alloc, command, args)),
+        ValueCommand::ExpVersion => told(alloc, exp_version(alloc, command, args)),
+        ValueCommand::Ignored => Ok((Code::Ok, Value::new(alloc))),
     }
 }
 

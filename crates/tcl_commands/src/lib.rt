@@ -45,6 +45,7 @@ mod trimming;
 mod values;
 mod variables;
 mod verbs;
+mod versions;
 mod ways;
 mod white;
 

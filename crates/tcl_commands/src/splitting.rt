@@ -73,7 +73,7 @@ fn parts(alloc: Global, seps: &[u8], text: &[u8]) -> Result<Packed, AllocError>
 }
 
 /// Splits a text that isn't empty.
-fn some_parts(alloc: Global, seps: &[u8], text: &[u8]) -> Result<Packed, AllocError>
+pub(crate) fn some_parts(alloc: Global, seps: &[u8], text: &[u8]) -> Result<Packed, AllocError>
     ensures { IfOk result (λ p. p ≡ some_parts seps.now text.now) }
 {
     match seps {

@@ -3,7 +3,7 @@
 ghost use Rattle.std.specs.Prelude.{◌≡◌, map, reverse, IfOk};
 ghost use Rattle.std.specs.Char.{to_ascii_lowercase, to_ascii_uppercase};
 ghost use Rattle.tcl_commands.specs.Says.{Says};
-ghost use Rattle.tcl_commands.specs.Strings.{byte_at, bytes_between, equal, compared, matched, trimmed_left, trimmed_right, string_by, string, bit_text, order_text, place_text, first_place, last_place};
+ghost use Rattle.tcl_commands.specs.Strings.{byte_at, bytes_between, equal, compared, matched, trimmed_left, trimmed_right, repeated, string_by, string, bit_text, order_text, place_text, first_place, last_place};
 ghost use Rattle.exp_glob.specs.Whole.{matches};
 
 use crate::cases::{are_same, lower, order};
@@ -14,9 +14,9 @@ use crate::indices::{between, index_of};
 use crate::mapping::mapped;
 use crate::sets::ByteSet;
 use crate::switches::flags_of;
-use crate::texts::{bad_option, wrong};
+use crate::texts::{bad_option, over_limit, wrong};
 use crate::trimming::{trimmed_left, trimmed_right};
-use crate::values::count_text;
+use crate::values::{as_number, count_text, is_too_long};
 use command_table::{StringOption, Switches, fits, string_count, string_option};
 use exp_glob::Glob;
 use memchr::memmem;
@@ -72,6 +72,7 @@ fn string_by(
         StringOption::Map => mapped(alloc, command, args),
         StringOption::Is => is_in_class(alloc, command, args),
         StringOption::Reverse => Ok(reversed(alloc, a)?),
+        StringOption::Repeat => repeated(alloc, a, as_number(alloc, b)?),
     }
 }
 
@@ -151,6 +152,23 @@ fn reversed(alloc: Global, text: &[u8]) -> Result<Value, AllocError>
 {
     let bytes = text.iter().rev().copied().collect(alloc)?;
     Value::from_text(alloc, Text { bytes })
+}
+
+/// Returns a text, repeated this often. A negative number counts as 0. It is an error if the result
+/// is too long.
+#[tactic(auto, using(crate::proofs::Edits::text_over, crate::proofs::Edits::text_fits))]
+fn repeated(alloc: Global, text: &[u8], number: i64) -> Result<Value, Complaint>
+    ensures { Says result (repeated text.now number) }
+{
+    if number < 0 {
+        return Ok(Value::new(alloc));
+    }
+    let times = number as usize;
+    if is_too_long(text.len().saturating_mul(times)) {
+        return Err(over_limit(alloc));
+    }
+    let bytes = text.repeat(alloc, times)?;
+    Ok(Value::from_text(alloc, Text { bytes })?)
 }
 
 fn byte_at(alloc: Global, text: &[u8], index: &[u8]) -> Result<Value, Complaint>

@@ -2,7 +2,7 @@
 
 ghost use Rattle.std.specs.Prelude.{◌≡◌, ◌≢◌, ◌++◌, take, IfOk};
 ghost use Rattle.tcl_commands.specs.Says.{Complains};
-ghost use Rattle.tcl_commands.specs.Texts.{bad_list, too_long, too_deep, is_missing, quoted, wrong_args, bad_option, bad_flag, bad_format, bad_index, expected_number, variable_fault, not_read, not_set, not_unset, word_fault, expr_fault, bad_regular};
+ghost use Rattle.tcl_commands.specs.Texts.{bad_list, too_long, too_deep, is_missing, quoted, wrong_args, bad_option, bad_flag, bad_format, bad_index, expected_number, variable_fault, not_read, not_set, not_unset, word_fault, expr_fault, bad_regular, no_package, version_conflict};
 
 use crate::complaint::Complaint;
 use std::alloc::{AllocError, Global};
@@ -116,6 +116,32 @@ pub(crate) fn bad_regular(alloc: Global, pattern: &[u8]) -> Result<Text, AllocEr
     quoted(alloc, b"bad regular expression ", pattern)
 }
 
+/// Returns the text of the error that there is no such package.
+pub(crate) fn no_package(alloc: Global, name: &[u8]) -> Result<Text, AllocError>
+    ensures { IfOk result (λ t. t ≡ no_package name.now) }
+{
+    let mut text = Text::from_slice(alloc, b"can't find package ")?;
+    text.extend(front(name, 200))?;
+    Ok(text)
+}
+
+/// Returns the text of the error that a package has another version than is needed.
+pub(crate) fn version_conflict(
+    alloc: Global,
+    name: &[u8],
+    have: &[u8],
+    need: &[u8],
+) -> Result<Text, AllocError>
+    ensures { IfOk result (λ t. t ≡ version_conflict name.now have.now need.now) }
+{
+    let mut text = quoted(alloc, b"version conflict for package ", name)?;
+    text.extend(b": have ")?;
+    text.extend(have)?;
+    text.extend(b", need ")?;
+    text.extend(front(need, 200))?;
+    Ok(text)
+}
+
 /// Returns why a variable can't be read or set. `front_text` says which. `AllocError` for `Memory`.
 fn variable_fault(
     alloc: Global,
@@ -203,7 +229,12 @@ pub fn expr_fault(alloc: Global, source: &[u8], fault: &ExprFault) -> Result<Tex
         ExprFault::Syntax => quoted(alloc, b"syntax error in expression ", source),
         ExprFault::NotNumber(text) => expected_number(alloc, text.as_slice()),
         ExprFault::DivideByZero => Text::from_slice(alloc, b"divide by zero"),
+        ExprFault::ZeroToNegative => {
+            Text::from_slice(alloc, b"exponentiation of zero by negative power")
+        }
+        ExprFault::NegativeShift => Text::from_slice(alloc, b"negative shift argument"),
         ExprFault::Overflow => Text::from_slice(alloc, b"integer overflow"),
+        ExprFault::BadList => Text::from_slice(alloc, bad_list()),
         ExprFault::TooDeep => Text::from_slice(alloc, b"expression too deep"),
         ExprFault::Memory => Ok(Text::new(alloc)),
     }

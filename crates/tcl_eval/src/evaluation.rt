@@ -177,7 +177,10 @@ fn told(fault: ExprFault) -> Result<ExprFault, AllocError>
         ExprFault::Syntax => Ok(ExprFault::Syntax),
         ExprFault::NotNumber(text) => Ok(ExprFault::NotNumber(text)),
         ExprFault::DivideByZero => Ok(ExprFault::DivideByZero),
+        ExprFault::ZeroToNegative => Ok(ExprFault::ZeroToNegative),
+        ExprFault::NegativeShift => Ok(ExprFault::NegativeShift),
         ExprFault::Overflow => Ok(ExprFault::Overflow),
+        ExprFault::BadList => Ok(ExprFault::BadList),
         ExprFault::TooDeep => Ok(ExprFault::TooDeep),
         ExprFault::Memory => Err(AllocError),
     }

@@ -4,7 +4,7 @@ use Rattle.std.specs.List.{slice_get}
 use Rattle.std.proofs.lemmas.List.{drop-drop, drop_all}
 use Rattle.std.proofs.lemmas.Bool.Decides.{leb_tells}
 use Rattle.tcl_expr.specs.declared.faults.ExprFault.{ExprFault}
-use Rattle.tcl_expr.specs.declared.faults.ExprFault.TheVariants.{Syntax, NotNumber, DivideByZero, Overflow, TooDeep, Memory}
+use Rattle.tcl_expr.specs.declared.faults.ExprFault.TheVariants.{Syntax, NotNumber, DivideByZero, ZeroToNegative, NegativeShift, Overflow, BadList, TooDeep, Memory}
 use Rattle.tcl_expr.specs.declared.code.Op.{Op}
 use Rattle.tcl_expr.specs.declared.stack.Item.{Item}
 use Rattle.tcl_expr.specs.declared.progress.Operands.{Operands}
@@ -116,7 +116,10 @@ pub fault_tells : (f : ExprFault) (t : Tree) (i : Instr) (old new : Operands) (g
 fault_tells Syntax t i old new given next serves e w = fault_is Syntax t i old new given next serves e w
 fault_tells (NotNumber x) t i old new given next serves e w = fault_is (NotNumber x) t i old new given next serves e w
 fault_tells DivideByZero t i old new given next serves e w = fault_is DivideByZero t i old new given next serves e w
+fault_tells ZeroToNegative t i old new given next serves e w = fault_is ZeroToNegative t i old new given next serves e w
+fault_tells NegativeShift t i old new given next serves e w = fault_is NegativeShift t i old new given next serves e w
 fault_tells Overflow t i old new given next serves e w = fault_is Overflow t i old new given next serves e w
+fault_tells BadList t i old new given next serves e w = fault_is BadList t i old new given next serves e w
 fault_tells TooDeep t i old new given next serves e w = fault_is TooDeep t i old new given next serves e w
 fault_tells Memory t i old new given next serves e w = tt
 
@@ -182,6 +185,9 @@ answer_tells (NeedScript k) ops t log given code h serves e a = absurd a
 answer_tells (Fault Syntax) ops t log given code h serves e a = ap outcome_of (over_is ops t log given code h serves e ∙ ap (λ st. ended st (left log [])) a.1)
 answer_tells (Fault (NotNumber x)) ops t log given code h serves e a = absurd (let no : NotNumber x ≡ Syntax = a.0 in cc)
 answer_tells (Fault DivideByZero) ops t log given code h serves e a = absurd (let no : DivideByZero ≡ Syntax = a.0 in cc)
+answer_tells (Fault ZeroToNegative) ops t log given code h serves e a = absurd (let no : ZeroToNegative ≡ Syntax = a.0 in cc)
+answer_tells (Fault NegativeShift) ops t log given code h serves e a = absurd (let no : NegativeShift ≡ Syntax = a.0 in cc)
 answer_tells (Fault Overflow) ops t log given code h serves e a = absurd (let no : Overflow ≡ Syntax = a.0 in cc)
+answer_tells (Fault BadList) ops t log given code h serves e a = absurd (let no : BadList ≡ Syntax = a.0 in cc)
 answer_tells (Fault TooDeep) ops t log given code h serves e a = absurd (let no : TooDeep ≡ Syntax = a.0 in cc)
 answer_tells (Fault Memory) ops t log given code h serves e a = tt

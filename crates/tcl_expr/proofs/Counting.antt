@@ -1,8 +1,7 @@
 -- An evaluation over operands that are numbers, each of which is told where it is needed.
-use Rattle.std.proofs.Common.{◌≡◌, ℕ, zero, suc, ◌+◌, ◌-◌, ◌≤◌, min, List, [], ◌∷◌, ◌++◌, map, length, drop, Option, Some, None, IfSome, ℤ, refl, ap, sym, ◌∙◌, append_assoc, arith}
+use Rattle.std.proofs.Common.{◌≡◌, ℕ, zero, suc, ◌+◌, ◌-◌, ◌≤◌, min, List, [], ◌∷◌, ◌++◌, map, length, drop, Option, Some, None, IfSome, ℤ, refl, ap, sym, ◌∙◌, append_assoc}
 use Rattle.tcl_words.specs.Pieces.{Spelled}
 use Rattle.tcl_expr.specs.declared.code.Op.{Op}
-use Rattle.tcl_expr.specs.declared.stack.Item.{Item}
 use Rattle.tcl_expr.specs.declared.stack.Item.TheVariants as items
 use Rattle.tcl_expr.specs.declared.progress.Operands.{Operands}
 use Rattle.tcl_expr.specs.Number.{number_text}

@@ -7,12 +7,13 @@ use Rattle.tcl_words.proofs.ListGraph.{course_induction}
 use Rattle.tcl_expr.specs.declared.operators.Prefix.{Prefix}
 use Rattle.tcl_expr.specs.declared.operators.Infix.{Infix}
 use Rattle.tcl_expr.specs.White.{gap, past}
-use Rattle.tcl_expr.specs.Infix.{infix_at, level_of, prefix_at}
+use Rattle.tcl_expr.specs.Infix.{infix_at, level_of, of_level, prefix_at}
 use Rattle.tcl_expr.specs.Tree.{Tree, unary, choice, joined}
 use Rattle.tcl_expr.specs.Leaf.{Read, leaf, is_lowest, digits_len, lowest}
-use Rattle.tcl_expr.specs.Grammar.{behind, in_parens, prefixed, term, linked, link, chain, chain_step, chained, level, otherwise, colon, question, whole, inside_of}
+use Rattle.tcl_expr.specs.Grammar.{behind, in_parens, prefixed, term, to_left, to_right, link, chain, chain_step, chained, level, otherwise, colon, question, whole, inside_of}
 use Rattle.tcl_expr.specs.Rules.{Rank, Phrase}
 use Rattle.tcl_expr.proofs.Lowest.{lowest_digits, lowest_text, digits_end}
+use Rattle.tcl_expr.proofs.Writings.{of_level_is}
 use Rattle.tcl_expr.proofs.Places.{past_gap, drop_more, drop_behind, begins}
 
 -- a phrase one nesting deeper
@@ -104,76 +105,131 @@ abbrev GoesOn : ℕ → ℕ → List ℕ → List ℕ → Read → Type 0
 GoesOn d k s rest (Err e) = Unit {0}
 GoesOn d k s rest (Ok p) = p.1 ≤ length rest → Phrase d (Rank.level (suc k)) s p.0 (drop p.1 rest)
 
-linked_goes_on : (d k b n : ℕ) (s m : List ℕ) (op : Infix) (l : Tree) → Phrase d (Rank.level (suc k)) s l (b ∷ m) → infix_at b m ≡ Some (op, n) → level_of op ≡ suc k
-    → (on : ℕ → Tree → Read) → ((j : ℕ) (u : Tree) → Phrase d (Rank.level (suc k)) s u (drop j m) → GoesOn d k s (drop j m) (on j u))
-    → (x : Read) → Derives d (Rank.level k) (drop (gap m n) m) x → GoesOn d k s (b ∷ m) (linked on op (gap m n) l x)
-linked_goes_on d k b n s m op l left is same on goes (Err e) h = tt
-linked_goes_on d k b n s m op l left is same on goes (Ok p) h = last (on (g + p.1) (joined op l p.0)) (λ right. goes (g + p.1) (joined op l p.0) right)
+-- the right operand of an operator, behind n more bytes of it
+right_operand : (d k n : ℕ) (m : List ℕ) (p : Tree × ℕ) → Derives d (Rank.level k) (drop (gap m n) m) (Ok p) → gap m n + p.1 ≤ length m → Phrase d (Rank.level k) (past (drop n m)) p.0 (drop (gap m n + p.1) m)
+right_operand d k n m p h le =
+    let within : p.1 ≤ length (drop (gap m n) m) = omega (arith, length-drop (gap m n) m) in
+    let behind_it : drop p.1 (drop (gap m n) m) ≡ drop (gap m n + p.1) m = drop_more m (gap m n) p.1 (gap m n + p.1) refl in
+    subst (λ x. Phrase d (Rank.level k) x p.0 (drop (gap m n + p.1) m)) (sym (past_gap m n)) (subst (Phrase d (Rank.level k) (drop (gap m n) m) p.0) behind_it (h within))
+
+-- what is left behind the operand, from the operator's first byte on
+rest_there : (b : ℕ) (m : List ℕ) (g i j : ℕ) → drop j (drop (g + i) m) ≡ drop (1 + g + i + j) (b ∷ m)
+rest_there b m g i j =
+    let place : 1 + g + i + j ≡ suc (g + i + j) = omega arith in
+    drop_more m (g + i) j (g + i + j) refl ∙ sym (drop_behind b m (g + i + j) (1 + g + i + j) place)
+
+to_left_goes_on : (d k b n : ℕ) (s m : List ℕ) (op : Infix) (l : Tree) → Phrase d (Rank.level (suc (suc k))) s l (b ∷ m) → infix_at b m ≡ Some (op, n) → level_of op ≡ suc (suc k)
+    → (on : ℕ → Tree → Read) → ((j : ℕ) (u : Tree) → Phrase d (Rank.level (suc (suc k))) s u (drop j m) → GoesOn d (suc k) s (drop j m) (on j u))
+    → (x : Read) → Derives d (Rank.level (suc k)) (drop (gap m n) m) x → GoesOn d (suc k) s (b ∷ m) (to_left on op (gap m n) l x)
+to_left_goes_on d k b n s m op l left is same on goes (Err e) h = tt
+to_left_goes_on d k b n s m op l left is same on goes (Ok p) h = last (on (g + p.1) (joined op l p.0)) (λ right. goes (g + p.1) (joined op l p.0) right)
   where
     g : ℕ
     g = gap m n
 
-    last : (y : Read) → (Phrase d (Rank.level (suc k)) s (joined op l p.0) (drop (g + p.1) m) → GoesOn d k s (drop (g + p.1) m) y) → GoesOn d k s (b ∷ m) (behind (1 + g + p.1) (λ t. t) y)
+    last : (y : Read) → (Phrase d (Rank.level (suc (suc k))) s (joined op l p.0) (drop (g + p.1) m) → GoesOn d (suc k) s (drop (g + p.1) m) y) → GoesOn d (suc k) s (b ∷ m) (behind (1 + g + p.1) (λ t. t) y)
     last (Err e) then = tt
     last (Ok q) then = λ le.
-        let within : p.1 ≤ length (drop g m) = omega (arith, length-drop g m) in
-        let behind_it : drop p.1 (drop g m) ≡ drop (g + p.1) m = drop_more m g p.1 (g + p.1) refl in
-        let right : Phrase d (Rank.level k) (past (drop n m)) p.0 (drop (g + p.1) m) =
-        subst (λ x. Phrase d (Rank.level k) x p.0 (drop (g + p.1) m)) (sym (past_gap m n)) (subst (Phrase d (Rank.level k) (drop g m) p.0) behind_it (h within)) in
-        let both : Phrase d (Rank.level (suc k)) s (joined op l p.0) (drop (g + p.1) m) = Phrase.infixed d k b n s m (drop (g + p.1) m) op l p.0 left is same right in
         let left_over : q.1 ≤ length (drop (g + p.1) m) = omega (arith, length-drop (g + p.1) m) in
-        let place : 1 + g + p.1 + q.1 ≡ suc (g + p.1 + q.1) = omega arith in
-        let rest : drop q.1 (drop (g + p.1) m) ≡ drop (1 + g + p.1 + q.1) (b ∷ m) =
-        drop_more m (g + p.1) q.1 (g + p.1 + q.1) refl ∙ sym (drop_behind b m (g + p.1 + q.1) (1 + g + p.1 + q.1) place) in
-        subst (Phrase d (Rank.level (suc k)) s q.0) rest (then both left_over)
+        let right : Phrase d (Rank.level (suc k)) (past (drop n m)) p.0 (drop (g + p.1) m) = right_operand d (suc k) n m p h (omega arith) in
+        let both : Phrase d (Rank.level (suc (suc k))) s (joined op l p.0) (drop (g + p.1) m) = Phrase.infixed d k b n s m (drop (g + p.1) m) op l p.0 left is same right in
+        subst (Phrase d (Rank.level (suc (suc k))) s q.0) (rest_there b m g p.1 q.1) (then both left_over)
 
-module _ (d k : ℕ) (next : List ℕ → Read) (nexts : (s : List ℕ) → Derives d (Rank.level k) s (next s)) where
+to_right_goes_on : (d b n : ℕ) (s m : List ℕ) (op : Infix) (l : Tree) → Phrase d (Rank.level 0) s l (b ∷ m) → infix_at b m ≡ Some (op, n) → level_of op ≡ 1
+    → (on : ℕ → Tree → Read) → ((j : ℕ) (u : Tree) (s' : List ℕ) → Phrase d (Rank.level 0) s' u (drop j m) → GoesOn d 0 s' (drop j m) (on j u))
+    → (x : Read) → Derives d (Rank.level 0) (drop (gap m n) m) x → GoesOn d 0 s (b ∷ m) (to_right on op (gap m n) l x)
+to_right_goes_on d b n s m op l left is same on goes (Err e) h = tt
+to_right_goes_on d b n s m op l left is same on goes (Ok p) h = last (on (g + p.1) p.0) (λ right. goes (g + p.1) p.0 (past (drop n m)) right)
+  where
+    g : ℕ
+    g = gap m n
+
+    last : (y : Read) → (Phrase d (Rank.level 0) (past (drop n m)) p.0 (drop (g + p.1) m) → GoesOn d 0 (past (drop n m)) (drop (g + p.1) m) y) → GoesOn d 0 s (b ∷ m) (behind (1 + g + p.1) (joined op l) y)
+    last (Err e) then = tt
+    last (Ok q) then = λ le.
+        let left_over : q.1 ≤ length (drop (g + p.1) m) = omega (arith, length-drop (g + p.1) m) in
+        let right : Phrase d (Rank.level 1) (past (drop n m)) q.0 (drop q.1 (drop (g + p.1) m)) = then (right_operand d 0 n m p h (omega arith)) left_over in
+        subst (Phrase d (Rank.level 1) s (joined op l q.0)) (rest_there b m g p.1 q.1) (Phrase.raised d b n s m (drop q.1 (drop (g + p.1) m)) op l q.0 left is same right)
+
+module _ (d : ℕ) (terms : (s : List ℕ) → Derives d (Rank.level 0) s (term (inside_of d) s)) where
+  abbrev RightGoesOn : List ℕ → (Tree → Read) → Type 0
+  RightGoesOn rest f = (s : List ℕ) (l : Tree) → Phrase d (Rank.level 0) s l rest → GoesOn d 0 s rest (f l)
+
+  right_end : RightGoesOn [] (λ l. Ok (l, 0))
+  right_end s l p = λ le. Phrase.tighter d 0 s [] l p
+
+  right_turn : (b : ℕ) (m : List ℕ) → ((j : ℕ) → RightGoesOn (drop j m) (chain to_right (term (inside_of d)) 1 (drop j m)))
+      → RightGoesOn (b ∷ m) (chain_step to_right (term (inside_of d)) 1 (λ j. chain to_right (term (inside_of d)) 1 (drop j m)) b m)
+  right_turn b m ih s l p = by (of_level 1 (infix_at b m)) refl
+    where
+      by : (o : Option (Infix × ℕ)) → of_level 1 (infix_at b m) ≡ o → GoesOn d 0 s (b ∷ m) (link to_right (term (inside_of d)) 1 (λ j. chain to_right (term (inside_of d)) 1 (drop j m)) m l o)
+      by None is = λ le. Phrase.tighter d 0 s (b ∷ m) l p
+      by (Some (op, n)) is =
+          let found = of_level_is 1 (infix_at b m) op n is in
+          to_right_goes_on d b n s m op l p found.is found.same (λ j. chain to_right (term (inside_of d)) 1 (drop j m)) (λ j u s' q. ih j s' u q) _ (terms (drop (gap m n) m))
+
+  right_goes_on : (rest : List ℕ) → RightGoesOn rest (chain to_right (term (inside_of d)) 1 rest)
+  unfolding chain
+  right_goes_on rest = course_induction (λ l. Ok (l, 0)) (chain_step to_right (term (inside_of d)) 1) RightGoesOn right_end right_turn rest 0
+
+  powers_derive : (s : List ℕ) (x : Read) → Derives d (Rank.level 0) s x → Derives d (Rank.level 1) s (chained to_right (term (inside_of d)) 1 s x)
+  powers_derive s (Err e) h = tt
+  powers_derive s (Ok p) h = by (chain to_right (term (inside_of d)) 1 (drop p.1 s) p.0) (λ first. right_goes_on (drop p.1 s) s p.0 first)
+    where
+      by : (y : Read) → (Phrase d (Rank.level 0) s p.0 (drop p.1 s) → GoesOn d 0 s (drop p.1 s) y) → Derives d (Rank.level 1) s (behind p.1 (λ t. t) y)
+      by (Err e) then = tt
+      by (Ok q) then = λ le.
+          let left_over : q.1 ≤ length (drop p.1 s) = omega (arith, length-drop p.1 s) in
+          subst (Phrase d (Rank.level 1) s q.0) (drop_more s p.1 q.1 (p.1 + q.1) refl) (then (h (omega arith)) left_over)
+
+module _ (d k : ℕ) (next : List ℕ → Read) (nexts : (s : List ℕ) → Derives d (Rank.level (suc k)) s (next s)) where
   abbrev ChainGoesOn : List ℕ → (Tree → Read) → Type 0
-  ChainGoesOn rest f = (s : List ℕ) (l : Tree) → Phrase d (Rank.level (suc k)) s l rest → GoesOn d k s rest (f l)
+  ChainGoesOn rest f = (s : List ℕ) (l : Tree) → Phrase d (Rank.level (suc (suc k))) s l rest → GoesOn d (suc k) s rest (f l)
 
   chain_end : ChainGoesOn [] (λ l. Ok (l, 0))
   chain_end s l p = λ le. p
 
-  chain_turn : (b : ℕ) (m : List ℕ) → ((j : ℕ) → ChainGoesOn (drop j m) (chain next (suc k) (drop j m))) → ChainGoesOn (b ∷ m) (chain_step next (suc k) (λ j. chain next (suc k) (drop j m)) b m)
-  chain_turn b m ih s l p = by (infix_at b m) refl
+  chain_turn : (b : ℕ) (m : List ℕ) → ((j : ℕ) → ChainGoesOn (drop j m) (chain to_left next (suc (suc k)) (drop j m)))
+      → ChainGoesOn (b ∷ m) (chain_step to_left next (suc (suc k)) (λ j. chain to_left next (suc (suc k)) (drop j m)) b m)
+  chain_turn b m ih s l p = by (of_level (suc (suc k)) (infix_at b m)) refl
     where
-      by : (o : Option (Infix × ℕ)) → infix_at b m ≡ o → GoesOn d k s (b ∷ m) (link next (suc k) (λ j. chain next (suc k) (drop j m)) m l o)
+      by : (o : Option (Infix × ℕ)) → of_level (suc (suc k)) (infix_at b m) ≡ o → GoesOn d (suc k) s (b ∷ m) (link to_left next (suc (suc k)) (λ j. chain to_left next (suc (suc k)) (drop j m)) m l o)
       by None is = λ le. p
       by (Some (op, n)) is =
-          cond_both (eqb (level_of op) (suc k)) _ _ (GoesOn d k s (b ∷ m))
-          (λ t. linked_goes_on d k b n s m op l p is (eqb-true (level_of op) (suc k) t) (λ j. chain next (suc k) (drop j m)) (λ j u q. ih j s u q) _ (nexts (drop (gap m n) m)))
-          (λ f le. p)
+          let found = of_level_is (suc (suc k)) (infix_at b m) op n is in
+          to_left_goes_on d k b n s m op l p found.is found.same (λ j. chain to_left next (suc (suc k)) (drop j m)) (λ j u q. ih j s u q) _ (nexts (drop (gap m n) m))
 
-  pub chain_goes_on : (rest : List ℕ) → ChainGoesOn rest (chain next (suc k) rest)
+  pub chain_goes_on : (rest : List ℕ) → ChainGoesOn rest (chain to_left next (suc (suc k)) rest)
   unfolding chain
-  chain_goes_on rest = course_induction (λ l. Ok (l, 0)) (chain_step next (suc k)) ChainGoesOn chain_end chain_turn rest 0
+  chain_goes_on rest = course_induction (λ l. Ok (l, 0)) (chain_step to_left next (suc (suc k))) ChainGoesOn chain_end chain_turn rest 0
 
-  pub chained_derives : (s : List ℕ) (x : Read) → Derives d (Rank.level k) s x → Derives d (Rank.level (suc k)) s (chained next (suc k) s x)
+  pub chained_derives : (s : List ℕ) (x : Read) → Derives d (Rank.level (suc k)) s x → Derives d (Rank.level (suc (suc k))) s (chained to_left next (suc (suc k)) s x)
   chained_derives s (Err e) h = tt
-  chained_derives s (Ok p) h = by (chain next (suc k) (drop p.1 s) p.0) (λ first. chain_goes_on (drop p.1 s) s p.0 first)
+  chained_derives s (Ok p) h = by (chain to_left next (suc (suc k)) (drop p.1 s) p.0) (λ first. chain_goes_on (drop p.1 s) s p.0 first)
     where
-      by : (y : Read) → (Phrase d (Rank.level (suc k)) s p.0 (drop p.1 s) → GoesOn d k s (drop p.1 s) y) → Derives d (Rank.level (suc k)) s (behind p.1 (λ t. t) y)
+      by : (y : Read) → (Phrase d (Rank.level (suc (suc k))) s p.0 (drop p.1 s) → GoesOn d (suc k) s (drop p.1 s) y) → Derives d (Rank.level (suc (suc k))) s (behind p.1 (λ t. t) y)
       by (Err e) then = tt
       by (Ok q) then = λ le.
-          let first : Phrase d (Rank.level (suc k)) s p.0 (drop p.1 s) = Phrase.tighter d k s (drop p.1 s) p.0 (h (omega arith)) in
+          let first : Phrase d (Rank.level (suc (suc k))) s p.0 (drop p.1 s) = Phrase.tighter d (suc k) s (drop p.1 s) p.0 (h (omega arith)) in
           let left_over : q.1 ≤ length (drop p.1 s) = omega (arith, length-drop p.1 s) in
-          subst (Phrase d (Rank.level (suc k)) s q.0) (drop_more s p.1 q.1 (p.1 + q.1) refl) (then first left_over)
+          subst (Phrase d (Rank.level (suc (suc k))) s q.0) (drop_more s p.1 q.1 (p.1 + q.1) refl) (then first left_over)
 
 level_derives : (d : ℕ) → ((s : List ℕ) → Derives d (Rank.level 0) s (term (inside_of d) s)) → (k : ℕ) (s : List ℕ) → Derives d (Rank.level k) s (level (inside_of d) k s)
 unfolding level
 level_derives d terms zero s = terms s
-level_derives d terms (suc k) s = chained_derives d k (level (inside_of d) k) (level_derives d terms k) s _ (level_derives d terms k s)
+level_derives d terms (suc zero) s = powers_derive d terms s _ (terms s)
+level_derives d terms (suc (suc k)) s = chained_derives d k (level (inside_of d) (suc k)) (level_derives d terms (suc k)) s _ (level_derives d terms (suc k) s)
 
 -- ---- whole expressions
 
-branches_under : (d : ℕ) (s m p r : List ℕ) (c x y : Tree) → Phrase d (Rank.level 10) s c (63 ∷ m) → Under d Rank.whole (past m) x (58 ∷ p) → Under d Rank.whole (past p) y r
+branches_under : (d : ℕ) (s m p r : List ℕ) (c x y : Tree) → Phrase d (Rank.level 13) s c (63 ∷ m) → Under d Rank.whole (past m) x (58 ∷ p) → Under d Rank.whole (past p) y r
     → Phrase d Rank.whole s (choice c x y) r
 branches_under zero s m p r c x y condition first second = absurd first
 branches_under (suc d) s m p r c x y condition first second = Phrase.branches d s m p r c x y condition first second
 
 module _ (d : ℕ) (wholes : (s : List ℕ) → DerivesUnder d Rank.whole s ((inside_of d).whole s)) where
   -- the condition takes m bytes and the first branch p.1 more, behind g
-  otherwise_derives : (s : List ℕ) (c : Tree) (m : ℕ) (p : Tree × ℕ) → (m ≤ length s → Phrase d (Rank.level 10) s c (drop m s)) → drop m s ≡ 63 ∷ drop (m + 1) s
+  otherwise_derives : (s : List ℕ) (c : Tree) (m : ℕ) (p : Tree × ℕ) → (m ≤ length s → Phrase d (Rank.level 13) s c (drop m s)) → drop m s ≡ 63 ∷ drop (m + 1) s
       → DerivesUnder d Rank.whole (drop (gap s (m + 1)) s) (Ok p) → drop (gap s (m + 1) + p.1) s ≡ 58 ∷ drop (gap s (m + 1) + p.1 + 1) s
       → (y : Read) → DerivesUnder d Rank.whole (drop (gap s (gap s (m + 1) + p.1 + 1)) s) y → Derives d Rank.whole s (otherwise c p.0 (gap s (gap s (m + 1) + p.1 + 1)) y)
   otherwise_derives s c m p condition mark h stop (Err e) h' = tt
@@ -186,12 +242,12 @@ module _ (d : ℕ) (wholes : (s : List ℕ) → DerivesUnder d Rank.whole s ((in
       let second : Under d Rank.whole (past (drop (g + p.1 + 1) s)) q.0 (drop (k + q.1) s) =
       subst (λ x. Under d Rank.whole x q.0 (drop (k + q.1) s)) (sym (past_gap s (g + p.1 + 1)))
       (subst (Under d Rank.whole (drop k s) q.0) (drop_more s k q.1 (k + q.1) refl) (h' (omega (arith, length-drop k s)))) in
-      branches_under d s (drop (m + 1) s) (drop (g + p.1 + 1) s) (drop (k + q.1) s) c p.0 q.0 (subst (Phrase d (Rank.level 10) s c) mark (condition (omega arith))) first second
+      branches_under d s (drop (m + 1) s) (drop (g + p.1 + 1) s) (drop (k + q.1) s) c p.0 q.0 (subst (Phrase d (Rank.level 13) s c) mark (condition (omega arith))) first second
 
   marked : (c m : ℕ) (s : List ℕ) → begins_with c (drop m s) ≡ true → drop m s ≡ c ∷ drop (m + 1) s
   marked c m s t = begins c (drop m s) t ∙ ap (λ x. c ∷ x) (drop_more s m 1 (m + 1) refl)
 
-  colon_derives : (s : List ℕ) (c : Tree) (m : ℕ) → (m ≤ length s → Phrase d (Rank.level 10) s c (drop m s)) → drop m s ≡ 63 ∷ drop (m + 1) s
+  colon_derives : (s : List ℕ) (c : Tree) (m : ℕ) → (m ≤ length s → Phrase d (Rank.level 13) s c (drop m s)) → drop m s ≡ 63 ∷ drop (m + 1) s
       → (x : Read) → DerivesUnder d Rank.whole (drop (gap s (m + 1)) s) x → Derives d Rank.whole s (colon (inside_of d) s c (gap s (m + 1)) x)
   colon_derives s c m condition mark (Err e) h = tt
   colon_derives s c m condition mark (Ok p) h =
@@ -200,7 +256,7 @@ module _ (d : ℕ) (wholes : (s : List ℕ) → DerivesUnder d Rank.whole s ((in
       (λ t. otherwise_derives s c m p condition mark h (marked 58 n s t) _ (wholes (drop (gap s (n + 1)) s)))
       (λ f. tt)
 
-  question_derives : (s : List ℕ) (x : Read) → Derives d (Rank.level 10) s x → Derives d Rank.whole s (question (inside_of d) s x)
+  question_derives : (s : List ℕ) (x : Read) → Derives d (Rank.level 13) s x → Derives d Rank.whole s (question (inside_of d) s x)
   question_derives s (Err e) h = tt
   question_derives s (Ok p) h =
       cond_both (begins_with 63 (drop p.1 s)) _ _ (Derives d Rank.whole s)
@@ -217,7 +273,7 @@ unfolding whole
 with_insides d wholes terms =
     let here : (s : List ℕ) → Derives d (Rank.level 0) s (term (inside_of d) s) = term_derives d wholes terms in
     record {
-      whole_derives = λ s. question_derives d wholes s _ (level_derives d here 10 s);
+      whole_derives = λ s. question_derives d wholes s _ (level_derives d here 13 s);
       term_derives = here;
     }
 

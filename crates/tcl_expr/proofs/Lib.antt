@@ -13,3 +13,4 @@ pub mod Lowest
 pub mod Derived
 pub mod Followed
 pub mod Ruled
+pub mod Powers

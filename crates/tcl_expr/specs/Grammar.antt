@@ -1,7 +1,7 @@
 -- The grammar of `Rules` as a function that also gives the first error. Each level of precedence is a chain of the next
--- tighter level, grouped to the left. `?:` groups to the right.
+-- tighter level, grouped to the left. Level 1, which is `**`, and `?:` group to the right.
 --
---     whole   := level10 | level10 '?' whole ':' whole
+--     whole   := level13 | level13 '?' whole ':' whole
 --     level k := level (k-1) (operator-of-level-k level (k-1))*
 --     level 0 := prefix level0 | '(' whole ')' | number | word | operand
 --
@@ -16,7 +16,7 @@ use Rattle.tcl_expr.specs.declared.faults.ExprFault.TheVariants.{Syntax, TooDeep
 use Rattle.tcl_expr.specs.declared.operators.Prefix.{Prefix}
 use Rattle.tcl_expr.specs.declared.operators.Infix.{Infix}
 use Rattle.tcl_expr.specs.White.{gap}
-use Rattle.tcl_expr.specs.Infix.{infix_at, level_of, prefix_at}
+use Rattle.tcl_expr.specs.Infix.{infix_at, of_level, prefix_at}
 use Rattle.tcl_expr.specs.Tree.{Tree, number, unary, joined, choice}
 use Rattle.tcl_expr.specs.Leaf.{Read, spaced, leaf, is_lowest, digits_len, lowest}
 use Rattle.tcl_expr.specs.Rules.{deepest}
@@ -51,33 +51,39 @@ unfoldable pub term : Inside → List ℕ → Read
 term inside [] = Err Syntax
 term inside (b ∷ bytes) = term_at inside b bytes
 
--- A right operand that begins n bytes after its operator's first byte, followed by the rest of the chain.
-abbrev pub linked : (ℕ → Tree → Read) → Infix → ℕ → Tree → Read → Read
-linked on op n l (Err e) = Err e
-linked on op n l (Ok p) = behind (1 + n + p.1) (λ t. t) (on (n + p.1) (joined op l p.0))
+-- A right operand that begins n bytes after its operator's first byte, followed by the rest of the chain. Both operands
+-- are the left operand of the rest.
+abbrev pub to_left : (ℕ → Tree → Read) → Infix → ℕ → Tree → Read → Read
+to_left on op n l (Err e) = Err e
+to_left on op n l (Ok p) = behind (1 + n + p.1) (λ t. t) (on (n + p.1) (joined op l p.0))
 
--- An operator of this level with its right operand, followed by the rest of the chain.
-abbrev pub link : (List ℕ → Read) → ℕ → (ℕ → Tree → Read) → List ℕ → Tree → Option (Infix × ℕ) → Read
-link next k on bytes l None = Ok (l, 0)
-link next k on bytes l (Some (op, n)) =
-    if level_of op == k then linked on op (gap bytes n) l (next (drop (gap bytes n) bytes)) else Ok (l, 0)
+-- The same, but the rest belongs to the right operand.
+abbrev pub to_right : (ℕ → Tree → Read) → Infix → ℕ → Tree → Read → Read
+to_right on op n l (Err e) = Err e
+to_right on op n l (Ok p) = behind (1 + n + p.1) (joined op l) (on (n + p.1) p.0)
 
-abbrev pub chain_step : (List ℕ → Read) → ℕ → (ℕ → Tree → Read) → ℕ → List ℕ → Tree → Read
-chain_step next k on b bytes l = link next k on bytes l (infix_at b bytes)
+module _ (grouped : (ℕ → Tree → Read) → Infix → ℕ → Tree → Read → Read) (next : List ℕ → Read) (k : ℕ) where
+  -- An operator with its right operand, followed by the rest of the chain.
+  abbrev pub link : (ℕ → Tree → Read) → List ℕ → Tree → Option (Infix × ℕ) → Read
+  link on bytes l None = Ok (l, 0)
+  link on bytes l (Some (op, n)) = grouped on op (gap bytes n) l (next (drop (gap bytes n) bytes))
 
--- After a first operand: the operators of level k, each with a right operand of the next tighter level, grouped to the
--- left.
-unfoldable pub chain : (List ℕ → Read) → ℕ → List ℕ → Tree → Read
-chain next k = reading (λ l. Ok (l, 0)) (chain_step next k)
+  abbrev pub chain_step : (ℕ → Tree → Read) → ℕ → List ℕ → Tree → Read
+  chain_step on b bytes l = link on bytes l (of_level k (infix_at b bytes))
 
--- An operand and the chain after it.
-abbrev pub chained : (List ℕ → Read) → ℕ → List ℕ → Read → Read
-chained next k text (Err e) = Err e
-chained next k text (Ok p) = behind p.1 (λ t. t) (chain next k (drop p.1 text) p.0)
+  -- After a first operand: the operators of level k, each with a right operand of the next tighter level.
+  unfoldable pub chain : List ℕ → Tree → Read
+  chain = reading (λ l. Ok (l, 0)) chain_step
+
+  -- An operand and the chain after it.
+  abbrev pub chained : List ℕ → Read → Read
+  chained text (Err e) = Err e
+  chained text (Ok p) = behind p.1 (λ t. t) (chain (drop p.1 text) p.0)
 
 unfoldable pub level : Inside → ℕ → List ℕ → Read
 level inside zero text = term inside text
-level inside (suc k) text = chained (level inside k) (suc k) text (level inside k text)
+level inside (suc zero) text = chained to_right (term inside) 1 text (term inside text)
+level inside (suc (suc k)) text = chained to_left (level inside (suc k)) (suc (suc k)) text (level inside (suc k) text)
 
 -- The second branch, at index n.
 abbrev pub otherwise : Tree → Tree → ℕ → Read → Read
@@ -100,7 +106,7 @@ question inside text (Ok p) =
     else Ok p
 
 unfoldable pub whole : Inside → List ℕ → Read
-whole inside text = question inside text (level inside 10 text)
+whole inside text = question inside text (level inside 13 text)
 
 unfoldable pub inside_of : ℕ → Inside
 inside_of zero = record { whole = λ text. Err TooDeep; term = λ text. Err TooDeep }

@@ -1,19 +1,21 @@
--- The operators of expressions and their precedence, as in expr(n), without shifts, `**`, `in` and `ni`.
+-- The operators of expressions and their precedence, as in expr(n).
 use Rattle.std.specs.Prelude.{ℕ, Bool, false, not, ◌&&◌, ◌||◌, nat_le, List, [], ◌∷◌, drop, Option, Some, None, ◌==◌, if◌then◌else◌}
 use Rattle.tcl_words.specs.Bytes as ascii
 use Rattle.tcl_words.specs.Lists.{begins_with}
 use Rattle.tcl_expr.specs.declared.operators.Prefix.{Prefix}
 use Rattle.tcl_expr.specs.declared.operators.Prefix.TheVariants.{Minus, Plus, Complement, Not}
 use Rattle.tcl_expr.specs.declared.operators.Arithmetic.{Arithmetic}
-use Rattle.tcl_expr.specs.declared.operators.Arithmetic.TheVariants.{Multiply, Divide, Remainder, Add, Subtract, BitAnd, BitXor, BitOr}
+use Rattle.tcl_expr.specs.declared.operators.Arithmetic.TheVariants.{Power, Multiply, Divide, Remainder, Add, Subtract, ShiftLeft, ShiftRight, BitAnd, BitXor, BitOr}
 use Rattle.tcl_expr.specs.declared.operators.Comparison.{Comparison}
 use Rattle.tcl_expr.specs.declared.operators.Comparison.TheVariants.{Less, Greater, AtMost, AtLeast, Equal, Unequal}
 use Rattle.tcl_expr.specs.declared.operators.Eager.{Eager}
 use Rattle.tcl_expr.specs.declared.operators.Eager.TheVariants as eager
-use Rattle.tcl_expr.specs.declared.operators.Lazy.{Lazy}
 use Rattle.tcl_expr.specs.declared.operators.Lazy.TheVariants.{And, Or}
 use Rattle.tcl_expr.specs.declared.operators.Infix.{Infix}
 use Rattle.tcl_expr.specs.declared.operators.Infix.TheVariants as between
+
+abbrev letter_i : ℕ
+letter_i = 105
 
 abbrev pub is_letter : ℕ → Bool
 is_letter b = nat_le ascii.letter_a b && nat_le b ascii.letter_z || nat_le ascii.capital_a b && nat_le b ascii.capital_z
@@ -38,61 +40,86 @@ abbrev pub with_equals : Option Infix → Comparison → List ℕ → Option (In
 with_equals short longer bytes = if begins_with ascii.equals bytes then Some (comparison longer, 1) else alone short
 
 -- An operator of one byte that becomes another one if it is doubled.
-abbrev pub doubled : ℕ → Arithmetic → Lazy → List ℕ → Option (Infix × ℕ)
-doubled b short twice bytes = if begins_with b bytes then Some (between.Lazy twice, 1) else Some (arithmetic short, 0)
+abbrev pub doubled : ℕ → Arithmetic → Infix → List ℕ → Option (Infix × ℕ)
+doubled b short twice bytes = if begins_with b bytes then Some (twice, 1) else Some (arithmetic short, 0)
 
--- `eq` and `ne`, given their second letter. No letter may follow.
+-- `<<`, or `<=`, or `<`.
+abbrev pub after_less : List ℕ → Option (Infix × ℕ)
+after_less bytes = if begins_with ascii.less bytes then Some (arithmetic ShiftLeft, 1) else with_equals (Some (comparison Less)) AtMost bytes
+
+-- `>>`, or `>=`, or `>`.
+abbrev pub after_greater : List ℕ → Option (Infix × ℕ)
+after_greater bytes = if begins_with ascii.greater bytes then Some (arithmetic ShiftRight, 1) else with_equals (Some (comparison Greater)) AtLeast bytes
+
+-- `eq`, `ne`, `in` and `ni`, given their second letter. No letter may follow.
 abbrev pub word_operator : ℕ → Eager → List ℕ → Option (Infix × ℕ)
 word_operator second op bytes =
     if not (begins_with second bytes) then None
     else (if begins_letter (drop 1 bytes) then None
     else Some (between.Eager op, 1))
 
+-- `ni`, or `ne`.
+abbrev pub after_n : List ℕ → Option (Infix × ℕ)
+after_n bytes =
+    if begins_with letter_i bytes then word_operator letter_i eager.NotIn bytes
+    else word_operator ascii.letter_e eager.Differs bytes
+
 -- The infix operator that begins with a byte, and the number of later bytes that belong to it.
 unfoldable pub infix_at : ℕ → List ℕ → Option (Infix × ℕ)
 infix_at b bytes =
-    if b == ascii.star then Some (arithmetic Multiply, 0)
+    if b == ascii.star then doubled ascii.star Multiply (arithmetic Power) bytes
     else (if b == ascii.slash then Some (arithmetic Divide, 0)
     else (if b == ascii.percent then Some (arithmetic Remainder, 0)
     else (if b == ascii.plus then Some (arithmetic Add, 0)
     else (if b == ascii.minus then Some (arithmetic Subtract, 0)
     else (if b == ascii.caret then Some (arithmetic BitXor, 0)
-    else (if b == ascii.less then with_equals (Some (comparison Less)) AtMost bytes
-    else (if b == ascii.greater then with_equals (Some (comparison Greater)) AtLeast bytes
+    else (if b == ascii.less then after_less bytes
+    else (if b == ascii.greater then after_greater bytes
     else (if b == ascii.equals then with_equals None Equal bytes
     else (if b == ascii.exclamation then with_equals None Unequal bytes
-    else (if b == ascii.ampersand then doubled ascii.ampersand BitAnd And bytes
-    else (if b == ascii.bar then doubled ascii.bar BitOr Or bytes
+    else (if b == ascii.ampersand then doubled ascii.ampersand BitAnd (between.Lazy And) bytes
+    else (if b == ascii.bar then doubled ascii.bar BitOr (between.Lazy Or) bytes
     else (if b == ascii.letter_e then word_operator ascii.letter_q eager.Same bytes
-    else (if b == ascii.letter_n then word_operator ascii.letter_e eager.Differs bytes
-    else None)))))))))))))
+    else (if b == ascii.letter_n then after_n bytes
+    else (if b == letter_i then word_operator ascii.letter_n eager.In bytes
+    else None))))))))))))))
 
 abbrev pub arithmetic_level : Arithmetic → ℕ
-arithmetic_level Multiply = 1
-arithmetic_level Divide = 1
-arithmetic_level Remainder = 1
-arithmetic_level Add = 2
-arithmetic_level Subtract = 2
-arithmetic_level BitAnd = 6
-arithmetic_level BitXor = 7
-arithmetic_level BitOr = 8
+arithmetic_level Power = 1
+arithmetic_level Multiply = 2
+arithmetic_level Divide = 2
+arithmetic_level Remainder = 2
+arithmetic_level Add = 3
+arithmetic_level Subtract = 3
+arithmetic_level ShiftLeft = 4
+arithmetic_level ShiftRight = 4
+arithmetic_level BitAnd = 9
+arithmetic_level BitXor = 10
+arithmetic_level BitOr = 11
 
 abbrev pub comparison_level : Comparison → ℕ
-comparison_level Less = 3
-comparison_level Greater = 3
-comparison_level AtMost = 3
-comparison_level AtLeast = 3
-comparison_level Equal = 4
-comparison_level Unequal = 4
+comparison_level Less = 5
+comparison_level Greater = 5
+comparison_level AtMost = 5
+comparison_level AtLeast = 5
+comparison_level Equal = 6
+comparison_level Unequal = 6
 
--- The level of an operator. Level 1 binds tightest, level 10 loosest.
+-- The level of an operator. Level 1 binds tightest, level 13 loosest.
 abbrev pub level_of : Infix → ℕ
 level_of (between.Eager (eager.Arithmetic op)) = arithmetic_level op
 level_of (between.Eager (eager.Comparison op)) = comparison_level op
-level_of (between.Eager eager.Same) = 5
-level_of (between.Eager eager.Differs) = 5
-level_of (between.Lazy And) = 9
-level_of (between.Lazy Or) = 10
+level_of (between.Eager eager.Same) = 7
+level_of (between.Eager eager.Differs) = 7
+level_of (between.Eager eager.In) = 8
+level_of (between.Eager eager.NotIn) = 8
+level_of (between.Lazy And) = 12
+level_of (between.Lazy Or) = 13
+
+-- The operator, if it is one of level k.
+abbrev pub of_level : ℕ → Option (Infix × ℕ) → Option (Infix × ℕ)
+of_level k None = None
+of_level k (Some (op, n)) = if level_of op == k then Some (op, n) else None
 
 -- The prefix operator that a byte is.
 abbrev pub prefix_at : ℕ → Option Prefix

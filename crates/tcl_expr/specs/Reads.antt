@@ -1,10 +1,12 @@
 -- The result of a reading.
-use Rattle.std.specs.Prelude.{◌≡◌, ℕ, List, ◌++◌, drop, Result, Ok, Err}
+use Rattle.std.specs.Prelude.{◌≡◌, ℕ, List, ◌++◌, drop, replicate, Result, Ok, Err}
 use Rattle.tcl_expr.specs.declared.faults.ExprFault.{ExprFault}
 use Rattle.tcl_expr.specs.declared.faults.ExprFault.TheVariants.{Memory}
+use Rattle.tcl_expr.specs.declared.operators.Arithmetic.TheVariants.{Power}
+use Rattle.tcl_expr.specs.declared.operators.Eager.TheVariants as eager
 use Rattle.tcl_expr.specs.declared.operators.Infix.{Infix}
 use Rattle.tcl_expr.specs.Tree.{Tree, choice, joined}
-use Rattle.tcl_expr.specs.Instr.{Instr, postfix}
+use Rattle.tcl_expr.specs.Instr.{Instr, combine, postfix}
 use Rattle.tcl_expr.specs.Leaf.{Read}
 use Rattle.tcl_expr.specs.Grammar.{Inside, colon}
 
@@ -37,6 +39,16 @@ pub record WroteRight (op : Infix) (n : ℕ) (read : Read) (old new : List Instr
 abbrev pub WritesRight : Result ℕ ExprFault → Infix → Read → List Instr → List Instr → Type 0
 WritesRight (Ok n) op read old new = WroteRight op n read old new
 WritesRight (Err fault) op read old new = Fails fault read
+
+-- A chain of `**` of n bytes was read. Its instructions were appended, except its operators, which come last.
+pub record WroteOperands (count n : ℕ) (read : Read) (old new : List Instr) : Type 0 where
+  pub tree : Tree
+  pub is : read ≡ Ok (tree, n)
+  pub code : new ++ replicate count (combine (eager.Arithmetic Power)) ≡ old ++ postfix tree
+
+abbrev pub WritesOperands : Result (ℕ × ℕ) ExprFault → Read → List Instr → List Instr → Type 0
+WritesOperands (Ok (n, count)) read old new = WroteOperands count n read old new
+WritesOperands (Err fault) read old new = Fails fault read
 
 -- The branches at index n were read. Their instructions were appended to those of the condition.
 pub record WroteBranches (m : ℕ) (inside : Inside) (text : List ℕ) (n : ℕ) (old new : List Instr) : Type 0 where

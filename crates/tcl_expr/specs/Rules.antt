@@ -39,21 +39,27 @@ pub data Phrase : ℕ → Rank → List ℕ → Tree → List ℕ → Type 0 whe
   tighter : (d k : ℕ) (s r : List ℕ) (t : Tree)
       → Phrase d (level k) s t r
       → Phrase d (level (suc k)) s t r
-  -- A phrase of a level, an operator of that level (the byte b and n more bytes), and a phrase of the next tighter
-  -- level. Operators of one level therefore group to the left.
+  -- A phrase of level 0, `**` (the byte b and n more bytes), and a phrase of level 1. `**` therefore groups to the right.
+  raised : (d b n : ℕ) (s m r : List ℕ) (op : Infix) (x y : Tree)
+      → Phrase d (level 0) s x (b ∷ m)
+      → infix_at b m ≡ Some (op, n) → level_of op ≡ 1
+      → Phrase d (level 1) (past (drop n m)) y r
+      → Phrase d (level 1) s (joined op x y) r
+  -- A phrase of a level above 1, an operator of that level, and a phrase of the next tighter level. These operators
+  -- therefore group to the left.
   infixed : (d k b n : ℕ) (s m r : List ℕ) (op : Infix) (x y : Tree)
-      → Phrase d (level (suc k)) s x (b ∷ m)
-      → infix_at b m ≡ Some (op, n) → level_of op ≡ suc k
-      → Phrase d (level k) (past (drop n m)) y r
-      → Phrase d (level (suc k)) s (joined op x y) r
+      → Phrase d (level (suc (suc k))) s x (b ∷ m)
+      → infix_at b m ≡ Some (op, n) → level_of op ≡ suc (suc k)
+      → Phrase d (level (suc k)) (past (drop n m)) y r
+      → Phrase d (level (suc (suc k))) s (joined op x y) r
   -- A phrase of the loosest level.
   plain : (d : ℕ) (s r : List ℕ) (t : Tree)
-      → Phrase d (level 10) s t r
+      → Phrase d (level 13) s t r
       → Phrase d whole s t r
   -- A phrase of the loosest level, `?`, a whole expression, `:`, and a whole expression. `?:` therefore groups to the
   -- right.
   branches : (d : ℕ) (s m p r : List ℕ) (c x y : Tree)
-      → Phrase (suc d) (level 10) s c (ascii.question ∷ m)
+      → Phrase (suc d) (level 13) s c (ascii.question ∷ m)
       → Phrase d whole (past m) x (ascii.colon ∷ p)
       → Phrase d whole (past p) y r
       → Phrase (suc d) whole s (choice c x y) r

@@ -1,19 +1,21 @@
 -- The value of an expression, by recursion on its tree, over the values of its operands in the order in which they are
 -- read. Each value is a text. The rules are those of expr(n), except for the limits of 64 bits, the six words, and the
 -- form of numbers in `Number`.
-use Rattle.std.specs.Prelude.{ℕ, ◌+◌, ◌^◌, nat_lt, Bool, true, false, not, ◌&&◌, List, [], ◌∷◌, Option, Some, None, Result, Ok, Err, ℤ, pos, negsuc, neg_ℤ, ◌+ℤ◌, ◌-ℤ◌, ◌*ℤ◌, bytes_eq, if◌then◌else◌}
+use Rattle.std.specs.Prelude.{ℕ, suc, ◌+◌, ◌^◌, nat_lt, Bool, true, false, not, ◌&&◌, List, [], ◌∷◌, Option, Some, None, Result, Ok, Err, ℤ, pos, negsuc, neg_ℤ, ◌+ℤ◌, ◌-ℤ◌, ◌*ℤ◌, unsigned_abs, bytes_eq, ◌==◌, if◌then◌else◌}
 use Rattle.std.specs.Ordering.{int_eq, int_cmp, nat_cmp}
 use Rattle.std.specs.Cmp.Lexicographic.{slice_cmp}
 use Rattle.std.specs.declared.cmp.Ordering.{Ordering}
 use Rattle.std.specs.declared.cmp.Ordering.TheVariants as order
-use Rattle.std.specs.Int.{w64, is_negative, int_div_euclid, int_rem_euclid, int_bit_and, int_bit_or, int_bit_xor}
+use Rattle.std.specs.Int.{w64, is_negative, int_pow, int_div_euclid, int_rem_euclid, int_bit_and, int_bit_or, int_bit_xor}
+use Rattle.std.specs.List.{list_any}
+use Rattle.tcl_words.specs.Lists.{elements}
 use Rattle.tcl_words.specs.Pieces.{Spelled}
 use Rattle.tcl_expr.specs.declared.faults.ExprFault.{ExprFault}
-use Rattle.tcl_expr.specs.declared.faults.ExprFault.TheVariants.{NotNumber, DivideByZero, Overflow}
+use Rattle.tcl_expr.specs.declared.faults.ExprFault.TheVariants.{NotNumber, DivideByZero, ZeroToNegative, NegativeShift, Overflow, BadList}
 use Rattle.tcl_expr.specs.declared.operators.Prefix.{Prefix}
 use Rattle.tcl_expr.specs.declared.operators.Prefix.TheVariants.{Minus, Plus, Complement, Not}
 use Rattle.tcl_expr.specs.declared.operators.Arithmetic.{Arithmetic}
-use Rattle.tcl_expr.specs.declared.operators.Arithmetic.TheVariants.{Multiply, Divide, Remainder, Add, Subtract, BitAnd, BitXor, BitOr}
+use Rattle.tcl_expr.specs.declared.operators.Arithmetic.TheVariants.{Power, Multiply, Divide, Remainder, Add, Subtract, ShiftLeft, ShiftRight, BitAnd, BitXor, BitOr}
 use Rattle.tcl_expr.specs.declared.operators.Comparison.{Comparison}
 use Rattle.tcl_expr.specs.declared.operators.Comparison.TheVariants.{Less, Greater, AtMost, AtLeast, Equal, Unequal}
 use Rattle.tcl_expr.specs.declared.operators.Eager.{Eager}
@@ -53,12 +55,35 @@ divided a b = if int_eq b (pos 0) then Err DivideByZero else checked (floor_div 
 abbrev pub remainder : ℤ → ℤ → Result ℤ ExprFault
 remainder a b = if int_eq b (pos 0) then Err DivideByZero else Ok (floor_rem a b)
 
+-- 1 divided by the power with exponent e, which isn't 0, rounded toward zero. 1 and -1 are their own inverses.
+abbrev pub reciprocal : ℤ → ℕ → Result ℤ ExprFault
+reciprocal z e =
+    if int_eq z (pos 0) then Err ZeroToNegative
+    else (if unsigned_abs z == 1 then checked (int_pow z e)
+    else Ok (pos 0))
+
+abbrev pub power : ℤ → ℤ → Result ℤ ExprFault
+power z (pos e) = checked (int_pow z e)
+power z (negsuc e) = reciprocal z (suc e)
+
+abbrev pub shifted_left : ℤ → ℤ → Result ℤ ExprFault
+shifted_left z (pos n) = checked (z *ℤ pos (2 ^ n))
+shifted_left z (negsuc n) = Err NegativeShift
+
+-- The quotient by a power of two, rounded toward minus infinity.
+abbrev pub shifted_right : ℤ → ℤ → Result ℤ ExprFault
+shifted_right z (pos n) = Ok (floor_div z (pos (2 ^ n)))
+shifted_right z (negsuc n) = Err NegativeShift
+
 unfoldable pub arithmetic : Arithmetic → ℤ → ℤ → Result ℤ ExprFault
+arithmetic Power a b = power a b
 arithmetic Multiply a b = checked (a *ℤ b)
 arithmetic Divide a b = divided a b
 arithmetic Remainder a b = remainder a b
 arithmetic Add a b = checked (a +ℤ b)
 arithmetic Subtract a b = checked (a -ℤ b)
+arithmetic ShiftLeft a b = shifted_left a b
+arithmetic ShiftRight a b = shifted_right a b
 arithmetic BitAnd a b = Ok (int_bit_and w64 a b)
 arithmetic BitXor a b = Ok (int_bit_xor w64 a b)
 arithmetic BitOr a b = Ok (int_bit_or w64 a b)
@@ -129,12 +154,19 @@ holds Unequal order.Less = true
 holds Unequal order.Equal = false
 holds Unequal order.Greater = true
 
+-- f of whether a text is an element of a list. The error `BadList` if there is no list.
+abbrev pub on_element : List ℕ → Option (List (List ℕ)) → (Bool → Bool) → Result ℤ ExprFault
+on_element a None f = Err BadList
+on_element a (Some es) f = Ok (bit (f (list_any (bytes_eq a) es)))
+
 -- The left operand is checked before the right one.
 abbrev pub combined : Eager → List ℕ → List ℕ → Result ℤ ExprFault
 combined (eager.Arithmetic op) a b = on_number a (number_of a) (λ x. on_number b (number_of b) (arithmetic op x))
 combined (eager.Comparison op) a b = Ok (bit (holds op (order_of (number_of a) (number_of b) a b)))
 combined eager.Same a b = Ok (bit (bytes_eq a b))
 combined eager.Differs a b = Ok (bit (not (bytes_eq a b)))
+combined eager.In a b = on_element a (elements b) (λ t. t)
+combined eager.NotIn a b = on_element a (elements b) not
 
 -- The first operand decides: false for `&&`, true for `||`.
 abbrev pub decides : Lazy → Bool → Bool

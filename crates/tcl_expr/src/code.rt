@@ -1,8 +1,8 @@
 //! An expression as a list of instructions. Each operand comes before its operator, and jumps skip
 //! what isn't needed.
 
-ghost use Rattle.std.specs.Prelude.{◌≡◌, ◌<◌, ◌++◌, ◌∷◌, [], length, slice_set, OnOk};
-ghost use Rattle.tcl_expr.specs.Instr.{op_view};
+ghost use Rattle.std.specs.Prelude.{◌≡◌, ◌<◌, ◌++◌, ◌∷◌, [], length, replicate, slice_set, OnOk};
+ghost use Rattle.tcl_expr.specs.Instr.{op_view, combine};
 
 use crate::bareword::Bareword;
 use crate::operators::{Eager, Lazy, Prefix};
@@ -91,6 +91,16 @@ impl Code {
         ensures pushed { OnOk result (self.new ≡ self.old ++ op_view op ∷ []) }
     {
         self.ops.push(op)?;
+        Ok(())
+    }
+
+    /// Appends the instruction of an operator this number of times.
+    pub(crate) fn combine(&mut self, op: Eager, count: usize) -> Result<(), AllocError>
+        ensures { OnOk result (self.new ≡ self.old ++ replicate count (combine op)) }
+    {
+        for _ in 0..count {
+            self.push(Op::Combine(op))?;
+        }
         Ok(())
     }
 

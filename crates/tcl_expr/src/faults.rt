@@ -3,7 +3,7 @@
 ghost use Rattle.std.specs.Prelude.{◌≡◌};
 
 use std::alloc::{AllocError, AllocFailed};
-use tcl_words::{Text, WordFault};
+use tcl_words::{ListFault, Text};
 
 /// Why a text is no expression, or an expression has no value.
 #[derive(Drop)]
@@ -15,8 +15,14 @@ pub enum ExprFault {
     NotNumber(Text),
     /// A divisor is 0.
     DivideByZero,
+    /// The base of a power with a negative exponent is 0.
+    ZeroToNegative,
+    /// The second operand of a shift is negative.
+    NegativeShift,
     /// A result is outside 64 bits.
     Overflow,
+    /// The second operand of `in` or `ni` is no list.
+    BadList,
     /// Parentheses, unary operators and branches of `?:` that nest more than 200 deep.
     TooDeep,
     /// Memory was refused.
@@ -40,5 +46,18 @@ impl<T: Drop> From<AllocFailed<T>> for ExprFault {
 
     fn from(_e: AllocFailed<T>) -> ExprFault {
         ExprFault::Memory
+    }
+}
+
+impl From<ListFault> for ExprFault {
+    ghost use Rattle.tcl_expr.specs.Items.{of_list_fault};
+
+    ghost from_gives = { λ f e. e ≡ of_list_fault f };
+
+    fn from(fault: ListFault) -> ExprFault {
+        match fault {
+            ListFault::BadList => ExprFault::BadList,
+            ListFault::Memory => ExprFault::Memory,
+        }
     }
 }

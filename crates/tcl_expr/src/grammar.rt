@@ -11,9 +11,9 @@ ghost use Rattle.tcl_expr.specs.Reads.{Writes};
 
 use crate::code::{Code, Op};
 use crate::faults::ExprFault;
-use crate::infix::{infix_at, level_of, prefix_at};
+use crate::infix::{infix_of, prefix_at};
 use crate::leaf::{digits_len, is_lowest, leaf};
-use crate::operators::{Infix, Lazy, Prefix};
+use crate::operators::{Arithmetic, Eager, Infix, Lazy, Prefix};
 use crate::white::{after, begins_with, gap};
 use std::alloc::{AllocError, Global};
 
@@ -21,7 +21,7 @@ use std::alloc::{AllocError, Global};
 pub(crate) const DEEPEST: u8 = 200;
 
 /// The loosest level of infix operators.
-const LOOSEST: u8 = 10;
+const LOOSEST: u8 = 13;
 
 /// Reads an expression one level deeper.
 #[cycle(expression)]
@@ -115,6 +115,45 @@ fn term(alloc: Global, code: &mut Code, text: &[u8], depth: u8) -> Result<usize,
     }
 }
 
+/// Reads operands of level 0 with `**` between them. Returns the number of bytes read, and that of
+/// the operators, whose instructions aren't appended yet.
+#[cycle(expression)]
+fn operands(
+    alloc: Global,
+    code: &mut Code,
+    text: &[u8],
+    depth: u8,
+) -> Result<(usize, usize), ExprFault>
+    ensures value { WritesOperands result (level (inside_of depth) 1 text.now) code.old code.new }
+    ensures within { IfOk result (λ x. x.0 ≤ length text.now) }
+{
+    let mut at = term(alloc, code, text, depth)?;
+    let mut count = 0;
+    while at < text.len() {
+        let rest = after(text, at + 1);
+        let Some((_, n)) = infix_of(1, text[at], rest) else {
+            return Ok((at, count));
+        };
+        let n = gap(rest, n);
+        at += 1 + n + term(alloc, code, after(rest, n), depth)?;
+        count += 1;
+    }
+    Ok((at, count))
+}
+
+ghost use Rattle.tcl_expr.specs.Reads.{WritesOperands};
+
+/// Reads level 1: operands with `**` between them, grouped to the right.
+#[cycle(expression)]
+fn powers(alloc: Global, code: &mut Code, text: &[u8], depth: u8) -> Result<usize, ExprFault>
+    ensures value { Writes result (level (inside_of depth) 1 text.now) code.old code.new }
+    ensures within { IfOk result (λ n. n ≤ length text.now) }
+{
+    let (n, count) = operands(alloc, code, text, depth)?;
+    code.combine(Eager::Arithmetic(Arithmetic::Power), count)?;
+    Ok(n)
+}
+
 /// Reads the right operand of an operator, of the next tighter level, and appends the operator's
 /// instructions.
 #[cycle(expression)]
@@ -164,15 +203,15 @@ fn level(
     if loosest == 0 {
         return term(alloc, code, text, depth);
     }
+    if loosest == 1 {
+        return powers(alloc, code, text, depth);
+    }
     let mut at = level(alloc, code, text, loosest - 1, depth)?;
     while at < text.len() {
         let rest = after(text, at + 1);
-        let Some((op, n)) = infix_at(text[at], rest) else {
+        let Some((op, n)) = infix_of(loosest, text[at], rest) else {
             return Ok(at);
         };
-        if level_of(op) != loosest {
-            return Ok(at);
-        }
         let n = gap(rest, n);
         at += 1 + n + right(alloc, code, op, after(rest, n), loosest - 1, depth)?;
     }

@@ -1,7 +1,7 @@
 //! The operators and their precedence.
 
 ghost use Rattle.std.specs.Prelude.{◌≡◌, ◌≤◌, length, IfSome};
-ghost use Rattle.tcl_expr.specs.Infix.{is_letter, begins_letter, with_equals, word_operator, doubled, infix_at, level_of, prefix_at};
+ghost use Rattle.tcl_expr.specs.Infix.{is_letter, begins_letter, with_equals, word_operator, doubled, after_less, after_greater, after_n, infix_at, level_of, of_level, prefix_at};
 
 use crate::operators::{Arithmetic, Comparison, Eager, Infix, Lazy, Prefix};
 use crate::white::{after, begins_with};
@@ -51,17 +51,43 @@ fn with_equals(alone: Option<Infix>, longer: Comparison, rest: &[u8]) -> Option<
 }
 
 /// Reads an operator of one byte that becomes another one if it is doubled.
-fn doubled(b: u8, alone: Arithmetic, twice: Lazy, rest: &[u8]) -> Option<(Infix, usize)>
+fn doubled(b: u8, alone: Arithmetic, twice: Infix, rest: &[u8]) -> Option<(Infix, usize)>
     ensures value { result ≡ doubled b alone twice rest.now }
     ensures within { IfSome result (λ x. x.1 ≤ length rest.now) }
 {
     if begins_with(b, rest) {
-        return Some((Infix::Lazy(twice), 1));
+        return Some((twice, 1));
     }
     Some((arithmetic(alone), 0))
 }
 
-/// Reads `eq` or `ne`, given their second letter. No letter may follow.
+/// Reads the rest of `<<`, `<=` or `<`.
+fn after_less(rest: &[u8]) -> Option<(Infix, usize)>
+    ensures value { result ≡ after_less rest.now }
+    ensures within { IfSome result (λ x. x.1 ≤ length rest.now) }
+{
+    if begins_with(b'<', rest) {
+        return Some((arithmetic(Arithmetic::ShiftLeft), 1));
+    }
+    with_equals(Some(comparison(Comparison::Less)), Comparison::AtMost, rest)
+}
+
+/// Reads the rest of `>>`, `>=` or `>`.
+fn after_greater(rest: &[u8]) -> Option<(Infix, usize)>
+    ensures value { result ≡ after_greater rest.now }
+    ensures within { IfSome result (λ x. x.1 ≤ length rest.now) }
+{
+    if begins_with(b'>', rest) {
+        return Some((arithmetic(Arithmetic::ShiftRight), 1));
+    }
+    with_equals(
+        Some(comparison(Comparison::Greater)),
+        Comparison::AtLeast,
+        rest,
+    )
+}
+
+/// Reads `eq`, `ne`, `in` or `ni`, given their second letter. No letter may follow.
 fn word_operator(second: u8, op: Eager, rest: &[u8]) -> Option<(Infix, usize)>
     ensures value { result ≡ word_operator second op rest.now }
     ensures within { IfSome result (λ x. x.1 ≤ length rest.now) }
@@ -75,47 +101,62 @@ fn word_operator(second: u8, op: Eager, rest: &[u8]) -> Option<(Infix, usize)>
     Some((Infix::Eager(op), 1))
 }
 
+/// Reads the rest of `ni` or `ne`.
+fn after_n(rest: &[u8]) -> Option<(Infix, usize)>
+    ensures value { result ≡ after_n rest.now }
+    ensures within { IfSome result (λ x. x.1 ≤ length rest.now) }
+{
+    if begins_with(b'i', rest) {
+        return word_operator(b'i', Eager::NotIn, rest);
+    }
+    word_operator(b'e', Eager::Differs, rest)
+}
+
 /// Returns the infix operator that begins with a byte, and the number of later bytes that belong to
 /// it.
 #[tactic(auto, unfolding(crate::specs::Infix::infix_at))]
-pub(crate) fn infix_at(b: u8, rest: &[u8]) -> Option<(Infix, usize)>
+fn infix_at(b: u8, rest: &[u8]) -> Option<(Infix, usize)>
     ensures value { result ≡ infix_at b rest.now }
     ensures within { IfSome result (λ x. x.1 ≤ length rest.now) }
 {
     match b {
-        b'*' => Some((arithmetic(Arithmetic::Multiply), 0)),
+        b'*' => doubled(
+            b'*',
+            Arithmetic::Multiply,
+            arithmetic(Arithmetic::Power),
+            rest,
+        ),
         b'/' => Some((arithmetic(Arithmetic::Divide), 0)),
         b'%' => Some((arithmetic(Arithmetic::Remainder), 0)),
         b'+' => Some((arithmetic(Arithmetic::Add), 0)),
         b'-' => Some((arithmetic(Arithmetic::Subtract), 0)),
         b'^' => Some((arithmetic(Arithmetic::BitXor), 0)),
-        b'<' => with_equals(Some(comparison(Comparison::Less)), Comparison::AtMost, rest),
-        b'>' => with_equals(
-            Some(comparison(Comparison::Greater)),
-            Comparison::AtLeast,
-            rest,
-        ),
+        b'<' => after_less(rest),
+        b'>' => after_greater(rest),
         b'=' => with_equals(None, Comparison::Equal, rest),
         b'!' => with_equals(None, Comparison::Unequal, rest),
-        b'&' => doubled(b'&', Arithmetic::BitAnd, Lazy::And, rest),
-        b'|' => doubled(b'|', Arithmetic::BitOr, Lazy::Or, rest),
+        b'&' => doubled(b'&', Arithmetic::BitAnd, Infix::Lazy(Lazy::And), rest),
+        b'|' => doubled(b'|', Arithmetic::BitOr, Infix::Lazy(Lazy::Or), rest),
         b'e' => word_operator(b'q', Eager::Same, rest),
-        b'n' => word_operator(b'e', Eager::Differs, rest),
+        b'n' => after_n(rest),
+        b'i' => word_operator(b'n', Eager::In, rest),
         _ => None,
     }
 }
 
-/// Returns the level of an operator. Level 1 binds tightest, level 10 loosest.
-pub(crate) fn level_of(op: Infix) -> u8
+/// Returns the level of an operator. Level 1 binds tightest, level 13 loosest.
+fn level_of(op: Infix) -> u8
     ensures value { result ≡ level_of op }
 {
     match op {
         Infix::Eager(Eager::Arithmetic(op)) => arithmetic_level(op),
         Infix::Eager(Eager::Comparison(op)) => comparison_level(op),
-        Infix::Eager(Eager::Same) => 5,
-        Infix::Eager(Eager::Differs) => 5,
-        Infix::Lazy(Lazy::And) => 9,
-        Infix::Lazy(Lazy::Or) => 10,
+        Infix::Eager(Eager::Same) => 7,
+        Infix::Eager(Eager::Differs) => 7,
+        Infix::Eager(Eager::In) => 8,
+        Infix::Eager(Eager::NotIn) => 8,
+        Infix::Lazy(Lazy::And) => 12,
+        Infix::Lazy(Lazy::Or) => 13,
     }
 }
 
@@ -125,14 +166,17 @@ fn arithmetic_level(op: Arithmetic) -> u8
     ensures value { result ≡ arithmetic_level op }
 {
     match op {
-        Arithmetic::Multiply => 1,
-        Arithmetic::Divide => 1,
-        Arithmetic::Remainder => 1,
-        Arithmetic::Add => 2,
-        Arithmetic::Subtract => 2,
-        Arithmetic::BitAnd => 6,
-        Arithmetic::BitXor => 7,
-        Arithmetic::BitOr => 8,
+        Arithmetic::Power => 1,
+        Arithmetic::Multiply => 2,
+        Arithmetic::Divide => 2,
+        Arithmetic::Remainder => 2,
+        Arithmetic::Add => 3,
+        Arithmetic::Subtract => 3,
+        Arithmetic::ShiftLeft => 4,
+        Arithmetic::ShiftRight => 4,
+        Arithmetic::BitAnd => 9,
+        Arithmetic::BitXor => 10,
+        Arithmetic::BitOr => 11,
     }
 }
 
@@ -140,13 +184,26 @@ fn comparison_level(op: Comparison) -> u8
     ensures value { result ≡ comparison_level op }
 {
     match op {
-        Comparison::Less => 3,
-        Comparison::Greater => 3,
-        Comparison::AtMost => 3,
-        Comparison::AtLeast => 3,
-        Comparison::Equal => 4,
-        Comparison::Unequal => 4,
+        Comparison::Less => 5,
+        Comparison::Greater => 5,
+        Comparison::AtMost => 5,
+        Comparison::AtLeast => 5,
+        Comparison::Equal => 6,
+        Comparison::Unequal => 6,
     }
+}
+
+/// Returns the operator of a level that begins with a byte, and the number of later bytes that
+/// belong to it.
+pub(crate) fn infix_of(level: u8, b: u8, rest: &[u8]) -> Option<(Infix, usize)>
+    ensures value { result ≡ of_level level (infix_at b rest.now) }
+    ensures within { IfSome result (λ x. x.1 ≤ length rest.now) }
+{
+    let (op, n) = infix_at(b, rest)?;
+    if level_of(op) == level {
+        return Some((op, n));
+    }
+    None
 }
 
 /// Returns the prefix operator that a byte is.

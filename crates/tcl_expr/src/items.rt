@@ -1,9 +1,11 @@
 //! Applies operators to values on the stack.
 
 ghost use Rattle.std.specs.Prelude.{◌≡◌, IfOk, bytes_eq};
+ghost use Rattle.std.specs.List.{list_any};
+ghost use Rattle.tcl_words.specs.Lists.{elements};
 ghost use Rattle.tcl_expr.specs.Number.{number_of};
 ghost use Rattle.tcl_expr.specs.Truth.{truth_of};
-ghost use Rattle.tcl_expr.specs.Value.{prefixed, combined, arithmetic, on_number, on_truth, negated, order_of, bit};
+ghost use Rattle.tcl_expr.specs.Value.{prefixed, combined, arithmetic, on_number, on_truth, on_element, negated, order_of, bit};
 
 use crate::bareword::{is_same, read_truth, truth_from};
 use crate::faults::ExprFault;
@@ -14,7 +16,7 @@ use crate::stack::Item;
 use crate::values::{arithmetic, bit, holds, negated};
 use std::alloc::{AllocError, Global};
 use std::cmp::Ordering;
-use tcl_values::Value;
+use tcl_values::{Elements, Value};
 use tcl_words::Text;
 
 /// The text of a value: borrowed if it exists, otherwise newly written.
@@ -33,6 +35,23 @@ impl Shown<'_> {
             Shown::Written(value) => value.as_slice(),
         }
     }
+}
+
+/// Returns whether a text is one of the elements.
+fn is_element(text: &[u8], elements: &Elements) -> bool
+    ensures { result ≡ list_any (bytes_eq text.now) elements.now }
+{
+    for index in 0..elements.len() {
+        match elements.get(index) {
+            None => return false,
+            Some(element) => {
+                if is_same(text, element) {
+                    return true;
+                }
+            }
+        }
+    }
+    false
 }
 
 impl Operands {
@@ -195,6 +214,17 @@ impl Operands {
         Ok(is_same(a.as_slice(), b.as_slice()))
     }
 
+    /// Returns whether the text of a value is an element of the list that another one is, or the
+    /// opposite, as 1 or 0. An error if that one is no list.
+    fn on_element(&self, alloc: Global, a: Item, b: Item, opposite: bool) -> Result<i64, ExprFault>
+        ensures { Gives result (on_element (item_text self.now.given a) (elements (item_text self.now.given b)) (opposed opposite)) }
+    {
+        let text = self.shown(alloc, a)?;
+        let list = self.value(alloc, b)?;
+        let elements = list.elements(alloc)?;
+        Ok(bit(is_element(text.as_slice(), &elements) != opposite))
+    }
+
     /// Applies an operator to two values.
     pub(crate) fn combined(
         &self,
@@ -210,6 +240,8 @@ impl Operands {
             Eager::Comparison(op) => Ok(bit(holds(op, self.order(alloc, a, b)?))),
             Eager::Same => Ok(bit(self.same(alloc, a, b)?)),
             Eager::Differs => Ok(bit(!self.same(alloc, a, b)?)),
+            Eager::In => self.on_element(alloc, a, b, false),
+            Eager::NotIn => self.on_element(alloc, a, b, true),
         }
     }
 }

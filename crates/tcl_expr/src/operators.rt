@@ -16,6 +16,8 @@ pub(crate) enum Prefix {
 /// An operator on two numbers whose result is a number.
 #[derive(Clone, Copy, PartialEq, Eq)]
 pub(crate) enum Arithmetic {
+    /// `**`
+    Power,
     /// `*`
     Multiply,
     /// `/`
@@ -26,6 +28,10 @@ pub(crate) enum Arithmetic {
     Add,
     /// `-`
     Subtract,
+    /// `<<`
+    ShiftLeft,
+    /// `>>`
+    ShiftRight,
     /// `&`
     BitAnd,
     /// `^`
@@ -60,6 +66,10 @@ pub(crate) enum Eager {
     Same,
     /// `ne`
     Differs,
+    /// `in`
+    In,
+    /// `ni`
+    NotIn,
 }
 
 /// An operator that needs its second operand only if the first doesn't decide.

@@ -1,4 +1,4 @@
-use Rattle.child_events.proofs.Whole.{log_one_text, log_one_written, log_one_list, log_sound, log_complete, second_meant, second_said}
+use Rattle.child_events.proofs.Whole.{log_one_text, log_one_written, log_one_list, log_sound, log_complete, counted_meant, counted_said, in_version_2, in_version_3}
 use Rattle.child_events.proofs.Fronts.{cut_off}
 use Rattle.child_events.proofs.reading.log_laws.Goals as goal
 
@@ -9,7 +9,9 @@ returns c = record {
   one_list = log_one_list;
   sound = log_sound;
   complete = log_complete;
-  written_reads = second_meant;
-  read_writes = second_said;
+  written_reads = counted_meant;
+  read_writes = counted_said;
+  in_version_2 = in_version_2;
+  in_version_3 = in_version_3;
   cut_off = cut_off;
 }

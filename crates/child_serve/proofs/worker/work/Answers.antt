@@ -17,13 +17,13 @@ use Rattle.child_serve.proofs.worker.work.Goals as goal
 
 pub turn_all-requires-after_bounds : goal.turn_all-requires-after_bounds
 turn_all-requires-after_bounds g c κs within =
-    let halls = ap (λ (b : Book). length b.hall) c.new-desk.ensures.book ∙ ap length c.new-book.ensures.hall ∙ begun_length c.args.seat.team.scripts.items c.in_ok-hall_of.field-0 c.in_ok-hall_of.ensures in
+    let halls = ap (λ (b : Book). length b.hall) c.new-desk.ensures.book ∙ ap length c.new-book.ensures.hall ∙ begun_length c.args.seat.team.scripts.items c.in-Ok.hall c.in-Ok.ensures in
     let lines = ap length c.new-desk.ensures.lines ∙ first_length g.K.Keeper.named g.K.Keeper.made c.as_slice.result.now c.in_ok-lines.lines.items c.in_ok-lines.ensures ∙ ap length c.as_slice.ensures.value ∙ c.requires.0.keepers in
     (omega (arith, halls, lines), omega (arith, halls, c.requires.0.few))
 
 pub settle_all-requires-clause-few : goal.settle_all-requires-clause-few
 settle_all-requires-clause-few g c κs within =
-    let begun = ap (λ (b : Book). length b.hall) c.new-desk.ensures.book ∙ ap length c.new-book.ensures.hall ∙ begun_length c.args.seat.team.scripts.items c.in_ok-hall_of.field-0 c.in_ok-hall_of.ensures in
+    let begun = ap (λ (b : Book). length b.hall) c.new-desk.ensures.book ∙ ap length c.new-book.ensures.hall ∙ begun_length c.args.seat.team.scripts.items c.in-Ok.hall c.in-Ok.ensures in
     let turned = c.turn_all.ensures.kept.halls in
     let hands = c.in_default.ensures.opened.1 in
     let keepers = c.requires.0.keepers in
@@ -61,12 +61,12 @@ returns g c =
       is_work workers worker c.args.seat.team desk.lines.items turned.lines.items desk.ends.items turned.ends.items settled.ends.items begun turned.book settled.book part
           c.requires.0
           (c.new-desk.ensures.lines ∙ c.in_ok-lines.ensures ∙ ap (map (line_of g.K.Keeper.named g.K.Keeper.made)) c.as_slice.ensures.value)
-          (subst (AllBegin c.args.seat.team.scripts.items) (sym (ap (λ (b : Book). b.hall) c.new-desk.ensures.book ∙ c.new-book.ensures.hall)) c.in_ok-hall_of.ensures)
+          (subst (AllBegin c.args.seat.team.scripts.items) (sym (ap (λ (b : Book). b.hall) c.new-desk.ensures.book ∙ c.new-book.ensures.hall)) c.in-Ok.ensures)
           empty
           (subst IsRecord (sym c.new-desk.ensures.book) c.new-book.ensures.record)
           (unheard_all workers worker keepers desk.ends.items hands are_opened)
           c.turn_all.ensures.kept
-          (λ running. c.in-Ok.ensures.over c.if-stopped.false)
+          (λ running. c.in-Ok-turn_all.ensures.over c.if-stopped.false)
           (all_still turned.lines.items turned.ends.items settled.ends.items turned.book settled.book c.settle_all.ensures.book c.settle_all.ensures.hands)
           c.into_outcome.ensures.shown
           c.into_outcome.ensures.log
@@ -92,7 +92,7 @@ returns-then-stopped g c =
       is_work workers worker c.args.seat.team desk.lines.items turned.lines.items desk.ends.items turned.ends.items turned.ends.items begun turned.book turned.book part
           c.requires.0
           (c.new-desk.ensures.lines ∙ c.in_ok-lines.ensures ∙ ap (map (line_of g.K.Keeper.named g.K.Keeper.made)) c.as_slice.ensures.value)
-          (subst (AllBegin c.args.seat.team.scripts.items) (sym (ap (λ (b : Book). b.hall) c.new-desk.ensures.book ∙ c.new-book.ensures.hall)) c.in_ok-hall_of.ensures)
+          (subst (AllBegin c.args.seat.team.scripts.items) (sym (ap (λ (b : Book). b.hall) c.new-desk.ensures.book ∙ c.new-book.ensures.hall)) c.in-Ok.ensures)
           empty
           (subst IsRecord (sym c.new-desk.ensures.book) c.new-book.ensures.record)
           (unheard_all workers worker keepers desk.ends.items hands are_opened)

@@ -3,10 +3,10 @@ use Rattle.std.proofs.lemmas.Bool.Decides.{nat_tests}
 use Rattle.std.proofs.lemmas.Result.{err_from_is_err_and}
 use Rattle.tcl_words.specs.Lists.{begins_with}
 use Rattle.tcl_expr.specs.White.{gap}
-use Rattle.tcl_expr.specs.Infix.{infix_at, level_of}
+use Rattle.tcl_expr.specs.Infix.{infix_at, of_level}
 use Rattle.tcl_expr.specs.Leaf.{is_lowest, digits_len}
-use Rattle.tcl_expr.specs.Grammar.{inside_of, level}
-use Rattle.tcl_expr.proofs.Writings.{level_zero, level_fails, level_init, level_none, level_other, level_link, level_end, link_fails, prefixed_writes, right_eager, right_lazy, branches_write, whole_fails, whole_plain, whole_writes, lowest_writes, behind_first}
+use Rattle.tcl_expr.specs.Grammar.{inside_of, term, level}
+use Rattle.tcl_expr.proofs.Writings.{level_zero, level_fails, level_init, level_none, level_link, level_end, link_fails, powers_init, powers_fail, powers_none, powers_over, powers_link, powers_link_fails, prefixed_writes, right_eager, right_lazy, branches_write, whole_fails, whole_plain, whole_writes, lowest_writes, behind_first}
 use Rattle.tcl_expr.proofs.grammar.+expression.Goals as goal
 
 pub branches-returns-clause-value : goal.branches-returns-clause-value
@@ -25,10 +25,61 @@ branches-returns-clause-value t c =
     (rw (← c.len-leave.ensures) c.patch-2.ensures)
     c.in_ok-push-3.ensures.pushed
 
+pub operands-returns-in_err-at-clause-value : goal.operands-returns-in_err-at-clause-value
+operands-returns-in_err-at-clause-value t c =
+    let p = err_from_is_err_and c.from_residual.result c.from_residual.ensures.1 in
+    rw (p.1, p.2) (powers_fail (inside_of c.args.depth) c.args.text.now c.in_err-at.field-0.0 c.in_err-at.ensures.value)
+
+pub operands-loop-at-init : goal.operands-loop-at-init
+operands-loop-at-init t c = record {
+  within = c.in_ok-at.ensures.within;
+  few = omega arith;
+  to = powers_init (inside_of c.args.depth) c.args.text.now c.in_ok-at.at c.args.code.now c.term.new.code c.in_ok-at.ensures.value;
+}
+
+pub operands-returns-in_default-clause-value : goal.operands-returns-in_default-clause-value
+operands-returns-in_default-clause-value t c =
+    let text = c.args.text.now in
+    let at = c.loop-at.at in
+    let none : of_level 1 (infix_at (get_or text at 0) (drop (at + 1) text)) ≡ None = grind arith in
+    powers_none (term (inside_of c.args.depth)) text at c.loop-at.count _ _ _ c.loop-at.invariant.to (omega arith) none
+
+pub operands-returns-in_err-at-2-clause-value : goal.operands-returns-in_err-at-2-clause-value
+operands-returns-in_err-at-2-clause-value t c =
+    let text = c.args.text.now in
+    let at = c.loop-at.at in
+    let p = err_from_is_err_and c.from_residual-in_err-at-2.result c.from_residual-in_err-at-2.ensures.1 in
+    let is : of_level 1 (infix_at (get_or text at 0) (drop (at + 1) text)) ≡ Some (c.in-Some.field-0-0, c.in-Some.n) = grind arith in
+    let place : c.gap-n.result ≡ gap (drop (at + 1) text) c.in-Some.n = grind arith in
+    rw (p.1, p.2) (powers_link_fails (term (inside_of c.args.depth)) text at c.loop-at.count _ _ _ c.loop-at.invariant.to (omega arith) c.in-Some.field-0-0 c.in-Some.n is
+    c.gap-n.result c.in_err-at-2.field-0.0 place (rw (← c.after-rest.ensures, ← c.after.ensures) c.in_err-at-2.ensures.value))
+
+pub operands-loop-at-preserved : goal.operands-loop-at-preserved
+operands-loop-at-preserved t c =
+    let text = c.args.text.now in
+    let at = c.loop-at.at in
+    let is : of_level 1 (infix_at (get_or text at 0) (drop (at + 1) text)) ≡ Some (c.in-Some.field-0-0, c.in-Some.n) = grind arith in
+    let place : c.gap-n.result ≡ gap (drop (at + 1) text) c.in-Some.n = grind arith in
+    let room : c.gap-n.result ≤ length (drop (at + 1) text) = grind arith in
+    let taken : c.in_ok-at-2.field-0 ≤ length (drop c.gap-n.result (drop (at + 1) text)) = grind arith in
+    record {
+      within = omega (arith, room, taken, length-drop (at + 1) text, length-drop c.gap-n.result (drop (at + 1) text));
+      few = omega (arith, c.loop-at.invariant.few);
+      to = powers_link (term (inside_of c.args.depth)) text at c.loop-at.count _ _ _ c.loop-at.invariant.to (omega arith) c.in-Some.field-0-0 c.in-Some.n is
+          c.gap-n.result c.in_ok-at-2.field-0 _ place (rw (← c.after-rest.ensures, ← c.after.ensures) c.in_ok-at-2.ensures.value);
+    }
+
+pub operands-returns-clause-value : goal.operands-returns-clause-value
+operands-returns-clause-value t c =
+    powers_over (term (inside_of c.args.depth)) c.args.text.now c.loop-at.at c.loop-at.count _ _ _ c.loop-at.invariant.to (omega arith)
+
 pub level-returns-then-loosest-eq0-clause-value : goal.level-returns-then-loosest-eq0-clause-value
 level-returns-then-loosest-eq0-clause-value t c =
     let zero_is : c.args.loosest ≡ 0 = omega arith in
     rw (level_zero (inside_of c.args.depth) c.args.loosest c.args.text.now zero_is) c.term.ensures.value
+
+pub level-returns-then-loosest-eq1-clause-value : goal.level-returns-then-loosest-eq1-clause-value
+level-returns-then-loosest-eq1-clause-value t c = let one : c.args.loosest ≡ 1 = c.if-loosest-eq1.true in rw one c.powers.ensures.value
 
 pub level-returns-in_err-at-clause-value : goal.level-returns-in_err-at-clause-value
 level-returns-in_err-at-clause-value t c =
@@ -46,41 +97,31 @@ pub level-returns-in_default-clause-value : goal.level-returns-in_default-clause
 level-returns-in_default-clause-value t c =
     let text = c.args.text.now in
     let at = c.loop-at.at in
-    let none : infix_at (get_or text at 0) (drop (at + 1) text) ≡ None = grind arith in
+    let none : of_level c.args.loosest (infix_at (get_or text at 0) (drop (at + 1) text)) ≡ None = grind arith in
     level_none (level (inside_of c.args.depth) (c.args.loosest - 1)) c.args.loosest text at _ _ _ c.loop-at.invariant.to (omega arith) none
-
-pub level-returns-then-level_of-loosest-clause-value : goal.level-returns-then-level_of-loosest-clause-value
-level-returns-then-level_of-loosest-clause-value t c =
-    let text = c.args.text.now in
-    let at = c.loop-at.at in
-    let is : infix_at (get_or text at 0) (drop (at + 1) text) ≡ Some (c.in-Some.op, c.in-Some.n) = grind arith in
-    let other : (level_of c.in-Some.op == c.args.loosest) ≡ false = grind (arith, nat_tests) in
-    level_other (level (inside_of c.args.depth) (c.args.loosest - 1)) c.args.loosest text at _ _ _ c.loop-at.invariant.to (omega arith) c.in-Some.op c.in-Some.n is other
 
 pub level-returns-in_err-at-2-clause-value : goal.level-returns-in_err-at-2-clause-value
 level-returns-in_err-at-2-clause-value t c =
     let text = c.args.text.now in
     let at = c.loop-at.at in
     let p = err_from_is_err_and c.from_residual-in_err-at-2.result c.from_residual-in_err-at-2.ensures.1 in
-    let is : infix_at (get_or text at 0) (drop (at + 1) text) ≡ Some (c.in-Some.op, c.in-Some.n) = grind arith in
-    let same : (level_of c.in-Some.op == c.args.loosest) ≡ true = grind (arith, nat_tests) in
+    let is : of_level c.args.loosest (infix_at (get_or text at 0) (drop (at + 1) text)) ≡ Some (c.in-Some.op, c.in-Some.n) = grind arith in
     let place : c.gap-n.result ≡ gap (drop (at + 1) text) c.in-Some.n = grind arith in
-    rw (p.1, p.2) (link_fails (level (inside_of c.args.depth) (c.args.loosest - 1)) c.args.loosest text at _ _ _ c.loop-at.invariant.to (omega arith) c.in-Some.op c.in-Some.n is same
+    rw (p.1, p.2) (link_fails (level (inside_of c.args.depth) (c.args.loosest - 1)) c.args.loosest text at _ _ _ c.loop-at.invariant.to (omega arith) c.in-Some.op c.in-Some.n is
     c.gap-n.result c.in_err-at-2.field-0.0 place (rw (← c.after-rest.ensures, ← c.after.ensures) c.in_err-at-2.ensures.value))
 
 pub level-loop-at-preserved : goal.level-loop-at-preserved
 level-loop-at-preserved t c =
     let text = c.args.text.now in
     let at = c.loop-at.at in
-    let is : infix_at (get_or text at 0) (drop (at + 1) text) ≡ Some (c.in-Some.op, c.in-Some.n) = grind arith in
-    let same : (level_of c.in-Some.op == c.args.loosest) ≡ true = grind (arith, nat_tests) in
+    let is : of_level c.args.loosest (infix_at (get_or text at 0) (drop (at + 1) text)) ≡ Some (c.in-Some.op, c.in-Some.n) = grind arith in
     let place : c.gap-n.result ≡ gap (drop (at + 1) text) c.in-Some.n = grind arith in
     let room : c.gap-n.result ≤ length (drop (at + 1) text) = grind arith in
     let taken : c.in_ok-at-2.field-0 ≤ length (drop c.gap-n.result (drop (at + 1) text)) = grind arith in
     record {
       within = omega (arith, room, taken, length-drop (at + 1) text, length-drop c.gap-n.result (drop (at + 1) text));
       some = c.loop-at.invariant.some;
-      to = level_link (level (inside_of c.args.depth) (c.args.loosest - 1)) c.args.loosest text at _ _ _ c.loop-at.invariant.to (omega arith) c.in-Some.op c.in-Some.n is same
+      to = level_link (level (inside_of c.args.depth) (c.args.loosest - 1)) c.args.loosest text at _ _ _ c.loop-at.invariant.to (omega arith) c.in-Some.op c.in-Some.n is
           c.gap-n.result c.in_ok-at-2.field-0 c.right.new.code place (rw (← c.after-rest.ensures, ← c.after.ensures) c.in_ok-at-2.ensures.value);
     }
 

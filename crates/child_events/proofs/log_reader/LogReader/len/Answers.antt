@@ -4,4 +4,4 @@ use Rattle.child_events.proofs.Judged.{events_len}
 use Rattle.child_events.proofs.log_reader.LogReader.len.Goals as goal
 
 pub returns : goal.returns
-returns c = sym (ap length (sym c.self.view_is) ∙ events_len c.self.inside.number c.self.inside.left (parts 10 c.self.inside.rest.now) c.self.invariant.events)
+returns c = sym (ap length (sym c.self.view_is) ∙ events_len c.self.inside.numbers c.self.inside.number c.self.inside.left (parts 10 c.self.inside.rest.now) c.self.invariant.events)

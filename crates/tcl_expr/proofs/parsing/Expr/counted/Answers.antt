@@ -1,4 +1,4 @@
-use Rattle.std.proofs.Common.{refl, sym, arith, rules}
+use Rattle.std.proofs.Common.{refl, arith, rules}
 use Rattle.tcl_expr.specs.Instr.{op_view}
 use Rattle.tcl_expr.specs.Run.{Serves}
 use Rattle.tcl_expr.proofs.Advancing.{is_next}
