@@ -20,7 +20,7 @@ STEPS = ("--steps", "1000000000")
 
 # scripts that a signal finds where they are
 HELD = {
-    "waits in expect": "spawn script -qec {sh -c \"echo up; sleep 1000\"} /dev/null\nset timeout -1\nexpect up\nexpect never\n",
+    "waits in expect": "spawn -tty sh -c {echo up; sleep 1000}\nset timeout -1\nexpect up\nexpect never\n",
     "waits in wait": "spawn sh -c {echo up; sleep 1000}\nexpect up\nputs [wait]\n",
     "whose program ignores it": 'spawn sh -c {trap "" HUP TERM INT; echo up; while :; do sleep 1; done}\nset timeout -1\nexpect up\nexpect never\n',
     "that writes to a program": 'set stty_init "-icanon -echo"\nspawn sh -c {echo up; sleep 1000}\nexpect up\nset x %s\nwhile 1 {send $x}\n' % ("x" * 8000),
@@ -36,8 +36,8 @@ DIALOGUES = [
     "spawn sh -c {i=0; while [ $i -lt 20 ]; do echo tick $i; i=$((i + 1)); sleep 0.03; done; exit 3}\nset n 0\n"
     'expect {\n    -re {tick ([0-9]+)} {\n        set n $expect_out(1,string)\n        exp_continue\n    }\n    eof {}\n}\nputs "$n [wait]"\n',
     'spawn yes\nset n 0\nexpect {\n    "y\\r\\ny\\r\\n" {\n        if {[incr n] < 3000} {exp_continue}\n    }\n}\nputs $n\n',
-    # below script(1)
-    'set stty_init {raw -echo}\nspawn script -qec {for i in 1 2 3 4 5 6; do echo step $i; sleep 0.1; done} /dev/null\nexpect "step 3"\nexpect eof\nputs [wait]\n',
+    # on a terminal of the system
+    'spawn -tty sh -c {for i in 1 2 3 4 5 6; do echo step $i; sleep 0.1; done}\nexpect "step 3"\nexpect eof\nputs [wait]\n',
     # nothing comes
     "spawn sleep 1000\nexpect -timeout 1 never\nputs late\nexpect -timeout -1 never\n",
     "spawn sleep 0.4\nputs [wait]\nspawn sleep 1000\nputs [wait]\n",

@@ -44,10 +44,10 @@ class Child:
 
 
 class Dialogue(Interpreter):
-    def __init__(self, events, limit=None, steps=1_000_000):
-        """A script's own events in order; a time limit in milliseconds; a bound on steps."""
+    def __init__(self, events, limit=None, steps=1_000_000, has_terminals=False):
+        """A script's own events in order; a time limit in milliseconds; a bound on steps; what a spawn without -tty and -notty is."""
         super().__init__(steps)
-        self.limit = FOREVER if limit is None else limit
+        self.limit, self.has_terminals = FOREVER if limit is None else limit, has_terminals
         self.set(b"timeout", b"10")
         self.clock, self.horizon = 0, 0
         self.items = {number: [] for number in range(1, CHILDREN + 1)}
@@ -132,21 +132,56 @@ class Dialogue(Interpreter):
     # commands
 
     def do_spawn(self, words):
-        given, words = self.flags(b"spawn", words, {b"-noecho": False, b"--": False})
-        self.counted(b"spawn", words, 1, FOREVER)
-        terminal = self.terminal()
+        is_on_terminal, is_told, shown, words = self.spawn_flags(words)
+        terminal = self.bare() if is_on_terminal else self.terminal()
         child = Child(len(self.sent) + 1, terminal, self.later.size, self.later.removes)
         if child.number > CHILDREN:
             raise failed(b"too many spawned children")
         self.sent[child.number] = 0
-        if self.shows and b"-noecho" not in given:
-            self.transcript += b"spawn " + b" ".join(words) + b"\r\n"
-        cause = self.refusal(child, "spawn")
-        if cause is not None:
+        if self.shows and is_told:
+            self.transcript += b" ".join([b"spawn", *shown, *words]) + b"\r\n"
+        cause = self.refusal(child, "spawn") or (is_on_terminal and self.missing(child))
+        if cause:
             raise failed(b'couldn\'t execute "%s": %s' % (words[0][:200], cause))
         self.children[child.id] = child
         self.set(b"spawn_id", child.id)
         return b"%d" % child.number
+
+    def spawn_flags(self, words):
+        """Whether the child is on a terminal of the system, whether it is told, the flags that are told, and the words."""
+        is_on_terminal, is_told, shown, words = self.has_terminals, True, [], list(words)
+        while words and words[0].startswith(b"-"):
+            flag = words.pop(0)
+            if flag == b"--":
+                break
+            if flag == b"-noecho":
+                is_told = False
+            elif flag in (b"-tty", b"-notty"):
+                is_on_terminal = flag == b"-tty"
+            elif flag in (b"-nottycopy", b"-nottyinit"):
+                shown.append(flag)
+            elif flag == b"-ignore":
+                self.counted(b"spawn", words, 1, FOREVER)
+                shown += [flag, words.pop(0)]
+            else:
+                raise failed(b"bad flag", flag)
+        self.counted(b"spawn", words, 1, FOREVER)
+        return is_on_terminal, is_told, shown, words
+
+    def bare(self):
+        """What stands for a terminal of the system, which does all of a terminal's work itself."""
+        elements(self.seen(b"stty_init") or b"")
+        return Terminal([b"raw", b"-echo"], is_number)
+
+    def missing(self, child):
+        """The cause for which a program isn't on its terminal, or None. The first byte is a line that tells of its start."""
+        came = self.wait(self.items[child.number], FOREVER, ("item", (child.number,), FOREVER))
+        if came.kind == "out":
+            self.received(child, came.what[1:])
+            return None
+        self.request(child, "close")
+        self.request(child, "wait")
+        return b"notfound"
 
     def terminal(self):
         modes = elements(self.seen(b"stty_init") or b"")
@@ -340,9 +375,12 @@ class Dialogue(Interpreter):
                 return self.first(cases, "timeout")[1]
             if came.kind != "out":
                 return self.ended(child, came, own[child])
-            output = child.terminal.show(came.what.replace(b"\0", b"") if child.removes else came.what)
-            child.kept += output
-            self.transcript += output if self.shows else b""
+            self.received(child, came.what)
+
+    def received(self, child, piece):
+        output = child.terminal.show(piece.replace(b"\0", b"") if child.removes else piece)
+        child.kept += output
+        self.transcript += output if self.shows else b""
 
     def next_of(self, children):
         """Which child's item is next, and that child's items; none as long as an item that is before it may still come."""

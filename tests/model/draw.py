@@ -23,6 +23,7 @@ MARKS = [(b"-nocase", 0.3), (b"-indices", 0.2), (b"-notransfer", 0.1)]
 
 SHOWN = [b"buffer", b"buffer", b"0,string", b"0,string", b"1,string", b"0,start", b"1,end", b"spawn_id"]
 ASKED = [b"match_max", b"match_max -d", b"remove_nulls", b"log_user -info", b"wait", b"set spawn_id", b"set timeout"]
+FLAGS = [b"-tty", b"-tty", b"-notty", b"-nottycopy", b"-nottyinit", b"-ignore SIGHUP", b"-noecho"]
 ENDS = [b"break", b"continue", b"{return r}", b"{set n got}", b"{error no}", b"{exit 3}", b"{}"]
 
 # Commands that are refused as they stand.
@@ -45,6 +46,9 @@ REFUSED = [
     b"send_user -x",
     b"spawn",
     b"spawn -x p",
+    b"spawn -tty",
+    b"spawn -ignore",
+    b"spawn -nottycopy -ignore SIGHUP",
     b"exp_continue now",
     b"exp_continue",
     b"expect -x",
@@ -111,11 +115,11 @@ class Script:
         if self.has_again:
             lines.append(b"proc again {} {exp_continue}")
         if self.chance(0.97):
-            lines.append(b"spawn p")
+            lines.append(self.rng.choice([b"spawn p", b"spawn p", b"spawn p", b"spawn -tty p"]))
         if self.chance(0.01):
             lines.append(b"foreach x {2 3 4 5 6 7 8 9 10 11 12 13 14 15 16} {spawn -noecho p}")
         if self.has_two:
-            lines += [b"set a $spawn_id", self.rng.choice([b"spawn q", b"spawn -noecho q r", b"spawn -- q"])]
+            lines += [b"set a $spawn_id", self.rng.choice([b"spawn q", b"spawn -noecho q r", b"spawn -- q", b"spawn -tty q"])]
         return b"\n".join([*lines, *self.commands(5, 12, 0)])
 
     def commands(self, least, most, depth):
@@ -238,6 +242,8 @@ class Script:
         )
 
     def spawn(self, _depth):
+        if self.chance(0.3):
+            return b" ".join([b"spawn", *self.some(FLAGS, 1, 3), b"p"])
         return self.rng.choice([b"spawn p", b"spawn -noecho p", b"spawn -- p {a b}", b"spawn nosuch -x"])
 
     def close(self, _depth):
@@ -250,7 +256,8 @@ class Script:
         return self.rng.choice(REFUSED)
 
     def loop(self, depth):
-        return b"foreach x {1 2} " + self.body(depth) if depth < DEEPEST else b"break"
+        lists = self.rng.choice([b"x {1 2}", b"x {1 2}", b"x {1} {y z} {a b c}"])
+        return b"foreach " + lists + b" " + self.body(depth) if depth < DEEPEST else b"break"
 
     def choice(self, depth):
         if depth >= DEEPEST:

@@ -21,7 +21,7 @@ OPERATIONS = {
 NESTED = 200
 
 # The other commands of the language.
-LEFT_OUT = b"unset append lrange for eval string info concat join lassign linsert lrepeat lreplace lreverse lsearch lset lsort split array format scan regexp regsub package exp_version expect_version exp_internal debug exp_debug strace exp_strace trap exp_trap".split()
+LEFT_OUT = b"unset append lrange for eval string info concat join lassign linsert lrepeat lreplace lreverse lsearch lset lsort split array format scan regexp regsub package exp_version expect_version exp_internal debug exp_debug strace exp_strace trap exp_trap exp_spawn exp_send_user exp_close exp_wait exp_match_max exp_remove_nulls exp_log_user exp_exit".split()
 
 # The simulated commands that a procedure may replace.
 REDEFINABLE = b"sleep exp_sleep after".split()
@@ -281,10 +281,13 @@ class Interpreter:
         return b""
 
     def do_foreach(self, words):
-        name, values, body = words
-        for value in elements(values):
+        *lists, body = words
+        pairs = [(elements(names), elements(values)) for names, values in zip(lists[::2], lists[1::2])]
+        for turn in range(max(-(-len(values) // len(names)) for names, values in pairs)):
             self.step()
-            self.set(name, value)
+            for names, values in pairs:
+                for at, name in enumerate(names, turn * len(names)):
+                    self.set(name, values[at] if at < len(values) else b"")
             if not self.turn(body):
                 break
         return b""

@@ -3,6 +3,7 @@
 use crate::cancellation::Cancellation;
 use crate::errors::{ErrorPipe, ErrorPipes};
 use crate::held::{Held, Name};
+use crate::lookup::starts_session;
 use crate::output::Output;
 use crate::programs::{Programs, Started};
 use crate::ready::is_ready;
@@ -35,9 +36,20 @@ const LONGEST_PAUSE: u64 = 20_000;
 struct RunningChild {
     input: Option<PipeWriter>,
     held: Arc<Held>,
+    /// Whether it starts sessions by itself.
+    starts_session: bool,
 }
 
 impl RunningChild {
+    /// Ends its input. One that starts sessions may end at once, and then nothing tells which
+    /// processes it started. So these are noted before.
+    fn end<R: Programs + Wait>(&mut self, rt: &R, reaper: &Reaper) {
+        if self.starts_session && self.input.is_some() {
+            reaper.note(rt, self.held.id);
+        }
+        self.input = None;
+    }
+
     /// Writes bytes to the child. Gives up once its script has ended.
     fn write(&mut self, bytes: &[u8]) -> Result<(), Cause> {
         let Some(input) = &mut self.input else {
@@ -206,6 +218,7 @@ impl<R: Programs + Wait + Clock + Drop> Children<R> {
         let child = RunningChild {
             input: Some(input),
             held,
+            starts_session: starts_session(program),
         };
         drop(mem::replace(&mut self.children[index], Some(child)));
         Ok(Output::new(out, theirs))
@@ -221,10 +234,11 @@ impl<R: Programs + Wait + Clock + Drop> Children<R> {
 
     /// Ends the input of a child.
     pub(crate) fn end(&mut self, child: u8) -> Result<(), Cause> {
-        let Some(running) = self.running(child) else {
+        let at = usize::from(child).checked_sub(1);
+        let Some(Some(running)) = at.and_then(|at| self.children.get_mut(at)) else {
             return Err(Cause::Other);
         };
-        running.input = None;
+        running.end(&self.rt, &self.reaper);
         Ok(())
     }
 
@@ -272,15 +286,20 @@ fn wait_for<R: Wait + Clock>(rt: &R, held: &Held) -> Answer {
 
 impl<R: Programs + Wait + Clock + Drop> Drop for Children<R> {
     fn drop(self) {
-        self.cancellation.cancel();
         let Children {
-            rt: _,
+            rt,
             alloc: _,
             script: _,
-            children: _,
-            reaper: _,
+            mut children,
+            reaper,
             errors: _,
-            cancellation: _,
+            cancellation,
         } = self;
+        for child in children.as_mut_slice() {
+            if let Some(running) = child {
+                running.end(&rt, &reaper);
+            }
+        }
+        cancellation.cancel();
     }
 }

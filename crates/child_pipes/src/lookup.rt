@@ -62,6 +62,12 @@ fn kind_of(rt: &HostRuntime, path: &str) -> Kind {
     }
 }
 
+/// Returns whether a program starts a session by itself. setsid(1) would start a second process for
+/// it if it led one already.
+pub(crate) fn starts_session(program: &str) -> bool {
+    program == "setsid"
+}
+
 /// Returns whether a program can be started through setsid(1): the system executes the file that
 /// execvp(3) would find. Any other program is started without it, so that the system reports the
 /// error.

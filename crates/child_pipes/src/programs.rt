@@ -1,7 +1,7 @@
 //! Starts programs, lists processes and sends signals.
 
 use crate::guard::{GUARD, Guard};
-use crate::lookup::{SETSID, is_led_by_setsid};
+use crate::lookup::{SETSID, is_led_by_setsid, starts_session};
 use crate::processes::Process;
 use std::alloc::{AllocError, Global};
 use std::io::{ErrorKind, PipeWriter};
@@ -45,9 +45,15 @@ pub trait Programs {
     fn signal(&self, alloc: Global, signal: &str, ids: &[u32]);
 }
 
-/// Returns the command that runs a program: the program itself, or setsid(1), which becomes it.
-fn command_of(rt: &HostRuntime, alloc: Global, program: &str) -> io::Result<Command> {
-    if !is_led_by_setsid(rt, alloc, program)? {
+/// Returns the command that runs a program in a session of its own: the program itself if it or
+/// what it becomes starts one, or setsid(1), which becomes it.
+fn command_of(
+    rt: &HostRuntime,
+    alloc: Global,
+    program: &str,
+    becomes: &str,
+) -> io::Result<Command> {
+    if starts_session(becomes) || !is_led_by_setsid(rt, alloc, program)? {
         return Ok(Command::new(alloc, program)?);
     }
     let mut command = Command::new(alloc, SETSID)?;
@@ -100,7 +106,7 @@ fn command_by_shell(
     if !is_led_by_setsid(rt, alloc, program)? {
         return Err(io::Error::from(ErrorKind::InvalidInput));
     }
-    let mut command = command_of(rt, alloc, "/bin/sh")?;
+    let mut command = command_of(rt, alloc, "/bin/sh", program)?;
     command.arg("-c")?;
     command.arg(DECODE)?;
     command.arg(program)?;
@@ -124,7 +130,7 @@ fn command_with(
     if !are_texts(words) {
         return command_by_shell(rt, alloc, program, words);
     }
-    let mut command = command_of(rt, alloc, program)?;
+    let mut command = command_of(rt, alloc, program, program)?;
     for word in words {
         command.arg(std::str::from_utf8(word.as_slice()).unwrap_or(""))?;
     }
@@ -174,7 +180,7 @@ impl Programs for HostRuntime {
     }
 
     fn start_guard(&self, alloc: Global) -> io::Result<Guard> {
-        let mut command = command_of(self, alloc, "/bin/sh")?;
+        let mut command = command_of(self, alloc, "/bin/sh", "/bin/sh")?;
         command.arg("-c")?;
         command.arg(GUARD)?;
         command.stdout(Stdio::null());

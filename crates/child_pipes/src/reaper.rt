@@ -101,6 +101,12 @@ impl Found {
 }
 
 impl Ward {
+    /// Notes the processes of a child among all of the system.
+    fn note(&mut self, alloc: Global, all: &[Process]) -> Result<(), AllocError> {
+        let group = group_of(alloc, all, self.held.id, self.known.as_slice())?;
+        learn(&mut self.known, group.as_slice())
+    }
+
     /// Advances the stage of a child, if it must end. The processes left by a child that has ended
     /// get no grace period. Returns whether any process is left.
     fn advance<R: Programs + Wait>(
@@ -175,6 +181,20 @@ impl Reaper {
             return Err(AllocError);
         };
         Ok(())
+    }
+
+    /// Notes the processes of a child, so that they are found when it has ended. If memory is
+    /// refused, some are not.
+    pub(crate) fn note<R: Programs + Wait>(&self, rt: &R, child: u32) {
+        let Ok(all) = rt.processes(self.alloc) else {
+            return;
+        };
+        let mut wards = self.shared.wards.lock(rt);
+        for ward in &mut *wards {
+            if ward.held.id == child {
+                let _ = ward.note(self.alloc, all.as_slice());
+            }
+        }
     }
 
     fn tell_guard(&self, rt: &impl Wait, mark: char, id: u32) {

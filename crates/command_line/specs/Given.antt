@@ -1,8 +1,8 @@
 -- The meaning of the words of the command line.
-use Rattle.std.specs.Prelude.{ℕ, List, [], ◌∷◌, length, map, is_some, Option, Some, None, unwrap_or, option_map, codes, Bool, true, false, not, ◌&&◌, ◌==◌, if◌then◌else◌}
+use Rattle.std.specs.Prelude.{◌≡◌, ℕ, List, [], ◌∷◌, length, map, is_some, Option, Some, None, unwrap_or, option_map, codes, Bool, true, false, not, ◌&&◌, ◌==◌, if◌then◌else◌}
 use Rattle.std.specs.Str.{bytes_eq}
 use Rattle.std.specs.Borrow.{Bor}
-use Rattle.clap.specs.Matches.{found_of, first_value, matched_of, raw_values}
+use Rattle.clap.specs.Matches.{found_of, first_value, matched_of, one_text, raw_values}
 use Rattle.clap.specs.declared.parser.matches.ArgMatches.{ArgMatches}
 use Rattle.command_line.specs.declared.order.Scripts.{Scripts}
 use Rattle.report_texts.specs.declared.form.Format.{Format}
@@ -42,6 +42,10 @@ sets_told matches = words_told (codes "set") matches
 -- The word of `--each`.
 abbrev pub each_told : ArgMatches → Option (List ℕ)
 each_told matches = first_value (found_of matches) (codes "each")
+
+-- An option without a value was given, or not.
+abbrev pub IsFlag : List ℕ → ArgMatches → Bool → Type 0
+IsFlag name matches on = (one_text (found_of matches) name ≡ Some (codes "true") → on ≡ true) × (one_text (found_of matches) name ≡ None → on ≡ false)
 
 -- The arguments of a script that is run as a command.
 abbrev pub args_told : ArgMatches → List (List ℕ)

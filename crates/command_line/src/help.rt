@@ -151,6 +151,12 @@ that of exprun; `spawn sh -c {exec 2>&1; ..}` joins it to the dialogue. With
 --stderr label each program has its own standard error. exprun then prints its
 lines on standard error, after its script's number.
 
+`spawn -tty` runs a program on a terminal of the system, by setsid(1), script(1)
+and stty(1), as programs that ask for a password want it. With --host every
+spawn without -notty does. The terminal joins standard error to the output, and
+stty_init may have any words of stty(1). The status of a program that a signal
+ended is 128 plus the signal's number.
+
 The scripts run side by side, and no script affects another. --workers shares
 them among threads in turn: of two workers, the first runs scripts 1, 3, .. A
 script that computes for a long time delays only the scripts of its own worker.
@@ -235,7 +241,8 @@ array env is exprun's own environment. With --env or --env-none it is only what
 --env sets. --set comes last, so it may replace argv.
 
 What the script shows is printed on standard output as it appears, byte for
-byte, and nothing else is. Programs are run as by run: see `exprun run --help`.
+byte, and nothing else is. Programs are run on terminals, as by `run --host`:
+see `exprun run --help`. With --no-host they are run over pipes.
 
 The exit status is that of `exit`. If an error ends the script, its message is
 printed on standard error, and the status is 1. If a limit ends it, standard

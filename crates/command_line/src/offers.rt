@@ -129,6 +129,18 @@ const ENV_ALL: Offer = Offer {
     help: "Set env to all of exprun's own environment",
 };
 
+const HOST: Offer = Offer {
+    name: "host",
+    takes: Takes::Nothing,
+    help: "Run each program on a terminal, as script does",
+};
+
+const NO_HOST: Offer = Offer {
+    name: "no-host",
+    takes: Takes::Nothing,
+    help: "Run programs over pipes, as run does",
+};
+
 const SOURCES: Offer = Offer {
     name: "sources",
     takes: Takes::Files("FILE"),
@@ -249,7 +261,7 @@ const TIMELINE: Offer = Offer {
     help: "The timeline of its children, or /dev/stdin",
 };
 
-static RUN: [Offer; 21] = [
+static RUN: [Offer; 22] = [
     WORKERS,
     EACH,
     LIMIT,
@@ -257,6 +269,7 @@ static RUN: [Offer; 21] = [
     SET,
     ENV,
     ENV_ALL,
+    HOST,
     RECORD,
     GRACE,
     HANGUP,
@@ -273,7 +286,7 @@ static RUN: [Offer; 21] = [
     SOURCES,
 ];
 
-static REPLAY: [Offer; 15] = [
+static REPLAY: [Offer; 16] = [
     CUT,
     EACH,
     LIMIT,
@@ -281,6 +294,7 @@ static REPLAY: [Offer; 15] = [
     SET,
     ENV,
     ENV_ALL,
+    HOST,
     VARS,
     REQUESTS,
     FORMAT,
@@ -291,12 +305,13 @@ static REPLAY: [Offer; 15] = [
     SOURCES,
 ];
 
-static SCRIPT: [Offer; 9] = [
+static SCRIPT: [Offer; 10] = [
     LIMIT,
     ALONE_STEPS,
     SET,
     ENV,
     ENV_NONE,
+    NO_HOST,
     RECORD,
     REPLAYED,
     COMMAND,
@@ -305,7 +320,7 @@ static SCRIPT: [Offer; 9] = [
 
 static SHOW: [Offer; 2] = [SHOWN_SCRIPT, LOG];
 
-static EXPLAIN: [Offer; 9] = [
+static EXPLAIN: [Offer; 10] = [
     TOLD_SCRIPT,
     EACH,
     LIMIT,
@@ -313,11 +328,14 @@ static EXPLAIN: [Offer; 9] = [
     SET,
     ENV,
     ENV_ALL,
+    HOST,
     LOG,
     SOURCES,
 ];
 
-static PLAN: [Offer; 8] = [LIMIT, STEPS, SET, ENV, ENV_ALL, TIMING, SOURCE, TIMELINE];
+static PLAN: [Offer; 9] = [
+    LIMIT, STEPS, SET, ENV, ENV_ALL, HOST, TIMING, SOURCE, TIMELINE,
+];
 
 static CHECK: [Offer; 1] = [SOURCES];
 

@@ -31,6 +31,8 @@ pub struct Scripts<'a> {
     pub transcripts: Option<&'a str>,
     /// Their variables at the start.
     pub variables: Variables<'a>,
+    /// Whether a `spawn` without `-notty` runs its program on a terminal.
+    pub host: bool,
     /// The list on whose rows each of them runs once.
     pub each: Option<&'a str>,
     /// The files of their sources.
@@ -118,7 +120,7 @@ impl Run<'_> {
     pub fn show_once(&mut self, is_one_terminal: bool)
         ensures format { self.new.scripts.form.format ≡ format_on_terminal is_one_terminal self.old.follow (is_single self.old.scripts) self.old.has_format self.old.scripts.form.format }
         ensures form { (self.new.scripts.form.shown ≡ self.old.scripts.form.shown) × (self.new.scripts.form.files ≡ self.old.scripts.form.files) }
-        ensures limits { (self.new.scripts.steps ≡ self.old.scripts.steps) × (self.new.scripts.limit_ms ≡ self.old.scripts.limit_ms) }
+        ensures limits { (self.new.scripts.steps ≡ self.old.scripts.steps) × (self.new.scripts.limit_ms ≡ self.old.scripts.limit_ms) × (self.new.scripts.host ≡ self.old.scripts.host) }
         ensures files { (self.new.scripts.transcripts ≡ self.old.scripts.transcripts) × (self.new.scripts.variables ≡ self.old.scripts.variables) × (self.new.scripts.each ≡ self.old.scripts.each) × (self.new.scripts.sources ≡ self.old.scripts.sources) }
         ensures products { (self.new.record ≡ self.old.record) × (self.new.explain ≡ self.old.explain) }
         ensures rest { (self.new.workers ≡ self.old.workers) × (self.new.follow ≡ self.old.follow) × (self.new.has_format ≡ self.old.has_format) × (self.new.terms ≡ self.old.terms) × (self.new.guard ≡ self.old.guard) × (self.new.labels ≡ self.old.labels) }
@@ -153,6 +155,8 @@ pub struct Plan<'a> {
     pub limit_ms: Option<u64>,
     /// Its variables at the start.
     pub variables: Variables<'a>,
+    /// Whether a `spawn` without `-notty` runs its program on a terminal.
+    pub host: bool,
     /// The file of its source.
     pub source: &'a str,
     /// The file of the timeline, or of a recording.
@@ -183,6 +187,8 @@ pub struct Alone<'a> {
     pub limit_ms: Option<u64>,
     /// Its variables at the start, without `argv0`, `argv` and `argc`.
     pub variables: Variables<'a>,
+    /// Whether a `spawn` without `-notty` runs its program on a terminal.
+    pub host: bool,
     /// The file for the record.
     pub record: Option<&'a str>,
     /// The log of an earlier run. With it no programs are started.

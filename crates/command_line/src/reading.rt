@@ -1,7 +1,7 @@
 //! Reads the words of the command line.
 
-ghost use Rattle.std.specs.Prelude.{◌≡◌, ◌≤◌, ◌*◌, option_map, IfOk, IfSome, Some, None};
-ghost use Rattle.command_line.specs.Given.{steps_given, alone_steps_given, grace_seconds, all_taken, names_of, words_told, files_told, env_told, sets_told, each_told, args_told, format_given, labels_given};
+ghost use Rattle.std.specs.Prelude.{◌≡◌, ◌≤◌, ◌*◌, codes, not, option_map, IfOk, IfSome, Some, None};
+ghost use Rattle.command_line.specs.Given.{steps_given, alone_steps_given, grace_seconds, all_taken, names_of, words_told, files_told, env_told, sets_told, each_told, args_told, format_given, labels_given, IsFlag};
 
 use crate::offers::command;
 use crate::order::{Alone, Check, Explain, Order, Plan, Replay, Run, Scripts, Show, Variables};
@@ -110,12 +110,20 @@ fn format_of(summary: bool, escape: bool, name: Option<&str>) -> Format
     }
 }
 
+/// Returns whether programs run on terminals.
+fn has_host(matches: &ArgMatches<'_>) -> bool
+    ensures { IsFlag (codes "host") matches.now result }
+{
+    matches.get_flag("host")
+}
+
 fn scripts_of<'a>(alloc: Global, matches: &ArgMatches<'a>) -> Result<Scripts<'a>, AllocError>
     ensures files { IfOk result (λ scripts. names_of scripts.sources.items ≡ files_told matches.now) }
     ensures names { IfOk result (λ scripts. scripts.form.files ≡ files_told matches.now) }
     ensures env { IfOk result (λ scripts. names_of scripts.variables.env.items ≡ env_told matches.now) }
     ensures sets { IfOk result (λ scripts. names_of scripts.variables.sets.items ≡ sets_told matches.now) }
     ensures each { IfOk result (λ scripts. option_map (λ w. w.now) scripts.each ≡ each_told matches.now) }
+    ensures host { IfOk result (λ scripts. IsFlag (codes "host") matches.now scripts.host) }
 {
     let files = files_of(alloc, matches)?;
     let names = texts_of(alloc, files.as_slice())?;
@@ -136,6 +144,7 @@ fn scripts_of<'a>(alloc: Global, matches: &ArgMatches<'a>) -> Result<Scripts<'a>
         },
         transcripts: matches.get_str("transcripts"),
         variables: variables_of(alloc, matches)?,
+        host: has_host(matches),
         each: matches.get_str("each"),
         sources: files,
     })
@@ -207,6 +216,7 @@ fn plan_of<'a>(alloc: Global, matches: &ArgMatches<'a>) -> Result<Order<'a>, All
         steps: steps_of(matches.get_one::<u64>("steps")),
         limit_ms: limit_of(matches.get_one::<u64>("limit")),
         variables: variables_of(alloc, matches)?,
+        host: has_host(matches),
         source: matches.get_str("source").unwrap_or(""),
         timeline: matches.get_str("timeline").unwrap_or(""),
         timing: matches.get_str("timing"),
@@ -250,11 +260,13 @@ fn alone_of<'a>(alloc: Global, matches: &ArgMatches<'a>) -> Result<Alone<'a>, Al
     ensures args { IfOk result (λ alone. names_of alone.args.items ≡ args_told matches.now) }
     ensures env { IfOk result (λ alone. names_of alone.variables.env.items ≡ env_told matches.now) }
     ensures sets { IfOk result (λ alone. names_of alone.variables.sets.items ≡ sets_told matches.now) }
+    ensures host { IfOk result (λ alone. IsFlag (codes "no-host") matches.now (not alone.host)) }
 {
     Ok(Alone {
         steps: alone_steps_of(matches.get_one::<u64>("steps")),
         limit_ms: limit_of(matches.get_one::<u64>("limit")),
         variables: alone_variables_of(alloc, matches)?,
+        host: !matches.get_flag("no-host"),
         record: matches.get_str("record"),
         log: matches.get_str("replay"),
         source: matches.get_str("source").unwrap_or(""),

@@ -46,7 +46,7 @@ files word =
 abbrev pub telling : List ℕ → List ℕ
 telling word =
     if bytes_eq word (codes "send_tty") || bytes_eq word (codes "send_error") || bytes_eq word (codes "send_log") then codes "use send_user"
-    else if bytes_eq word (codes "exp_send_user") || bytes_eq word (codes "exp_send_tty") || bytes_eq word (codes "exp_send_error") || bytes_eq word (codes "exp_send_log") then codes "use send_user"
+    else if bytes_eq word (codes "exp_send_tty") || bytes_eq word (codes "exp_send_error") || bytes_eq word (codes "exp_send_log") then codes "use send_user"
     else if bytes_eq word (codes "tclLog") then codes "use puts"
     else if bytes_eq word (codes "log_file") || bytes_eq word (codes "exp_log_file") then codes "the report has the transcript; --record writes every event"
     else []
@@ -67,21 +67,10 @@ starting word =
     else if bytes_eq word (codes "disconnect") || bytes_eq word (codes "exp_disconnect") then codes "start exprun in the background: nohup exprun run FILE &"
     else []
 
-abbrev pub renamed : List ℕ → List ℕ
-renamed word =
-    if bytes_eq word (codes "exp_spawn") then codes "use spawn"
-    else if bytes_eq word (codes "exp_close") then codes "use close"
-    else if bytes_eq word (codes "exp_wait") then codes "use wait"
-    else if bytes_eq word (codes "exp_exit") then codes "use exit"
-    else if bytes_eq word (codes "exp_log_user") then codes "use log_user"
-    else if bytes_eq word (codes "exp_match_max") then codes "use match_max"
-    else if bytes_eq word (codes "exp_remove_nulls") then codes "use remove_nulls"
-    else []
-
 -- The first of two texts unless it is empty, otherwise the second.
 abbrev pub first_of : List ℕ → List ℕ → List ℕ
 first_of [] other = other
 first_of (b ∷ bytes) other = b ∷ bytes
 
 unfoldable pub advice_for : List ℕ → List ℕ
-advice_for word = first_of (waiting word) (first_of (choosing word) (first_of (lists word) (first_of (texts word) (first_of (files word) (first_of (telling word) (first_of (expecting word) (first_of (starting word) (renamed word))))))))
+advice_for word = first_of (waiting word) (first_of (choosing word) (first_of (lists word) (first_of (texts word) (first_of (files word) (first_of (telling word) (first_of (expecting word) (starting word)))))))

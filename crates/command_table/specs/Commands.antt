@@ -89,9 +89,12 @@ redefinable_value word =
     else if bytes_eq word (codes "regsub") then Some value.Regsub
     else interpreter_value word
 
--- The command that a word names, if it evaluates a script and a procedure can have its name.
+-- The command that a word names, if it evaluates a script or ends it, and a procedure can have its name.
 abbrev pub redefinable_control : List ℕ → Option TclCommand
-redefinable_control word = if bytes_eq word (codes "switch") then Some tcl.Switch else None
+redefinable_control word =
+    if bytes_eq word (codes "switch") then Some tcl.Switch
+    else if bytes_eq word (codes "exp_exit") then Some tcl.Exit
+    else None
 
 abbrev pub value_or_redefinable : Option ValueCommand → List ℕ → Option TclCommand
 value_or_redefinable (Some c) word = Some (tcl.Value c)
@@ -126,12 +129,24 @@ fixed_expect word =
     else if bytes_eq word (codes "log_user") then Some expect.LogUser
     else None
 
+-- The command of Expect that a word names with `exp_` before it.
+abbrev pub prefixed_expect : List ℕ → Option ExpectCommand
+prefixed_expect word =
+    if bytes_eq word (codes "exp_spawn") then Some expect.Spawn
+    else if bytes_eq word (codes "exp_send_user") then Some expect.SendUser
+    else if bytes_eq word (codes "exp_close") then Some expect.Close
+    else if bytes_eq word (codes "exp_wait") then Some expect.Wait
+    else if bytes_eq word (codes "exp_match_max") then Some expect.MatchMax
+    else if bytes_eq word (codes "exp_remove_nulls") then Some expect.RemoveNulls
+    else if bytes_eq word (codes "exp_log_user") then Some expect.LogUser
+    else None
+
 -- The command of Expect that a word names, if a procedure can have its name. Such a procedure is called instead.
 abbrev pub redefinable_expect : List ℕ → Option ExpectCommand
 redefinable_expect word =
     if bytes_eq word (codes "sleep") || bytes_eq word (codes "exp_sleep") then Some expect.Sleep
     else if bytes_eq word (codes "after") then Some expect.After
-    else None
+    else prefixed_expect word
 
 abbrev pub or_redefinable_expect : Option ExpectCommand → List ℕ → Option ExpectCommand
 or_redefinable_expect (Some c) word = Some c

@@ -1,5 +1,5 @@
 -- The flags of commands.
-use Rattle.std.specs.Prelude.{ℕ, ◌==◌, Bool, false, not, ◌&&◌, List, [], ◌∷◌, codes, bytes_eq, if◌then◌else◌}
+use Rattle.std.specs.Prelude.{ℕ, ◌==◌, Bool, true, false, not, ◌&&◌, ◌||◌, List, [], ◌∷◌, codes, bytes_eq, if◌then◌else◌}
 use Rattle.tcl_words.specs.Bytes as ascii
 use Rattle.command_table.specs.declared.flags.Own.{Own}
 use Rattle.command_table.specs.declared.flags.Own.TheVariants as own
@@ -10,13 +10,26 @@ use Rattle.command_table.specs.declared.flags.Role.TheVariants as role
 -- A word is the command's own flag, which has no value.
 abbrev pub is_own : Own → List ℕ → Bool
 is_own own.None word = false
-is_own own.NoEcho word = bytes_eq word (codes "-noecho")
+is_own own.Spawn word = bytes_eq word (codes "-noecho")
 is_own own.Default word = bytes_eq word (codes "-d")
 is_own own.Timer word = bytes_eq word (codes "-continue_timer")
 
 abbrev pub begins_with_minus : List ℕ → Bool
 begins_with_minus [] = false
 begins_with_minus (b ∷ bytes) = b == ascii.minus
+
+-- The flags of spawn other than -noecho: whether the child is on a terminal of the system, and those that its line shows.
+abbrev pub spawn_role : List ℕ → Role
+spawn_role word =
+    if bytes_eq word (codes "-tty") then role.Tty true
+    else if bytes_eq word (codes "-notty") then role.Tty false
+    else if bytes_eq word (codes "-nottycopy") || bytes_eq word (codes "-nottyinit") then role.Shown
+    else if bytes_eq word (codes "-ignore") then role.ShownWithValue
+    else role.Bad
+
+abbrev pub other_role : Own → List ℕ → Role
+other_role own.Spawn word = spawn_role word
+other_role own word = role.Bad
 
 -- The role of an argument that may be a flag.
 abbrev pub flag_role : Flags → List ℕ → Role
@@ -25,4 +38,4 @@ flag_role f word =
     else if f.end && bytes_eq word (codes "--") then role.End
     else if is_own f.own word then role.Alone
     else if f.id && bytes_eq word (codes "-i") then role.Id
-    else role.Bad
+    else other_role f.own word

@@ -1,14 +1,23 @@
--- How arguments are read, one after another: those of `if` (if(n)), and pattern lists (expect(1)).
-use Rattle.std.specs.Prelude.{ℕ, ◌==◌, Bool, true, false, ◌||◌, List, codes, Option, Some, None, bytes_eq, if◌then◌else◌}
+-- How arguments are read, one after another: those of `if` (if(n)) and `foreach` (foreach(n)), and pattern lists
+-- (expect(1)).
+use Rattle.std.specs.Prelude.{ℕ, ◌-◌, ◌%◌, ◌==◌, Bool, true, false, ◌||◌, List, codes, Option, Some, None, bytes_eq, if◌then◌else◌}
 use Rattle.command_table.specs.declared.reading.Kind.{Kind}
-use Rattle.command_table.specs.declared.reading.Kind.TheVariants.{Text, Script, Expression}
+use Rattle.command_table.specs.declared.reading.Kind.TheVariants.{Text, Name, Script, Expression}
 use Rattle.command_table.specs.declared.reading.Stage.{Stage}
-use Rattle.command_table.specs.declared.reading.Stage.TheVariants.{Each, Alone, Choice, Front, Test, Then, Branch, Ends, Else, Done, Over, Pattern, Operand, Written, Action, Output}
+use Rattle.command_table.specs.declared.reading.Stage.TheVariants.{Each, Alone, Lists, Listed, Choice, Front, Test, Then, Branch, Ends, Else, Done, Over, Pattern, Operand, Written, Action, Output}
 use Rattle.command_table.specs.Flags.{begins_with_minus}
 
 -- All further arguments are texts.
 abbrev pub texts : Stage
 texts = Each Text Text Text Text
+
+-- An argument of `foreach`, given the number of arguments left. The last is the script. Before it, lists of names and
+-- their lists take turns.
+abbrev pub listed : ℕ → Kind
+listed n =
+    if n == 1 then Script
+    else if n % 2 == 1 then Name
+    else Text
 
 -- `None` is a word that isn't written plainly: it may be any word. Arguments after it are read as texts.
 
@@ -44,6 +53,9 @@ expect_step (Some word) = (Text, expect_word word)
 abbrev pub step : Stage → Option (List ℕ) → Kind × Stage
 step (Each first second third others) word = (first, Each second third others others)
 step (Alone kind) word = (kind, texts)
+step Lists word = (Text, texts)
+-- foreach varlist1 list1 ?varlist2 list2 ...? body
+step (Listed n) word = (listed n, Listed (n - 1))
 step Choice word = (Text, texts)
 step (Front switches) word = (Text, texts)
 -- if expr1 ?then? body1 elseif expr2 ?then? body2 elseif ... ?else? ?bodyN?
@@ -64,6 +76,7 @@ step Output word = (Text, texts)
 -- The first stage of a command with this number of arguments.
 abbrev pub begin : Stage → ℕ → Stage
 begin (Alone kind) n = if n == 1 then Alone kind else texts
+begin Lists n = Listed n
 begin other n = other
 
 -- An `if` that ends at this stage has too few or too many arguments.

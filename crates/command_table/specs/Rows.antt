@@ -13,7 +13,7 @@ use Rattle.command_table.specs.declared.flags.Own.{Own}
 use Rattle.command_table.specs.declared.flags.Own.TheVariants as own
 use Rattle.command_table.specs.declared.reading.Kind.TheVariants.{Text, Name, Script, Expression}
 use Rattle.command_table.specs.declared.reading.Stage.{Stage}
-use Rattle.command_table.specs.declared.reading.Stage.TheVariants.{Each, Alone, Choice, Front, Test, Pattern, Output}
+use Rattle.command_table.specs.declared.reading.Stage.TheVariants.{Each, Alone, Lists, Choice, Front, Test, Pattern, Output}
 use Rattle.command_table.specs.declared.switches.Switches.{Switches}
 use Rattle.command_table.specs.declared.switches.Switches.TheVariants.{Search, Sort, Match, Replace, Version}
 use Rattle.command_table.specs.declared.rows.Row.{Row}
@@ -116,8 +116,8 @@ tcl_row tcl.Exit = plain (between 0 1) texts
 tcl_row tcl.Expr = plain (at_least 1) (Alone Expression)
 -- for start test next body
 tcl_row tcl.For = plain (exactly 4) (Each Script Expression Script Script)
--- foreach varlist1 list1 body
-tcl_row tcl.Foreach = plain (exactly 3) (Each Name Text Script Text)
+-- foreach varlist1 list1 ?varlist2 list2 ...? body
+tcl_row tcl.Foreach = plain (at_least 3) Lists
 -- if expr1 ?then? body1 elseif expr2 ?then? body2 elseif ... ?else? ?bodyN?
 tcl_row tcl.If = plain (at_least 2) Test
 -- proc name args body
@@ -150,8 +150,8 @@ expect_row expect.Send = flagged own.None true true (exactly 1)
 expect_row expect.SendUser = flagged own.None false true (exactly 1)
 -- sleep seconds
 expect_row expect.Sleep = plain (exactly 1) texts
--- spawn ?-noecho? ?--? program ?args?
-expect_row expect.Spawn = flagged own.NoEcho false true (at_least 1)
+-- spawn ?-noecho? ?-tty? ?-notty? ?-nottycopy? ?-nottyinit? ?-ignore signal? ?--? program ?args?
+expect_row expect.Spawn = flagged own.Spawn false true (at_least 1)
 -- wait ?-i spawn_id?
 expect_row expect.Wait = flagged own.None true false (exactly 0)
 

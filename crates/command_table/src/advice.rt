@@ -1,7 +1,7 @@
 //! Advice on commands that have no row: what to use instead.
 
 ghost use Rattle.std.specs.Prelude.{◌≡◌};
-ghost use Rattle.command_table.specs.Advice.{first_of, waiting, choosing, lists, texts, files, telling, expecting, starting, renamed, advice_for};
+ghost use Rattle.command_table.specs.Advice.{first_of, waiting, choosing, lists, texts, files, telling, expecting, starting, advice_for};
 
 use crate::commands::is;
 
@@ -110,8 +110,7 @@ fn telling(word: &[u8]) -> &'static [u8]
 {
     if is(word, b"send_tty") || is(word, b"send_error") || is(word, b"send_log") {
         b"use send_user"
-    } else if is(word, b"exp_send_user")
-        || is(word, b"exp_send_tty")
+    } else if is(word, b"exp_send_tty")
         || is(word, b"exp_send_error")
         || is(word, b"exp_send_log")
     {
@@ -159,29 +158,6 @@ fn starting(word: &[u8]) -> &'static [u8]
     }
 }
 
-/// Returns advice on other names of Expect commands.
-fn renamed(word: &[u8]) -> &'static [u8]
-    ensures { result.now ≡ renamed word.now }
-{
-    if is(word, b"exp_spawn") {
-        b"use spawn"
-    } else if is(word, b"exp_close") {
-        b"use close"
-    } else if is(word, b"exp_wait") {
-        b"use wait"
-    } else if is(word, b"exp_exit") {
-        b"use exit"
-    } else if is(word, b"exp_log_user") {
-        b"use log_user"
-    } else if is(word, b"exp_match_max") {
-        b"use match_max"
-    } else if is(word, b"exp_remove_nulls") {
-        b"use remove_nulls"
-    } else {
-        b""
-    }
-}
-
 /// Returns the first of two texts unless it is empty, otherwise the second.
 fn first_of(a: &'static [u8], b: &'static [u8]) -> &'static [u8]
     ensures { result.now ≡ first_of a.now b.now }
@@ -204,10 +180,7 @@ pub fn advice_for(word: &[u8]) -> &'static [u8]
                     texts(word),
                     first_of(
                         files(word),
-                        first_of(
-                            telling(word),
-                            first_of(expecting(word), first_of(starting(word), renamed(word))),
-                        ),
+                        first_of(telling(word), first_of(expecting(word), starting(word))),
                     ),
                 ),
             ),

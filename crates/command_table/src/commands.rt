@@ -2,7 +2,7 @@
 
 ghost use Rattle.std.specs.Prelude.{◌≡◌};
 ghost use Rattle.std.specs.Str.{bytes_eq};
-ghost use Rattle.command_table.specs.Commands.{value_command, control_command, tcl_command, is_ignored, interpreter_value, redefinable_value, redefinable_control, redefinable_command, fixed_expect, redefinable_expect, expect_command, is_redefinable, language_command, command_of};
+ghost use Rattle.command_table.specs.Commands.{value_command, control_command, tcl_command, is_ignored, interpreter_value, redefinable_value, redefinable_control, redefinable_command, fixed_expect, prefixed_expect, redefinable_expect, expect_command, is_redefinable, language_command, command_of};
 
 /// A value command: it evaluates no script.
 #[derive(Clone, Copy, PartialEq, Eq)]
@@ -246,12 +246,15 @@ fn redefinable_value(word: &[u8]) -> Option<ValueCommand>
     }
 }
 
-/// Returns the command that a word names, if it evaluates a script and a procedure can have its name.
+/// Returns the command that a word names, if it evaluates a script or ends it, and a procedure can
+/// have its name.
 fn redefinable_control(word: &[u8]) -> Option<TclCommand>
     ensures { result ≡ redefinable_control word.now }
 {
     if is(word, b"switch") {
         Some(TclCommand::Switch)
+    } else if is(word, b"exp_exit") {
+        Some(TclCommand::Exit)
     } else {
         None
     }
@@ -311,6 +314,29 @@ pub fn fixed_expect(word: &[u8]) -> Option<ExpectCommand>
     }
 }
 
+/// Returns the command of Expect that a word names with `exp_` before it, or `None`.
+fn prefixed_expect(word: &[u8]) -> Option<ExpectCommand>
+    ensures { result ≡ prefixed_expect word.now }
+{
+    if is(word, b"exp_spawn") {
+        Some(ExpectCommand::Spawn)
+    } else if is(word, b"exp_send_user") {
+        Some(ExpectCommand::SendUser)
+    } else if is(word, b"exp_close") {
+        Some(ExpectCommand::Close)
+    } else if is(word, b"exp_wait") {
+        Some(ExpectCommand::Wait)
+    } else if is(word, b"exp_match_max") {
+        Some(ExpectCommand::MatchMax)
+    } else if is(word, b"exp_remove_nulls") {
+        Some(ExpectCommand::RemoveNulls)
+    } else if is(word, b"exp_log_user") {
+        Some(ExpectCommand::LogUser)
+    } else {
+        None
+    }
+}
+
 /// Returns the command of Expect that a word names, if a procedure can have its name. Such a
 /// procedure is called instead.
 fn redefinable_expect(word: &[u8]) -> Option<ExpectCommand>
@@ -321,7 +347,7 @@ fn redefinable_expect(word: &[u8]) -> Option<ExpectCommand>
     } else if is(word, b"after") {
         Some(ExpectCommand::After)
     } else {
-        None
+        prefixed_expect(word)
     }
 }
 

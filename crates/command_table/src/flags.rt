@@ -1,16 +1,16 @@
 //! The flags of commands.
 
 ghost use Rattle.std.specs.Prelude.{◌≡◌};
-ghost use Rattle.command_table.specs.Flags.{is_own, begins_with_minus, flag_role};
+ghost use Rattle.command_table.specs.Flags.{is_own, begins_with_minus, flag_role, other_role, spawn_role};
 
 use crate::commands::is;
 
-/// A flag without a value that only some commands have.
+/// The flags that only some commands have.
 #[derive(Clone, Copy, PartialEq, Eq)]
 pub enum Own {
     None,
-    /// `-noecho` of `spawn`.
-    NoEcho,
+    /// `-noecho` of `spawn`, and its flags about terminals and signals.
+    Spawn,
     /// `-d` of `match_max` and `remove_nulls`.
     Default,
     /// `-continue_timer` of `exp_continue`.
@@ -39,6 +39,12 @@ pub enum Role {
     Alone,
     /// `-i`
     Id,
+    /// `-tty` (`true`) or `-notty` (`false`) of `spawn`.
+    Tty(bool),
+    /// A flag without a value that changes nothing, but is shown: `-nottycopy` or `-nottyinit` of `spawn`.
+    Shown,
+    /// Such a flag with a value: `-ignore` of `spawn`.
+    ShownWithValue,
     /// A flag that the command doesn't have.
     Bad,
 }
@@ -49,7 +55,7 @@ fn is_own(own: Own, word: &[u8]) -> bool
 {
     match own {
         Own::None => false,
-        Own::NoEcho => is(word, b"-noecho"),
+        Own::Spawn => is(word, b"-noecho"),
         Own::Default => is(word, b"-d"),
         Own::Timer => is(word, b"-continue_timer"),
     }
@@ -62,6 +68,33 @@ pub fn begins_with_minus(word: &[u8]) -> bool
     match word {
         [] => false,
         [first, ..] => *first == b'-',
+    }
+}
+
+/// Returns the role of a word that begins with `-` as a flag of `spawn`, other than `-noecho`.
+fn spawn_role(word: &[u8]) -> Role
+    ensures { result ≡ spawn_role word.now }
+{
+    if is(word, b"-tty") {
+        Role::Tty(true)
+    } else if is(word, b"-notty") {
+        Role::Tty(false)
+    } else if is(word, b"-nottycopy") || is(word, b"-nottyinit") {
+        Role::Shown
+    } else if is(word, b"-ignore") {
+        Role::ShownWithValue
+    } else {
+        Role::Bad
+    }
+}
+
+/// Returns the role of a word that begins with `-` and is no flag of most commands.
+fn other_role(own: Own, word: &[u8]) -> Role
+    ensures { result ≡ other_role own word.now }
+{
+    match own {
+        Own::Spawn => spawn_role(word),
+        Own::None | Own::Default | Own::Timer => Role::Bad,
     }
 }
 
@@ -78,6 +111,6 @@ pub fn flag_role(flags: Flags, word: &[u8]) -> Role
     } else if flags.id && is(word, b"-i") {
         Role::Id
     } else {
-        Role::Bad
+        other_role(flags.own, word)
     }
 }

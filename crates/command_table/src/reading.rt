@@ -1,7 +1,7 @@
 //! How the arguments of a command are read, one after another.
 
 ghost use Rattle.std.specs.Prelude.{◌≡◌};
-ghost use Rattle.command_table.specs.Reading.{texts, behind_test, behind_body, expect_word, expect_step, step, begin, is_short};
+ghost use Rattle.command_table.specs.Reading.{texts, listed, behind_test, behind_body, expect_word, expect_step, step, begin, is_short};
 
 use crate::commands::is;
 use crate::flags::begins_with_minus;
@@ -25,6 +25,10 @@ pub enum Stage {
     Each(Kind, Kind, Kind, Kind),
     /// The only argument has this kind. Several arguments are texts.
     Alone(Kind),
+    /// Lists of names, each followed by a list, and a script at the end.
+    Lists,
+    /// The same, with this number of arguments left.
+    Listed(usize),
     /// An option of the command, followed by texts.
     Choice,
     /// These flags at the front, followed by texts.
@@ -60,6 +64,19 @@ pub fn texts() -> Stage
     ensures { result ≡ texts }
 {
     Stage::Each(Kind::Text, Kind::Text, Kind::Text, Kind::Text)
+}
+
+/// Returns what an argument of `foreach` is read as, given the number of arguments left.
+fn listed(left: usize) -> Kind
+    ensures { result ≡ listed left }
+{
+    if left == 1 {
+        Kind::Script
+    } else if left % 2 == 1 {
+        Kind::Name
+    } else {
+        Kind::Text
+    }
 }
 
 /// Reads the word after a condition of `if`. One that isn't written plainly may be any word.
@@ -135,6 +152,8 @@ pub fn step(stage: Stage, word: &Option<Text>) -> (Kind, Stage)
             (first, Stage::Each(second, third, others, others))
         }
         Stage::Alone(kind) => (kind, texts()),
+        Stage::Lists => (Kind::Text, texts()),
+        Stage::Listed(left) => (listed(left), Stage::Listed(left.saturating_sub(1))),
         Stage::Choice => (Kind::Text, texts()),
         Stage::Front(_) => (Kind::Text, texts()),
         Stage::Test => (Kind::Expression, Stage::Then),
@@ -164,6 +183,7 @@ pub fn begin(stage: Stage, count: usize) -> Stage
                 texts()
             }
         }
+        Stage::Lists => Stage::Listed(count),
         _ => stage,
     }
 }

@@ -7,7 +7,7 @@ use crate::commands::{Command, ExpectCommand, TclCommand, ValueCommand};
 use crate::counts::{Count, at_least, between, exactly};
 use crate::flags::{Flags, Own};
 use crate::reading::Kind::{Expression, Name, Script, Text};
-use crate::reading::Stage::{Alone, Choice, Each, Front, Output, Pattern, Test};
+use crate::reading::Stage::{Alone, Choice, Each, Front, Lists, Output, Pattern, Test};
 use crate::reading::{Stage, texts};
 use crate::switches::Switches;
 
@@ -115,7 +115,7 @@ pub fn tcl_row(command: TclCommand) -> Row
         TclCommand::Exit => plain(between(0, 1), texts()),
         TclCommand::Expr => plain(at_least(1), Alone(Expression)),
         TclCommand::For => plain(exactly(4), Each(Script, Expression, Script, Script)),
-        TclCommand::Foreach => plain(exactly(3), Each(Name, Text, Script, Text)),
+        TclCommand::Foreach => plain(at_least(3), Lists),
         TclCommand::If => plain(at_least(2), Test),
         TclCommand::Proc => plain(exactly(3), Each(Text, Text, Script, Text)),
         TclCommand::Switch => plain(at_least(2), texts()),
@@ -139,7 +139,7 @@ pub fn expect_row(command: ExpectCommand) -> Row
         ExpectCommand::Send => flagged(Own::None, true, true, exactly(1)),
         ExpectCommand::SendUser => flagged(Own::None, false, true, exactly(1)),
         ExpectCommand::Sleep => plain(exactly(1), texts()),
-        ExpectCommand::Spawn => flagged(Own::NoEcho, false, true, at_least(1)),
+        ExpectCommand::Spawn => flagged(Own::Spawn, false, true, at_least(1)),
         ExpectCommand::Wait => flagged(Own::None, true, false, exactly(0)),
     }
 }

@@ -25,7 +25,7 @@ use Rattle.report_texts.specs.Escape.{quoted}
 use Rattle.report_texts.specs.Devices.{WasPut}
 use Rattle.course_texts.specs.Show.{told_line}
 use Rattle.course_texts.specs.Closing.{is_closed}
-use Rattle.course_texts.specs.Trail.{place_lines}
+use Rattle.course_texts.specs.Trail.{line_label, place_lines}
 use Rattle.course_texts.specs.Waits.{request_lines, wait_lines}
 use Rattle.course_texts.specs.Meetings.{course_text}
 use Rattle.course_texts.specs.declared.meetings.Teller.{Teller}
@@ -120,7 +120,7 @@ fault_line ending.Waiting fault = []
 
 -- The end of an explanation: the first line of the script's report, its error, and where the error occurred.
 unfoldable pub end_text : ℕ → Report → List ℕ
-end_text n r = head_line n r ++ fault_line r.ending r.fault ++ place_lines r.trail
+end_text n r = head_line n r ++ fault_line r.ending r.fault ++ place_lines line_label r.trail
 
 -- The explanation of script `n` over events.
 pub record Course (n : ℕ) (script : Script) (events : List HallEvent) (text : List ℕ) : Type 0 where

@@ -1,5 +1,5 @@
 -- Where the error that ended a script occurred: a line for each command and procedure that passed it on, innermost
--- first.
+-- first. The last one is a command of the script itself.
 use Rattle.std.specs.Prelude.{ℕ, ◌-◌, nat_lt, not, ◌==◌, List, [], ◌∷◌, ◌++◌, length, drop, take, codes, if◌then◌else◌}
 use Rattle.std.specs.List.{prefix_len}
 use Rattle.tcl_words.specs.Bytes as ascii
@@ -23,10 +23,10 @@ shortened line = if nat_lt 150 (length line) then line_text (take 150 line) ++ c
 abbrev pub command_from : List ℕ → ℕ → List ℕ
 command_from script at = begin_of (drop at script)
 
--- The line number at which a command begins, and the text of that line from the command on.
-unfoldable pub command_line : List ℕ → List ℕ → List ℕ
-command_line script text =
-    labelled (codes "  line ") (line_of script (length script - length text)) ++ codes ": " ++ shortened (take (line_len text) text) ++ codes "\n"
+-- A label, the line number at which a command begins, and the text of that line from the command on.
+unfoldable pub command_line : List ℕ → List ℕ → List ℕ → List ℕ
+command_line label script text =
+    labelled label (line_of script (length script - length text)) ++ codes ": " ++ shortened (take (line_len text) text) ++ codes "\n"
 
 -- The words before a procedure's name. They are closed, so that the text of a line stays in pieces.
 unfoldable pub in_procedure : List ℕ
@@ -35,10 +35,20 @@ in_procedure = codes "  in procedure "
 abbrev pub procedure_line : List ℕ → List ℕ
 procedure_line name = in_procedure ++ quoted name ++ codes "\n"
 
-abbrev pub place_line : ErrorPlace → List ℕ
-place_line (Command script at) = command_line script (command_from script at)
-place_line (Procedure name) = procedure_line name
+abbrev pub place_line : List ℕ → ErrorPlace → List ℕ
+place_line label (Command script at) = command_line label script (command_from script at)
+place_line label (Procedure name) = procedure_line name
 
-abbrev pub place_lines : List ErrorPlace → List ℕ
-place_lines [] = []
-place_lines (p ∷ ps) = place_line p ++ place_lines ps
+-- The label of lines that are counted from an opening brace.
+unfoldable pub line_label : List ℕ
+line_label = codes "  line "
+
+-- The label of a command that these places follow.
+abbrev pub label_before : List ℕ → List ErrorPlace → List ℕ
+label_before last [] = last
+label_before last (p ∷ ps) = line_label
+
+-- The lines. `last` is the label of the last one.
+abbrev pub place_lines : List ℕ → List ErrorPlace → List ℕ
+place_lines last [] = []
+place_lines last (p ∷ ps) = place_line (label_before last ps) p ++ place_lines last ps

@@ -1,5 +1,5 @@
 -- What a script asks of its children, and what it waits for, in lines between those of its events.
-use Rattle.std.specs.Prelude.{ℕ, ◌+◌, ◌-◌, List, [], ◌∷◌, ◌++◌, length, drop, codes, if◌then◌else◌, Option, Some, None}
+use Rattle.std.specs.Prelude.{ℕ, ◌+◌, ◌-◌, nat_le, List, [], ◌∷◌, ◌++◌, length, drop, codes, if◌then◌else◌, Option, Some, None}
 use Rattle.exp_match.specs.Choice.{in_groups}
 use Rattle.exp_match.specs.declared.entry.Entry.{Entry}
 use Rattle.exp_match.specs.declared.entry.Want.{Want}
@@ -10,7 +10,7 @@ use Rattle.expect_core.specs.declared.request.Request.{Request}
 use Rattle.expect_core.specs.Awaited.{buffer_of}
 use Rattle.expect_core.specs.Deadlines.{as_moment}
 use Rattle.session.specs.Left.{Kept}
-use Rattle.session.specs.Awaited.{answering, expecting}
+use Rattle.session.specs.Awaited.{answering, starting, expecting}
 use Rattle.report_texts.specs.declared.acts.Spelling.TheVariants.{Quoted}
 use Rattle.report_texts.specs.Acts.{act_text}
 use Rattle.report_texts.specs.Report.{labelled}
@@ -35,6 +35,11 @@ unfoldable pub answer_line : Option ℕ → List ℕ
 answer_line None = []
 answer_line (Some c) = margin ++ labelled (codes "waits for the answer of child ") c ++ codes "\n"
 
+-- The line of the start that the script waits for.
+unfoldable pub start_line : Option ℕ → List ℕ
+start_line None = []
+start_line (Some c) = margin ++ labelled (codes "waits for the start of child ") c ++ codes "\n"
+
 -- The verdict for a pattern of which only a front matches in the bytes.
 unfoldable pub only_line : List ℕ → List ℕ
 only_line front = codes "  no, only " ++ quoted front ++ codes "\n"
@@ -45,10 +50,14 @@ verdict_by [] front = codes "  no\n"
 verdict_by (b ∷ bytes) [] = codes "  no, nothing of it\n"
 verdict_by (b ∷ bytes) (c ∷ front) = only_line (c ∷ front)
 
+-- The verdict for a pattern that did not match. Its fronts are looked for only in up to 4,000 bytes.
+abbrev pub verdict_in : List ℕ → Want → List ℕ
+verdict_in bytes w = if nat_le (length bytes) 4000 then verdict_by bytes (front_of w bytes) else codes "  no\n"
+
 -- The verdict for a pattern that did not match, or for a keyword whose event has not happened.
 abbrev pub verdict : List ℕ → Want → List ℕ
-verdict bytes (want.Exact text nocase) = verdict_by bytes (front_of (want.Exact text nocase) bytes)
-verdict bytes (want.Glob glob nocase) = verdict_by bytes (front_of (want.Glob glob nocase) bytes)
+verdict bytes (want.Exact text nocase) = verdict_in bytes (want.Exact text nocase)
+verdict bytes (want.Glob glob nocase) = verdict_in bytes (want.Glob glob nocase)
 verdict bytes (want.Regular r) = codes "  no\n"
 verdict bytes (want.Keyword k) = codes "\n"
 
@@ -96,4 +105,4 @@ expect_lines children (Some p) = until_line (as_moment p.deadline) ++ side_lines
 
 -- The lines of what a session waits for.
 unfoldable pub wait_lines : Kept → List ℕ
-wait_lines k = answer_line (answering k) ++ expect_lines k.dialogue.own.children (expecting k)
+wait_lines k = answer_line (answering k) ++ start_line (starting k) ++ expect_lines k.dialogue.own.children (expecting k)

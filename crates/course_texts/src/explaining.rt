@@ -10,7 +10,7 @@ ghost use Rattle.course_texts.specs.Explain.{is_quiet as is_quiet_of, SaysAll, T
 use crate::closing::is_closed;
 use crate::events::push_line;
 use crate::meetings::{Teller, rest_of};
-use crate::trail::push_places;
+use crate::trail::{line_label, push_places};
 use crate::waits::{push_requests, push_waits};
 use child_events::{Counted, HallEvent, HallEvents, LogFault, LogReader, own_event};
 use dialogue_sched::{MOST_SCRIPTS, Script};
@@ -208,7 +208,7 @@ fn push_end(alloc: Global, text: &mut Text, number: u8, report: &Report) -> Resu
     push_head(alloc, text, usize::from(number), report)?;
     text.push(b'\n')?;
     push_fault(alloc, text, report.ending, report.fault.as_slice())?;
-    push_places(alloc, text, report.trail.as_slice())
+    push_places(alloc, text, line_label(), report.trail.as_slice())
 }
 
 /// Returns the explanation of script `number` over events.

@@ -17,3 +17,4 @@ mod waits;
 
 pub use explaining::{ExplainFault, explain};
 pub use showing::{ShowFault, show_log};
+pub use trail::push_places;

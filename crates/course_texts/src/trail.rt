@@ -1,7 +1,7 @@
 //! The text of where an error occurred.
 
 ghost use Rattle.std.specs.Prelude.{◌≡◌, ◌++◌, ◌≤◌, drop, take, length, OnOk};
-ghost use Rattle.course_texts.specs.Trail.{line_len, shortened, command_line, in_procedure, procedure_line, place_line, place_lines};
+ghost use Rattle.course_texts.specs.Trail.{line_len, shortened, command_line, in_procedure, label_before, line_label as line_label_of, procedure_line, place_line, place_lines};
 
 use report_texts::{push_labelled, push_line, push_quoted};
 use script_check::{begin_of, line_of};
@@ -55,13 +55,14 @@ fn push_shortened(alloc: Global, text: &mut Text, line: &[u8]) -> Result<(), All
 fn push_command(
     alloc: Global,
     text: &mut Text,
+    label: &[u8],
     script: &[u8],
     left: &[u8],
 ) -> Result<(), AllocError>
-    ensures { OnOk result (text.new ≡ text.old ++ command_line script.now left.now) }
+    ensures { OnOk result (text.new ≡ text.old ++ command_line label.now script.now left.now) }
 {
     let line = line_of(script, script.len().saturating_sub(left.len()));
-    push_labelled(alloc, text, b"  line ", line as u128)?;
+    push_labelled(alloc, text, label, line as u128)?;
     text.extend(b": ")?;
     push_shortened(alloc, text, first_line(left))?;
     text.extend(b"\n")
@@ -84,24 +85,57 @@ fn push_procedure(alloc: Global, text: &mut Text, name: &[u8]) -> Result<(), All
     text.extend(b"\n")
 }
 
-fn push_place(alloc: Global, text: &mut Text, place: &ErrorPlace) -> Result<(), AllocError>
-    ensures { OnOk result (text.new ≡ text.old ++ place_line place.now) }
+fn push_place(
+    alloc: Global,
+    text: &mut Text,
+    label: &[u8],
+    place: &ErrorPlace,
+) -> Result<(), AllocError>
+    ensures { OnOk result (text.new ≡ text.old ++ place_line label.now place.now) }
 {
     match place {
         ErrorPlace::Command { script, at } => {
             let script = script.as_slice();
-            push_command(alloc, text, script, begin_of(rest_of(script, *at)))
+            push_command(alloc, text, label, script, begin_of(rest_of(script, *at)))
         }
         ErrorPlace::Procedure { name } => push_procedure(alloc, text, name.as_slice()),
     }
 }
 
-/// Appends the lines of the places where an error occurred.
-pub fn push_places(alloc: Global, text: &mut Text, places: &[ErrorPlace]) -> Result<(), AllocError>
-    ensures { OnOk result (text.new ≡ text.old ++ place_lines places.now) }
+/// Returns the label of lines that are counted from an opening brace.
+#[tactic(auto, unfolding(crate::specs::Trail::line_label))]
+pub(crate) fn line_label() -> &'static [u8]
+    ensures { result.now ≡ line_label_of }
 {
-    for place in places {
-        push_place(alloc, text, place)?;
+    b"  line "
+}
+
+/// Returns the label of a command that these places follow.
+fn label_of<'a>(last: &'a [u8], places: &[ErrorPlace]) -> &'a [u8]
+    ensures { result.now ≡ label_before last.now places.now }
+{
+    if places.is_empty() {
+        last
+    } else {
+        line_label()
     }
-    Ok(())
+}
+
+/// Appends the lines of the places where an error occurred, the innermost first. `last` is the label
+/// of the last one, which is a command of the script itself. Its line number follows.
+pub fn push_places(
+    alloc: Global,
+    text: &mut Text,
+    last: &[u8],
+    places: &[ErrorPlace],
+) -> Result<(), AllocError>
+    ensures { OnOk result (text.new ≡ text.old ++ place_lines last.now places.now) }
+{
+    match places {
+        [] => Ok(()),
+        [place, rest @ ..] => {
+            push_place(alloc, text, label_of(last, rest), place)?;
+            push_places(alloc, text, last, rest)
+        }
+    }
 }

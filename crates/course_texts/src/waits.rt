@@ -2,8 +2,8 @@
 
 ghost use Rattle.std.specs.Prelude.{◌≡◌, ◌++◌, IfOk, OnOk, Some, None, MatchOption};
 ghost use Rattle.exp_match.specs.Choice.{in_groups};
-ghost use Rattle.session.specs.Awaited.{answering, expecting};
-ghost use Rattle.course_texts.specs.Waits.{margin, request_line, request_lines, answer_line, only_line, verdict_by, verdict as verdict_of, entry_line, own_line, own_lines, tail_of, buffer_line, side_lines, deadline_line, endless_line, until_line, expect_lines, wait_lines};
+ghost use Rattle.session.specs.Awaited.{answering, starting, expecting};
+ghost use Rattle.course_texts.specs.Waits.{margin, request_line, request_lines, answer_line, start_line, only_line, verdict_by, verdict_in, verdict as verdict_of, entry_line, own_line, own_lines, tail_of, buffer_line, side_lines, deadline_line, endless_line, until_line, expect_lines, wait_lines};
 
 use crate::nearest::front_of;
 use crate::patterns::push_want;
@@ -16,6 +16,9 @@ use tcl_words::Text;
 
 /// The greatest number of a child's last bytes shown.
 pub(crate) const SHOWN: usize = 200;
+
+/// The most bytes in which fronts of patterns are looked for.
+const SOUGHT: usize = 4_000;
 
 /// Appends the columns of an event's moment, as spaces.
 #[tactic(auto, unfolding(crate::specs::Waits::margin))]
@@ -65,6 +68,24 @@ fn push_answer(alloc: Global, text: &mut Text, child: Option<u8>) -> Result<(), 
     text.extend(b"\n")
 }
 
+/// Appends the line of the child whose start the script waits for, if there is one.
+#[tactic(auto, unfolding(crate::specs::Waits::start_line))]
+fn push_start(alloc: Global, text: &mut Text, child: Option<u8>) -> Result<(), AllocError>
+    ensures { OnOk result (text.new ≡ text.old ++ start_line child) }
+{
+    let Some(child) = child else {
+        return Ok(());
+    };
+    push_margin(text)?;
+    push_labelled(
+        alloc,
+        text,
+        b"waits for the start of child ",
+        u128::from(child),
+    )?;
+    text.extend(b"\n")
+}
+
 /// Appends the verdict for a pattern of which only a front matches.
 #[tactic(auto, unfolding(crate::specs::Waits::only_line))]
 fn push_only(alloc: Global, text: &mut Text, front: &[u8]) -> Result<(), AllocError>
@@ -92,18 +113,33 @@ fn push_verdict_by(
     }
 }
 
+/// Appends the verdict for a pattern that did not match in bytes.
+fn push_verdict_in(
+    alloc: Global,
+    text: &mut Text,
+    bytes: &[u8],
+    want: &Want,
+) -> Result<(), AllocError>
+    ensures { OnOk result (text.new ≡ text.old ++ verdict_in bytes.now want.now) }
+{
+    if bytes.len() <= SOUGHT {
+        let front = front_of(alloc, want, bytes)?;
+        push_verdict_by(alloc, text, bytes, front.as_slice())
+    } else {
+        text.extend(b"  no\n")
+    }
+}
+
 /// Appends the verdict for an entry that did not match in bytes.
 fn push_verdict(alloc: Global, text: &mut Text, bytes: &[u8], want: &Want) -> Result<(), AllocError>
     ensures { OnOk result (text.new ≡ text.old ++ verdict_of bytes.now want.now) }
 {
     match want {
-        Want::Regular(_) => return text.extend(b"  no\n"),
-        Want::Keyword(_) => return text.extend(b"\n"),
-        Want::Exact { .. } => {}
-        Want::Glob { .. } => {}
+        Want::Exact { .. } => push_verdict_in(alloc, text, bytes, want),
+        Want::Glob { .. } => push_verdict_in(alloc, text, bytes, want),
+        Want::Regular(_) => text.extend(b"  no\n"),
+        Want::Keyword(_) => text.extend(b"\n"),
     }
-    let front = front_of(alloc, want, bytes)?;
-    push_verdict_by(alloc, text, bytes, front.as_slice())
 }
 
 #[tactic(auto, unfolding(crate::specs::Waits::entry_line))]
@@ -248,6 +284,7 @@ pub fn push_waits(alloc: Global, text: &mut Text, session: &Session) -> Result<(
     ensures { OnOk result (text.new ≡ text.old ++ wait_lines session.now) }
 {
     push_answer(alloc, text, session.answering())?;
+    push_start(alloc, text, session.starting())?;
     match session.expecting() {
         Some(plan) => push_expect(alloc, text, session, plan),
         None => Ok(()),

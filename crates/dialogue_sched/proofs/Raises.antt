@@ -23,4 +23,4 @@ extended_raised [] d = refl
 extended_raised (e ∷ es) d = ap (λ (x : Dialogue). extended (raised_from (max d.horizon (moment_of e)) es) x) (offered_raised e d) ∙ extended_raised es (offered e d)
 
 pub means_raised : MeansRaised
-means_raised source settings events = ap (λ (d : Dialogue). told settings.tells_vars (play (steps_of settings.steps) (tree_of source settings) d)) (extended_raised events (fresh settings.limit_ms))
+means_raised source settings events = ap (λ (d : Dialogue). told settings.tells_vars (play (steps_of settings.steps) (tree_of source settings) d)) (extended_raised events (fresh settings))

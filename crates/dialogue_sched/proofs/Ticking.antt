@@ -1,8 +1,9 @@
 -- Ticks that are put into a script's events.
-use Rattle.std.proofs.Common.{◌≡◌, ℕ, ◌≤◌, List, [], ◌∷◌, ◌++◌, Option, max, refl, sym, ap, subst, ◌∙◌, arith}
+use Rattle.std.proofs.Common.{◌≡◌, ℕ, ◌≤◌, List, [], ◌∷◌, ◌++◌, max, refl, sym, ap, subst, ◌∙◌, arith}
 use Rattle.child_events.specs.declared.event.Event.{Event}
 use Rattle.child_events.specs.declared.event.Event.TheVariants as event
 use Rattle.child_events.specs.World.{moment_of, horizon_from, horizon_of}
+use Rattle.expect_core.specs.declared.settings.Settings.{Settings}
 use Rattle.expect_core.specs.declared.dialogue.Dialogue.{Dialogue}
 use Rattle.expect_core.specs.Lanes.{arrived, offered, extended}
 use Rattle.expect_core.specs.Calls.{fresh}
@@ -50,9 +51,9 @@ not_lower xs ys (kept e es more p) h k le = not_lower es more p (max h (moment_o
 not_lower xs ys (tick m es more p) h k le = not_lower es more p h (max k m) (omega (arith, le))
 
 -- one tick behind all raises it as far
-behind_all : (es more : List Event) → WithTicks es more → Rises more → (limit : Option ℕ) → extended more (fresh limit) ≡ extended (es ++ event.Tick (horizon_of more) ∷ []) (fresh limit)
-behind_all es more p up limit =
-    let first : Dialogue = fresh limit in
+behind_all : (es more : List Event) → WithTicks es more → Rises more → (settings : Settings) → extended more (fresh settings) ≡ extended (es ++ event.Tick (horizon_of more) ∷ []) (fresh settings)
+behind_all es more p up settings =
+    let first : Dialogue = fresh settings in
     let h : ℕ = horizon_of more in
     let d : Dialogue = extended es first in
     let below : d.horizon ≤ h = subst (λ (n : ℕ). n ≤ h) (sym (extended_horizon es first)) (not_lower es more p 0 0 (omega arith)) in
@@ -62,7 +63,7 @@ behind_all es more p up limit =
     ∙ extended_append es (event.Tick h ∷ []) first
 
 pub ticks_are_one : TicksAreOne
-ticks_are_one source settings events more up p = ap (λ (d : Dialogue). told settings.tells_vars (play (steps_of settings.steps) (tree_of source settings) d)) (behind_all events more p up settings.limit_ms)
+ticks_are_one source settings events more up p = ap (λ (d : Dialogue). told settings.tells_vars (play (steps_of settings.steps) (tree_of source settings) d)) (behind_all events more p up settings)
 
 pub ticks_change_nothing : TicksChangeNothing
 ticks_change_nothing source settings events more up p ends =

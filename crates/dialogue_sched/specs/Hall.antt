@@ -7,7 +7,7 @@ use Rattle.session.specs.declared.report.Report.{Report}
 use Rattle.expect_core.specs.declared.request.Request.{Request}
 use Rattle.expect_core.specs.Lanes.{untaken_of}
 use Rattle.session.specs.Meaning.{meaning}
-use Rattle.session.specs.Left.{Kept, left, HandsOut, HasShown}
+use Rattle.session.specs.Left.{Kept, left, HandsOut, HasShown, HasStarted}
 use Rattle.session.specs.Spent.{Reports}
 use Rattle.dialogue_sched.specs.declared.script.Script.{Script}
 use Rattle.dialogue_sched.specs.declared.hall.HallFault.{HallFault}
@@ -79,6 +79,10 @@ EndsAt n ks (Some e) = MatchOption (session_at n ks) ⊥ (λ k. Ends k e)
 -- The transcript of the script with this number. Empty if there is no such script.
 abbrev pub HasShownAt : ℕ → List Kept → List ℕ → Type 0
 HasShownAt n ks bytes = MatchOption (session_at n ks) (bytes ≡ []) (λ k. HasShown k bytes)
+
+-- The child whose start the script with this number awaits. None if there is no such script.
+abbrev pub StartsAt : ℕ → List Kept → Option ℕ → Type 0
+StartsAt n ks child = MatchOption (session_at n ks) (child ≡ None) (λ k. HasStarted k child)
 
 -- The number of a child's items that a script has not taken.
 abbrev pub untaken_by : Option Kept → ℕ → ℕ

@@ -140,16 +140,16 @@ fn reports_in(room: Vec<Report>, sessions: Vec<Session>) -> Reports
     Reports { list }
 }
 
-ghost use Rattle.std.specs.Prelude.{IfOk, OnOk, OnErr, vec_capacity};
+ghost use Rattle.std.specs.Prelude.{IfOk, IfSome, OnOk, OnErr, vec_capacity};
 ghost use Rattle.dialogue_sched.specs.Hall.{AllReport};
 ghost use Rattle.dialogue_sched.specs.Feeding.{FedAllAt};
 ghost use Rattle.dialogue_sched.specs.Shares.{dealt_all, TookAt, AllTookShare};
 ghost use Rattle.dialogue_sched.specs.Took.{AllTook};
 
 impl Hall {
-    ghost use Rattle.dialogue_sched.specs.Hall.{Opens, Stepped, Requested, Reported, EndsAt, HasShownAt, session_at, untaken_by};
+    ghost use Rattle.dialogue_sched.specs.Hall.{Opens, Stepped, Requested, Reported, EndsAt, HasShownAt, StartsAt, session_at, untaken_by};
     ghost use Rattle.dialogue_sched.specs.Deadlines.{soonest, AllQuietUntil};
-    ghost use Rattle.std.specs.Prelude.{MatchOption, Some, None};
+    ghost use Rattle.std.specs.Prelude.{◌≤◌, MatchOption, Some, None};
 
     /// Creates a hall of these scripts. No event has reached it.
     pub fn new(alloc: Global, scripts: Vec<Script>) -> Result<Hall, HallFault>
@@ -290,6 +290,16 @@ impl Hall {
             Some(session) => session.transcript(),
             None => &[],
         }
+    }
+
+    /// Returns the number, from 1, of the child whose start a script awaits. `None` if it awaits
+    /// none, or there is no such script. Constant time.
+    pub fn starting(&self, script: usize) -> Option<u8>
+        ensures value { StartsAt script self.now result }
+        ensures few { IfSome result (λ c. (1 ≤ c) × (c ≤ 16)) }
+    {
+        let session = self.session(script)?;
+        session.starting()
     }
 
     /// Returns the number of a child's items that no command has taken: pieces of output, the end

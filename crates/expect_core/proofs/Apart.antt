@@ -12,15 +12,15 @@ use Rattle.expect_core.specs.declared.request.Act.{Act}
 use Rattle.expect_core.specs.declared.request.Request.{Request}
 use Rattle.expect_core.specs.declared.child.Child.{Child}
 use Rattle.expect_core.specs.declared.effect.Effect.{Effect}
-use Rattle.expect_core.specs.declared.effect.Effect.TheVariants.{Tell, Log, LogUser, Add, Store, Ask}
+use Rattle.expect_core.specs.declared.effect.Effect.TheVariants.{Tell, Log, LogUser, Add, Store, Ask, Receive}
 use Rattle.expect_core.specs.declared.plan.Plan.{Plan}
 use Rattle.expect_core.specs.declared.phase.Phase.{Phase}
 use Rattle.expect_core.specs.declared.phase.Phase.TheVariants.{Idle, At}
 use Rattle.expect_core.specs.declared.turn.Want.{Want}
-use Rattle.expect_core.specs.declared.turn.Want.TheVariants.{Answer, Output, End}
+use Rattle.expect_core.specs.declared.turn.Want.TheVariants.{Answer, First, Output, End}
 use Rattle.expect_core.specs.declared.dialogue.Dialogue.{Dialogue}
 use Rattle.expect_core.specs.Lanes.{no_lane, lane_of, place}
-use Rattle.expect_core.specs.Owned.{nobody, child_as, child_of, with_child, asked, told, logged, seen}
+use Rattle.expect_core.specs.Owned.{nobody, child_as, child_of, with_child, asked, told, logged, seen, received}
 use Rattle.expect_core.specs.Texts.{id_at}
 use Rattle.expect_core.specs.Heard.{IsWatched}
 use Rattle.expect_core.specs.Among.{IsAmong}
@@ -70,6 +70,9 @@ module _ (j : ℕ) where
     logged_spared text st true k = record { lane = k.lane; child = k.child; asked = k.asked; there = k.there; plans = k.plans }
     logged_spared text st false k = k
 
+    received_spared : (i : ℕ) (piece : List ℕ) (st : Dialogue) → j ≢ i → Spared a st → Spared a (record st { own = received i piece st.own })
+    received_spared i piece st other k = child_spared i _ (record st { own = logged (seen i piece st.own) st.own }) other (logged_spared (seen i piece st.own) st st.own.log_user k)
+
     added_spared : (modes : Modes) (st : Dialogue) (b : Bool) → Spared a st →
         Spared a (record st { own = if b then record st.own { children = st.own.children ++ child_as (id_at (length st.own.children)) modes st.own.size st.own.remove_nulls ∷ [] } else st.own })
     added_spared modes st true k = record {
@@ -91,6 +94,7 @@ module _ (j : ℕ) where
     does_spared at (LogUser on) st other k = record { lane = k.lane; child = k.child; asked = k.asked; there = k.there; plans = k.plans }
     does_spared at (Store pairs) st other k = k
     does_spared (Some i) (Ask act) st other k = asked_spared i act st other k
+    does_spared (Some i) (Receive piece) st other k = received_spared i piece st other k
     does_spared None _ st other k = record { lane = k.lane; child = k.child; asked = k.asked; there = k.there; plans = k.plans }
     does_spared (Some i) _ st other k = child_spared i _ st other k
 
@@ -105,7 +109,7 @@ module _ (j : ℕ) where
       pops = λ st k. record { lane = k.lane; child = k.child; asked = k.asked; there = k.there; plans = λ aside. none_around st.own.plans (k.plans aside) };
       types = λ i text st other k. let new = child_spared i _ st other k in record { lane = get_or-set_other st.lanes i j _ no_lane other ∙ k.lane; child = new.child; asked = new.asked; there = new.there; plans = new.plans };
       trims = λ i st other k. child_spared i _ st other k;
-      receives = λ i piece st other k. child_spared i _ (record st { own = logged (seen i piece st.own) st.own }) other (logged_spared (seen i piece st.own) st st.own.log_user k);
+      receives = λ i piece st other k. received_spared i piece st other k;
       takes = λ i q qs st other is k. record { lane = get_or-set_other st.lanes i j _ no_lane other ∙ k.lane; child = k.child; asked = k.asked; there = k.there; plans = k.plans };
       answers = λ i x l st other is k. record { lane = get_or-set_other st.lanes i j _ no_lane other ∙ k.lane; child = k.child; asked = k.asked; there = k.there; plans = k.plans };
       times = λ d st le k. record { lane = k.lane; child = k.child; asked = k.asked; there = k.there; plans = k.plans };
@@ -115,11 +119,13 @@ module _ (j : ℕ) where
 
   others_wanted : (w : Want) → ¬ IsAmong j (wanted_of w) → WantOf Other AnyEnd w
   others_wanted (Answer i why) out = λ same. out (inl (sym same))
+  others_wanted (First i words) out = λ same. out (inl (sym same))
   others_wanted (Output p) out = λ i part same. out (subst (λ (i : ℕ). IsWatched i p.sides) (sym same) part)
   others_wanted (End i p) out = ((λ same. out (inl (sym same))), (λ i part same. out (inr (subst (λ (i : ℕ). IsWatched i p.sides) (sym same) part))), tt)
 
   wanted_others : (w : Want) → WantOf Other AnyEnd w → ¬ IsAmong j (wanted_of w)
   wanted_others (Answer i why) other among = elim among [ inl same ↦ other (sym same) | inr none ↦ none ]
+  wanted_others (First i words) other among = elim among [ inl same ↦ other (sym same) | inr none ↦ none ]
   wanted_others (Output p) other among = other j among refl
   wanted_others (End i p) other among = elim among [ inl same ↦ other.0 (sym same) | inr part ↦ other.1 j part refl ]
 
@@ -157,6 +163,7 @@ Mine i p = IsWatched i p.sides
 own_phase : (f : Phase) → IsOfOwn f → PhaseOf Any Mine f
 own_phase Idle own = tt
 own_phase (At n (Answer i why)) own = tt
+own_phase (At n (First i words)) own = tt
 own_phase (At n (Output p)) own = λ i part. tt
 own_phase (At n (End i p)) own = (tt, (λ i part. tt), own)
 
@@ -166,7 +173,7 @@ phase_own _ of = tt
 
 pub stays_of_own : StaysOfOwn
 stays_of_own = record {
-  begins = λ limit. tt;
+  begins = λ settings. tt;
   offered = λ e st own. own;
   called = λ call st own.
       phase_own (outcome call st).2.phase

@@ -2,7 +2,6 @@
 use Rattle.std.proofs.Common.{◌≡◌, ℕ, zero, suc, ◌≤◌, List, [], ◌∷◌, max, min, Bool, true, false, Option, Some, None, inl, inr, refl, sym, ap, subst, ◌∙◌, arith}
 use Rattle.std.proofs.lemmas.Bool.Decides.{nat_tests}
 use Rattle.std.specs.Prelude.{nat_le, slice_get, if◌then◌else◌}
-use Rattle.child_events.specs.declared.event.Answer.{Answer}
 use Rattle.child_events.specs.declared.event.Event.TheVariants.{Tick}
 use Rattle.child_events.specs.Queue.{Queued}
 use Rattle.child_events.specs.Next.{IsEarliest, IsNext, IsSettled, next_of, Arrives, AllArrive}
@@ -21,18 +20,19 @@ use Rattle.expect_core.specs.declared.turn.Want.TheVariants as want
 use Rattle.expect_core.specs.declared.turn.Turn.{Turn}
 use Rattle.expect_core.specs.declared.own.Own.{Own}
 use Rattle.expect_core.specs.declared.dialogue.Dialogue.{Dialogue}
-use Rattle.expect_core.specs.Lanes.{lane_of, with_items, with_answers, offered}
+use Rattle.expect_core.specs.Lanes.{lane_of, Inbox, answer_box, item_box, with_left, with_items, offered}
 use Rattle.expect_core.specs.Owned.{at_moment}
 use Rattle.expect_core.specs.Heard.{watched, place_in, at_most, lapse, Listened, heard, heads, taken, on_next, listen_for, item_count, listen}
 use Rattle.expect_core.specs.Answered.{Outcome, idle, failure}
 use Rattle.expect_core.specs.Turns.{at}
 use Rattle.expect_core.specs.Expecting.{ended}
-use Rattle.expect_core.specs.Running.{over_limit, waits, answered, concluded, on_answer, awaited, waited_for, run, resuming}
+use Rattle.expect_core.specs.Spawning.{heard_first}
+use Rattle.expect_core.specs.Running.{over_limit, waits, answered, concluded, on_come, awaited, waited_for, run, resuming}
 use Rattle.expect_core.specs.Deadlines.{IsWithin, sooner, as_moment, soonest, deadline_under}
 use Rattle.expect_core.specs.Laws.{WaitsOn}
 use Rattle.expect_core.proofs.Times.{lapse_by}
-use Rattle.expect_core.proofs.Resting.{NoAnswer, NoItem, NoNext, Rests, WantRests, AsleepIn}
-use Rattle.expect_core.proofs.Turns.{lane_back}
+use Rattle.expect_core.proofs.Resting.{NoItem, NoNext, Rests, RestsAt, WantRests, AsleepIn}
+use Rattle.expect_core.proofs.LaneFacts.{IsInbox, of_answers, of_items, left_back}
 use Rattle.expect_core.proofs.Calling.{MayAnswer}
 use Rattle.expect_core.proofs.Steady.{steady_outcome}
 
@@ -133,20 +133,21 @@ module _ (limit : Option ℕ) (h : ℕ) (p : Plan) (lanes : List Lane) (o : Own)
 still : (limit : Option ℕ) (h : ℕ) (p : Plan) (lanes : List Lane) (o : Own) → Rests limit h p lanes → listen limit h p lanes o ≡ (lapse limit h p.deadline, lanes, o)
 still limit h p lanes o rests = still_next limit h p lanes o (listen_for (item_count lanes) limit h p) (next_of (heads (watched p) lanes) h) rests
 
-module _ (n : ℕ) (w : Want) (i : ℕ) (made : Answer → Own → Turn) (vars : Variables) (st : Dialogue) (m : ℕ) where
+module _ {X Y : Type 0} (b : Inbox X Y) (is_box : IsInbox b) (n : ℕ) (w : Want) (i : ℕ) (made : Y → Own → Turn) (vars : Variables) (st : Dialogue) (m : ℕ) where
   abbrev later : Dialogue
   later = idle (offered (Tick m) st)
 
-  still_awaited : NoAnswer st.limit (lane_of i st.lanes).answers → at_most st.horizon st.limit ≡ true → IsWithin m st.limit → awaited (run n) n w i made vars later ≡ (Wait, vars, record (offered (Tick m) st) { phase = At n w })
-  still_awaited none yet le =
-      let l : List (ℕ × Answer) = (lane_of i st.lanes).answers in
-      ap (λ (first : Option (ℕ × Answer) × List (ℕ × Answer)). on_answer (run n) n w made first.0 vars (record later { lanes = with_answers i first.1 st.lanes })) none
-      ∙ ap (λ (b : Bool). if b then waits n w vars (record later { lanes = with_answers i l st.lanes }) else over_limit vars (record later { lanes = with_answers i l st.lanes })) (at_most_later st.horizon m st.limit yet le)
-      ∙ ap (λ (ls : List Lane). waits n w vars (record later { lanes = ls })) (lane_back i st.lanes)
+  still_awaited : RestsAt b i st → IsWithin m st.limit → awaited b (run n) n w i made vars later ≡ (Wait, vars, record (offered (Tick m) st) { phase = At n w })
+  still_awaited rests le =
+      let l : List X = b.read (lane_of i st.lanes) in
+      ap (λ (first : Option (ℕ × Y) × List X). on_come (run n) n w made first.0 vars (record later { lanes = with_left b i first.1 st.lanes })) rests.0
+      ∙ ap (λ (yet : Bool). if yet then waits n w vars (record later { lanes = with_left b i l st.lanes }) else over_limit vars (record later { lanes = with_left b i l st.lanes })) (at_most_later st.horizon m st.limit rests.1 le)
+      ∙ ap (λ (ls : List Lane). waits n w vars (record later { lanes = ls })) (left_back b is_box i st.lanes)
 
 goes_on : (n : ℕ) (w : Want) (st : Dialogue) (vars : Variables) (m : ℕ) → WantRests w st → IsWithin m (sooner (deadline_under (At n w) st.lanes) st.limit) → waited_for (run n) n w vars (idle (offered (Tick m) st)) ≡ (Wait, vars, record (offered (Tick m) st) { phase = At n w })
-goes_on n (want.Answer i why) st vars m rests le = still_awaited n (want.Answer i why) i (λ a o. at i (answered why i a o)) vars st m rests.0 rests.1 le
-goes_on n (want.End i p) st vars m rests le = still_awaited n (want.End i p) i (λ a o. ended p i (failure a) o) vars st m rests.0 rests.1 le
+goes_on n (want.Answer i why) st vars m rests le = still_awaited answer_box of_answers n (want.Answer i why) i (λ a o. at i (answered why i a o)) vars st m rests le
+goes_on n (want.First i words) st vars m rests le = still_awaited item_box of_items n (want.First i words) i (λ it o. at i (heard_first words i it)) vars st m rests le
+goes_on n (want.End i p) st vars m rests le = still_awaited answer_box of_answers n (want.End i p) i (λ a o. ended p i (failure a) o) vars st m rests le
 goes_on n (want.Output p) st vars m rests le =
     let later : Dialogue = idle (offered (Tick m) st) in
     let hs : List (Option ℕ) = heads (watched p) st.lanes in

@@ -2,6 +2,7 @@
 use Rattle.std.proofs.Common.{◌≡◌, ℕ, zero, suc, ◌<◌, List, [], ◌∷◌, ◌++◌, length, Bool, true, false, Option, Some, None, ◌⊎◌, inl, inr, refl, sym, ap, ◌∙◌, max, arith}
 use Rattle.std.specs.Prelude.{if◌then◌else◌}
 use Rattle.child_events.specs.declared.event.Answer.{Answer}
+use Rattle.child_events.specs.declared.event.Item.{Item}
 use Rattle.child_events.specs.declared.event.Event.{Event}
 use Rattle.child_events.specs.World.{moment_of}
 use Rattle.tty.specs.Sends.{handed_by, line_after, echo_of}
@@ -27,23 +28,24 @@ use Rattle.expect_core.specs.declared.turn.Stage.TheVariants.{Over, Act, Look, S
 use Rattle.expect_core.specs.declared.turn.Turn.{Turn}
 use Rattle.expect_core.specs.declared.own.Own.{Own}
 use Rattle.expect_core.specs.declared.dialogue.Dialogue.{Dialogue}
-use Rattle.expect_core.specs.Lanes.{lane_of, with_answers, arrived, offered}
+use Rattle.expect_core.specs.Lanes.{lane_of, Inbox, answer_box, item_box, with_left, arrived, offered}
 use Rattle.expect_core.specs.Owned.{child_of, with_line, at_moment}
 use Rattle.expect_core.specs.Heard.{at_most, Listened, listen, look}
 use Rattle.expect_core.specs.Good.{Good}
-use Rattle.expect_core.specs.Answered.{Outcome, idle, owning, failure, first_answer}
+use Rattle.expect_core.specs.Answered.{Outcome, idle, owning, failure, first_of}
 use Rattle.expect_core.specs.Effects.{Performed, performed}
 use Rattle.expect_core.specs.Turns.{at, doing}
 use Rattle.expect_core.specs.Sending.{typed, handing}
 use Rattle.expect_core.specs.Expecting.{expecting, behind, ended}
-use Rattle.expect_core.specs.Running.{To, step_of, answered, concluded, on_answer, awaited, waited_for, staged, turned, run, turns, resuming}
+use Rattle.expect_core.specs.Spawning.{heard_first}
+use Rattle.expect_core.specs.Running.{To, step_of, answered, concluded, on_come, awaited, waited_for, staged, turned, run, turns, resuming}
 use Rattle.expect_core.specs.Calls.{named, filling, filled, began, begun, outer, outcome, onward, resumed}
 use Rattle.expect_core.proofs.Times.{past}
-use Rattle.expect_core.proofs.LaneFacts.{IsBeyond, within, answers_twice}
-use Rattle.expect_core.proofs.Growing.{IsLaterAnswer, MoreAnswers, more_answers, Fits, answers_there}
+use Rattle.expect_core.proofs.LaneFacts.{IsBeyond, within, IsInbox, of_answers, of_items, left_twice}
+use Rattle.expect_core.proofs.Growing.{IsLaterIn, More, as_more, more_items, more_answers, Fits, more_there}
 use Rattle.expect_core.proofs.Listening.{on_more, listen_more, look_more}
 use Rattle.expect_core.proofs.Echoes.{echoed_onward}
-use Rattle.expect_core.proofs.Goodness.{answer_good, typed_good, performed_good, GoodIn, waits_good}
+use Rattle.expect_core.proofs.Goodness.{answer_good, item_good, typed_good, performed_good, GoodIn, waits_good}
 use Rattle.expect_core.proofs.Keeping.{Kept as WaitKept}
 
 module _ (e : Event) where
@@ -80,12 +82,15 @@ module _ (e : Event) where
         ap (λ (r : Listened). concluded (run n) n p r vars (offered e (idle st))) (look_more e st.limit st.horizon h p (omega arith) st.lanes st.own)
         ∙ concluded_onward (look st.limit st.horizon p st.lanes st.own) (waits_good p (idle st) g).0
 
-  -- waits for an answer
+  -- waits for what comes next from a child
 
-  module _ (n : ℕ) (goes : Goes (run n)) (w : Want) (i : ℕ) (made : Answer → Own → Turn) (vars : Variables) (st : Dialogue) (g : Good (idle st))
-      (waits : (st : Dialogue) → waited_for (run n) n w vars st ≡ awaited (run n) n w i made vars st) where
+  module _ {X Y : Type 0} (b : Inbox X Y) (is_box : IsInbox b)
+      (more_of : (i m : ℕ) (lanes : List Lane) → More b i m lanes (arrived e m lanes) (arrived e m))
+      (taken_good : (i : ℕ) (x : X) (l : List X) (st : Dialogue) → b.read (lane_of i st.lanes) ≡ x ∷ l → Good st → Good (record st { lanes = with_left b i l st.lanes; own = at_moment (b.stamp x).0 st.own }))
+      (n : ℕ) (goes : Goes (run n)) (w : Want) (i : ℕ) (made : Y → Own → Turn) (vars : Variables) (st : Dialogue) (g : Good (idle st))
+      (waits : (st : Dialogue) → waited_for (run n) n w vars st ≡ awaited b (run n) n w i made vars st) where
     abbrev First : Type 0
-    First = Option (ℕ × Answer) × List (ℕ × Answer)
+    First = Option (ℕ × Y) × List X
 
     abbrev now : ℕ
     now = max st.horizon (moment_of e)
@@ -93,75 +98,86 @@ module _ (e : Event) where
     abbrev after : List Lane
     after = arrived e now st.lanes
 
-    more : MoreAnswers i now st.lanes after (arrived e now)
-    more = more_answers i now st.lanes e
+    more : More b i now st.lanes after (arrived e now)
+    more = more_of i now st.lanes
 
-    -- what a first answer comes to
+    -- what comes first comes to this
     abbrev come : First → Dialogue → Outcome
-    come x st' = on_answer (run n) n w made x.0 vars (record st' { lanes = with_answers i x.1 st'.lanes })
+    come x st' = on_come (run n) n w made x.0 vars (record st' { lanes = with_left b i x.1 st'.lanes })
 
-    -- a call that waits, with so many answers left
-    abbrev suspended : List (ℕ × Answer) → Dialogue
-    suspended left = record st { lanes = with_answers i left st.lanes; phase = At n w }
+    -- a call that waits, with so much left
+    abbrev suspended : List X → Dialogue
+    suspended left = record st { lanes = with_left b i left st.lanes; phase = At n w }
 
     abbrev waiting_or_over : Bool → Dialogue → Outcome
-    waiting_or_over b st' = if b then (step.Wait, vars, record st' { phase = At n w }) else (step.Stop TimeLimit, vars, st')
+    waiting_or_over yet st' = if yet then (step.Wait, vars, record st' { phase = At n w }) else (step.Stop TimeLimit, vars, st')
 
-    lanes_same : (left l : List (ℕ × Answer)) → with_answers i l after ≡ with_answers i l (arrived e now (with_answers i left st.lanes))
-    lanes_same left l = sym (answers_twice i (left ++ more.more) l after) ∙ ap (with_answers i l) (more.put left)
+    lanes_same : (left l : List X) → with_left b i l after ≡ with_left b i l (arrived e now (with_left b i left st.lanes))
+    lanes_same left l = sym (left_twice b is_box i (left ++ more.more) l after) ∙ ap (with_left b i l) (more.put left)
 
-    same_by : (left : List (ℕ × Answer)) (x : First) → come x (offered e (idle st)) ≡ come x (idle (offered e (suspended left)))
-    same_by left x = ap (λ (ls : List Lane). on_answer (run n) n w made x.0 vars (record (offered e (idle st)) { lanes = ls })) (lanes_same left x.1)
+    same_by : (left : List X) (x : First) → come x (offered e (idle st)) ≡ come x (idle (offered e (suspended left)))
+    same_by left x = ap (λ (ls : List Lane). on_come (run n) n w made x.0 vars (record (offered e (idle st)) { lanes = ls })) (lanes_same left x.1)
 
     -- it goes on with what is left and what came
-    goes_on : (left : List (ℕ × Answer)) → Fits i left st.lanes → come (first_answer st.limit (left ++ more.more)) (offered e (idle st)) ≡ resumed vars (offered e (suspended left))
-    unfolding more
+    goes_on : (left : List X) → Fits i left st.lanes → come (first_of b st.limit (left ++ more.more)) (offered e (idle st)) ≡ resumed vars (offered e (suspended left))
     goes_on left fits =
-        same_by left (first_answer st.limit (left ++ more.more))
-        ∙ ap (λ (l : List (ℕ × Answer)). come (first_answer st.limit l) (idle (offered e (suspended left)))) (sym (answers_there i e now st.lanes left fits))
+        same_by left (first_of b st.limit (left ++ more.more))
+        ∙ ap (λ (l : List X). come (first_of b st.limit l) (idle (offered e (suspended left)))) (sym (more_there b is_box i e now st.lanes more left fits))
         ∙ sym (waits (idle (offered e (suspended left))))
 
-    none_left : (left : List (ℕ × Answer)) → Fits i left st.lanes → (b : Bool) → at_most st.horizon st.limit ≡ b → (b ≡ false → first_answer st.limit (left ++ more.more) ≡ (None, left ++ more.more)) →
-        come (first_answer st.limit (left ++ more.more)) (offered e (idle st)) ≡ onward e (come (None, left) (idle st))
+    none_left : (left : List X) → Fits i left st.lanes → (yet : Bool) → at_most st.horizon st.limit ≡ yet → (yet ≡ false → first_of b st.limit (left ++ more.more) ≡ (None, left ++ more.more)) →
+        come (first_of b st.limit (left ++ more.more)) (offered e (idle st)) ≡ onward e (come (None, left) (idle st))
     none_left left fits true same none =
-        goes_on left fits ∙ sym (ap (λ (b : Bool). onward e (waiting_or_over b (record (idle st) { lanes = with_answers i left st.lanes }))) same)
+        goes_on left fits ∙ sym (ap (λ (yet : Bool). onward e (waiting_or_over yet (record (idle st) { lanes = with_left b i left st.lanes }))) same)
     none_left left fits false same none =
         ap (λ (x : First). come x (offered e (idle st))) (none refl)
-        ∙ ap (λ (b : Bool). waiting_or_over b (record (offered e (idle st)) { lanes = with_answers i (left ++ more.more) after })) (past st.limit st.horizon now same (omega arith))
+        ∙ ap (λ (yet : Bool). waiting_or_over yet (record (offered e (idle st)) { lanes = with_left b i (left ++ more.more) after })) (past st.limit st.horizon now same (omega arith))
         ∙ ap (λ (ls : List Lane). waiting_or_over false (record (offered e (idle st)) { lanes = ls })) (more.put left)
-        ∙ sym (ap (λ (b : Bool). onward e (waiting_or_over b (record (idle st) { lanes = with_answers i left st.lanes }))) same)
+        ∙ sym (ap (λ (yet : Bool). onward e (waiting_or_over yet (record (idle st) { lanes = with_left b i left st.lanes }))) same)
 
-    late_answer : (l : List (ℕ × Answer)) → IsLaterAnswer now l → at_most st.horizon st.limit ≡ false → first_answer st.limit l ≡ (None, l)
-    late_answer [] later out = refl
-    late_answer (a ∷ l) later out = ap (λ (b : Bool). let r : First = (if b then (Some a, l) else (None, a ∷ l)) in r) (past st.limit st.horizon a.0 out (omega (arith, later)))
+    late : (l : List X) → IsLaterIn b now l → at_most st.horizon st.limit ≡ false → first_of b st.limit l ≡ (None, l)
+    late [] later out = refl
+    late (x ∷ l) later out = ap (λ (yet : Bool). let r : First = (if yet then (Some (b.stamp x), l) else (None, x ∷ l)) in r) (past st.limit st.horizon (b.stamp x).0 out (omega (arith, later)))
 
-    answer_by : (a : ℕ × Answer) (l : List (ℕ × Answer)) → (lane_of i st.lanes).answers ≡ a ∷ l → Fits i (a ∷ l) st.lanes → (b : Bool) → at_most a.0 st.limit ≡ b →
-        come (first_answer st.limit (a ∷ l ++ more.more)) (offered e (idle st)) ≡ onward e (come (first_answer st.limit (a ∷ l)) (idle st))
-    answer_by a l is fits true same =
-        ap (λ (b : Bool). come (let r : First = (if b then (Some a, l ++ more.more) else (None, a ∷ l ++ more.more)) in r) (offered e (idle st))) same
-        ∙ ap (λ (ls : List Lane). run n (made a.1 (at_moment a.0 st.own)) vars (owning (at_moment a.0 st.own) (record (offered e (idle st)) { lanes = ls }))) (more.put l)
-        ∙ goes (made a.1 (at_moment a.0 st.own)) vars (record st { lanes = with_answers i l st.lanes; own = at_moment a.0 st.own }) (answer_good i a l (idle st) is g)
-        ∙ sym (ap (λ (b : Bool). onward e (come (let r : First = (if b then (Some a, l) else (None, a ∷ l)) in r) (idle st))) same)
-    answer_by a l is fits false same =
-        none_left (a ∷ l) fits (at_most st.horizon st.limit) refl (λ n. ap (λ (b : Bool). let r : First = (if b then (Some a, l ++ more.more) else (None, a ∷ l ++ more.more)) in r) same)
-        ∙ sym (ap (λ (b : Bool). onward e (come (let r : First = (if b then (Some a, l) else (None, a ∷ l)) in r) (idle st))) same)
+    first_by : (x : X) (l : List X) → b.read (lane_of i st.lanes) ≡ x ∷ l → Fits i (x ∷ l) st.lanes → (yet : Bool) → at_most (b.stamp x).0 st.limit ≡ yet →
+        come (first_of b st.limit (x ∷ l ++ more.more)) (offered e (idle st)) ≡ onward e (come (first_of b st.limit (x ∷ l)) (idle st))
+    first_by x l is fits true same =
+        let m = (b.stamp x).0 in
+        let y = (b.stamp x).1 in
+        ap (λ (yet : Bool). come (let r : First = (if yet then (Some (b.stamp x), l ++ more.more) else (None, x ∷ l ++ more.more)) in r) (offered e (idle st))) same
+        ∙ ap (λ (ls : List Lane). run n (made y (at_moment m st.own)) vars (owning (at_moment m st.own) (record (offered e (idle st)) { lanes = ls }))) (more.put l)
+        ∙ goes (made y (at_moment m st.own)) vars (record st { lanes = with_left b i l st.lanes; own = at_moment m st.own }) (taken_good i x l (idle st) is g)
+        ∙ sym (ap (λ (yet : Bool). onward e (come (let r : First = (if yet then (Some (b.stamp x), l) else (None, x ∷ l)) in r) (idle st))) same)
+    first_by x l is fits false same =
+        none_left (x ∷ l) fits (at_most st.horizon st.limit) refl (λ n. ap (λ (yet : Bool). let r : First = (if yet then (Some (b.stamp x), l ++ more.more) else (None, x ∷ l ++ more.more)) in r) same)
+        ∙ sym (ap (λ (yet : Bool). onward e (come (let r : First = (if yet then (Some (b.stamp x), l) else (None, x ∷ l)) in r) (idle st))) same)
 
-    by_answers : (l : List (ℕ × Answer)) → (lane_of i st.lanes).answers ≡ l → Fits i l st.lanes → come (first_answer st.limit (l ++ more.more)) (offered e (idle st)) ≡ onward e (come (first_answer st.limit l) (idle st))
-    by_answers [] is fits = none_left [] fits (at_most st.horizon st.limit) refl (λ out. late_answer more.more more.later out)
-    by_answers (a ∷ l) is fits = answer_by a l is fits (at_most a.0 st.limit) refl
+    by_left : (l : List X) → b.read (lane_of i st.lanes) ≡ l → Fits i l st.lanes → come (first_of b st.limit (l ++ more.more)) (offered e (idle st)) ≡ onward e (come (first_of b st.limit l) (idle st))
+    by_left [] is fits = none_left [] fits (at_most st.horizon st.limit) refl (λ out. late more.more more.later out)
+    by_left (x ∷ l) is fits = first_by x l is fits (at_most (b.stamp x).0 st.limit) refl
 
-    fitting : (i < length st.lanes) ⊎ IsBeyond i st.lanes → Fits i (lane_of i st.lanes).answers st.lanes
+    fitting : (i < length st.lanes) ⊎ IsBeyond i st.lanes → Fits i (b.read (lane_of i st.lanes)) st.lanes
     fitting (inl lt) = inl lt
-    fitting (inr b) = inr (b, ap (λ (l : Lane). l.answers) b.none)
+    fitting (inr beyond) = inr (beyond, ap b.read beyond.none ∙ is_box.none)
 
-    awaited_onward : awaited (run n) n w i made vars (offered e (idle st)) ≡ onward e (awaited (run n) n w i made vars (idle st))
+    awaited_onward : awaited b (run n) n w i made vars (offered e (idle st)) ≡ onward e (awaited b (run n) n w i made vars (idle st))
     awaited_onward =
-        ap (λ (l : List (ℕ × Answer)). come (first_answer st.limit l) (offered e (idle st))) more.read
-        ∙ by_answers (lane_of i st.lanes).answers refl (fitting (within i st.lanes))
+        ap (λ (l : List X). come (first_of b st.limit l) (offered e (idle st))) more.read
+        ∙ by_left (b.read (lane_of i st.lanes)) refl (fitting (within i st.lanes))
+
+  answer_onward : (n : ℕ) → Goes (run n) → (w : Want) (i : ℕ) (made : Answer → Own → Turn) (vars : Variables) (st : Dialogue) → Good (idle st) → ((st : Dialogue) → waited_for (run n) n w vars st ≡ awaited answer_box (run n) n w i made vars st) →
+      awaited answer_box (run n) n w i made vars (offered e (idle st)) ≡ onward e (awaited answer_box (run n) n w i made vars (idle st))
+  answer_onward n goes w i made vars st g waits = awaited_onward answer_box of_answers (λ i m lanes. more_answers i m lanes e) answer_good n goes w i made vars st g waits
+
+  item_onward : (n : ℕ) → Goes (run n) → (w : Want) (i : ℕ) (made : Item → Own → Turn) (vars : Variables) (st : Dialogue) → Good (idle st) → ((st : Dialogue) → waited_for (run n) n w vars st ≡ awaited item_box (run n) n w i made vars st) →
+      awaited item_box (run n) n w i made vars (offered e (idle st)) ≡ onward e (awaited item_box (run n) n w i made vars (idle st))
+  item_onward n goes w i made vars st g waits =
+      awaited_onward item_box of_items (λ i m lanes. as_more i m lanes (arrived e m lanes) (arrived e m) (more_items i m lanes e)) item_good n goes w i made vars st g waits
 
   waited_onward : (n : ℕ) → Goes (run n) → (w : Want) (vars : Variables) (st : Dialogue) → Good (idle st) → waited_for (run n) n w vars (offered e (idle st)) ≡ onward e (waited_for (run n) n w vars (idle st))
-  waited_onward n goes (want.Answer i why) vars st g = awaited_onward n goes (want.Answer i why) i (λ a o. at i (answered why i a o)) vars st g (λ st. refl)
-  waited_onward n goes (want.End i p) vars st g = awaited_onward n goes (want.End i p) i (λ a o. ended p i (failure a) o) vars st g (λ st. refl)
+  waited_onward n goes (want.Answer i why) vars st g = answer_onward n goes (want.Answer i why) i (λ a o. at i (answered why i a o)) vars st g (λ st. refl)
+  waited_onward n goes (want.First i words) vars st g = item_onward n goes (want.First i words) i (λ it o. at i (heard_first words i it)) vars st g (λ st. refl)
+  waited_onward n goes (want.End i p) vars st g = answer_onward n goes (want.End i p) i (λ a o. ended p i (failure a) o) vars st g (λ st. refl)
   waited_onward n goes (want.Output p) vars st g = listening_onward n goes p vars st g
 
   -- turns

@@ -5,10 +5,10 @@ use Rattle.std.specs.Prelude.{nat_lt}
 use Rattle.tcl_host.specs.Calls.{Call}
 use Rattle.expect_core.specs.declared.request.Act.{Act}
 use Rattle.expect_core.specs.declared.effect.Effect.{Effect}
-use Rattle.expect_core.specs.declared.effect.Effect.TheVariants.{Tell, Log, Add, Ask}
+use Rattle.expect_core.specs.declared.effect.Effect.TheVariants.{Tell, Log, Add, Ask, Receive}
 use Rattle.expect_core.specs.declared.own.Own.{Own}
 use Rattle.expect_core.specs.declared.dialogue.Dialogue.{Dialogue}
-use Rattle.expect_core.specs.Owned.{asked, told, seen}
+use Rattle.expect_core.specs.Owned.{asked, told, seen, received}
 use Rattle.expect_core.specs.Effects.{changed}
 use Rattle.expect_core.specs.Answered.{Outcome}
 use Rattle.expect_core.specs.Calls.{outcome}
@@ -37,11 +37,15 @@ module _ (o : Own) where
   told_kept : (text : List ℕ) (new : Own) → Keeps o new → Keeps o (told text new)
   told_kept text new k = (k.0, front_on o.transcript new.transcript text k.1)
 
+  received_kept : (i : ℕ) (piece : List ℕ) (new : Own) → Keeps o new → Keeps o (received i piece new)
+  received_kept i piece new k = pick (Keeps o) new.log_user _ _ (told_kept (seen i piece new) new k) k
+
   does_kept : (at : Option ℕ) (x : Effect) (new : Own) → Keeps o new → Keeps o (changed at x new)
   does_kept at (Tell text) new k = told_kept text new k
   does_kept at (Log text) new k = pick (Keeps o) new.log_user _ _ (told_kept text new k) k
   does_kept at (Add modes) new k = pick (Keeps o) (nat_lt (length new.children) 16) _ _ k k
   does_kept (Some i) (Ask act) new k = asked_kept i act new k
+  does_kept (Some i) (Receive piece) new k = received_kept i piece new k
   does_kept None _ new k = k
   does_kept (Some i) _ new k = k
 
@@ -52,7 +56,7 @@ module _ (o : Own) where
     pops = λ st k. k;
     types = λ i text st a k. k;
     trims = λ i st a k. k;
-    receives = λ i piece st a k. pick (Keeps o) st.own.log_user _ _ (told_kept (seen i piece st.own) st.own k) k;
+    receives = λ i piece st a k. received_kept i piece st.own k;
     takes = λ i q qs st a is k. k;
     answers = λ i x l st a is k. k;
     times = λ d st le k. k;

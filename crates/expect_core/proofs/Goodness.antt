@@ -9,8 +9,9 @@ use Rattle.tcl_host.specs.Calls.{Call}
 use Rattle.expect_core.specs.declared.lanes.Lane.{Lane}
 use Rattle.expect_core.specs.declared.plan.Plan.{Plan}
 use Rattle.expect_core.specs.declared.effect.Effect.{Effect}
-use Rattle.expect_core.specs.declared.effect.Effect.TheVariants.{Log, Add}
+use Rattle.expect_core.specs.declared.effect.Effect.TheVariants.{Log, Add, Receive}
 use Rattle.expect_core.specs.declared.own.Own.{Own}
+use Rattle.expect_core.specs.declared.settings.Settings.{Settings}
 use Rattle.expect_core.specs.declared.dialogue.Dialogue.{Dialogue}
 use Rattle.expect_core.specs.Lanes.{lane_of, with_items, with_answers, no_lanes}
 use Rattle.expect_core.specs.Owned.{child_of, told, received, at_moment, seen}
@@ -40,6 +41,7 @@ same_clock None (Add modes) o h le = pick (λ (o : Own). o.clock ≤ h) (nat_lt 
 same_clock None _ o h le = le
 same_clock (Some i) (Log text) o h le = pick (λ (o : Own). o.clock ≤ h) o.log_user _ _ le le
 same_clock (Some i) (Add modes) o h le = pick (λ (o : Own). o.clock ≤ h) (nat_lt (length o.children) 16) _ _ le le
+same_clock (Some i) (Receive piece) o h le = pick (λ (o : Own). o.clock ≤ h) o.log_user (told (seen i piece o) o) o le le
 same_clock (Some i) _ o h le = le
 
 pub answer_good : (i : ℕ) (a : ℕ × Answer) (l : List (ℕ × Answer)) (st : Dialogue) → (lane_of i st.lanes).answers ≡ a ∷ l → Good st → Good (record st { lanes = with_answers i l st.lanes; own = at_moment a.0 st.own })
@@ -51,6 +53,9 @@ taken_good : (h i : ℕ) (q : Queued) (qs : List Queued) (lanes : List Lane) (o 
 taken_good h i q qs lanes o is k =
     let by : ItemsBy h (q ∷ qs) = subst (ItemsBy h) is (items_by h i lanes k.0) in
     (with_items_by h i qs lanes k.0 by.1, omega (arith, by.0, k.1))
+
+pub item_good : (i : ℕ) (q : Queued) (qs : List Queued) (st : Dialogue) → (lane_of i st.lanes).items ≡ q ∷ qs → Good st → Good (record st { lanes = with_items i qs st.lanes; own = at_moment q.moment st.own })
+item_good i q qs st is g = let t = taken_good st.horizon i q qs st.lanes st.own is (g.lanes, g.clock) in record { clock = t.1; lanes = t.0 }
 
 received_good : (h i : ℕ) (piece : List ℕ) (lanes : List Lane) (o : Own) → GoodIn h lanes o → GoodIn h lanes (received i piece o)
 received_good h i piece lanes o k = (k.0, pick (λ (o : Own). o.clock ≤ h) o.log_user (told (seen i piece o) o) o k.1 k.1)
@@ -74,7 +79,7 @@ goodness = record {
   types = λ i text st a g. typed_good i text st g;
   trims = λ i st a g. record { clock = g.clock; lanes = g.lanes };
   receives = λ i piece st a g. record { clock = (received_good st.horizon i piece st.lanes st.own (g.lanes, g.clock)).1; lanes = g.lanes };
-  takes = λ i q qs st a is g. let t = taken_good st.horizon i q qs st.lanes st.own is (g.lanes, g.clock) in record { clock = t.1; lanes = t.0 };
+  takes = λ i q qs st a is g. item_good i q qs st is g;
   answers = λ i x l st a is g. answer_good i x l st is g;
   times = λ d st le g. record { clock = le; lanes = g.lanes };
 }
@@ -85,6 +90,6 @@ performed_good at xs vars st g = any_performs Good goodness at xs vars st g
 pub outcome_good : (call : Call) (st : Dialogue) → Good st → GoodAfter (outcome call st)
 outcome_good call st g = let new = (any_outcome Good goodness call st (record { clock = g.clock; lanes = g.lanes })).0 in record { clock = new.clock; lanes = new.lanes }
 
-pub good_fresh : (limit : Option ℕ) → Good (fresh limit)
+pub good_fresh : (settings : Settings) → Good (fresh settings)
 unfolding no_lanes
-good_fresh limit = record { clock = omega arith; lanes = no_lanes_by }
+good_fresh settings = record { clock = omega arith; lanes = no_lanes_by }

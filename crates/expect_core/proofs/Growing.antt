@@ -11,18 +11,16 @@ use Rattle.child_events.specs.declared.event.Event.{Event}
 use Rattle.child_events.specs.declared.event.Event.TheVariants as event
 use Rattle.child_events.specs.Queue.{Queued, came}
 use Rattle.expect_core.specs.declared.lanes.Lane.{Lane}
-use Rattle.expect_core.specs.Lanes.{lane_of, with_lane, with_items, with_answers, with_item, lane_with, grown, place, arrived}
-use Rattle.expect_core.proofs.LaneFacts.{Same, Apart, parted, IsBeyond, answers_put, grown-length}
+use Rattle.expect_core.specs.Lanes.{lane_of, with_lane, Inbox, answer_box, item_box, with_left, with_items, with_answers, with_item, lane_with, grown, place, arrived}
+use Rattle.expect_core.proofs.LaneFacts.{Same, Apart, parted, IsBeyond, IsInbox, left_there, grown-length}
 
 -- the first of them comes no earlier
-abbrev pub IsLater : ℕ → List Queued → Type 0
-IsLater h [] = Unit {0}
-IsLater h (q ∷ qs) = h ≤ q.moment
+abbrev pub IsLaterIn : {X Y : Type 0} → Inbox X Y → ℕ → List X → Type 0
+IsLaterIn b h [] = Unit {0}
+IsLaterIn b h (x ∷ more) = h ≤ (b.stamp x).0
 
--- no earlier answer
-abbrev pub IsLaterAnswer : ℕ → List (ℕ × Answer) → Type 0
-IsLaterAnswer h [] = Unit {0}
-IsLaterAnswer h (a ∷ more) = h ≤ a.0
+abbrev pub IsLater : ℕ → List Queued → Type 0
+IsLater h qs = IsLaterIn item_box h qs
 
 -- the first of them came from the child
 abbrev pub IsFromChild : List Queued → Type 0
@@ -37,11 +35,18 @@ pub record MoreItems (i : ℕ) (m : ℕ) (lanes after : List Lane) (to : List La
   pub read : (lane_of i after).items ≡ (lane_of i lanes).items ++ more
   pub put : (l : List Queued) → with_items i (l ++ more) after ≡ to (with_items i l lanes)
 
-pub record MoreAnswers (i : ℕ) (m : ℕ) (lanes after : List Lane) (to : List Lane → List Lane) : Type 0 where
-  pub more : List (ℕ × Answer)
-  pub later : IsLaterAnswer m more
-  pub read : (lane_of i after).answers ≡ (lane_of i lanes).answers ++ more
-  pub put : (l : List (ℕ × Answer)) → with_answers i (l ++ more) after ≡ to (with_answers i l lanes)
+-- these come behind those that are there
+pub record More {X Y : Type 0} (b : Inbox X Y) (i : ℕ) (m : ℕ) (lanes after : List Lane) (to : List Lane → List Lane) : Type 0 where
+  pub more : List X
+  pub later : IsLaterIn b m more
+  pub read : b.read (lane_of i after) ≡ b.read (lane_of i lanes) ++ more
+  pub put : (l : List X) → with_left b i (l ++ more) after ≡ to (with_left b i l lanes)
+
+abbrev pub MoreAnswers : ℕ → ℕ → List Lane → List Lane → (List Lane → List Lane) → Type 0
+MoreAnswers i m lanes after to = More answer_box i m lanes after to
+
+pub as_more : (i m : ℕ) (lanes after : List Lane) (to : List Lane → List Lane) → MoreItems i m lanes after to → More item_box i m lanes after to
+as_more i m lanes after to more = record { more = more.more; later = more.later; read = more.read; put = more.put }
 
 module _ (i j : ℕ) (m : ℕ) (lanes : List Lane) where
   abbrev lane : Lane
@@ -103,7 +108,7 @@ module _ (i j : ℕ) (m : ℕ) (lanes : List Lane) where
         ∙ a.put (record lane { answers = l });
   }
 
-  answers_same : (g : Lane → Lane) (more : List (ℕ × Answer)) → IsLaterAnswer m more → (g lane).answers ≡ lane.answers ++ more → ((l : List (ℕ × Answer)) → record (g lane) { answers = l ++ more } ≡ g (record lane { answers = l })) → Same i j g lanes → MoreAnswers i m lanes (grown g j lanes) (grown g j)
+  answers_same : (g : Lane → Lane) (more : List (ℕ × Answer)) → IsLaterIn answer_box m more → (g lane).answers ≡ lane.answers ++ more → ((l : List (ℕ × Answer)) → record (g lane) { answers = l ++ more } ≡ g (record lane { answers = l })) → Same i j g lanes → MoreAnswers i m lanes (grown g j lanes) (grown g j)
   answers_same g more later reads puts s = record {
     more = more;
     later = later;
@@ -164,15 +169,13 @@ arrived-length (event.Child c t w) m lanes = grown-length (lane_with m w) (place
 abbrev pub Fits : {X : Type 0} → ℕ → List X → List Lane → Type 0
 Fits i left lanes = (i < length lanes) ⊎ (IsBeyond i lanes × (left ≡ []))
 
-module _ (i : ℕ) (e : Event) (m : ℕ) (lanes : List Lane) where
-  pub answers_there : (left : List (ℕ × Answer)) → Fits i left lanes → (lane_of i (arrived e m (with_answers i left lanes))).answers ≡ left ++ (more_answers i m lanes e).more
-  answers_there left (inl lt) =
-      let more = more_answers i m lanes e in
-      sym (ap (λ (ls : List Lane). (lane_of i ls).answers) (more.put left))
-      ∙ answers_put i (left ++ more.more) (arrived e m lanes) (omega (arith, lt, arrived-length e m lanes))
-  answers_there left (inr b) =
-      let more = more_answers i m lanes e in
-      ap (λ (ls : List Lane). (lane_of i (arrived e m ls)).answers) (b.0.put (record (lane_of i lanes) { answers = left }))
+module _ {X Y : Type 0} (b : Inbox X Y) (is : IsInbox b) (i : ℕ) (e : Event) (m : ℕ) (lanes : List Lane) (more : More b i m lanes (arrived e m lanes) (arrived e m)) where
+  pub more_there : (left : List X) → Fits i left lanes → b.read (lane_of i (arrived e m (with_left b i left lanes))) ≡ left ++ more.more
+  more_there left (inl lt) =
+      sym (ap (λ (ls : List Lane). b.read (lane_of i ls)) (more.put left))
+      ∙ left_there b is i (left ++ more.more) (arrived e m lanes) (omega (arith, lt, arrived-length e m lanes))
+  more_there left (inr beyond) =
+      ap (λ (ls : List Lane). b.read (lane_of i (arrived e m ls))) (beyond.0.put (b.put left (lane_of i lanes)))
       ∙ more.read
-      ∙ ap (λ (l : Lane). l.answers ++ more.more) b.0.none
-      ∙ ap (λ (k : List (ℕ × Answer)). k ++ more.more) (sym b.1)
+      ∙ ap (λ (l : Lane). b.read l ++ more.more) beyond.0.none
+      ∙ ap (λ (k : List X). k ++ more.more) (is.none ∙ sym beyond.1)

@@ -1,8 +1,7 @@
 -- A lane that grows, and another one, or the same.
 use Rattle.std.proofs.Common.{◌≡◌, ℕ, zero, suc, ◌<◌, List, [], ◌∷◌, length, ◌⊎◌, inl, inr, refl, ap, arith}
-use Rattle.child_events.specs.declared.event.Answer.{Answer}
 use Rattle.expect_core.specs.declared.lanes.Lane.{Lane}
-use Rattle.expect_core.specs.Lanes.{no_lane, lane_of, with_lane, with_answers, grown}
+use Rattle.expect_core.specs.Lanes.{no_lane, lane_of, with_lane, Inbox, answer_box, item_box, with_left, grown}
 
 pub record Same (i j : ℕ) (g : Lane → Lane) (lanes : List Lane) : Type 0 where
   pub here : lane_of i (grown g j lanes) ≡ g (lane_of i lanes)
@@ -37,16 +36,34 @@ within i [] = inr (record { put = λ x. refl; none = refl })
 within zero (l ∷ ls) = inl (omega arith)
 within (suc i) (l ∷ ls) = beyond_more i l ls (within i ls)
 
-pub answers_twice : (i : ℕ) (l k : List (ℕ × Answer)) (lanes : List Lane) → with_answers i k (with_answers i l lanes) ≡ with_answers i k lanes
-answers_twice i l k [] = refl
-answers_twice zero l k (x ∷ xs) = refl
-answers_twice (suc i) l k (x ∷ xs) = ap (λ (ls : List Lane). x ∷ ls) (answers_twice i l k xs)
+-- what is put is there, and nothing else changes
+pub record IsInbox {X Y : Type 0} (b : Inbox X Y) : Type 0 where
+  pub there : (l : List X) (x : Lane) → b.read (b.put l x) ≡ l
+  pub back : (x : Lane) → b.put (b.read x) x ≡ x
+  pub twice : (l k : List X) (x : Lane) → b.put k (b.put l x) ≡ b.put k x
+  pub none : b.read no_lane ≡ []
 
--- what is put is there
-pub answers_put : (i : ℕ) (l : List (ℕ × Answer)) (lanes : List Lane) → i < length lanes → (lane_of i (with_answers i l lanes)).answers ≡ l
-answers_put i l [] lt = absurd (let no : i < 0 = lt in omega arith)
-answers_put zero l (x ∷ xs) lt = refl
-answers_put (suc i) l (x ∷ xs) lt = answers_put i l xs (omega (arith, lt))
+pub of_answers : IsInbox answer_box
+of_answers = record { there = λ l x. refl; back = λ x. refl; twice = λ l k x. refl; none = refl }
+
+pub of_items : IsInbox item_box
+of_items = record { there = λ l x. refl; back = λ x. refl; twice = λ l k x. refl; none = refl }
+
+module _ {X Y : Type 0} (b : Inbox X Y) (is : IsInbox b) where
+  pub left_back : (i : ℕ) (lanes : List Lane) → with_left b i (b.read (lane_of i lanes)) lanes ≡ lanes
+  left_back i [] = refl
+  left_back zero (x ∷ xs) = ap (λ (x : Lane). x ∷ xs) (is.back x)
+  left_back (suc i) (x ∷ xs) = ap (λ (ls : List Lane). x ∷ ls) (left_back i xs)
+
+  pub left_twice : (i : ℕ) (l k : List X) (lanes : List Lane) → with_left b i k (with_left b i l lanes) ≡ with_left b i k lanes
+  left_twice i l k [] = refl
+  left_twice zero l k (x ∷ xs) = ap (λ (x : Lane). x ∷ xs) (is.twice l k x)
+  left_twice (suc i) l k (x ∷ xs) = ap (λ (ls : List Lane). x ∷ ls) (left_twice i l k xs)
+
+  pub left_there : (i : ℕ) (l : List X) (lanes : List Lane) → i < length lanes → b.read (lane_of i (with_left b i l lanes)) ≡ l
+  left_there i l [] lt = absurd (let no : i < 0 = lt in omega arith)
+  left_there zero l (x ∷ xs) lt = is.there l x
+  left_there (suc i) l (x ∷ xs) lt = left_there i l xs (omega (arith, lt))
 
 pub grown-length : (g : Lane → Lane) (j : ℕ) (lanes : List Lane) → length (grown g j lanes) ≡ length lanes
 grown-length g j [] = refl

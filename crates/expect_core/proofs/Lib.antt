@@ -31,3 +31,4 @@ pub mod Apart
 pub mod Asking
 pub mod Worlds
 pub mod Receiving
+pub mod Firsts

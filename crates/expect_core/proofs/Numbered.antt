@@ -21,12 +21,13 @@ use Rattle.expect_core.specs.declared.plan.Plan.{Plan}
 use Rattle.expect_core.specs.declared.phase.Phase.{Phase}
 use Rattle.expect_core.specs.declared.phase.Phase.TheVariants.{Idle, At}
 use Rattle.expect_core.specs.declared.effect.Effect.{Effect}
-use Rattle.expect_core.specs.declared.effect.Effect.TheVariants.{Tell, Log, LogUser, Add, Store, Ask}
-use Rattle.expect_core.specs.declared.turn.Want.TheVariants.{Answer, Output, End}
+use Rattle.expect_core.specs.declared.effect.Effect.TheVariants.{Tell, Log, LogUser, Add, Store, Ask, Receive}
+use Rattle.expect_core.specs.declared.turn.Want.TheVariants.{Answer, First, Output, End}
 use Rattle.expect_core.specs.declared.child.Child.{Child}
 use Rattle.expect_core.specs.declared.own.Own.{Own}
+use Rattle.expect_core.specs.declared.settings.Settings.{Settings}
 use Rattle.expect_core.specs.declared.dialogue.Dialogue.{Dialogue}
-use Rattle.expect_core.specs.Owned.{nobody, child_as, with_child, asked, told, logged, seen}
+use Rattle.expect_core.specs.Owned.{nobody, child_as, with_child, asked, told, logged, seen, received}
 use Rattle.expect_core.specs.Flags.{arguments}
 use Rattle.expect_core.specs.Ids.{has_id, id_of, or_no_such, spoken_to}
 use Rattle.expect_core.specs.Among.{IsAmong}
@@ -125,18 +126,21 @@ on_top_places _ _ are = none_place
 among_places : (f : Phase) → IsOfPlaces f → AreAll (under_way f)
 among_places Idle at = none_place
 among_places (At n (Answer i why)) at = one_more [] i none_place at
+among_places (At n (First i words)) at = one_more [] i none_place at
 among_places (At n (Output p)) at = at
 among_places (At n (End i p)) at = λ k among. elim among [ inl same ↦ subst IsPlace same at.0 | inr part ↦ at.1 k part ]
 
 under_places : (f : Phase) → IsOfPlaces f → PhaseOf IsPlace AnyEnd f
 under_places Idle at = tt
 under_places (At n (Answer i why)) at = at
+under_places (At n (First i words)) at = at
 under_places (At n (Output p)) at = at
 under_places (At n (End i p)) at = (at.0, at.1, tt)
 
 places_under : (f : Phase) → PhaseOf IsPlace AnyEnd f → IsOfPlaces f
 places_under Idle at = tt
 places_under (At n (Answer i why)) at = at
+places_under (At n (First i words)) at = at
 places_under (At n (Output p)) at = at
 places_under (At n (End i p)) at = (at.0, at.1)
 
@@ -167,6 +171,9 @@ added_numbered modes o true room k =
     record { few = omega (arith, length-append o.children (child_as (id_at (length o.children)) modes o.size o.remove_nulls ∷ []), at); placed = k.placed; asked = k.asked }
 added_numbered modes o false room k = k
 
+received_numbered : (i : ℕ) (piece : List ℕ) (o : Own) → OwnNumbered o → OwnNumbered (received i piece o)
+received_numbered i piece o k = child_numbered i _ (logged (seen i piece o) o) (logged_numbered (seen i piece o) o o.log_user k)
+
 does_numbered : (at : Option ℕ) (x : Effect) (o : Own) → ChildOf IsPlace AnyEnd at → OwnNumbered o → OwnNumbered (changed at x o)
 does_numbered at (Tell text) o a k = k
 does_numbered at (Log text) o a k = logged_numbered text o o.log_user k
@@ -174,6 +181,7 @@ does_numbered at (LogUser on) o a k = k
 does_numbered at (Add modes) o a k = added_numbered modes o (nat_lt (length o.children) 16) refl k
 does_numbered at (Store pairs) o a k = k
 does_numbered (Some i) (Ask act) o a k = asked_numbered i act o a k
+does_numbered (Some i) (Receive piece) o a k = received_numbered i piece o k
 does_numbered None _ o a k = k
 does_numbered (Some i) _ o a k = child_numbered i _ o k
 
@@ -184,7 +192,7 @@ numbered = record {
   pops = λ st k. record { few = k.few; placed = outer_places st.own.plans k.placed; asked = k.asked };
   types = λ i text st a k. child_numbered i _ st.own k;
   trims = λ i st a k. child_numbered i _ st.own k;
-  receives = λ i piece st a k. child_numbered i _ (logged (seen i piece st.own) st.own) (logged_numbered (seen i piece st.own) st.own st.own.log_user k);
+  receives = λ i piece st a k. received_numbered i piece st.own k;
   takes = λ i q qs st a is k. k;
   answers = λ i x l st a is k. k;
   times = λ d st le k. k;
@@ -204,5 +212,5 @@ outcome_numbered call st k =
     let new = outcome_keeps IsPlace AnyEnd (λ i p w. tt) (λ st. OwnNumbered st.own) numbered call st (opens IsPlace AnyEnd call st (speaks_places call st k.0 k.1) (λ room. within (length st.own.children) room) (λ leaves. under_places st.phase k.1)) k.0 in
     (new.0, places_under (outcome call st).2.phase new.1)
 
-pub numbered_fresh : (limit : Option ℕ) → Numbered (fresh limit)
-numbered_fresh limit = (record { few = omega arith; placed = tt; asked = All-nil NamesAChild }, tt)
+pub numbered_fresh : (settings : Settings) → Numbered (fresh settings)
+numbered_fresh settings = (record { few = omega arith; placed = tt; asked = All-nil NamesAChild }, tt)

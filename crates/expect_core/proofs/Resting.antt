@@ -1,6 +1,5 @@
 -- A call that waits has nothing to take.
 use Rattle.std.proofs.Common.{◌≡◌, ℕ, List, [], ◌∷◌, true, false, Option, Some, None}
-use Rattle.child_events.specs.declared.event.Answer.{Answer}
 use Rattle.child_events.specs.Queue.{Queued}
 use Rattle.child_events.specs.Next.{next_of}
 use Rattle.expect_core.specs.declared.lanes.Lane.{Lane}
@@ -9,15 +8,19 @@ use Rattle.expect_core.specs.declared.phase.Phase.{Phase}
 use Rattle.expect_core.specs.declared.phase.Phase.TheVariants.{Idle, At}
 use Rattle.expect_core.specs.declared.phase.Heard.TheVariants.{NotYet}
 use Rattle.expect_core.specs.declared.turn.Want.{Want}
-use Rattle.expect_core.specs.declared.turn.Want.TheVariants.{Answer as AnswerOf, Output, End}
+use Rattle.expect_core.specs.declared.turn.Want.TheVariants.{Answer, First, Output, End}
 use Rattle.expect_core.specs.declared.dialogue.Dialogue.{Dialogue}
-use Rattle.expect_core.specs.Lanes.{lane_of}
+use Rattle.expect_core.specs.Lanes.{lane_of, Inbox, answer_box, item_box}
 use Rattle.expect_core.specs.Heard.{watched, place_in, at_most, lapse, in_time, Listened, heads}
-use Rattle.expect_core.specs.Answered.{first_answer}
+use Rattle.expect_core.specs.Answered.{first_of}
 
--- there is no answer in time
-abbrev pub NoAnswer : Option ℕ → List (ℕ × Answer) → Type 0
-NoAnswer limit l = first_answer limit l ≡ (None, l)
+-- there is nothing in time
+abbrev pub NoneCame : {X Y : Type 0} → Inbox X Y → Option ℕ → List X → Type 0
+NoneCame b limit l = first_of b limit l ≡ (None, l)
+
+-- nothing came in time from the child at a place, and time has not run out
+abbrev pub RestsAt : {X Y : Type 0} → Inbox X Y → ℕ → Dialogue → Type 0
+RestsAt b i st = NoneCame b st.limit (b.read (lane_of i st.lanes)) × (at_most st.horizon st.limit ≡ true)
 
 -- there is no item in time
 abbrev pub NoItem : Option ℕ → Option ℕ → List Queued → Type 0
@@ -35,8 +38,9 @@ Rests limit h p lanes = NoNext limit p (next_of (heads (watched p) lanes) h) lan
 -- what is under way has nothing to take, and time has not run out
 
 abbrev pub WantRests : Want → Dialogue → Type 0
-WantRests (AnswerOf i why) st = NoAnswer st.limit (lane_of i st.lanes).answers × (at_most st.horizon st.limit ≡ true)
-WantRests (End i p) st = NoAnswer st.limit (lane_of i st.lanes).answers × (at_most st.horizon st.limit ≡ true)
+WantRests (Answer i why) st = RestsAt answer_box i st
+WantRests (First i words) st = RestsAt item_box i st
+WantRests (End i p) st = RestsAt answer_box i st
 WantRests (Output p) st = Rests st.limit st.horizon p st.lanes × (lapse st.limit st.horizon p.deadline ≡ NotYet)
 
 abbrev pub AsleepIn : Phase → Dialogue → Type 0

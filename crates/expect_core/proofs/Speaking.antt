@@ -169,7 +169,7 @@ module _ (A : ℕ → Type 0) (B : ℕ → Plan → Type 0) where
 
   -- a child more is about nobody that was there before
   spawn_speaks : (order : SpawnOrder) (o : Own) (b : Bool) → nat_lt (length o.children) 16 ≡ b → (nat_lt (length o.children) 16 ≡ true → A (length o.children)) →
-      SaidOf A B (if b then Ok (To (length o.children) (react (ordering order) (Await (purpose.Spawn order.words)))) else Err too_many)
+      SaidOf A B (if b then Ok (To (length o.children) (react (ordering order) (Await (purpose.Spawn order.terminal order.words)))) else Err too_many)
   spawn_speaks order o true room new = new room
   spawn_speaks order o false room new = tt
 
@@ -197,7 +197,7 @@ module _ (A : ℕ → Type 0) (B : ℕ → Plan → Type 0) where
   slept_speaks c time word args o = each_said (arguments c word args) _ (λ f e. each_said (or_expected (arg 0 f.1) (time (arg 0 f.1))) _ (λ ms e. time_speaks (ms == 0) (until o.clock ms)))
 
   named_speaks : (c : ExpectCommand) (word : List ℕ) (args : List (List ℕ)) (vars : Variables) (o : Own) → ((i : ℕ) → IsAmong i (named_by (Some c) word args vars o) → A i) → (nat_lt (length o.children) 16 ≡ true → A (length o.children)) → SaidOf A B (named c word args vars o)
-  named_speaks command.Spawn word args vars o all new = each_said (order_of word args vars) _ (λ order e. spawn_speaks order o (nat_lt (length o.children) 16) refl new)
+  named_speaks command.Spawn word args vars o all new = each_said (order_of word args vars o.host) _ (λ order e. spawn_speaks order o (nat_lt (length o.children) 16) refl new)
   named_speaks command.Send word args vars o all new = each_said (send_of word args vars o) _ (λ s e. all s.0 (alone _ s.0 (send_speaks word args vars o s e)))
   named_speaks command.SendUser word args vars o all new = each_said (to_user word args) _ (λ text e. tt)
   named_speaks command.Expect word args vars o all new = expect_speaks args vars o all

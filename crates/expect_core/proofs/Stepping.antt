@@ -28,20 +28,21 @@ use Rattle.expect_core.specs.declared.turn.Stage.TheVariants.{Over, Act, Look, S
 use Rattle.expect_core.specs.declared.turn.Turn.{Turn}
 use Rattle.expect_core.specs.declared.own.Own.{Own}
 use Rattle.expect_core.specs.declared.dialogue.Dialogue.{Dialogue}
-use Rattle.expect_core.specs.Lanes.{lane_of, with_items, with_answers}
+use Rattle.expect_core.specs.Lanes.{lane_of, Inbox, answer_box, item_box, with_left, with_items, with_answers}
 use Rattle.expect_core.specs.Owned.{child_of, received, at_moment, trimmed}
 use Rattle.expect_core.specs.Scoped.{Unset}
 use Rattle.expect_core.specs.Heard.{at_most, groups_at, IsWatched, Listened, listen, look}
-use Rattle.expect_core.specs.Answered.{Outcome, idle, owning, failure, first_answer}
+use Rattle.expect_core.specs.Answered.{Outcome, idle, owning, failure, first_of}
 use Rattle.expect_core.specs.Effects.{Performed, changed, stored, unless, performed}
 use Rattle.expect_core.specs.Turns.{stage_of, at}
 use Rattle.expect_core.specs.Sending.{typed, handing}
 use Rattle.expect_core.specs.Expecting.{all_met, ended, late_at}
-use Rattle.expect_core.specs.Running.{To, step_of, answered, concluded, on_answer, awaited, waited_for, staged, turned, run, resuming}
+use Rattle.expect_core.specs.Spawning.{heard_first}
+use Rattle.expect_core.specs.Running.{To, step_of, answered, concluded, on_come, awaited, waited_for, staged, turned, run, resuming}
 use Rattle.expect_core.specs.Calls.{outer}
 use Rattle.expect_core.proofs.Keeping.{Kept as WaitKept, wait_keeps}
-use Rattle.expect_core.proofs.Turns.{lane_back}
-use Rattle.expect_core.proofs.Resting.{NoAnswer, WantRests, AsleepIn}
+use Rattle.expect_core.proofs.LaneFacts.{IsInbox, of_answers, of_items, left_back}
+use Rattle.expect_core.proofs.Resting.{NoneCame, RestsAt, WantRests, AsleepIn}
 
 -- A call that came to this step may come to it. One that waits has nothing to take.
 abbrev pub MayCome : HostStep → Dialogue → Type 0
@@ -59,6 +60,7 @@ module _ (A : ℕ → Type 0) (B : ℕ → Plan → Type 0) where
 
   abbrev pub WantOf : Want → Type 0
   WantOf (want.Answer i why) = A i
+  WantOf (want.First i words) = A i
   WantOf (want.Output p) = Sees p
   WantOf (want.End i p) = A i × Sees p × B i p
 
@@ -83,6 +85,7 @@ module _ (A : ℕ → Type 0) (B : ℕ → Plan → Type 0) where
   stage_of_a : (i : ℕ) (n : Next) → A i → StageOf (stage_of i n)
   stage_of_a i (next.Finish reply) a = tt
   stage_of_a i (next.Await why) a = a
+  stage_of_a i (next.Hear words) a = a
   stage_of_a i (next.Send text) a = a
 
   pub at_of : (i : ℕ) (r : Reaction) → A i → TurnOf (at i r)
@@ -162,44 +165,48 @@ module _ (A : ℕ → Type 0) (B : ℕ → Plan → Type 0) (mine : (i : ℕ) (p
         (λ i w piece lanes o h. k.receives i piece (record (idle st) { lanes = lanes; own = o }) (sees i w) h)
         (λ i w q qs lanes o is h. k.takes i q qs (record (idle st) { lanes = lanes; own = o }) (sees i w) is h) st.lanes st.own held
 
-  -- waits for an answer
+  -- waits for what comes next from a child
 
-  module _ (to : To) (runs : Runs to) (n : ℕ) (w : Want) (i : ℕ) (made : Answer → Own → Turn) (vars : Variables) (a : A i) (of : WantOf A B w) (made_of : (x : Answer) (o : Own) → TurnOf A B (made x o))
-      (rests : (st : Dialogue) → NoAnswer st.limit (lane_of i st.lanes).answers → at_most st.horizon st.limit ≡ true → WantRests w st) where
-    abbrev First : Type 0
-    First = Option (ℕ × Answer) × List (ℕ × Answer)
+  module _ {X Y : Type 0} (b : Inbox X Y) (is_box : IsInbox b)
+      (taken : (i : ℕ) (x : X) (l : List X) (st : Dialogue) → A i → b.read (lane_of i st.lanes) ≡ x ∷ l → P st → P (record st { lanes = with_left b i l st.lanes; own = at_moment (b.stamp x).0 st.own }))
+      (to : To) (runs : Runs to) (n : ℕ) (w : Want) (i : ℕ) (made : Y → Own → Turn) (vars : Variables) (a : A i) (of : WantOf A B w) (made_of : (y : Y) (o : Own) → TurnOf A B (made y o))
+      (rests : (st : Dialogue) → RestsAt b i st → WantRests w st) where
+    abbrev pub First : Type 0
+    First = Option (ℕ × Y) × List X
 
-    -- what a first answer comes to
+    -- what comes first comes to this
     abbrev come : First → Dialogue → Outcome
-    come x st = on_answer to n w made x.0 vars (record st { lanes = with_answers i x.1 st.lanes })
+    come x st = on_come to n w made x.0 vars (record st { lanes = with_left b i x.1 st.lanes })
 
-    waits_keeps : (st : Dialogue) → NoAnswer st.limit (lane_of i st.lanes).answers → P (idle st) → (b : Bool) → at_most st.horizon st.limit ≡ b → After (if b then (let r : Outcome = (step.Wait, vars, record (idle st) { phase = At n w }) in r) else (step.Stop TimeLimit, vars, idle st))
-    waits_keeps st none held true e = (held, of, rests (record st { phase = At n w }) none e)
+    waits_keeps : (st : Dialogue) → NoneCame b st.limit (b.read (lane_of i st.lanes)) → P (idle st) → (yet : Bool) → at_most st.horizon st.limit ≡ yet → After (if yet then (let r : Outcome = (step.Wait, vars, record (idle st) { phase = At n w }) in r) else (step.Stop TimeLimit, vars, idle st))
+    waits_keeps st none held true e = (held, of, rests (record st { phase = At n w }) (none, e))
     waits_keeps st none held false e = (held, tt, refl)
 
-    none_keeps : (l : List (ℕ × Answer)) (st : Dialogue) → (lane_of i st.lanes).answers ≡ l → first_answer st.limit l ≡ (None, l) → P (idle st) → After (come (None, l) (idle st))
+    none_keeps : (l : List X) (st : Dialogue) → b.read (lane_of i st.lanes) ≡ l → first_of b st.limit l ≡ (None, l) → P (idle st) → After (come (None, l) (idle st))
     none_keeps l st is none held =
-        let back : with_answers i l st.lanes ≡ st.lanes = subst (λ (x : List (ℕ × Answer)). with_answers i x st.lanes ≡ st.lanes) is (lane_back i st.lanes) in
-        subst (λ (ls : List Lane). After (on_answer to n w made None vars (record (idle st) { lanes = ls }))) (sym back)
-        (waits_keeps st (subst (NoAnswer st.limit) (sym is) none) held (at_most st.horizon st.limit) refl)
+        let back : with_left b i l st.lanes ≡ st.lanes = subst (λ (x : List X). with_left b i x st.lanes ≡ st.lanes) is (left_back b is_box i st.lanes) in
+        subst (λ (ls : List Lane). After (on_come to n w made None vars (record (idle st) { lanes = ls }))) (sym back)
+        (waits_keeps st (subst (NoneCame b st.limit) (sym is) none) held (at_most st.horizon st.limit) refl)
 
-    first_keeps : (x : ℕ × Answer) (l : List (ℕ × Answer)) (st : Dialogue) → (lane_of i st.lanes).answers ≡ x ∷ l → P (idle st) → (b : Bool) → at_most x.0 st.limit ≡ b → After (come (let r : First = (if b then (Some x, l) else (None, x ∷ l)) in r) (idle st))
+    first_keeps : (x : X) (l : List X) (st : Dialogue) → b.read (lane_of i st.lanes) ≡ x ∷ l → P (idle st) → (yet : Bool) → at_most (b.stamp x).0 st.limit ≡ yet → After (come (let r : First = (if yet then (Some (b.stamp x), l) else (None, x ∷ l)) in r) (idle st))
     first_keeps x l st is held true e =
-        runs _ vars (record st { lanes = with_answers i l st.lanes; own = at_moment x.0 st.own }) (made_of x.1 (at_moment x.0 st.own)) (k.answers i x l (idle st) a is held)
-    first_keeps x l st is held false e = none_keeps (x ∷ l) st is (ap (λ (b : Bool). let r : First = (if b then (Some x, l) else (None, x ∷ l)) in r) e) held
+        runs _ vars (record st { lanes = with_left b i l st.lanes; own = at_moment (b.stamp x).0 st.own }) (made_of (b.stamp x).1 (at_moment (b.stamp x).0 st.own)) (taken i x l (idle st) a is held)
+    first_keeps x l st is held false e = none_keeps (x ∷ l) st is (ap (λ (yet : Bool). let r : First = (if yet then (Some (b.stamp x), l) else (None, x ∷ l)) in r) e) held
 
-    answers_keep : (l : List (ℕ × Answer)) (st : Dialogue) → (lane_of i st.lanes).answers ≡ l → P (idle st) → After (come (first_answer st.limit l) (idle st))
-    answers_keep [] st is held = none_keeps [] st is refl held
-    answers_keep (x ∷ l) st is held = first_keeps x l st is held (at_most x.0 st.limit) refl
+    each_keeps : (l : List X) (st : Dialogue) → b.read (lane_of i st.lanes) ≡ l → P (idle st) → After (come (first_of b st.limit l) (idle st))
+    each_keeps [] st is held = none_keeps [] st is refl held
+    each_keeps (x ∷ l) st is held = first_keeps x l st is held (at_most (b.stamp x).0 st.limit) refl
 
-    pub awaited_keeps : (st : Dialogue) → P (idle st) → After (awaited to n w i made vars (idle st))
-    awaited_keeps st held = answers_keep (lane_of i st.lanes).answers st refl held
+    pub awaited_keeps : (st : Dialogue) → P (idle st) → After (awaited b to n w i made vars (idle st))
+    awaited_keeps st held = each_keeps (b.read (lane_of i st.lanes)) st refl held
 
   waited_keeps : (to : To) → Runs to → (n : ℕ) (w : Want) (vars : Variables) (st : Dialogue) → WantOf A B w → P (idle st) → After (waited_for to n w vars (idle st))
   waited_keeps to runs n (want.Answer i why) vars st of held =
-      awaited_keeps to runs n (want.Answer i why) i (λ x o. at i (answered why i x o)) vars of of (λ x o. at_of A B i (answered why i x o) of) (λ st none yet. (none, yet)) st held
+      awaited_keeps answer_box of_answers k.answers to runs n (want.Answer i why) i (λ x o. at i (answered why i x o)) vars of of (λ x o. at_of A B i (answered why i x o) of) (λ st rests. rests) st held
+  waited_keeps to runs n (want.First i words) vars st of held =
+      awaited_keeps item_box of_items k.takes to runs n (want.First i words) i (λ x o. at i (heard_first words i x)) vars of of (λ x o. at_of A B i (heard_first words i x) of) (λ st rests. rests) st held
   waited_keeps to runs n (want.End i p) vars st of held =
-      awaited_keeps to runs n (want.End i p) i (λ x o. ended p i (failure x) o) vars of.0 of (λ x o. ended_of p i (failure x) o of.0 of.1) (λ st none yet. (none, yet)) st held
+      awaited_keeps answer_box of_answers k.answers to runs n (want.End i p) i (λ x o. ended p i (failure x) o) vars of.0 of (λ x o. ended_of p i (failure x) o of.0 of.1) (λ st rests. rests) st held
   waited_keeps to runs n (want.Output p) vars st of held = concluded_keeps to runs n p of vars st (listen st.limit st.horizon p st.lanes st.own) (waits_keep to runs n p of vars st held).1
 
   over_may : (reply : Reply) (st : Dialogue) → MayCome (step_of reply) st

@@ -96,4 +96,4 @@ all_offer (e ∷ es) st w h len = all_offer es (offered e st) (grown_world w e) 
 
 pub holds_worlds : HoldsWorlds
 unfolding no_lanes blank_lanes
-holds_worlds limit es = all_offer es (fresh limit) nothing_known (record { horizon = refl; lanes = blanks 16 }) refl
+holds_worlds settings es = all_offer es (fresh settings) nothing_known (record { horizon = refl; lanes = blanks 16 }) refl

@@ -17,8 +17,9 @@ use Rattle.expect_core.specs.declared.plan.Plan.{Plan}
 use Rattle.expect_core.specs.declared.phase.Phase.{Phase}
 use Rattle.expect_core.specs.declared.phase.Phase.TheVariants.{Idle, At}
 use Rattle.expect_core.specs.declared.turn.Want.{Want}
-use Rattle.expect_core.specs.declared.turn.Want.TheVariants.{Answer, Output, End}
+use Rattle.expect_core.specs.declared.turn.Want.TheVariants.{Answer, First, Output, End}
 use Rattle.expect_core.specs.declared.own.Own.{Own}
+use Rattle.expect_core.specs.declared.settings.Settings.{Settings}
 use Rattle.expect_core.specs.declared.dialogue.Dialogue.{Dialogue}
 use Rattle.expect_core.specs.Lanes.{lane_of, place, offered}
 use Rattle.expect_core.specs.Owned.{child_of}
@@ -75,6 +76,7 @@ named_by other word args vars o = []
 
 abbrev pub wanted_of : Want → List ℕ
 wanted_of (Answer i why) = i ∷ []
+wanted_of (First i words) = i ∷ []
 wanted_of (Output p) = places_of p.sides
 wanted_of (End i p) = i ∷ places_of p.sides
 
@@ -120,7 +122,7 @@ CallsOwn =
 
 -- The child that an `expect` closes takes part in it: at the start, after each event, and after each call.
 pub record StaysOfOwn : Type 0 where
-  pub begins : (limit : Option ℕ) → IsOfOwn (fresh limit).phase
+  pub begins : (settings : Settings) → IsOfOwn (fresh settings).phase
   pub offered : (e : Event) (st : Dialogue) → IsOfOwn st.phase → IsOfOwn (offered e st).phase
   pub called : (call : Call) (st : Dialogue) → IsOfOwn st.phase → IsOfOwn (behind_call (outcome call st)).phase
 

@@ -14,6 +14,7 @@ use Rattle.expect_core.specs.declared.plan.Plan.{Plan}
 use Rattle.expect_core.specs.declared.phase.Phase.TheVariants as phase
 use Rattle.expect_core.specs.declared.turn.Deed.{Deed}
 use Rattle.expect_core.specs.declared.own.Own.{Own}
+use Rattle.expect_core.specs.declared.settings.Settings.{Settings}
 use Rattle.expect_core.specs.declared.dialogue.Dialogue.{Dialogue}
 use Rattle.expect_core.specs.Lanes.{offered, no_lanes}
 use Rattle.expect_core.specs.Answered.{Outcome, idle, owning}
@@ -122,12 +123,12 @@ IsReply old (AfterWords words w) (Known b) new = ⊥
 IsReply old (AfterBody c value w) (Known b) new = ⊥
 
 -- No event has come, and no command has been evaluated.
-abbrev pub fresh : Option ℕ → Dialogue
-fresh limit = record {
-  limit = limit;
+abbrev pub fresh : Settings → Dialogue
+fresh settings = record {
+  limit = settings.limit_ms;
   horizon = 0;
   lanes = no_lanes;
-  own = record { clock = 0; transcript = []; requests = []; children = []; log_user = true; size = 2000; remove_nulls = true; plans = [] };
+  own = record { clock = 0; transcript = []; requests = []; children = []; log_user = true; host = settings.host; size = 2000; remove_nulls = true; plans = [] };
   phase = phase.Idle;
   lives = true;
 }

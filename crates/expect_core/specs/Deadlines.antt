@@ -29,8 +29,8 @@ soonest first [] = first
 soonest first (m ∷ ms) = soonest (sooner first m) ms
 
 -- The deadline of the call that waits. An `expect` has its own, and the moments of its children's next items. It takes
--- such an item once time is past it, because no other child can have an earlier one then. A wait for an answer has
--- none.
+-- such an item once time is past it, because no other child can have an earlier one then. A wait for an answer or
+-- for the start of a child has none.
 abbrev pub deadline_under : Phase → List Lane → Option ℕ
 deadline_under (At n (Output p)) lanes = soonest (as_moment p.deadline) (heads (watched p) lanes)
 deadline_under other lanes = None

@@ -7,9 +7,9 @@ use Rattle.expect_core.specs.declared.child.Change.{Change}
 use Rattle.expect_core.specs.declared.child.Change.TheVariants.{Stand, Waited, Sent, Take, Size, Removal}
 use Rattle.expect_core.specs.declared.child.Child.{Child}
 use Rattle.expect_core.specs.declared.effect.Effect.{Effect}
-use Rattle.expect_core.specs.declared.effect.Effect.TheVariants.{Tell, Log, LogUser, Add, Store, Ask, Alter}
+use Rattle.expect_core.specs.declared.effect.Effect.TheVariants.{Tell, Log, LogUser, Add, Store, Ask, Receive, Alter}
 use Rattle.expect_core.specs.declared.own.Own.{Own}
-use Rattle.expect_core.specs.Owned.{child_as, child_of, with_child, told, logged, asked}
+use Rattle.expect_core.specs.Owned.{child_as, child_of, with_child, told, logged, asked, received}
 use Rattle.expect_core.specs.Scoped.{Unset, set_all}
 use Rattle.expect_core.specs.Texts.{id_at}
 
@@ -48,6 +48,8 @@ changed at (Add modes) o = added modes o
 changed at (Store pairs) o = o
 changed (Some i) (Ask act) o = asked i act o
 changed None (Ask act) o = o
+changed (Some i) (Receive piece) o = received i piece o
+changed None (Receive piece) o = o
 changed (Some i) (Alter x) o = with_child i (altered x (child_of i o)) o
 changed None (Alter x) o = to_come x o
 

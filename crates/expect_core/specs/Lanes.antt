@@ -7,7 +7,7 @@ use Rattle.child_events.specs.declared.event.Item.{Item}
 use Rattle.child_events.specs.declared.event.Item.TheVariants as item
 use Rattle.child_events.specs.declared.event.Event.{Event}
 use Rattle.child_events.specs.declared.event.Event.TheVariants as event
-use Rattle.child_events.specs.Queue.{Queued, came, how_many_came}
+use Rattle.child_events.specs.Queue.{Queued, stamped, came, how_many_came}
 use Rattle.child_events.specs.World.{moment_of}
 use Rattle.expect_core.specs.declared.lanes.Lane.{Lane}
 use Rattle.expect_core.specs.declared.dialogue.Dialogue.{Dialogue}
@@ -26,6 +26,21 @@ with_items i items lanes = with_lane i (record (lane_of i lanes) { items = items
 
 abbrev pub with_answers : ℕ → List (ℕ × Answer) → List Lane → List Lane
 with_answers i answers lanes = with_lane i (record (lane_of i lanes) { answers = answers }) lanes
+
+-- What comes from a child in order, as a lane keeps it. `stamp` is the moment and what came.
+pub record Inbox (X Y : Type 0) : Type 0 where
+  pub stamp : X → ℕ × Y
+  pub read : Lane → List X
+  pub put : List X → Lane → Lane
+
+abbrev pub answer_box : Inbox (ℕ × Answer) Answer
+answer_box = record { stamp = λ a. a; read = λ lane. lane.answers; put = λ l lane. record lane { answers = l } }
+
+abbrev pub item_box : Inbox Queued Item
+item_box = record { stamp = λ q. stamped q; read = λ lane. lane.items; put = λ l lane. record lane { items = l } }
+
+abbrev pub with_left : {X Y : Type 0} → Inbox X Y → ℕ → List X → List Lane → List Lane
+with_left b i l lanes = with_lane i (b.put l (lane_of i lanes)) lanes
 
 -- Appends an item. After the end of the output or a read failure it does nothing.
 abbrev pub with_item : ℕ → Item → Bool → Lane → Lane

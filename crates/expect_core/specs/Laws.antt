@@ -1,5 +1,5 @@
 -- Laws of all calls.
-use Rattle.std.specs.Prelude.{◌≡◌, ◌↔◌, ℕ, List, [], ◌∷◌, ◌++◌, Bool, true, false, IsTrue, Option}
+use Rattle.std.specs.Prelude.{◌≡◌, ◌↔◌, ℕ, List, [], ◌∷◌, ◌++◌, Bool, true, false, IsTrue}
 use Rattle.child_events.specs.declared.event.Event.{Event}
 use Rattle.child_events.specs.declared.event.Event.TheVariants.{Tick}
 use Rattle.tcl_subst.specs.Variables.{Variables}
@@ -10,6 +10,7 @@ use Rattle.tcl_host.specs.declared.host.HostStep.{HostStep}
 use Rattle.tcl_host.specs.declared.host.HostStep.TheVariants.{Done, Body, Words, Wait, Stop, Unknown, Memory}
 use Rattle.tcl_host.specs.Calls.{Call, Begin, AfterBody}
 use Rattle.expect_core.specs.declared.own.Own.{Own}
+use Rattle.expect_core.specs.declared.settings.Settings.{Settings}
 use Rattle.expect_core.specs.declared.dialogue.Dialogue.{Dialogue}
 use Rattle.expect_core.specs.Answered.{Outcome, idle}
 use Rattle.expect_core.specs.Lanes.{offered}
@@ -32,7 +33,7 @@ GoesOn = (e : Event) (call : Call) (st : Dialogue) → Good st → outcome call 
 
 -- Nothing is later than the greatest moment: at the start, after each event, and after each call.
 pub record StaysGood : Type 0 where
-  pub begins : (limit : Option ℕ) → Good (fresh limit)
+  pub begins : (settings : Settings) → Good (fresh settings)
   pub offered : (e : Event) (st : Dialogue) → Good st → Good (offered e st)
   pub called : (call : Call) (st : Dialogue) → Good st → Good (behind_call (outcome call st))
 
@@ -51,7 +52,7 @@ StaysTold = (call : Call) (st : Dialogue) → Keeps st.own (behind_call (outcome
 
 -- Each request names a child from 1 to 16: at the start, after each event, and after each call.
 pub record StaysNumbered : Type 0 where
-  pub begins : (limit : Option ℕ) → Numbered (fresh limit)
+  pub begins : (settings : Settings) → Numbered (fresh settings)
   pub offered : (e : Event) (st : Dialogue) → Numbered st → Numbered (offered e st)
   pub called : (call : Call) (st : Dialogue) → Numbered st → Numbered (behind_call (outcome call st))
 

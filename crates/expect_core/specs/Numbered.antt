@@ -5,7 +5,7 @@ use Rattle.expect_core.specs.declared.plan.Plan.{Plan}
 use Rattle.expect_core.specs.declared.phase.Phase.{Phase}
 use Rattle.expect_core.specs.declared.phase.Phase.TheVariants.{Idle, At}
 use Rattle.expect_core.specs.declared.turn.Want.{Want}
-use Rattle.expect_core.specs.declared.turn.Want.TheVariants.{Answer, Output, End}
+use Rattle.expect_core.specs.declared.turn.Want.TheVariants.{Answer, First, Output, End}
 use Rattle.expect_core.specs.declared.child.Child.{Child}
 use Rattle.expect_core.specs.declared.own.Own.{Own}
 use Rattle.expect_core.specs.declared.dialogue.Dialogue.{Dialogue}
@@ -30,6 +30,7 @@ AreOfPlaces (p ∷ ps) = WatchPlaces p.sides × AreOfPlaces ps
 -- What is awaited is for children with places.
 abbrev pub WantsPlaces : Want → Type 0
 WantsPlaces (Answer i why) = IsPlace i
+WantsPlaces (First i words) = IsPlace i
 WantsPlaces (Output p) = WatchPlaces p.sides
 WantsPlaces (End i p) = IsPlace i × WatchPlaces p.sides
 

@@ -24,13 +24,13 @@ use Rattle.expect_core.specs.declared.turn.Stage.TheVariants.{Over, Act, Look, S
 use Rattle.expect_core.specs.declared.turn.Turn.{Turn}
 use Rattle.expect_core.specs.declared.own.Own.{Own}
 use Rattle.expect_core.specs.declared.dialogue.Dialogue.{Dialogue}
-use Rattle.expect_core.specs.Lanes.{lane_of, with_answers}
+use Rattle.expect_core.specs.Lanes.{lane_of, Inbox, answer_box, item_box, with_left}
 use Rattle.expect_core.specs.Owned.{child_of, at_moment}
 use Rattle.expect_core.specs.Heard.{at_most, Listened, listen, look}
-use Rattle.expect_core.specs.Answered.{Outcome, owning, failure, first_answer}
+use Rattle.expect_core.specs.Answered.{Outcome, owning, failure, first_of}
 use Rattle.expect_core.specs.Effects.{Performed, performed}
 use Rattle.expect_core.specs.Turns.{at}
-use Rattle.expect_core.specs.Spawning.{spawned}
+use Rattle.expect_core.specs.Spawning.{spawned, missed, gone, heard_first}
 use Rattle.expect_core.specs.Sending.{typed, handing, handed}
 use Rattle.expect_core.specs.Ends.{closed, waited, broken}
 use Rattle.expect_core.specs.Expecting.{entry_of, matched, full, late, ending, failing, ended}
@@ -57,7 +57,9 @@ acts p m vars st = (step.Body (entry_of m.entry p).action, vars, owning (record 
 
 -- What follows the answer to a request.
 abbrev pub answered : Purpose → ℕ → Answer → Own → Reaction
-answered (purpose.Spawn words) i a o = spawned i words (failure a)
+answered (purpose.Spawn terminal words) i a o = spawned terminal i words (failure a)
+answered (purpose.Missing words) i a o = missed words
+answered (purpose.Gone words) i a o = gone words
 answered (purpose.Send x rest) i a o = handed x rest (failure a)
 answered purpose.Close i a o = closed (failure a)
 answered purpose.Wait i a o = waited i a o
@@ -76,21 +78,25 @@ by_heard k n p (Failed i c) vars st = k (failing i c) vars st
 abbrev pub concluded : To → ℕ → Plan → Listened → Variables → Dialogue → Outcome
 concluded k n p (h, lanes, o) vars st = by_heard k n p h vars (record st { lanes = lanes; own = o })
 
--- The turn after an answer, which moves the clock to the answer's moment. Without an answer the call waits, unless the
--- script's last moment has passed.
-abbrev pub on_answer : To → ℕ → Want → (Answer → Own → Turn) → Option (ℕ × Answer) → Variables → Dialogue → Outcome
-on_answer k n w made None vars st = if at_most st.horizon st.limit then waits n w vars st else over_limit vars st
-on_answer k n w made (Some (m, a)) vars st = k (made a (at_moment m st.own)) vars (owning (at_moment m st.own) st)
+-- Nothing came. The call waits, unless the script's last moment has passed.
+abbrev pub none_yet : ℕ → Want → Variables → Dialogue → Outcome
+none_yet n w vars st = if at_most st.horizon st.limit then waits n w vars st else over_limit vars st
 
--- The next answer of the child at place i.
-abbrev pub awaited : To → ℕ → Want → ℕ → (Answer → Own → Turn) → Variables → Dialogue → Outcome
-awaited k n w i made vars st =
-    let first = first_answer st.limit (lane_of i st.lanes).answers in
-    on_answer k n w made first.0 vars (record st { lanes = with_answers i first.1 st.lanes })
+-- The turn after something came, which moves the clock to the moment of that.
+abbrev pub on_come : {Y : Type 0} → To → ℕ → Want → (Y → Own → Turn) → Option (ℕ × Y) → Variables → Dialogue → Outcome
+on_come k n w made None vars st = none_yet n w vars st
+on_come k n w made (Some (m, y)) vars st = k (made y (at_moment m st.own)) vars (owning (at_moment m st.own) st)
+
+-- The next answer or the next item of the child at place i.
+abbrev pub awaited : {X Y : Type 0} → Inbox X Y → To → ℕ → Want → ℕ → (Y → Own → Turn) → Variables → Dialogue → Outcome
+awaited b k n w i made vars st =
+    let first = first_of b st.limit (b.read (lane_of i st.lanes)) in
+    on_come k n w made first.0 vars (record st { lanes = with_left b i first.1 st.lanes })
 
 abbrev pub waited_for : To → ℕ → Want → Variables → Dialogue → Outcome
-waited_for k n (want.Answer i why) vars st = awaited k n (want.Answer i why) i (λ a o. at i (answered why i a o)) vars st
-waited_for k n (want.End i p) vars st = awaited k n (want.End i p) i (λ a o. ended p i (failure a) o) vars st
+waited_for k n (want.Answer i why) vars st = awaited answer_box k n (want.Answer i why) i (λ a o. at i (answered why i a o)) vars st
+waited_for k n (want.First i words) vars st = awaited item_box k n (want.First i words) i (λ it o. at i (heard_first words i it)) vars st
+waited_for k n (want.End i p) vars st = awaited answer_box k n (want.End i p) i (λ a o. ended p i (failure a) o) vars st
 waited_for k n (want.Output p) vars st = concluded k n p (listen st.limit st.horizon p st.lanes st.own) vars st
 
 -- The outcome of a stage that n turns may follow.

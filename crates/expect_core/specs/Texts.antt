@@ -12,9 +12,13 @@ use Rattle.tcl_commands.specs.Texts.{quoted}
 abbrev pub id_at : ℕ → List ℕ
 id_at i = codes "exp" ++ decimal (i + 1)
 
--- The line that a `spawn` writes to the transcript.
-abbrev pub spawn_line : List (List ℕ) → List ℕ
-spawn_line words = codes "spawn" ++ flat_map (λ w. ascii.space ∷ w) words ++ ascii.carriage_return ∷ ascii.newline ∷ []
+-- Words, each with a space before it.
+abbrev pub spaced : List (List ℕ) → List ℕ
+spaced words = flat_map (λ w. ascii.space ∷ w) words
+
+-- The line that a `spawn` writes to the transcript: the flags that are shown, and the words.
+abbrev pub spawn_line : List (List ℕ) → List (List ℕ) → List ℕ
+spawn_line shown words = codes "spawn" ++ spaced shown ++ spaced words ++ ascii.carriage_return ∷ ascii.newline ∷ []
 
 -- A text followed by a cause.
 abbrev pub with_cause : List ℕ → Cause → List ℕ

@@ -1,9 +1,9 @@
 -- What a wait for patterns takes, stated without a computation. It takes the first items in time, up to the first that
 -- ends a child's output or after which a test chooses.
-use Rattle.std.specs.Prelude.{◌≡◌, ◌⊎◌, ℕ, List, [], ◌∷◌, true, Option, Some}
+use Rattle.std.specs.Prelude.{◌≡◌, ◌↔◌, ◌⊎◌, ℕ, List, [], ◌∷◌, true, Option, Some, None}
 use Rattle.child_events.specs.declared.event.Item.{Item}
 use Rattle.child_events.specs.declared.event.Item.TheVariants as item
-use Rattle.child_events.specs.Queue.{Queued}
+use Rattle.child_events.specs.Queue.{Queued, stamped}
 use Rattle.child_events.specs.Next.{IsNext}
 use Rattle.exp_match.specs.declared.chosen.Chosen.{Chosen}
 use Rattle.exp_match.specs.declared.chosen.Chosen.TheVariants as chosen
@@ -14,6 +14,7 @@ use Rattle.expect_core.specs.declared.phase.Heard.TheVariants.{Match, Full, Ende
 use Rattle.expect_core.specs.declared.own.Own.{Own}
 use Rattle.expect_core.specs.Lanes.{lane_of, with_items}
 use Rattle.expect_core.specs.Owned.{received, at_moment, trimmed}
+use Rattle.expect_core.specs.Answered.{first_item}
 use Rattle.expect_core.specs.Heard.{Watch, watched, place_in, in_time, lapse, Listened, chosen_of, heads, listen}
 
 -- The first item q of the child at place i is taken, and qs remain. It is the earliest of the next items, and it is in
@@ -71,3 +72,10 @@ abbrev pub TakesInOrder : Type 0
 TakesInOrder =
     (limit : Option ℕ) (h : ℕ) (p : Plan) (lanes : List Lane) (o : Own) →
     (xs : List (ℕ × List ℕ)) × Comes limit h p xs lanes o (listen limit h p lanes o)
+
+-- The first item of a child, if it is in time, is what an `expect` without a deadline takes for this child alone.
+abbrev pub FirstIsTaken : Type 0
+FirstIsTaken =
+    (limit : Option ℕ) (h : ℕ) (p : Plan) (lanes : List Lane) (i : ℕ) (groups : List ℕ) (q : Queued) (qs : List Queued) →
+    p.sides ≡ (i, groups) ∷ [] → p.deadline ≡ None → (lane_of i lanes).items ≡ q ∷ qs →
+    IsTaken limit h p lanes i q qs ↔ (first_item limit (q ∷ qs) ≡ (Some (stamped q), qs))

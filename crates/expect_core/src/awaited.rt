@@ -1,8 +1,8 @@
 //! What a waiting call waits for.
 
-ghost use Rattle.std.specs.Prelude.{◌≡◌, ◌∷◌, [], List, Some, None, MatchOption, IfOk};
+ghost use Rattle.std.specs.Prelude.{◌≡◌, ◌≤◌, ◌∷◌, [], List, Some, None, MatchOption, IfOk, IfSome};
 ghost use Rattle.expect_core.specs.declared.plan.Plan.{Plan as PlanOf};
-ghost use Rattle.expect_core.specs.Awaited.{answering as answering_of, expecting as expecting_of, buffer_of};
+ghost use Rattle.expect_core.specs.Awaited.{answering as answering_of, starting as starting_of, expecting as expecting_of, buffer_of};
 ghost use Rattle.expect_core.specs.Deadlines.{as_moment as as_moment_of};
 
 use crate::deadline::as_moment;
@@ -32,6 +32,22 @@ impl Dialogue {
         match &self.phase {
             Phase::At(_, Want::Answer(child, _)) => Some(child.number()),
             Phase::At(_, Want::End(child, _)) => Some(child.number()),
+            Phase::At(_, Want::First(_, _)) => None,
+            Phase::At(_, Want::Output(_)) => None,
+            Phase::Idle => None,
+        }
+    }
+
+    /// Returns the number of the child, from 1, whose start a `spawn` awaits: the first item of a
+    /// terminal of the system. `None` if no call awaits one.
+    pub fn starting(&self) -> Option<u8>
+        ensures value { result ≡ starting_of self.now.phase }
+        ensures few { IfSome result (λ c. (1 ≤ c) × (c ≤ 16)) }
+    {
+        match &self.phase {
+            Phase::At(_, Want::First(child, _)) => Some(child.number()),
+            Phase::At(_, Want::Answer(_, _)) => None,
+            Phase::At(_, Want::End(_, _)) => None,
             Phase::At(_, Want::Output(_)) => None,
             Phase::Idle => None,
         }
@@ -44,6 +60,7 @@ impl Dialogue {
         match &self.phase {
             Phase::At(_, Want::Output(plan)) => Some(plan.get()),
             Phase::At(_, Want::Answer(_, _)) => None,
+            Phase::At(_, Want::First(_, _)) => None,
             Phase::At(_, Want::End(_, _)) => None,
             Phase::Idle => None,
         }

@@ -46,7 +46,8 @@ fn soonest(first: Option<u64>, sides: &[(Place, Groups)], lanes: &Lanes) -> Opti
     last
 }
 
-/// Returns the deadline of the call that waits. A wait for an answer has none.
+/// Returns the deadline of the call that waits. A wait for an answer or for the
+/// start of a child has none.
 ///
 /// An `expect` has its own deadline, and the moments of its children's next items.
 fn deadline_under(phase: &Phase, lanes: &Lanes) -> Option<u64>
@@ -58,6 +59,7 @@ fn deadline_under(phase: &Phase, lanes: &Lanes) -> Option<u64>
             soonest(as_moment(plan.deadline), plan.sides.list.as_slice(), lanes)
         }
         Phase::At(_, Want::Answer(_, _)) => None,
+        Phase::At(_, Want::First(_, _)) => None,
         Phase::At(_, Want::End(_, _)) => None,
         Phase::Idle => None,
     }

@@ -51,7 +51,7 @@ pub(crate) fn failure(answer: Answer) -> Option<Cause>
 impl Dialogue {
     /// Creates a dialogue to which no event has come.
     pub fn new(alloc: Global, settings: &Settings) -> Result<Dialogue, AllocError>
-        ensures { IfOk result (λ d. d ≡ fresh settings.now.limit_ms) }
+        ensures { IfOk result (λ d. d ≡ fresh settings.now) }
     {
         Ok(Dialogue {
             limit: settings.limit_ms,
@@ -63,6 +63,7 @@ impl Dialogue {
                 requests: Requests::new(alloc),
                 children: Children::new(alloc),
                 log_user: true,
+                host: settings.host,
                 size: 2000,
                 remove_nulls: true,
                 plans: Plans::new(alloc),

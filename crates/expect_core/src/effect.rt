@@ -32,6 +32,9 @@ pub enum Effect {
     Store(Stores),
     /// Appends a request to the child.
     Ask(Act),
+    /// Appends a piece of the child's output to its match buffer and to the transcript, as any that
+    /// is taken.
+    Receive(Text),
     /// Changes the child. Without a child it changes the options of later children.
     Alter(Change),
 }
@@ -144,6 +147,13 @@ impl Own {
             Effect::Ask(act) => match at {
                 Some(i) => {
                     self.ask(*i, act)?;
+                    Ok(None)
+                }
+                None => Ok(None),
+            },
+            Effect::Receive(piece) => match at {
+                Some(i) => {
+                    self.receive(alloc, *i, piece.as_slice())?;
                     Ok(None)
                 }
                 None => Ok(None),

@@ -1,15 +1,15 @@
 //! The arguments of a command: its flags, followed by as many words as its row of the table allows.
 
-ghost use Rattle.std.specs.Prelude.{◌≡◌, IfOk, slice_get};
+ghost use Rattle.std.specs.Prelude.{◌≡◌, Some, IfOk, OnOk, slice_get};
 ghost use Rattle.tcl_commands.specs.Given.{arg};
-ghost use Rattle.expect_core.specs.Flags.{arguments, bad_flag as bad_flag_text, flags_if, flags_of, no_flags};
+ghost use Rattle.expect_core.specs.Flags.{arguments, bad_flag as bad_flag_text, flags_if, flags_of, no_flags, showing};
 ghost use Rattle.expect_core.specs.FlagViews.{ReadsFlags};
 
 use command_table::{ExpectCommand, Flags as Takes, Role, expect_row, fits, flag_role};
 use std::alloc::{AllocError, Global};
 use tcl_commands::{Complaint, quoted, wrong_args};
 use tcl_values::Value;
-use tcl_words::Text;
+use tcl_words::{Text, Texts};
 
 /// The flags of a command.
 #[derive(Drop)]
@@ -18,15 +18,32 @@ pub struct Flags {
     pub id: Option<Value>,
     /// Whether the command's own flag is among them.
     pub on: bool,
+    /// Whether the last of `-tty` and `-notty` is `-tty`. `None` if there is neither.
+    pub tty: Option<bool>,
+    /// The flags that the line of a `spawn` shows, in order, each with its value.
+    pub shown: Texts,
+}
+
+/// What the next word is, after a flag.
+#[derive(Clone, Copy)]
+pub enum Due {
+    /// A flag or the first argument.
+    None,
+    /// The spawn id of an `-i`.
+    Id,
+    /// The value of a flag that is shown.
+    Shown,
 }
 
 /// Returns the flags of a command that has none.
-fn no_flags() -> Flags
+fn no_flags(alloc: Global) -> Flags
     ensures { result ≡ no_flags }
 {
     Flags {
         id: None,
         on: false,
+        tty: None,
+        shown: Texts::new(alloc),
     }
 }
 
@@ -35,6 +52,22 @@ pub(crate) fn bad_flag(alloc: Global, word: &[u8]) -> Result<Text, AllocError>
     ensures { IfOk result (λ t. t ≡ bad_flag_text word.now) }
 {
     quoted(alloc, b"bad flag ", word)
+}
+
+impl Flags {
+    /// Chooses between a terminal of the system and pipes.
+    fn choose(&mut self, on: bool)
+        ensures { self.new ≡ record self.old { tty = Some on } }
+    {
+        self.tty = Some(on);
+    }
+
+    /// Adds a word that is shown.
+    fn show(&mut self, alloc: Global, word: &[u8]) -> Result<(), AllocError>
+        ensures { OnOk result (self.new ≡ showing word.now self.old) }
+    {
+        self.shown.push(Text::from_slice(alloc, word)?)
+    }
 }
 
 /// Reads the flags of a command with this name. Returns them and the index of the first word after
@@ -47,27 +80,41 @@ fn flags_of(
 ) -> Result<(Flags, usize), Complaint>
     ensures { ReadsFlags result words.now (flags_of name.now takes words.now) }
 {
-    let mut flags = no_flags();
-    let mut due = false;
+    let mut flags = no_flags(alloc);
+    let mut due = Due::None;
     'words: for at in 0..words.len() {
-        if due {
-            flags.id = Some(words[at].shared(alloc)?);
-            due = false;
-            continue;
-        }
         let word = words[at].as_slice();
+        match due {
+            Due::Id => {
+                flags.id = Some(words[at].shared(alloc)?);
+                due = Due::None;
+                continue;
+            }
+            Due::Shown => {
+                flags.show(alloc, word)?;
+                due = Due::None;
+                continue;
+            }
+            Due::None => {}
+        }
         match flag_role(takes, word) {
             Role::Word => return Ok((flags, at)),
             Role::End => return Ok((flags, at + 1)),
             Role::Alone => flags.on = true,
-            Role::Id => due = true,
+            Role::Id => due = Due::Id,
+            Role::Tty(on) => flags.choose(on),
+            Role::Shown => flags.show(alloc, word)?,
+            Role::ShownWithValue => {
+                flags.show(alloc, word)?;
+                due = Due::Shown;
+            }
             Role::Bad => return Err(Complaint::Said(bad_flag(alloc, word)?)),
         }
     }
-    if due {
-        return Err(Complaint::Said(wrong_args(alloc, name)?));
+    match due {
+        Due::None => Ok((flags, words.len())),
+        Due::Id | Due::Shown => Err(Complaint::Said(wrong_args(alloc, name)?)),
     }
-    Ok((flags, words.len()))
 }
 
 /// Reads the flags of a command, if it may have some.
@@ -80,7 +127,7 @@ fn flags_if(
     ensures { ReadsFlags result words.now (flags_if takes name.now words.now) }
 {
     match takes {
-        None => Ok((no_flags(), 0)),
+        None => Ok((no_flags(alloc), 0)),
         Some(takes) => flags_of(alloc, name, takes, words),
     }
 }

@@ -65,7 +65,7 @@ fn settle(dialogue: &mut Dialogue, known: &mut Known, came: Result<Paused, Alloc
 impl DialogueHost {
     /// Creates a host to which no event has come.
     pub fn new(alloc: Global, settings: &Settings) -> Result<DialogueHost, AllocError>
-        ensures { IfOk result (λ d. d ≡ fresh settings.now.limit_ms) }
+        ensures { IfOk result (λ d. d ≡ fresh settings.now) }
     {
         Ok(DialogueHost {
             dialogue: Dialogue::new(alloc, settings)?,

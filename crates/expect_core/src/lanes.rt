@@ -2,13 +2,13 @@
 
 ghost use Rattle.std.specs.Prelude.{◌≡◌, [], IfOk, OnOk};
 ghost use Rattle.child_events.specs.Queue.{with_echo};
-ghost use Rattle.expect_core.specs.Answered.{first_answer};
+ghost use Rattle.expect_core.specs.Answered.{first_answer, first_item};
 ghost use Rattle.expect_core.specs.Good.{ItemsBy, LanesBy};
 ghost use Rattle.expect_core.specs.Heard.{head_of};
 ghost use Rattle.expect_core.specs.Hearing.{TakesFrom};
 ghost use Rattle.expect_core.specs.Lanes.{no_lane, no_lanes, lane_of, with_items, with_answers, with_item, lane_with, grown, untaken_of, place as place_of};
 
-use crate::answers::Answers;
+use crate::answers::{Answers, is_within};
 use crate::listen::{Times, take_item};
 use crate::place::{MOST_CHILDREN, Place};
 use child_events::{Answer, Item, Queue, What};
@@ -79,6 +79,18 @@ impl Model for Lanes {
     ghost view = { λ t. t.list.items };
 }
 
+/// Takes the first item, if its moment is no later than `limit`.
+fn take_first(items: &mut Queue, limit: Option<u64>) -> Option<(u64, Item)>
+    ensures { first_item limit items.old ≡ (result, items.new) }
+{
+    let (moment, _) = items.peek()?;
+    if is_within(moment, limit) {
+        items.next()
+    } else {
+        None
+    }
+}
+
 /// Returns the index of a child's lane. The child is numbered from 1. Number 0 has no lane.
 pub(crate) fn place(child: u16) -> usize
     ensures { result ≡ place_of child }
@@ -136,6 +148,19 @@ impl Lanes {
         if i < self.list.len() {
             let lane = &mut self.list[i];
             return lane.answers.take(limit);
+        }
+        None
+    }
+
+    /// Takes the first item of a child, if its moment is no later than `limit`.
+    pub(crate) fn take_first(&mut self, i: Place, limit: Option<u64>) -> Option<(u64, Item)>
+        ensures taken { result ≡ (first_item limit (lane_of i self.old).items).0 }
+        ensures left { self.new ≡ with_items i (first_item limit (lane_of i self.old).items).1 self.old }
+    {
+        let i = i.index();
+        if i < self.list.len() {
+            let lane = &mut self.list[i];
+            return take_first(&mut lane.items, limit);
         }
         None
     }

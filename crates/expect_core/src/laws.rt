@@ -3,7 +3,7 @@
 ghost use Rattle.expect_core.specs.Apart.{CallsOwn, StaysOfOwn, EventsOne};
 ghost use Rattle.expect_core.specs.Heard.{TakesEach};
 ghost use Rattle.expect_core.specs.Laws.{AnswersAsked, GoesOn, StaysGood, StaysNumbered, StaysTold, WaitsOn};
-ghost use Rattle.expect_core.specs.Waits.{TakesInOrder};
+ghost use Rattle.expect_core.specs.Waits.{FirstIsTaken, TakesInOrder};
 ghost use Rattle.expect_core.specs.Worlds.{HoldsWorlds};
 
 /// States laws of all calls. It does nothing at run time.
@@ -42,8 +42,10 @@ pub fn children_apart()
 ///
 /// A wait takes the first items in time, one after another. It stops at the first item that ends a
 /// child's output or after which a test chooses, or if no item is in time. The bound on its turns
-/// never stops it.
+/// never stops it. The first item of a terminal of the system is the one that a wait for this child
+/// alone takes.
 pub fn waits_to_the_end()
     ensures in_order { TakesInOrder }
     ensures each { TakesEach }
+    ensures first { FirstIsTaken }
 {}

@@ -27,6 +27,8 @@ pub struct Own {
     pub children: Children,
     /// Whether output goes to the transcript.
     pub log_user: bool,
+    /// Whether a `spawn` without `-tty` and `-notty` is on a terminal of the system.
+    pub host: bool,
     /// The size in bytes of the match buffers of later children.
     pub size: usize,
     /// Whether NUL bytes are removed from the output of later children.

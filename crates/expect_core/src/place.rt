@@ -1,6 +1,6 @@
 //! The places of children.
 
-ghost use Rattle.std.specs.Prelude.{◌≡◌, ◌+◌, ◌<◌, Some, None, nat_lt, if◌then◌else◌};
+ghost use Rattle.std.specs.Prelude.{◌≡◌, ◌+◌, ◌<◌, ◌≤◌, Some, None, nat_lt, if◌then◌else◌};
 
 use std::marker::Model;
 
@@ -46,7 +46,8 @@ impl Place {
 
     /// Returns the number of the child at the place, from 1 to 16.
     pub fn number(self) -> u8
-        ensures { result ≡ self + 1 }
+        ensures value { result ≡ self + 1 }
+        ensures few { (1 ≤ result) × (result ≤ 16) }
     {
         self.at + 1
     }

@@ -2,6 +2,7 @@
 
 ghost use Rattle.std.specs.Prelude.{◌≡◌, ℕ, None, IfOk, OnOk};
 ghost use Rattle.child_events.specs.declared.event.Answer.{Answer as AnswerOf};
+ghost use Rattle.child_events.specs.declared.event.Item.{Item as ItemOf};
 ghost use Rattle.tcl_subst.specs.Variables.{Variables};
 ghost use Rattle.tty.specs.Sends.{handed_by};
 ghost use Rattle.expect_core.specs.declared.dialogue.Dialogue.{Dialogue as DialogueOf};
@@ -11,8 +12,9 @@ ghost use Rattle.expect_core.specs.declared.turn.Want.{Want as WantOf};
 ghost use Rattle.expect_core.specs.Effects.{performed};
 ghost use Rattle.expect_core.specs.Going.{after, goes};
 ghost use Rattle.expect_core.specs.Known.{Knows, KnowsAt, KnowsIn, KnowsOf, LeavesKnown};
+ghost use Rattle.expect_core.specs.Lanes.{answer_box, item_box};
 ghost use Rattle.expect_core.specs.Owned.{child_of};
-ghost use Rattle.expect_core.specs.Running.{To, acts, answered as answered_of, awaited, by_heard, on_answer, resuming, run as run_of, staged as staged_of, step_of, turned as turned_of, turns, waited_for};
+ghost use Rattle.expect_core.specs.Running.{To, acts, answered as answered_of, awaited, by_heard, none_yet, resuming, run as run_of, staged as staged_of, step_of, turned as turned_of, turns, waited_for};
 ghost use Rattle.expect_core.specs.Sending.{typed};
 
 use crate::answers::is_within;
@@ -26,13 +28,14 @@ use crate::phase::{Heard, Phase};
 use crate::place::Place;
 use crate::plan::{Met, PlanBox};
 use crate::send::{hand, handed};
-use crate::spawn::spawned;
+use crate::spawn::{gone, heard_first, missed, spawned};
 use crate::turn::{Purpose, Reaction, Reply, Stage, Turn, Want};
-use child_events::Answer;
+use child_events::{Answer, Item};
 use std::alloc::{AllocError, Global};
 use tcl_host::{Ending, HostStep};
 use tcl_subst::Vars;
 use tcl_values::Value;
+use tcl_words::Texts;
 use tty::Actions;
 
 /// What follows a stage.
@@ -108,7 +111,9 @@ fn answered(
     ensures { IfOk result (λ r. r ≡ answered_of why i answer own.now) }
 {
     match why {
-        Purpose::Spawn(words) => spawned(alloc, i, &words, failure(answer)),
+        Purpose::Spawn(terminal, words) => spawned(alloc, terminal, i, words, failure(answer)),
+        Purpose::Missing(words) => missed(alloc, words),
+        Purpose::Gone(words) => gone(alloc, &words),
         Purpose::Send(action, rest) => handed(alloc, &action, rest, failure(answer)),
         Purpose::Close => closed(alloc, failure(answer)),
         Purpose::Wait => waited(alloc, i, answer, own),
@@ -217,7 +222,7 @@ impl Dialogue {
 
     /// Takes the next answer of a child, if it is in time. Moves the clock to its moment.
     fn next_answer(&mut self, i: Place) -> Option<Answer>
-        ensures { (k : To) (n : ℕ) (w : WantOf) (made : AnswerOf → OwnOf → TurnOf) (vars : Variables) → awaited k n w i made vars self.old ≡ after k n w made result vars self.new }
+        ensures { (k : To) (n : ℕ) (w : WantOf) (made : AnswerOf → OwnOf → TurnOf) (vars : Variables) → awaited answer_box k n w i made vars self.old ≡ after k n w made result vars self.new }
     {
         match self.lanes.take_answer(i, self.limit) {
             Some((moment, answer)) => {
@@ -228,10 +233,23 @@ impl Dialogue {
         }
     }
 
-    /// Returns the step of a call that has no answer yet. It waits, unless the script's last moment
-    /// has passed.
+    /// Takes the next item of a child, if it is in time. Moves the clock to its moment.
+    fn next_item(&mut self, i: Place) -> Option<Item>
+        ensures { (k : To) (n : ℕ) (w : WantOf) (made : ItemOf → OwnOf → TurnOf) (vars : Variables) → awaited item_box k n w i made vars self.old ≡ after k n w made result vars self.new }
+    {
+        match self.lanes.take_first(i, self.limit) {
+            Some((moment, item)) => {
+                self.own.advance(moment);
+                Some(item)
+            }
+            None => None,
+        }
+    }
+
+    /// Returns the step of a call for which nothing came yet. It waits, unless the script's last
+    /// moment has passed.
     fn wait_for(&mut self, left: u64, want: Want) -> HostStep
-        ensures { (k : To) (made : AnswerOf → OwnOf → TurnOf) (vars : Variables) → on_answer k left want made None vars self.old ≡ (result, vars, self.new) }
+        ensures { (vars : Variables) → none_yet left want vars self.old ≡ (result, vars, self.new) }
     {
         if is_within(self.horizon, self.limit) {
             self.set_phase(Phase::At(left, want));
@@ -258,6 +276,26 @@ impl Dialogue {
                 Ok(Went::Turn(reaction.at(i)))
             }
             None => Ok(Went::Over(self.wait_for(left, Want::Answer(i, why)))),
+        }
+    }
+
+    /// Waits for the first item of a child, for a `spawn` of these words.
+    fn await_first(
+        &mut self,
+        alloc: Global,
+        left: u64,
+        i: Place,
+        words: Texts,
+    ) -> Result<Went, AllocError>
+        ensures goes { IfOk result (λ r. (k : To) (vars : Variables) → waited_for k left (Want.First i words) vars self.old ≡ goes r k vars self.new) }
+        ensures knows { IfOk result (λ r. LeavesKnown r self.new) }
+    {
+        match self.next_item(i) {
+            Some(item) => {
+                let reaction = heard_first(alloc, words, i, &item)?;
+                Ok(Went::Turn(reaction.at(i)))
+            }
+            None => Ok(Went::Over(self.wait_for(left, Want::First(i, words)))),
         }
     }
 
@@ -295,6 +333,7 @@ impl Dialogue {
     {
         match want {
             Want::Answer(i, why) => self.await_answer(alloc, left, i, why),
+            Want::First(i, words) => self.await_first(alloc, left, i, words),
             Want::Output(plan) => self.listening(alloc, left, plan, known),
             Want::End(i, plan) => self.await_end(alloc, left, i, plan),
         }

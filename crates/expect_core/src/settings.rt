@@ -71,6 +71,8 @@ pub struct Settings {
     pub vars: Pairs,
     /// Whether the script's report lists its variables. If not, none of them is copied for it.
     pub tells_vars: bool,
+    /// Whether a `spawn` without `-notty` runs its program on a terminal of the system.
+    pub host: bool,
 }
 
 impl Settings {
@@ -83,6 +85,7 @@ impl Settings {
             limit_ms: self.limit_ms,
             vars: self.vars.copied(alloc)?,
             tells_vars: self.tells_vars,
+            host: self.host,
         })
     }
 }

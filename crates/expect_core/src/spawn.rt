@@ -1,8 +1,8 @@
 //! `spawn` (expect(1)).
 
-ghost use Rattle.std.specs.Prelude.{◌≡◌, ◌++◌, ◌∷◌, [], codes, IfOk};
+ghost use Rattle.std.specs.Prelude.{◌≡◌, ◌++◌, ◌∷◌, [], codes, drop, IfOk};
 ghost use Rattle.tcl_commands.specs.Says.{Says};
-ghost use Rattle.expect_core.specs.Spawning.{announcing, ordering, spawned as spawned_of, spawning, spawning_as};
+ghost use Rattle.expect_core.specs.Spawning.{announcing, begun as begun_of, gone as gone_of, heard_first as heard_first_of, missed as missed_of, missing as missing_of, ordering, spawned as spawned_of, spawning, spawning_as, started as started_of};
 ghost use Rattle.expect_core.specs.Texts.{id_at as id_of};
 
 use crate::child::{Change, Standing};
@@ -14,26 +14,22 @@ use crate::request::Act;
 use crate::stored::Stores;
 use crate::texts::{decimal, id_at, not_executed, spawn_line};
 use crate::turn::{Deed, Next, Purpose, Reaction, done};
-use child_events::Cause;
+use child_events::{Cause, Item};
 use std::alloc::{AllocError, Global};
 use tcl_commands::Complaint;
 use tcl_subst::Vars;
 use tcl_values::Value;
 use tcl_words::{Text, Texts};
 
-/// Adds the line for the transcript to other effects, unless `quiet`.
-fn announce(
-    effects: Effects,
-    alloc: Global,
-    quiet: bool,
-    words: &Texts,
-) -> Result<Effects, AllocError>
-    ensures { IfOk result (λ e. e ≡ effects ++ announcing quiet words.now) }
+/// Adds the line for the transcript to other effects, unless the order is quiet.
+fn announce(effects: Effects, alloc: Global, order: &SpawnOrder) -> Result<Effects, AllocError>
+    ensures { IfOk result (λ e. e ≡ effects ++ announcing order.now.quiet order.now.shown order.now.words) }
 {
-    if quiet {
+    if order.quiet {
         return Ok(effects);
     }
-    effects.with(Effect::Log(spawn_line(alloc, words.as_slice())?))
+    let line = spawn_line(alloc, order.shown.as_slice(), order.words.as_slice())?;
+    effects.with(Effect::Log(line))
 }
 
 /// Returns the effects that add a child and request its start.
@@ -41,8 +37,8 @@ fn order(alloc: Global, order: &SpawnOrder) -> Result<Effects, AllocError>
     ensures { IfOk result (λ e. e ≡ ordering order.now) }
 {
     let effects = Effects::one(alloc, Effect::Add(order.modes))?;
-    let effects = announce(effects, alloc, order.quiet, &order.words)?;
-    effects.with(Effect::Ask(Act::Spawn(order.words.copied(alloc)?)))
+    let effects = announce(effects, alloc, order)?;
+    effects.with(Effect::Ask(Act::Spawn(order.asked.copied(alloc)?)))
 }
 
 /// Returns what a `spawn` does, or an error if there are 16 children.
@@ -54,11 +50,11 @@ fn spawn_as(alloc: Global, ordered: SpawnOrder, own: &Own) -> Result<Deed, Compl
         return Err(Complaint::Said(text));
     };
     let effects = order(alloc, &ordered)?;
-    let next = Next::Await(Purpose::Spawn(ordered.words));
+    let next = Next::Await(Purpose::Spawn(ordered.terminal, ordered.words));
     Ok(Deed::To(i, Reaction { effects, next }))
 }
 
-/// Returns what `spawn ?-noecho? ?--? program arg ..` does.
+/// Returns what `spawn ?flag ..? ?--? program arg ..` does.
 pub(crate) fn spawn(
     alloc: Global,
     name: &[u8],
@@ -68,7 +64,7 @@ pub(crate) fn spawn(
 ) -> Result<Deed, Complaint>
     ensures { Says result (spawning name.now args.now vars.now own.now) }
 {
-    let order = order_of(alloc, name, args, vars)?;
+    let order = order_of(alloc, name, args, vars, own.host)?;
     spawn_as(alloc, order, own)
 }
 
@@ -81,27 +77,110 @@ fn current(alloc: Global, i: Place) -> Result<Stores, AllocError>
     Ok(stores)
 }
 
-/// Returns what follows the answer to a `spawn`: the child's number, or an error.
+/// Returns the end of a `spawn` whose child is there, after other effects: the child's number.
+fn begun(alloc: Global, i: Place, effects: Effects) -> Result<Reaction, AllocError>
+    ensures { IfOk result (λ r. r ≡ begun_of i effects) }
+{
+    let effects = effects
+        .with(Effect::Alter(Change::Stand(Standing::Open)))?
+        .with(Effect::Store(current(alloc, i)?))?;
+    let number = decimal(alloc, usize::from(i.number()))?;
+    let next = Next::Finish(done(Value::from_text(alloc, number)?));
+    Ok(Reaction { effects, next })
+}
+
+/// Returns what follows if the child was started. On a terminal of the system its first item is
+/// awaited.
+fn started(alloc: Global, terminal: bool, i: Place, words: Texts) -> Result<Reaction, AllocError>
+    ensures { IfOk result (λ r. r ≡ started_of terminal i words) }
+{
+    if terminal {
+        return Ok(Reaction {
+            effects: Effects::new(alloc),
+            next: Next::Hear(words),
+        });
+    }
+    begun(alloc, i, Effects::new(alloc))
+}
+
+/// Returns what follows the answer to a `spawn`.
 pub(crate) fn spawned(
     alloc: Global,
+    terminal: bool,
     i: Place,
-    words: &Texts,
+    words: Texts,
     cause: Option<Cause>,
 ) -> Result<Reaction, AllocError>
-    ensures { IfOk result (λ r. r ≡ spawned_of i words.now cause) }
+    ensures { IfOk result (λ r. r ≡ spawned_of terminal i words cause) }
 {
     match cause {
-        None => {
-            let effects = Effects::one(alloc, Effect::Alter(Change::Stand(Standing::Open)))?.with(
-                Effect::Store(current(alloc, i)?),
-            )?;
-            let number = decimal(alloc, usize::from(i.number()))?;
-            let next = Next::Finish(done(Value::from_text(alloc, number)?));
-            Ok(Reaction { effects, next })
-        }
+        None => started(alloc, terminal, i, words),
         Some(cause) => {
             let text = not_executed(alloc, words.as_slice(), cause)?;
             Reaction::badly(alloc, Effects::new(alloc), text)
         }
+    }
+}
+
+/// Returns the request to close a terminal of the system without a program.
+fn missing(alloc: Global, words: Texts) -> Result<Reaction, AllocError>
+    ensures { IfOk result (λ r. r ≡ missing_of words) }
+{
+    Ok(Reaction {
+        effects: Effects::one(alloc, Effect::Ask(Act::Close))?,
+        next: Next::Await(Purpose::Missing(words)),
+    })
+}
+
+/// Returns the request for the end of the closed terminal.
+pub(crate) fn missed(alloc: Global, words: Texts) -> Result<Reaction, AllocError>
+    ensures { IfOk result (λ r. r ≡ missed_of words) }
+{
+    Ok(Reaction {
+        effects: Effects::one(alloc, Effect::Ask(Act::Wait))?,
+        next: Next::Await(Purpose::Gone(words)),
+    })
+}
+
+/// Returns the error for a program that isn't there, once its terminal is gone.
+pub(crate) fn gone(alloc: Global, words: &Texts) -> Result<Reaction, AllocError>
+    ensures { IfOk result (λ r. r ≡ gone_of words.now) }
+{
+    let text = not_executed(alloc, words.as_slice(), Cause::NotFound)?;
+    Reaction::badly(alloc, Effects::new(alloc), text)
+}
+
+/// Returns the bytes after the first one.
+fn behind_first(bytes: &[u8]) -> &[u8]
+    ensures { result.now ≡ drop 1 bytes.now }
+{
+    match bytes {
+        [] => &[],
+        [_, rest @ ..] => rest,
+    }
+}
+
+/// Returns what follows the first piece of output. Its first byte only says that the program is
+/// there.
+fn heard_piece(alloc: Global, i: Place, piece: &[u8]) -> Result<Reaction, AllocError>
+    ensures { IfOk result (λ r. r ≡ begun_of i (Effect.Receive (drop 1 piece.now) ∷ [])) }
+{
+    let output = Text::from_slice(alloc, behind_first(piece))?;
+    begun(alloc, i, Effects::one(alloc, Effect::Receive(output))?)
+}
+
+/// Returns what follows the first item of a terminal of the system.
+pub(crate) fn heard_first(
+    alloc: Global,
+    words: Texts,
+    i: Place,
+    item: &Item,
+) -> Result<Reaction, AllocError>
+    ensures { IfOk result (λ r. r ≡ heard_first_of words i item.now) }
+{
+    match item {
+        Item::Out(piece) => heard_piece(alloc, i, piece.as_slice()),
+        Item::Eof => missing(alloc, words),
+        Item::ReadFail(_) => missing(alloc, words),
     }
 }

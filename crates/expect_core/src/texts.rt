@@ -1,8 +1,8 @@
 //! The texts of errors, spawn ids and the line of a `spawn`.
 
-ghost use Rattle.std.specs.Prelude.{◌≡◌, IfOk};
+ghost use Rattle.std.specs.Prelude.{◌≡◌, ◌++◌, IfOk, OnOk};
 ghost use Rattle.std.specs.Fmt.{decimal};
-ghost use Rattle.expect_core.specs.Texts.{id_at as id_of, spawn_line as line_of, with_cause as cause_behind, not_executed as not_executed_text, program_of as program_text, bad_stty as bad_stty_text, no_such_id as no_such_id_text, not_open as not_open_text, waited_for as waited_for_text, bad_size as bad_size_text, bad_removal as bad_removal_text, bit, bad_expect_flag as bad_flag_text, bad_regular as bad_regular_text, number_of_cause as number_of};
+ghost use Rattle.expect_core.specs.Texts.{id_at as id_of, spaced, spawn_line as line_of, with_cause as cause_behind, not_executed as not_executed_text, program_of as program_text, bad_stty as bad_stty_text, no_such_id as no_such_id_text, not_open as not_open_text, waited_for as waited_for_text, bad_size as bad_size_text, bad_removal as bad_removal_text, bit, bad_expect_flag as bad_flag_text, bad_regular as bad_regular_text, number_of_cause as number_of};
 
 use crate::place::Place;
 use child_events::{Cause, cause_name};
@@ -35,15 +35,25 @@ pub(crate) fn id_at(alloc: Global, i: Place) -> Result<Text, AllocError>
     Ok(text)
 }
 
-/// Returns the line that a `spawn` writes to the transcript.
-pub(crate) fn spawn_line(alloc: Global, words: &[Text]) -> Result<Text, AllocError>
-    ensures { IfOk result (λ t. t ≡ line_of words.now) }
+/// Appends words, each with a space before it.
+fn push_spaced(line: &mut Text, words: &[Text]) -> Result<(), AllocError>
+    ensures { OnOk result (line.new ≡ line.old ++ spaced words.now) }
 {
-    let mut line = Text::from_slice(alloc, b"spawn")?;
     for word in words {
         line.push(b' ')?;
         line.extend(word.as_slice())?;
     }
+    Ok(())
+}
+
+/// Returns the line that a `spawn` writes to the transcript: the flags that are shown, and the
+/// words.
+pub(crate) fn spawn_line(alloc: Global, shown: &[Text], words: &[Text]) -> Result<Text, AllocError>
+    ensures { IfOk result (λ t. t ≡ line_of shown.now words.now) }
+{
+    let mut line = Text::from_slice(alloc, b"spawn")?;
+    push_spaced(&mut line, shown)?;
+    push_spaced(&mut line, words)?;
     line.extend(b"\r\n")?;
     Ok(line)
 }

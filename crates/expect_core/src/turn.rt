@@ -26,8 +26,12 @@ pub enum Reply {
 /// What an answer is awaited for.
 #[derive(Drop)]
 pub enum Purpose {
-    /// A `spawn` of these words.
-    Spawn(Texts),
+    /// A `spawn` of these words, and whether it is on a terminal of the system.
+    Spawn(bool, Texts),
+    /// The `close` of a terminal of the system that a `spawn` of these words found no program for.
+    Missing(Texts),
+    /// The `wait` for it.
+    Gone(Texts),
     /// A `send`: the action that was requested, and the remaining ones.
     Send(Action, Pile<Action>),
     /// A `close`.
@@ -45,6 +49,8 @@ pub enum Next {
     Finish(Reply),
     /// It awaits the child's next answer.
     Await(Purpose),
+    /// It awaits the child's first item, for a `spawn` of these words.
+    Hear(Texts),
     /// It sends this text to the child's terminal.
     Send(Value),
 }
@@ -72,6 +78,9 @@ pub enum Deed {
 pub enum Want {
     /// The next answer of the child at this place.
     Answer(Place, Purpose),
+    /// The first item of the child at this place, for a `spawn` of these words on a terminal of the
+    /// system.
+    First(Place, Texts),
     /// An item of a child of this `expect`.
     Output(PlanBox),
     /// The answer to the request that closes this child at the end of its output, for this
@@ -136,6 +145,7 @@ impl Reaction {
             stage: match self.next {
                 Next::Finish(reply) => Stage::Over(reply),
                 Next::Await(why) => Stage::Wait(Want::Answer(i, why)),
+                Next::Hear(words) => Stage::Wait(Want::First(i, words)),
                 Next::Send(text) => Stage::Send(i, text),
             },
         }

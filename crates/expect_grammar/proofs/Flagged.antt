@@ -3,14 +3,18 @@ use Rattle.std.proofs.Common.{◌≡◌, ℕ, Bool, true, false, ◌&&◌, List,
 use Rattle.std.proofs.lemmas.Bool.{and_parts, and_from, and_right, false_from_ne_true}
 use Rattle.std.specs.Str.{bytes_eq}
 use Rattle.tcl_words.specs.Lists.{begins_with}
-use Rattle.command_table.specs.Flags.{begins_with_minus, is_own}
-use Rattle.expect_core.specs.Flags.{no_flags, Flagged, flags_from, flags_of}
+use Rattle.command_table.specs.Flags.{begins_with_minus, is_own, other_role}
+use Rattle.expect_core.specs.Flags.{no_flags, showing, Flagged, flags_from, flags_of}
+use Rattle.expect_core.specs.declared.flags.Due.TheVariants as due
 use Rattle.expect_core.specs.declared.flags.Flags.{Flags}
 use Rattle.command_table.specs.declared.flags.Own.{Own}
 use Rattle.command_table.specs.declared.flags.Own.TheVariants as switch
 use Rattle.command_table.specs.declared.flags.Flags.{Flags as Takes}
-use Rattle.expect_grammar.specs.FlagRules.{IsSwitch, IsFlag, Stand, End, Wrong, Say, Fail}
+use Rattle.command_table.specs.declared.flags.Role.{Role}
+use Rattle.command_table.specs.declared.flags.Role.TheVariants as role
+use Rattle.expect_grammar.specs.FlagRules.{IsSwitch, IsTerminal, IsShown, IsFlag, Stand, End, Wrong, Say, Fail}
 use Rattle.expect_grammar.proofs.Words.{found, never}
+use Rattle.expect_grammar.proofs.SpawnFlags.{IsNoSpawnFlag, OtherIs, other_is}
 
 -- a minus at its front
 minus_is : (word : List ℕ) → begins_with_minus word ≡ begins_with 45 word
@@ -20,7 +24,7 @@ minus_is (b ∷ s) = refl
 -- no command's own flag is `-i`
 id_isnt_own : (own : Own) → is_own own (codes "-i") ≡ false
 id_isnt_own switch.None = refl
-id_isnt_own switch.NoEcho = refl
+id_isnt_own switch.Spawn = refl
 id_isnt_own switch.Default = refl
 id_isnt_own switch.Timer = refl
 
@@ -28,7 +32,7 @@ id_isnt_own switch.Timer = refl
 module _ (P : List ℕ → Own → Type 0) (holds : (word : List ℕ) (s : Own) → IsSwitch word s → P word s) where
   own_is_switch : (own : Own) (word : List ℕ) → is_own own word ≡ true → P word own
   own_is_switch switch.None word is = absurd (never (sym is))
-  own_is_switch switch.NoEcho word is = found word (codes "-noecho") (λ w. P w switch.NoEcho) (holds (codes "-noecho") switch.NoEcho IsSwitch.noecho) is
+  own_is_switch switch.Spawn word is = found word (codes "-noecho") (λ w. P w switch.Spawn) (holds (codes "-noecho") switch.Spawn IsSwitch.noecho) is
   own_is_switch switch.Default word is = found word (codes "-d") (λ w. P w switch.Default) (holds (codes "-d") switch.Default IsSwitch.default) is
   own_is_switch switch.Timer word is = found word (codes "-continue_timer") (λ w. P w switch.Timer) (holds (codes "-continue_timer") switch.Timer IsSwitch.continue_timer) is
 
@@ -40,6 +44,13 @@ module _ (takes : Takes) where
   own_test word s e IsSwitch.default = ap (λ own. is_own own word) e
   own_test word s e IsSwitch.continue_timer = ap (λ own. is_own own word) e
 
+  -- a flag of `spawn` other than its own one
+  unlike_own : (word : List ℕ) → is_own switch.Spawn word ≡ false → takes.own ≡ switch.Spawn → is_own takes.own word ≡ false
+  unlike_own word is e = ap (λ own. is_own own word) e ∙ is
+
+  other_test : (word : List ℕ) (r : Role) → other_role switch.Spawn word ≡ r → takes.own ≡ switch.Spawn → other_role takes.own word ≡ r
+  other_test word r is e = ap (λ own. other_role own word) e ∙ is
+
   own_flag : (word : List ℕ) → is_own takes.own word ≡ true → IsFlag takes word
   own_flag word is = own_is_switch (λ w s. takes.own ≡ s → IsFlag takes w) (λ w s is e. IsFlag.own w s e is) takes.own word is refl
 
@@ -50,41 +61,70 @@ module _ (takes : Takes) where
   end_flag word is = let p = and_parts takes.end _ is in found word (codes "--") (λ w. IsFlag takes w) (IsFlag.end p.0) p.1
 
   no_flag : (word : List ℕ) → takes.end && bytes_eq word (codes "--") ≡ false → is_own takes.own word ≡ false → takes.id && bytes_eq word (codes "-i") ≡ false
-      → ¬ IsFlag takes word
-  no_flag word end own id (IsFlag.own v s e is) = never (sym (own_test word s e is) ∙ own)
-  no_flag word end own id (IsFlag.id e) = let is = rw e at id in never is
-  no_flag word end own id (IsFlag.end e) = let is = rw e at end in never is
+      → (takes.own ≡ switch.Spawn → IsNoSpawnFlag word) → ¬ IsFlag takes word
+  no_flag word end own id other (IsFlag.own v s e is) = never (sym (own_test word s e is) ∙ own)
+  no_flag word end own id other (IsFlag.id e) = let is = rw e at id in never is
+  no_flag word end own id other (IsFlag.end e) = let is = rw e at end in never is
+  no_flag word end own id other (IsFlag.terminal v on e is) = (other e).terminal on is
+  no_flag word end own id other (IsFlag.shown v e is) = (other e).shown is
+  no_flag word end own id other (IsFlag.ignore e) = (other e).ignore refl
+
+  bad_by : (word : List ℕ) (r : Role) → OtherIs takes.own word r → ¬ IsFlag takes word → r ≡ role.Bad
+  bad_by word r (OtherIs.terminal v on e is) other = absurd (other (IsFlag.terminal word on e is))
+  bad_by word r (OtherIs.shown v e is) other = absurd (other (IsFlag.shown word e is))
+  bad_by word r (OtherIs.ignore e) other = absurd (other (IsFlag.ignore e))
+  bad_by word r (OtherIs.none v unlike) other = refl
+
+  bad_role : (word : List ℕ) → ¬ IsFlag takes word → other_role takes.own word ≡ role.Bad
+  bad_role word other = bad_by word (other_role takes.own word) (other_is takes.own word) other
 
   -- ---- From the rules to the function
 
   module _ (name : List ℕ) where
     own_is : (f : Flags) (word : List ℕ) (rest : List (List ℕ)) (s : Own) → takes.own ≡ s → IsSwitch word s
-        → flags_from name takes false f (word ∷ rest) ≡ flags_from name takes false (record f { on = true }) rest
+        → flags_from name takes due.None f (word ∷ rest) ≡ flags_from name takes due.None (record f { on = true }) rest
     own_is f word rest s e IsSwitch.noecho = rw (and_right takes.end false refl, own_test word s e IsSwitch.noecho) refl
     own_is f word rest s e IsSwitch.default = rw (and_right takes.end false refl, own_test word s e IsSwitch.default) refl
     own_is f word rest s e IsSwitch.continue_timer = rw (and_right takes.end false refl, own_test word s e IsSwitch.continue_timer) refl
 
-    id_is : (f : Flags) (rest : List (List ℕ)) → takes.id ≡ true → flags_from name takes false f (codes "-i" ∷ rest) ≡ flags_from name takes true f rest
+    id_is : (f : Flags) (rest : List (List ℕ)) → takes.id ≡ true → flags_from name takes due.None f (codes "-i" ∷ rest) ≡ flags_from name takes due.Id f rest
     id_is f rest e = rw (and_right takes.end false refl, id_isnt_own takes.own, and_from takes.id true e refl) refl
 
+    terminal_is : (f : Flags) (word : List ℕ) (rest : List (List ℕ)) (on : Bool) → takes.own ≡ switch.Spawn → IsTerminal word on
+        → flags_from name takes due.None f (word ∷ rest) ≡ flags_from name takes due.None (record f { tty = Some on }) rest
+    terminal_is f word rest on e IsTerminal.tty = rw (and_right takes.end false refl, unlike_own (codes "-tty") refl e, and_right takes.id false refl, other_test (codes "-tty") (role.Tty true) refl e) refl
+    terminal_is f word rest on e IsTerminal.notty = rw (and_right takes.end false refl, unlike_own (codes "-notty") refl e, and_right takes.id false refl, other_test (codes "-notty") (role.Tty false) refl e) refl
+
+    shown_is : (f : Flags) (word : List ℕ) (rest : List (List ℕ)) → takes.own ≡ switch.Spawn → IsShown word
+        → flags_from name takes due.None f (word ∷ rest) ≡ flags_from name takes due.None (showing word f) rest
+    shown_is f word rest e IsShown.nottycopy = rw (and_right takes.end false refl, unlike_own (codes "-nottycopy") refl e, and_right takes.id false refl, other_test (codes "-nottycopy") role.Shown refl e) refl
+    shown_is f word rest e IsShown.nottyinit = rw (and_right takes.end false refl, unlike_own (codes "-nottyinit") refl e, and_right takes.id false refl, other_test (codes "-nottyinit") role.Shown refl e) refl
+
+    ignore_is : (f : Flags) (rest : List (List ℕ)) → takes.own ≡ switch.Spawn → flags_from name takes due.None f (codes "-ignore" ∷ rest) ≡ flags_from name takes due.Shown (showing (codes "-ignore") f) rest
+    ignore_is f rest e = rw (and_right takes.end false refl, unlike_own (codes "-ignore") refl e, and_right takes.id false refl, other_test (codes "-ignore") role.ShownWithValue refl e) refl
+
     -- what is read is read behind the flags that stand in front
-    stood : (f g : Flags) (words behind : List (List ℕ)) → Stand takes f words g behind → flags_from name takes false f words ≡ flags_from name takes false g behind
+    stood : (f g : Flags) (words behind : List (List ℕ)) → Stand takes f words g behind → flags_from name takes due.None f words ≡ flags_from name takes due.None g behind
     stood f g words behind (Stand.none h ws) = refl
     stood f g words behind (Stand.own h i word rest ws s e is on) = own_is f word rest s e is ∙ stood (record f { on = true }) g rest behind on
     stood f g words behind (Stand.id h i word rest ws e on) = id_is f (word ∷ rest) e ∙ stood (record f { id = Some word }) g rest behind on
+    stood f g words behind (Stand.terminal h i word rest ws t e is on) = terminal_is f word rest t e is ∙ stood (record f { tty = Some t }) g rest behind on
+    stood f g words behind (Stand.shown h i word rest ws e is on) = shown_is f word rest e is ∙ stood (showing word f) g rest behind on
+    stood f g words behind (Stand.ignore h i word rest ws e on) = ignore_is f (word ∷ rest) e ∙ stood (showing word (showing (codes "-ignore") f)) g rest behind on
 
-    ended : (f : Flags) (behind rest : List (List ℕ)) → End takes behind rest → flags_from name takes false f behind ≡ Ok (f, rest)
+    ended : (f : Flags) (behind rest : List (List ℕ)) → End takes behind rest → flags_from name takes due.None f behind ≡ Ok (f, rest)
     ended f behind rest End.over = refl
     ended f behind rest (End.argument word ws e) = rw (minus_is word ∙ e) refl
     ended f behind rest (End.last ws e) = rw e refl
 
-    failed : (f : Flags) (behind : List (List ℕ)) (text : List ℕ) → Wrong name takes behind text → flags_from name takes false f behind ≡ Err text
+    failed : (f : Flags) (behind : List (List ℕ)) (text : List ℕ) → Wrong name takes behind text → flags_from name takes due.None f behind ≡ Err text
     failed f behind text (Wrong.unknown word rest minus other) =
         let end = false_from_ne_true (takes.end && bytes_eq word (codes "--")) (λ is. other (end_flag word is)) in
         let own = false_from_ne_true (is_own takes.own word) (λ is. other (own_flag word is)) in
         let id = false_from_ne_true (takes.id && bytes_eq word (codes "-i")) (λ is. other (id_flag word is)) in
-        rw (minus_is word ∙ minus, end, own, id) refl
+        rw (minus_is word ∙ minus, end, own, id, bad_role word other) refl
     failed f behind text (Wrong.no_id e) = id_is f [] e
+    failed f behind text (Wrong.no_signal e) = ignore_is f [] e
 
     pub flags_is : (words : List (List ℕ)) (f : Flags) (rest : List (List ℕ)) → Say takes words f rest → flags_of name takes words ≡ Ok (f, rest)
     flags_is words f rest h = stood no_flags f words h.0 h.1 ∙ ended f h.0 rest h.2
@@ -98,9 +138,11 @@ module _ (takes : Takes) where
       good : (g : Flags) (behind rest : List (List ℕ)) → Stand takes f words g behind → End takes behind rest → Outcome f words
       wrong : (g : Flags) (behind : List (List ℕ)) (text : List ℕ) → Stand takes f words g behind → Wrong name takes behind text → Outcome f words
 
-    -- of words, and of an `-i` in front of them
-    abbrev Both : List (List ℕ) → Type 0
-    Both words = ((f : Flags) → Outcome f words) × ((f : Flags) → takes.id ≡ true → Outcome f (codes "-i" ∷ words))
+    -- of words, and of a flag in front of them that takes the first one
+    record Each (words : List (List ℕ)) : Type 0 where
+      alone : (f : Flags) → Outcome f words
+      id : (f : Flags) → takes.id ≡ true → Outcome f (codes "-i" ∷ words)
+      ignore : (f : Flags) → takes.own ≡ switch.Spawn → Outcome f (codes "-ignore" ∷ words)
 
     at_end : (f : Flags) (words rest : List (List ℕ)) → End takes words rest → Outcome f words
     at_end f words rest h = Outcome.good f words rest (Stand.none f words) h
@@ -113,17 +155,36 @@ module _ (takes : Takes) where
     identified f word rest e (Outcome.good g behind ws h end) = Outcome.good g behind ws (Stand.id f g word rest behind e h) end
     identified f word rest e (Outcome.wrong g behind text h bad) = Outcome.wrong g behind text (Stand.id f g word rest behind e h) bad
 
-    own_first : (f : Flags) (word : List ℕ) (rest : List (List ℕ)) → is_own takes.own word ≡ true → Both rest → Outcome f (word ∷ rest)
-    own_first f word rest is b =
-        own_is_switch (λ w s. takes.own ≡ s → Outcome f (w ∷ rest)) (λ w s is e. switched f w rest s e is (b.0 (record f { on = true }))) takes.own word is refl
+    chosen : (f : Flags) (word : List ℕ) (rest : List (List ℕ)) (on : Bool) → takes.own ≡ switch.Spawn → IsTerminal word on → Outcome (record f { tty = Some on }) rest → Outcome f (word ∷ rest)
+    chosen f word rest on e is (Outcome.good g behind ws h end) = Outcome.good g behind ws (Stand.terminal f g word rest behind on e is h) end
+    chosen f word rest on e is (Outcome.wrong g behind text h bad) = Outcome.wrong g behind text (Stand.terminal f g word rest behind on e is h) bad
 
-    first : (f : Flags) (word : List ℕ) (rest : List (List ℕ)) → Both rest → Outcome f (word ∷ rest)
+    showed : (f : Flags) (word : List ℕ) (rest : List (List ℕ)) → takes.own ≡ switch.Spawn → IsShown word → Outcome (showing word f) rest → Outcome f (word ∷ rest)
+    showed f word rest e is (Outcome.good g behind ws h end) = Outcome.good g behind ws (Stand.shown f g word rest behind e is h) end
+    showed f word rest e is (Outcome.wrong g behind text h bad) = Outcome.wrong g behind text (Stand.shown f g word rest behind e is h) bad
+
+    ignored : (f : Flags) (word : List ℕ) (rest : List (List ℕ)) → takes.own ≡ switch.Spawn → Outcome (showing word (showing (codes "-ignore") f)) rest → Outcome f (codes "-ignore" ∷ word ∷ rest)
+    ignored f word rest e (Outcome.good g behind ws h end) = Outcome.good g behind ws (Stand.ignore f g word rest behind e h) end
+    ignored f word rest e (Outcome.wrong g behind text h bad) = Outcome.wrong g behind text (Stand.ignore f g word rest behind e h) bad
+
+    own_first : (f : Flags) (word : List ℕ) (rest : List (List ℕ)) → is_own takes.own word ≡ true → Each rest → Outcome f (word ∷ rest)
+    own_first f word rest is b =
+        own_is_switch (λ w s. takes.own ≡ s → Outcome f (w ∷ rest)) (λ w s is e. switched f w rest s e is (b.alone (record f { on = true }))) takes.own word is refl
+
+    other_first : (f : Flags) (word : List ℕ) (rest : List (List ℕ)) (r : Role) → OtherIs takes.own word r → Each rest
+        → begins_with 45 word ≡ true → takes.end && bytes_eq word (codes "--") ≡ false → is_own takes.own word ≡ false → takes.id && bytes_eq word (codes "-i") ≡ false → Outcome f (word ∷ rest)
+    other_first f word rest r (OtherIs.terminal v on e is) b minus end own id = chosen f word rest on e is (b.alone (record f { tty = Some on }))
+    other_first f word rest r (OtherIs.shown v e is) b minus end own id = showed f word rest e is (b.alone (showing word f))
+    other_first f word rest r (OtherIs.ignore e) b minus end own id = b.ignore f e
+    other_first f word rest r (OtherIs.none v unlike) b minus end own id = Outcome.wrong f (word ∷ rest) _ (Stand.none f (word ∷ rest)) (Wrong.unknown word rest minus (no_flag word end own id unlike))
+
+    first : (f : Flags) (word : List ℕ) (rest : List (List ℕ)) → Each rest → Outcome f (word ∷ rest)
     first f word rest b = by_minus (begins_with 45 word) refl
       where
         by_id : begins_with 45 word ≡ true → takes.end && bytes_eq word (codes "--") ≡ false → is_own takes.own word ≡ false
             → (t : Bool) → takes.id && bytes_eq word (codes "-i") ≡ t → Outcome f (word ∷ rest)
-        by_id minus end own true is = let p = and_parts takes.id _ is in found word (codes "-i") (λ w. Outcome f (w ∷ rest)) (b.1 f p.0) p.1
-        by_id minus end own false is = Outcome.wrong f (word ∷ rest) _ (Stand.none f (word ∷ rest)) (Wrong.unknown word rest minus (no_flag word end own is))
+        by_id minus end own true is = let p = and_parts takes.id _ is in found word (codes "-i") (λ w. Outcome f (w ∷ rest)) (b.id f p.0) p.1
+        by_id minus end own false is = other_first f word rest (other_role takes.own word) (other_is takes.own word) b minus end own is
 
         by_own : begins_with 45 word ≡ true → takes.end && bytes_eq word (codes "--") ≡ false → (t : Bool) → is_own takes.own word ≡ t → Outcome f (word ∷ rest)
         by_own minus end true is = own_first f word rest is b
@@ -137,9 +198,19 @@ module _ (takes : Takes) where
         by_minus true is = by_end is (takes.end && bytes_eq word (codes "--")) refl
         by_minus false is = at_end f (word ∷ rest) (word ∷ rest) (End.argument word rest is)
 
-    each : (words : List (List ℕ)) → Both words
-    each [] = (λ f. at_end f [] [] End.over, λ f e. Outcome.wrong f (codes "-i" ∷ []) _ (Stand.none f (codes "-i" ∷ [])) (Wrong.no_id e))
-    each (word ∷ rest) = let b = each rest in (λ f. first f word rest b, λ f e. identified f word rest e (b.0 (record f { id = Some word })))
+    each : (words : List (List ℕ)) → Each words
+    each [] = record {
+      alone = λ f. at_end f [] [] End.over;
+      id = λ f e. Outcome.wrong f (codes "-i" ∷ []) _ (Stand.none f (codes "-i" ∷ [])) (Wrong.no_id e);
+      ignore = λ f e. Outcome.wrong f (codes "-ignore" ∷ []) _ (Stand.none f (codes "-ignore" ∷ [])) (Wrong.no_signal e);
+    }
+    each (word ∷ rest) =
+        let b = each rest in
+        record {
+          alone = λ f. first f word rest b;
+          id = λ f e. identified f word rest e (b.alone (record f { id = Some word }));
+          ignore = λ f e. ignored f word rest e (b.alone (showing word (showing (codes "-ignore") f)));
+        }
 
     -- ---- What is read
 
@@ -150,7 +221,7 @@ module _ (takes : Takes) where
     same_text v w e = cc
 
     pub is_flags : (words : List (List ℕ)) (f : Flags) (rest : List (List ℕ)) → flags_of name takes words ≡ Ok (f, rest) → Say takes words f rest
-    is_flags words f rest is = by ((each words).0 no_flags)
+    is_flags words f rest is = by ((each words).alone no_flags)
       where
         by : Outcome no_flags words → Say takes words f rest
         by (Outcome.good g behind ws h end) =
@@ -159,7 +230,7 @@ module _ (takes : Takes) where
         by (Outcome.wrong g behind text h bad) = absurd (let read = sym (fault_is words text (g, behind, h, bad)) ∙ is in cc)
 
     pub is_fault : (words : List (List ℕ)) (text : List ℕ) → flags_of name takes words ≡ Err text → Fail name takes words text
-    is_fault words text is = by ((each words).0 no_flags)
+    is_fault words text is = by ((each words).alone no_flags)
       where
         by : Outcome no_flags words → Fail name takes words text
         by (Outcome.good g behind ws h end) = absurd (let read = sym (flags_is words g ws (behind, h, end)) ∙ is in cc)
@@ -178,7 +249,7 @@ module _ (takes : Takes) where
     one_text words v w g h = same_text v w (sym (fault_is words v g) ∙ fault_is words w h)
 
     pub always : (words : List (List ℕ)) → ((f : Flags) × (rest : List (List ℕ)) × Say takes words f rest) ⊎ ((text : List ℕ) × Fail name takes words text)
-    always words = by ((each words).0 no_flags)
+    always words = by ((each words).alone no_flags)
       where
         by : Outcome no_flags words → ((f : Flags) × (rest : List (List ℕ)) × Say takes words f rest) ⊎ ((text : List ℕ) × Fail name takes words text)
         by (Outcome.good f behind rest h end) = inl (f, rest, (behind, h, end))

@@ -1,4 +1,5 @@
 pub mod Words
+pub mod SpawnFlags
 pub mod Written
 pub mod Faulted
 pub mod Derived

@@ -136,7 +136,7 @@ pub either : (word a b : List ℕ) (P : List ℕ → Type 0) → P a → P b →
 either word a b P p q e = ⊎_elim (found word a P p) (found word b P q) (or_cases (bytes_eq word a) (bytes_eq word b) e)
 
 -- a word that a test didn't find
-missed : (word name : List ℕ) → bytes_eq word name ≡ false → word ≢ name
+pub missed : (word name : List ℕ) → bytes_eq word name ≡ false → word ≢ name
 missed word name e same = let z = (bytes_eq-Decides word name).1 same in cc
 
 no_keyword : (word : List ℕ) → bytes_eq word (codes "eof") ≡ false → bytes_eq word (codes "timeout") ≡ false → bytes_eq word (codes "default") ≡ false

@@ -1,9 +1,9 @@
 -- The flags of commands other than `expect`, as in expect(1), rule by rule. Flags precede the arguments of a command.
-use Rattle.std.specs.Prelude.{◌≡◌, ℕ, true, false, List, [], ◌∷◌, Some, codes}
+use Rattle.std.specs.Prelude.{◌≡◌, ℕ, Bool, true, false, List, [], ◌∷◌, Some, codes}
 use Rattle.tcl_words.specs.Bytes.{minus}
 use Rattle.tcl_words.specs.Lists.{begins_with}
 use Rattle.tcl_commands.specs.Texts.{wrong_args}
-use Rattle.expect_core.specs.Flags.{no_flags, bad_flag}
+use Rattle.expect_core.specs.Flags.{no_flags, bad_flag, showing}
 use Rattle.expect_core.specs.declared.flags.Flags.{Flags}
 use Rattle.command_table.specs.declared.flags.Own.{Own}
 use Rattle.command_table.specs.declared.flags.Own.TheVariants as switch
@@ -14,11 +14,23 @@ use Rattle.command_table.specs.declared.flags.Flags.{Flags as Takes}
 -- The form of a command's own flag.
 pub data IsSwitch : List ℕ → Own → Type 0 where
   -- Of `spawn`: the command isn't shown.
-  noecho : IsSwitch (codes "-noecho") switch.NoEcho
+  noecho : IsSwitch (codes "-noecho") switch.Spawn
   -- Of `match_max` and `remove_nulls`: the setting applies to processes started later.
   default : IsSwitch (codes "-d") switch.Default
   -- Of `exp_continue`: the time limit of `expect` doesn't start anew.
   continue_timer : IsSwitch (codes "-continue_timer") switch.Timer
+
+-- A flag of `spawn` that says whether the process is on a terminal of the system.
+pub data IsTerminal : List ℕ → Bool → Type 0 where
+  tty : IsTerminal (codes "-tty") true
+  notty : IsTerminal (codes "-notty") false
+
+-- A flag of `spawn` that changes nothing here. The line of the command shows it.
+pub data IsShown : List ℕ → Type 0 where
+  -- The modes of the terminal aren't copied from that of the user.
+  nottycopy : IsShown (codes "-nottycopy")
+  -- The modes of the terminal aren't set to sane ones.
+  nottyinit : IsShown (codes "-nottyinit")
 
 -- A flag that the command accepts.
 pub data IsFlag (takes : Takes) : List ℕ → Type 0 where
@@ -28,6 +40,11 @@ pub data IsFlag (takes : Takes) : List ℕ → Type 0 where
   id : takes.id ≡ true → IsFlag takes (codes "-i")
   -- The flag for the end of flags.
   end : takes.end ≡ true → IsFlag takes (codes "--")
+  -- A flag of `spawn` about terminals.
+  terminal : (word : List ℕ) (on : Bool) → takes.own ≡ switch.Spawn → IsTerminal word on → IsFlag takes word
+  shown : (word : List ℕ) → takes.own ≡ switch.Spawn → IsShown word → IsFlag takes word
+  -- The flag of `spawn` for a signal that the process ignores, which must follow.
+  ignore : takes.own ≡ switch.Spawn → IsFlag takes (codes "-ignore")
 
 -- ---- All flags
 
@@ -42,6 +59,15 @@ pub data Stand (takes : Takes) : Flags → List (List ℕ) → Flags → List (L
   -- `-i` with a spawn id, whatever word that is, and more flags. The last spawn id counts.
   id : (f g : Flags) (word : List ℕ) (rest behind : List (List ℕ)) → takes.id ≡ true
       → Stand takes (record f { id = Some word }) rest g behind → Stand takes f (codes "-i" ∷ word ∷ rest) g behind
+  -- `-tty` or `-notty` of `spawn`, and more flags. The last of them counts.
+  terminal : (f g : Flags) (word : List ℕ) (rest behind : List (List ℕ)) (on : Bool) → takes.own ≡ switch.Spawn → IsTerminal word on
+      → Stand takes (record f { tty = Some on }) rest g behind → Stand takes f (word ∷ rest) g behind
+  -- A flag of `spawn` that is shown, and more flags.
+  shown : (f g : Flags) (word : List ℕ) (rest behind : List (List ℕ)) → takes.own ≡ switch.Spawn → IsShown word
+      → Stand takes (showing word f) rest g behind → Stand takes f (word ∷ rest) g behind
+  -- `-ignore` of `spawn` with a signal, whatever word that is, and more flags. Both words are shown.
+  ignore : (f g : Flags) (word : List ℕ) (rest behind : List (List ℕ)) → takes.own ≡ switch.Spawn
+      → Stand takes (showing word (showing (codes "-ignore") f)) rest g behind → Stand takes f (codes "-ignore" ∷ word ∷ rest) g behind
 
 -- `End takes behind rest`: the words after the flags end them, and `rest` is left as arguments.
 pub data End (takes : Takes) : List (List ℕ) → List (List ℕ) → Type 0 where
@@ -59,6 +85,8 @@ pub data Wrong (name : List ℕ) (takes : Takes) : List (List ℕ) → List ℕ 
   unknown : (word : List ℕ) (rest : List (List ℕ)) → begins_with minus word ≡ true → ¬ IsFlag takes word → Wrong name takes (word ∷ rest) (bad_flag word)
   -- `-i` with no word after it.
   no_id : takes.id ≡ true → Wrong name takes (codes "-i" ∷ []) (wrong_args name)
+  -- `-ignore` with no word after it.
+  no_signal : takes.own ≡ switch.Spawn → Wrong name takes (codes "-ignore" ∷ []) (wrong_args name)
 
 -- The flags at the front of these words mean f, and `rest` is left as arguments.
 abbrev pub Say : Takes → List (List ℕ) → Flags → List (List ℕ) → Type 0

@@ -27,7 +27,7 @@ vars_told Tap asked = false
 -- The settings of each script of an order: its step limit, its last moment in milliseconds, these variables at the
 -- start, and whether its report includes its variables.
 abbrev pub settings_given : Scripts → Variables → Settings
-settings_given order vars = record { steps = order.steps; limit_ms = order.limit_ms; vars = vars; tells_vars = vars_told order.form.format order.form.shown.vars }
+settings_given order vars = record { steps = order.steps; limit_ms = order.limit_ms; vars = vars; host = order.host; tells_vars = vars_told order.form.format order.form.shown.vars }
 
 -- The scripts of sources, in their order, with the same settings.
 abbrev pub scripts_given : Settings → List (List ℕ) → List Script
@@ -56,7 +56,7 @@ pub record AreOfFiles (holds : List ℕ → List ℕ → Type 0) (sets : List (L
 -- The settings of a script that is run as a command: its step limit, its last moment in milliseconds, and these
 -- variables at the start. It has no report that could include its variables.
 abbrev pub alone_settings : Alone → Variables → Settings
-alone_settings order vars = record { steps = order.steps; limit_ms = order.limit_ms; vars = vars; tells_vars = false }
+alone_settings order vars = record { steps = order.steps; limit_ms = order.limit_ms; vars = vars; host = order.host; tells_vars = false }
 
 -- The script of a command. Its source was read at the path of its file, and it has the command's settings, arguments
 -- and variables.

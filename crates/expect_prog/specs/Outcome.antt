@@ -3,6 +3,8 @@ use Rattle.std.specs.Prelude.{ℕ, ◌+◌, List, [], ◌∷◌, ◌++◌, codes
 use Rattle.tcl_words.specs.Bytes as ascii
 use Rattle.tcl_host.specs.declared.ending.Ending.{Ending}
 use Rattle.tcl_host.specs.declared.ending.Ending.TheVariants.{Exit, Error, StepLimit, TimeLimit, Memory, Waiting}
+use Rattle.session.specs.declared.report.Report.{Report}
+use Rattle.course_texts.specs.Trail.{place_lines}
 use Rattle.expect_prog.specs.declared.outcome.Outcome.{Outcome}
 use Rattle.expect_prog.specs.declared.outcome.Outcome.TheVariants.{Well, Otherwise, Ended, Lost, Stopped}
 
@@ -27,6 +29,10 @@ last_line StepLimit fault = codes "exprun: steplimit" ++ ascii.newline ∷ []
 last_line TimeLimit fault = codes "exprun: timelimit" ++ ascii.newline ∷ []
 last_line Memory fault = codes "exprun: memory" ++ ascii.newline ∷ []
 last_line Waiting fault = codes "exprun: waiting" ++ ascii.newline ∷ []
+
+-- That line, and where the error occurred. The last place is FILE:LINE.
+abbrev pub last_lines : List ℕ → Report → List ℕ
+last_lines file r = last_line r.ending r.fault ++ place_lines (file ++ ascii.colon ∷ []) r.trail
 
 -- The outcome with another file. A file that was not written counts more than all else.
 abbrev pub outcome_and : Outcome → Bool → Outcome

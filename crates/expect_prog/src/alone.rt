@@ -1,7 +1,8 @@
 //! Runs a script as a command, as expect(1) does.
 
-ghost use Rattle.std.specs.Prelude.{◌≡◌, ◌∷◌, [], IfOk};
-ghost use Rattle.expect_prog.specs.Outcome.{last_line};
+ghost use Rattle.std.specs.Prelude.{◌≡◌, ◌++◌, ◌∷◌, [], IfOk};
+ghost use Rattle.tcl_words.specs.Bytes as ascii;
+ghost use Rattle.expect_prog.specs.Outcome.{last_line, last_lines};
 
 use crate::complaint::Complaint;
 use crate::files::{System, alone_script, opened_log, unless_long};
@@ -12,6 +13,7 @@ use crate::running::{RecordFile, cancellations, is_given, keepers, opened_record
 use child_events::Counted;
 use child_pipes::{Free, Programs, Reaper, Stop, Terms, Wall, Watch};
 use command_line::Alone;
+use course_texts::push_places;
 use dialogue_sched::Script;
 use report_texts::write_all;
 use script_runs::{DriveFault, LogWriteFault, Played, Player, Record, drive_early, reports_read};
@@ -47,6 +49,26 @@ fn line_after(alloc: Global, ending: Ending, fault: &[u8]) -> Result<Text, Alloc
     }
     line.push(b'\n')?;
     Ok(line)
+}
+
+/// Returns the label of a line of a file: its path and a colon.
+fn label_of(alloc: Global, file: &[u8]) -> Result<Text, AllocError>
+    ensures { IfOk result (λ t. t ≡ file.now ++ ascii.colon ∷ []) }
+{
+    let mut label = Text::from_slice(alloc, file)?;
+    label.push(b':')?;
+    Ok(label)
+}
+
+/// Returns the lines on standard error after a script in this file: why it ended, and where an error
+/// occurred.
+fn lines_after(alloc: Global, file: &[u8], report: &Report) -> Result<Text, AllocError>
+    ensures { IfOk result (λ lines. lines ≡ last_lines file.now report.now) }
+{
+    let mut lines = line_after(alloc, report.ending, report.fault.as_slice())?;
+    let label = label_of(alloc, file)?;
+    push_places(alloc, &mut lines, label.as_slice(), report.trail.as_slice())?;
+    Ok(lines)
 }
 
 /// Writes a whole text.
@@ -264,8 +286,8 @@ pub fn run_alone<
         None => play(rt, alloc, order, script, errors, out, &stop)?,
     };
     if stop.signal().is_none() || report.ending != Ending::Waiting {
-        let line = line_after(alloc, report.ending, report.fault.as_slice())?;
-        let _ = written(errors, line.as_slice());
+        let lines = lines_after(alloc, order.source.as_bytes(), &report)?;
+        let _ = written(errors, lines.as_slice());
     }
     let outcome = Outcome::ended(report.ending).and(is_recorded);
     Ok(outcome.unless_stopped(stop.signal()))

@@ -248,6 +248,7 @@ fn settings_of(asked: &Scripts<'_>, vars: Pairs) -> Settings
         steps: asked.steps,
         limit_ms: asked.limit_ms,
         vars,
+        host: asked.host,
         tells_vars: tells_vars(&asked.form),
     }
 }
@@ -306,6 +307,7 @@ fn alone_settings(alone: &Alone<'_>, vars: Pairs) -> Settings
         steps: alone.steps,
         limit_ms: alone.limit_ms,
         vars,
+        host: alone.host,
         tells_vars: false,
     }
 }
@@ -456,6 +458,7 @@ pub fn plan_file<'a, R: Files + Env + Print>(
         steps: order.steps,
         limit_ms: order.limit_ms,
         vars,
+        host: order.host,
         tells_vars: false,
     };
     let script = Script { source, settings };

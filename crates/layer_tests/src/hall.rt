@@ -15,6 +15,7 @@ fn script(alloc: Global, source: &[u8]) -> Result<Script, Fail> {
             steps: 1_000_000,
             limit_ms: None,
             vars: Pairs::new(alloc),
+            host: false,
             tells_vars: true,
         },
     })

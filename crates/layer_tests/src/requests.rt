@@ -44,6 +44,7 @@ fn reports(alloc: Global, source: &[u8], log: &[u8]) -> Result<Reports, Fail> {
             steps: 1_000_000,
             limit_ms: None,
             vars: Pairs::new(alloc),
+            host: false,
             tells_vars: true,
         },
     };

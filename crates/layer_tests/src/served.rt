@@ -28,6 +28,7 @@ pub fn script(alloc: Global, source: &[u8]) -> Result<Script, AllocError> {
             steps: 1_000_000,
             limit_ms: None,
             vars: Pairs::new(alloc),
+            host: false,
             tells_vars: true,
         },
     })

@@ -1,6 +1,6 @@
 -- A script alone in its hall, step by step.
 use Rattle.std.proofs.Common.{◌≡◌, ◌≢◌, ℕ, ◌+◌, ◌≤◌, List, [], ◌∷◌, ◌++◌, length, Bool, true, false, Option, Some, None, refl, sym, ap, subst, ◌∙◌, append_assoc, append-nil, arith}
-use Rattle.std.specs.Prelude.{nat_lt, nat_le, IsTrue, max, slice_get, option_map, if◌then◌else◌}
+use Rattle.std.specs.Prelude.{nat_lt, nat_le, IsTrue, max, slice_get, option_map}
 use Rattle.std.proofs.lemmas.Bool.Decides.{nat_tests}
 use Rattle.child_events.specs.declared.child_numbers.ChildNumbers.TheVariants.{To999}
 use Rattle.child_events.specs.declared.event.Event.{Event}
@@ -12,20 +12,20 @@ use Rattle.expect_core.specs.declared.request.Request.{Request}
 use Rattle.expect_core.specs.Numbered.{NamesAChild}
 use Rattle.session.specs.declared.report.Report.{Report}
 use Rattle.session.specs.Meaning.{meaning}
-use Rattle.session.specs.Left.{Kept, HandsOut}
+use Rattle.session.specs.Left.{Kept, HandsOut, HasStarted}
 use Rattle.session.specs.Requests.{AsksChildren}
 use Rattle.session.proofs.Numbering.{begins_asking, fed_asking, handed_asking}
 use Rattle.dialogue_sched.specs.declared.script.Script.{Script}
 use Rattle.dialogue_sched.specs.Refusal.{refusal_of}
 use Rattle.dialogue_sched.specs.Took.{Took, AllTook}
-use Rattle.dialogue_sched.specs.Hall.{Begins, AllBegin, Requested}
+use Rattle.dialogue_sched.specs.Hall.{Begins, AllBegin, Requested, StartsAt}
 use Rattle.dialogue_sched.proofs.Running.{Took_lives, Took_says}
 use Rattle.child_timeline.specs.declared.exits.Exit.{Exit}
 use Rattle.log_plan.specs.declared.planner.Planner.{Planner}
 use Rattle.child_timeline.specs.Told.{is_answer}
-use Rattle.log_plan.specs.Plan.{answers, open_request, answered, answer_in, IsDue, AreDue}
-use Rattle.log_plan.specs.Standing.{moment_in, answer_at, Follows, Stands, IsAnswered}
-use Rattle.log_plan.proofs.Placing.{one_more_answer, no_more_answers, due_one_more, taken_fits, fit_more, later, early_in}
+use Rattle.log_plan.specs.Plan.{answers, open_request, awaited_start, answered, started, first_due, due_after, GoesOn}
+use Rattle.log_plan.specs.Standing.{moment_in, answer_at, start_at, Follows, Stands, IsAnswered, IsAsked}
+use Rattle.log_plan.proofs.Placing.{one_more_answer, no_more_answers, goes_due, goes_told, taken_fits, fit_more, later, early_in}
 
 -- one session
 
@@ -103,14 +103,23 @@ answer_taken : (exits : List Exit) (m : ℕ) (r : Request) → NamesAChild r →
 answer_taken exits m r named early =
     rw (lt_true 0 r.child named.0, le_true r.child 16 named.1, le_true m 9000000000000000 early)
 
--- the answer to what was handed out is taken
-pub answer_is_taken : (s : Script) (exits : List Exit) (p : Planner) (ks : List Kept) (r : Request) → Stands s exits p → Requested 1 p.hall (Some r) ks → refusal_of 1 (answer_at exits p.moment r) ≡ None
-answer_is_taken s exits p ks r st h =
-    let out = handed_alone st.kept (Some r) p.hall ks st.alone h in
-    answer_taken exits p.moment r ((handed_asking st.kept out.0 (Some r) out.1 st.follows.asks).1) st.early
+-- the first output of a child is taken
+start_taken : (m c : ℕ) → (1 ≤ c) × (c ≤ 16) → m ≤ 9000000000000000 → refusal_of 1 (start_at m c) ≡ None
+start_taken m c few early =
+    rw (lt_true 0 c few.0, le_true c 16 few.1, le_true m 9000000000000000 early)
 
-pub only_one : (s : Script) (exits : List Exit) (p : Planner) (o : Option Request) (ks : List Kept) → Stands s exits p → Requested 1 p.hall o ks → (k : Kept) × (ks ≡ k ∷ [])
-only_one s exits p o ks st h = let out = handed_alone st.kept o p.hall ks st.alone h in (out.0, out.2)
+module _ (s : Script) (exits : List Exit) (told : List HallEvent) (p : Planner) (st : Stands s exits told p) where
+  -- the answer to what was handed out is taken
+  pub answer_is_taken : (r : Request) (ks : List Kept) → Requested 1 p.hall (Some r) ks → refusal_of 1 (answer_at exits p.moment r) ≡ None
+  answer_is_taken r ks h =
+      let out = handed_alone st.kept (Some r) p.hall ks st.alone h in
+      answer_taken exits p.moment r ((handed_asking st.kept out.0 (Some r) out.1 st.follows.asks).1) st.early
+
+  pub start_is_taken : (c : ℕ) → (1 ≤ c) × (c ≤ 16) → refusal_of 1 (start_at p.moment c) ≡ None
+  start_is_taken c few = start_taken p.moment c few st.early
+
+  pub only_one : (o : Option Request) (ks : List Kept) → Requested 1 p.hall o ks → (k : Kept) × (ks ≡ k ∷ [])
+  only_one o ks h = let out = handed_alone st.kept o p.hall ks st.alone h in (out.0, out.2)
 
 begun_one : (s : Script) (ks : List Kept) → AllBegin (s ∷ []) ks → (k : Kept) × (ks ≡ k ∷ []) × Begins s k
 begun_one s [] b = absurd b
@@ -118,7 +127,7 @@ begun_one s (k ∷ []) b = (k, refl, b.0)
 begun_one s (k ∷ x ∷ ks) b = absurd b.1
 
 -- nothing has happened
-pub stands_first : (s : Script) (exits : List Exit) (p : Planner) → AllBegin (s ∷ []) p.hall → p.events ≡ [] → p.moment ≡ 0 → Stands s exits p
+pub stands_first : (s : Script) (exits : List Exit) (p : Planner) → AllBegin (s ∷ []) p.hall → p.events ≡ [] → p.moment ≡ 0 → Stands s exits [] p
 stands_first s exits p b none zeroth =
     let k = begun_one s p.hall b in
     record {
@@ -129,7 +138,7 @@ stands_first s exits p b none zeroth =
         asks = begins_asking s.source s.settings k.0 k.2.says;
         says = k.2.says;
       });
-      due = λ lives. subst (λ (es : List HallEvent). AreDue s exits [] es) (sym none) tt;
+      goes = λ lives. subst (λ (es : List HallEvent). GoesOn s exits [] es []) (sym none) (record { due = tt; others = refl });
       fit = subst (AllFit To999) (sym none) tt;
       moment = zeroth ∙ sym (ap (λ (es : List HallEvent). horizon_of (own 1 es)) none);
       early = subst (λ (n : ℕ). n ≤ 9000000000000000) (sym zeroth) (omega arith);
@@ -138,8 +147,34 @@ stands_first s exits p b none zeroth =
 max_early : (a b : ℕ) → a ≤ 9000000000000000 → b ≤ 9000000000000000 → max a b ≤ 9000000000000000
 max_early a b h g = omega arith
 
+-- an open request is due
+due_asked : (s : Script) (exits : List Exit) (es : List HallEvent) (m : ℕ) (r : Request) → m ≡ horizon_of (own 1 es) → Some r ≡ open_request s es → due_after s exits es ≡ Some (answer_at exits m r)
+due_asked s exits es m r now asked =
+    ap (λ (o : Option Request). first_due (option_map (answered exits es) o) (option_map (started es) (awaited_start s es))) (sym asked)
+    ∙ ap (λ (n : ℕ). Some (answer_at exits n r)) (sym now)
+
+-- without a request, a start is due, or nothing
+due_start : (s : Script) (exits : List Exit) (es : List HallEvent) (m : ℕ) (c : Option ℕ) → m ≡ horizon_of (own 1 es) → open_request s es ≡ None → c ≡ awaited_start s es → due_after s exits es ≡ option_map (start_at m) c
+due_start s exits es m c now none starts =
+    ap (λ (o : Option Request). first_due (option_map (answered exits es) o) (option_map (started es) (awaited_start s es))) none
+    ∙ ap (option_map (started es)) (sym starts)
+    ∙ ap (λ (n : ℕ). option_map (start_at n) c) (sym now)
+
+-- the start that a session awaits
+started_is : (s : Script) (es : List HallEvent) (n : ℕ) (c : Option ℕ) (k : Kept) → Follows s es n k → HasStarted k c → IsTrue k.lives → c ≡ awaited_start s es
+started_is s es n c k f h lives =
+    h.lives lives
+    ∙ ap (λ (r : Report). r.starting) (f.says lives [] ∙ ap (meaning s.source s.settings) (append-nil (own 1 es)))
+
+started_lives : (c : ℕ) (k : Kept) → HasStarted k (Some c) → (b : Bool) → k.lives ≡ b → IsTrue k.lives
+started_lives c k h true e = e
+started_lives c k h false e = let none : Some c ≡ None = h.spent e in absurd (cc)
+
+started_alone : (k : Kept) (c : Option ℕ) (ks : List Kept) → ks ≡ k ∷ [] → StartsAt 1 ks c → HasStarted k c
+started_alone k c ks alone h = subst (λ (xs : List Kept). StartsAt 1 xs c) alone h
+
 -- a planner to which an event came
-module _ (s : Script) (exits : List Exit) (p q : Planner) (e : HallEvent) (grown : q.events ≡ p.events ++ e ∷ []) (moved : q.moment ≡ max p.moment (moment_in e)) (st : Stands s exits p) (taken : refusal_of 1 e ≡ None) where
+module _ (s : Script) (exits : List Exit) (told : List HallEvent) (p q : Planner) (e : HallEvent) (grown : q.events ≡ p.events ++ e ∷ []) (moved : q.moment ≡ max p.moment (moment_in e)) (st : Stands s exits told p) (taken : refusal_of 1 e ≡ None) where
   same_moment : q.moment ≡ horizon_of (own 1 q.events)
   same_moment =
       moved
@@ -153,77 +188,109 @@ module _ (s : Script) (exits : List Exit) (p q : Planner) (e : HallEvent) (grown
   still_fit : AllFit To999 q.events
   still_fit = subst (AllFit To999) (sym grown) (fit_more p.events e st.fit (taken_fits e taken))
 
+  -- a session took it, and the plan goes on
+  stands_more : (n : ℕ) (k : Kept) (ks : List Kept) (told' : List HallEvent) → Follows s p.events n k → ks ≡ k ∷ [] → AllTook 1 (e ∷ []) ks q.hall → n ≡ length (answers (p.events ++ e ∷ []))
+      → (IsTrue k.lives → GoesOn s exits [] (p.events ++ e ∷ []) told') → Stands s exits told' q
+  stands_more n k ks told' f alone t count goes =
+      let took = took_alone e k ks q.hall alone t in
+      record {
+        kept = took.0;
+        alone = took.1;
+        follows = subst (λ (es : List HallEvent). Follows s es (length (answers es)) took.0) (sym grown)
+            (subst (λ (m : ℕ). Follows s (p.events ++ e ∷ []) m took.0) count (follow_took s p.events e n k took.0 f took.2));
+        goes = λ lives. subst (λ (es : List HallEvent). GoesOn s exits [] es told') (sym grown) (goes (Took_lives (own 1 (e ∷ [])) k took.0 took.2 lives));
+        fit = still_fit;
+        moment = same_moment;
+        early = still_early;
+      }
+
   -- the answer that was due
-  pub stands_answered : (r : Request) (ks : List Kept) → e ≡ answer_at exits p.moment r → Requested 1 p.hall (Some r) ks → AllTook 1 (e ∷ []) ks q.hall → Stands s exits q
+  pub stands_answered : (r : Request) (ks : List Kept) → e ≡ answer_at exits p.moment r → Requested 1 p.hall (Some r) ks → AllTook 1 (e ∷ []) ks q.hall → Stands s exits told q × (due_after s exits p.events ≡ Some e)
   stands_answered r ks is h t =
       let out = handed_alone st.kept (Some r) p.hall ks st.alone h in
-      let took = took_alone e out.0 ks q.hall out.2 t in
-      let answers_it : is_answer e ≡ true = ap is_answer is in
       let lives : IsTrue st.kept.lives = asked_lives r st.kept out.0 out.1 st.kept.lives refl in
-      let count : length (answers p.events) + 1 ≡ length (answers q.events) = sym (one_more_answer p.events e answers_it) ∙ sym (ap (λ (es : List HallEvent). length (answers es)) grown) in
-      let due : IsDue s exits p.events e =
-      ap answer_in is ∙ ap (λ (n : ℕ). Some (answer_at exits n r)) st.moment ∙ ap (λ (o : Option Request). option_map (answered exits p.events) o) (asked_open s p.events (Some r) st.kept out.0 st.follows out.1 lives) in
-      record {
-        kept = took.0;
-        alone = took.1;
-        follows = subst (λ (n : ℕ). Follows s q.events n took.0) count (subst (λ (es : List HallEvent). Follows s es (length (answers p.events) + 1) took.0) (sym grown)
-            (follow_took s p.events e (length (answers p.events) + 1) out.0 took.0 (follow_handed s p.events (length (answers p.events)) r st.kept out.0 st.follows out.1) took.2));
-        due = λ alive. subst (λ (es : List HallEvent). AreDue s exits [] es) (sym grown) (due_one_more s exits p.events e (st.due lives) due);
-        fit = still_fit;
-        moment = same_moment;
-        early = still_early;
-      }
+      let due : due_after s exits p.events ≡ Some e =
+      due_asked s exits p.events p.moment r st.moment (asked_open s p.events (Some r) st.kept out.0 st.follows out.1 lives) ∙ ap (λ (x : HallEvent). Some x) (sym is) in (
+        stands_more (length (answers p.events) + 1) out.0 ks told (follow_handed s p.events (length (answers p.events)) r st.kept out.0 st.follows out.1) out.2 t
+            (sym (one_more_answer p.events e (ap is_answer is))) (λ alive. goes_due s exits p.events told e (st.goes lives) due),
+        due,
+      )
 
-  -- an event of the timeline, where no request was open
-  pub stands_told : is_answer e ≡ false → IsAnswered s p → AllTook 1 (e ∷ []) p.hall q.hall → Stands s exits q
+  -- the start that was due
+  pub stands_started : (c : ℕ) (ks : List Kept) → e ≡ start_at p.moment c → Requested 1 p.hall None ks → StartsAt 1 ks (Some c) → AllTook 1 (e ∷ []) ks q.hall → Stands s exits told q × (due_after s exits p.events ≡ Some e)
+  stands_started c ks is h starts t =
+      let n : ℕ = length (answers p.events) in
+      let out = handed_alone st.kept None p.hall ks st.alone h in
+      let here = started_alone out.0 (Some c) ks out.2 starts in
+      let f = follow_none s p.events n st.kept out.0 st.follows out.1 in
+      let alive : IsTrue out.0.lives = started_lives c out.0 here out.0.lives refl in
+      let lives : IsTrue st.kept.lives = subst (λ (b : Bool). IsTrue b) out.1.lives alive in
+      let due : due_after s exits p.events ≡ Some e =
+      due_start s exits p.events p.moment (Some c) st.moment (sym (asked_open s p.events None st.kept out.0 st.follows out.1 lives)) (started_is s p.events n (Some c) out.0 f here alive) ∙ ap (λ (x : HallEvent). Some x) (sym is) in (
+        stands_more n out.0 ks told f out.2 t (sym (no_more_answers p.events e (ap is_answer is))) (λ alive. goes_due s exits p.events told e (st.goes lives) due),
+        due,
+      )
+
+  -- an event of the timeline, where nothing was due
+  pub stands_told : is_answer e ≡ false → IsAnswered s exits p → AllTook 1 (e ∷ []) p.hall q.hall → Stands s exits (told ++ e ∷ []) q
   stands_told other quiet t =
-      let took = took_alone e st.kept p.hall q.hall st.alone t in
       let same : quiet.kept ≡ st.kept = cc (sym quiet.alone ∙ st.alone) in
-      let count : length (answers p.events) ≡ length (answers q.events) = sym (no_more_answers p.events e other) ∙ sym (ap (λ (es : List HallEvent). length (answers es)) grown) in
-      record {
-        kept = took.0;
-        alone = took.1;
-        follows = subst (λ (n : ℕ). Follows s q.events n took.0) count (subst (λ (es : List HallEvent). Follows s es (length (answers p.events)) took.0) (sym grown)
-            (follow_took s p.events e (length (answers p.events)) st.kept took.0 st.follows took.2));
-        due = λ alive.
-            let lived : IsTrue st.kept.lives = Took_lives (own 1 (e ∷ [])) st.kept took.0 took.2 alive in
-            let none : open_request s p.events ≡ None = quiet.done (subst (λ (k : Kept). IsTrue k.lives) (sym same) lived) in
-            let due : IsDue s exits p.events e =
-            ap (λ (t : Bool). if t then Some e else None) other ∙ sym (ap (λ (o : Option Request). option_map (answered exits p.events) o) none) in
-            subst (λ (es : List HallEvent). AreDue s exits [] es) (sym grown) (due_one_more s exits p.events e (st.due lived) due);
-        fit = still_fit;
-        moment = same_moment;
-        early = still_early;
-      }
+      stands_more (length (answers p.events)) st.kept p.hall (told ++ e ∷ []) st.follows st.alone t (sym (no_more_answers p.events e other))
+      (λ lives. goes_told s exits p.events told e (st.goes lives) (quiet.done (subst (λ (k : Kept). IsTrue k.lives) (sym same) lives)))
 
--- nothing is asked
-module _ (s : Script) (exits : List Exit) (p q : Planner) (same : q.events ≡ p.events) (stays : q.moment ≡ p.moment) (st : Stands s exits p) (h : Requested 1 p.hall None q.hall) where
-  pub stands_still : Stands s exits q
+-- nothing is asked, and no start awaited
+module _ (s : Script) (exits : List Exit) (told : List HallEvent) (p q : Planner) (same : q.events ≡ p.events) (stays : q.moment ≡ p.moment) (st : Stands s exits told p) (h : Requested 1 p.hall None q.hall) where
+  pub stands_still : Stands s exits told q
   stands_still =
       let out = handed_alone st.kept None p.hall q.hall st.alone h in
       record {
         kept = out.0;
         alone = out.2;
         follows = subst (λ (es : List HallEvent). Follows s es (length (answers es)) out.0) (sym same) (follow_none s p.events (length (answers p.events)) st.kept out.0 st.follows out.1);
-        due = λ lives. subst (λ (es : List HallEvent). AreDue s exits [] es) (sym same) (st.due (subst (λ (b : Bool). IsTrue b) out.1.lives lives));
+        goes = λ lives. subst (λ (es : List HallEvent). GoesOn s exits [] es told) (sym same) (st.goes (subst (λ (b : Bool). IsTrue b) out.1.lives lives));
         fit = subst (AllFit To999) (sym same) st.fit;
         moment = stays ∙ st.moment ∙ sym (ap (λ (es : List HallEvent). horizon_of (own 1 es)) same);
         early = subst (λ (n : ℕ). n ≤ 9000000000000000) (sym stays) st.early;
       }
 
-  pub answered_still : IsAnswered s q
-  answered_still =
+  pub answered_still : StartsAt 1 q.hall None → IsAnswered s exits q
+  answered_still starts =
+      let n : ℕ = length (answers p.events) in
       let out = handed_alone st.kept None p.hall q.hall st.alone h in
+      let here = started_alone out.0 None q.hall out.2 starts in
+      let f = follow_none s p.events n st.kept out.0 st.follows out.1 in
       record {
         kept = out.0;
         alone = out.2;
-        done = λ lives. ap (open_request s) same ∙ sym (asked_open s p.events None st.kept out.0 st.follows out.1 (subst (λ (b : Bool). IsTrue b) out.1.lives lives));
+        done = λ lives.
+            let lived : IsTrue st.kept.lives = subst (λ (b : Bool). IsTrue b) out.1.lives lives in
+            ap (due_after s exits) same
+            ∙ due_start s exits p.events p.moment None st.moment (sym (asked_open s p.events None st.kept out.0 st.follows out.1 lived)) (started_is s p.events n None out.0 f here lives);
       }
 
--- what is handed out is open, and what came before was due
-pub more_open : (s : Script) (exits : List Exit) (p : Planner) (r : Request) (ks : List Kept) → Stands s exits p → Requested 1 p.hall (Some r) ks → (open_request s p.events ≢ None) × AreDue s exits [] p.events
-more_open s exits p r ks st h =
-    let out = handed_alone st.kept (Some r) p.hall ks st.alone h in
-    let lives : IsTrue st.kept.lives = asked_lives r st.kept out.0 out.1 st.kept.lives refl in
-    let asked : Some r ≡ open_request s p.events = asked_open s p.events (Some r) st.kept out.0 st.follows out.1 lives in
-    (λ none. (let clash : Some r ≡ None = asked ∙ none in absurd (cc)), st.due lives)
+-- what is handed out or awaited is due, and so was what came before
+module _ (s : Script) (exits : List Exit) (told : List HallEvent) (p : Planner) (st : Stands s exits told p) where
+  some_due : (e : HallEvent) → due_after s exits p.events ≡ Some e → due_after s exits p.events ≢ None
+  some_due e due none = let clash : Some e ≡ None = sym due ∙ none in absurd (cc)
+
+  pub more_open : (r : Request) (ks : List Kept) → Requested 1 p.hall (Some r) ks → IsAsked s exits told p
+  more_open r ks h =
+      let out = handed_alone st.kept (Some r) p.hall ks st.alone h in
+      let lives : IsTrue st.kept.lives = asked_lives r st.kept out.0 out.1 st.kept.lives refl in
+      record {
+        goes = st.goes lives;
+        more = some_due _ (due_asked s exits p.events p.moment r st.moment (asked_open s p.events (Some r) st.kept out.0 st.follows out.1 lives));
+      }
+
+  pub more_awaited : (c : ℕ) (ks : List Kept) → Requested 1 p.hall None ks → StartsAt 1 ks (Some c) → IsAsked s exits told p
+  more_awaited c ks h starts =
+      let n : ℕ = length (answers p.events) in
+      let out = handed_alone st.kept None p.hall ks st.alone h in
+      let here = started_alone out.0 (Some c) ks out.2 starts in
+      let f = follow_none s p.events n st.kept out.0 st.follows out.1 in
+      let alive : IsTrue out.0.lives = started_lives c out.0 here out.0.lives refl in
+      let lives : IsTrue st.kept.lives = subst (λ (b : Bool). IsTrue b) out.1.lives alive in
+      record {
+        goes = st.goes lives;
+        more = some_due _ (due_start s exits p.events p.moment (Some c) st.moment (sym (asked_open s p.events None st.kept out.0 st.follows out.1 lives)) (started_is s p.events n (Some c) out.0 f here alive));
+      }

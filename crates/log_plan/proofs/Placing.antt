@@ -1,6 +1,6 @@
 -- Events that come behind others.
 use Rattle.std.proofs.Common.{◌≡◌, ℕ, ◌+◌, ◌≤◌, List, [], ◌∷◌, ◌++◌, length, Bool, true, false, Option, Some, None, refl, sym, ap, subst, ◌∙◌, append_assoc, append-nil, arith}
-use Rattle.std.specs.Prelude.{nat_le, IsTrue, max, ◌&&◌, if◌then◌else◌}
+use Rattle.std.specs.Prelude.{nat_le, IsTrue, IfSome, max, ◌&&◌, if◌then◌else◌}
 use Rattle.std.proofs.lemmas.Bool.Decides.{nat_tests}
 use Rattle.child_events.specs.declared.child_numbers.ChildNumbers.TheVariants.{To999}
 use Rattle.child_events.specs.declared.event.Event.{Event}
@@ -19,16 +19,8 @@ use Rattle.dialogue_sched.specs.declared.refusal.HallRefusal.TheVariants.{Moment
 use Rattle.dialogue_sched.specs.Refusal.{refusal_of, is_number, piece_len}
 use Rattle.child_timeline.specs.declared.exits.Exit.{Exit}
 use Rattle.child_timeline.specs.Told.{is_answer, IsTold}
-use Rattle.log_plan.specs.Plan.{answers, others, IsDue, AreDue}
+use Rattle.log_plan.specs.Plan.{answers, due_after, unless_due, undue, IsDue, AreDue, GoesOn}
 use Rattle.log_plan.specs.Standing.{moment_in}
-
-pub others_append : (es fs : List HallEvent) → others (es ++ fs) ≡ others es ++ others fs
-others_append [] fs = refl
-others_append (e ∷ es) fs = by_test (is_answer e) (others_append es fs)
-  where
-    by_test : (t : Bool) → others (es ++ fs) ≡ others es ++ others fs → (if t then others (es ++ fs) else e ∷ others (es ++ fs)) ≡ (if t then others es else e ∷ others es) ++ others fs
-    by_test true h = h
-    by_test false h = ap (λ (xs : List HallEvent). e ∷ xs) h
 
 answers_append : (es fs : List HallEvent) → answers (es ++ fs) ≡ answers es ++ answers fs
 answers_append [] fs = refl
@@ -37,13 +29,6 @@ answers_append (e ∷ es) fs = by_test (is_answer e) (answers_append es fs)
     by_test : (t : Bool) → answers (es ++ fs) ≡ answers es ++ answers fs → (if t then e ∷ answers (es ++ fs) else answers (es ++ fs)) ≡ (if t then e ∷ answers es else answers es) ++ answers fs
     by_test true h = ap (λ (xs : List HallEvent). e ∷ xs) h
     by_test false h = h
-
--- an answer more
-pub other_answer : (e : HallEvent) → is_answer e ≡ true → others (e ∷ []) ≡ []
-other_answer e h = ap (λ (t : Bool). if t then [] else e ∷ []) h
-
-pub other_event : (e : HallEvent) → is_answer e ≡ false → others (e ∷ []) ≡ e ∷ []
-other_event e h = ap (λ (t : Bool). if t then [] else e ∷ []) h
 
 pub length_more : (xs : List HallEvent) (e : HallEvent) → length (xs ++ e ∷ []) ≡ length xs + 1
 length_more [] e = refl
@@ -61,13 +46,64 @@ no_more_answers es e h =
     ∙ ap (λ (t : Bool). length (answers es ++ (if t then e ∷ [] else []))) h
     ∙ ap (λ (xs : List HallEvent). length xs) (append-nil (answers es))
 
--- what was due stays so, and one event more
+-- the undue ones among more events
+pub undue_append : (s : Script) (exits : List Exit) (before es fs : List HallEvent) → undue s exits before (es ++ fs) ≡ undue s exits before es ++ undue s exits (before ++ es) fs
+undue_append s exits before [] fs = ap (λ (xs : List HallEvent). undue s exits xs fs) (sym (append-nil before))
+undue_append s exits before (e ∷ es) fs =
+    by_due (due_after s exits before)
+    (undue_append s exits (before ++ e ∷ []) es fs ∙ ap (λ (xs : List HallEvent). undue s exits (before ++ e ∷ []) es ++ undue s exits xs fs) (append_assoc before (e ∷ []) es))
+  where
+    by_due : (d : Option HallEvent) → undue s exits (before ++ e ∷ []) (es ++ fs) ≡ undue s exits (before ++ e ∷ []) es ++ undue s exits (before ++ e ∷ es) fs
+        → unless_due d e (undue s exits (before ++ e ∷ []) (es ++ fs)) ≡ unless_due d e (undue s exits (before ++ e ∷ []) es) ++ undue s exits (before ++ e ∷ es) fs
+    by_due (Some d) h = h
+    by_due None h = ap (λ (xs : List HallEvent). e ∷ xs) h
+
+-- due events, and more of them
+due_parts : (s : Script) (exits : List Exit) (before es fs : List HallEvent) → AreDue s exits before (es ++ fs) → AreDue s exits before es × AreDue s exits (before ++ es) fs
+due_parts s exits before [] fs h = (tt, subst (λ (xs : List HallEvent). AreDue s exits xs fs) (sym (append-nil before)) h)
+due_parts s exits before (e ∷ es) fs h =
+    let p = due_parts s exits (before ++ e ∷ []) es fs h.1 in
+    ((h.0, p.0), subst (λ (xs : List HallEvent). AreDue s exits xs fs) (append_assoc before (e ∷ []) es) p.1)
+
 due_more : (s : Script) (exits : List Exit) (before es : List HallEvent) (e : HallEvent) → AreDue s exits before es → IsDue s exits (before ++ es) e → AreDue s exits before (es ++ e ∷ [])
 due_more s exits before [] e due h = (subst (λ (xs : List HallEvent). IsDue s exits xs e) (append-nil before) h, tt)
 due_more s exits before (x ∷ es) e due h = (due.0, due_more s exits (before ++ x ∷ []) es e due.1 (subst (λ (xs : List HallEvent). IsDue s exits xs e) (sym (append_assoc before (x ∷ []) es)) h))
 
-pub due_one_more : (s : Script) (exits : List Exit) (es : List HallEvent) (e : HallEvent) → AreDue s exits [] es → IsDue s exits es e → AreDue s exits [] (es ++ e ∷ [])
-due_one_more s exits es e due h = due_more s exits [] es e due h
+-- a plan goes on with what is due
+is_due : (s : Script) (exits : List Exit) (es : List HallEvent) (e : HallEvent) → due_after s exits es ≡ Some e → IsDue s exits es e
+is_due s exits es e due = subst (λ (d : Option HallEvent). IfSome d (λ x. e ≡ x)) (sym due) refl
+
+pub undue_due : (s : Script) (exits : List Exit) (es : List HallEvent) (e : HallEvent) → due_after s exits es ≡ Some e → undue s exits es (e ∷ []) ≡ []
+undue_due s exits es e due = ap (λ (d : Option HallEvent). unless_due d e []) due
+
+pub goes_due : (s : Script) (exits : List Exit) (es told : List HallEvent) (e : HallEvent) → GoesOn s exits [] es told → due_after s exits es ≡ Some e → GoesOn s exits [] (es ++ e ∷ []) told
+goes_due s exits es told e goes due = record {
+  due = due_more s exits [] es e goes.due (is_due s exits es e due);
+  others = undue_append s exits [] es (e ∷ []) ∙ ap (λ (xs : List HallEvent). undue s exits [] es ++ xs) (undue_due s exits es e due) ∙ append-nil (undue s exits [] es) ∙ goes.others;
+}
+
+-- a plan goes on with the timeline where nothing is due
+pub goes_told : (s : Script) (exits : List Exit) (es told : List HallEvent) (e : HallEvent) → GoesOn s exits [] es told → due_after s exits es ≡ None → GoesOn s exits [] (es ++ e ∷ []) (told ++ e ∷ [])
+goes_told s exits es told e goes none = record {
+  due = due_more s exits [] es e goes.due (subst (λ (d : Option HallEvent). IfSome d (λ x. e ≡ x)) (sym none) tt);
+  others = undue_append s exits [] es (e ∷ [])
+      ∙ ap (λ (d : Option HallEvent). undue s exits [] es ++ unless_due d e []) none
+      ∙ ap (λ (xs : List HallEvent). xs ++ e ∷ []) goes.others;
+}
+
+-- a plan that went on with nothing but what was due
+pub goes_parts : (s : Script) (exits : List Exit) (before put told : List HallEvent) → GoesOn s exits [] (before ++ put) told → undue s exits before put ≡ [] → GoesOn s exits [] before told × GoesOn s exits before put []
+goes_parts s exits before put told goes all =
+    let parts = due_parts s exits [] before put goes.due in (
+      record {
+        due = parts.0;
+        others = sym (append-nil (undue s exits [] before))
+            ∙ sym (ap (λ (xs : List HallEvent). undue s exits [] before ++ xs) all)
+            ∙ sym (undue_append s exits [] before put)
+            ∙ goes.others;
+      },
+      record { due = parts.1; others = all },
+    )
 
 -- a hall of one script takes what a log can have
 tests_of : (a b c d : Bool) (p q r s : HallRefusal) → (if a then (if b then (if c then (if d then None else Some p) else Some q) else Some r) else Some s) ≡ None → (a ≡ true) × (b ≡ true) × (c ≡ true) × (d ≡ true)

@@ -7,8 +7,8 @@ use std::alloc::{AllocError, AllocFailed};
 pub enum PlanFault {
     /// The source of the script is longer than a session accepts.
     SourceTooLong,
-    /// The script got `MOST_ANSWERS` answers at one place of the timeline, at this moment in
-    /// milliseconds, and has another open request.
+    /// The script got `MOST_ANSWERS` answers and starts at one place of the timeline, at this moment
+    /// in milliseconds, and waits for another one.
     Unending(u64),
     /// Memory was refused.
     Memory,

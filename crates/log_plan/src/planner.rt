@@ -1,14 +1,16 @@
-//! Runs a script over a timeline and answers each request at once.
+//! Runs a script over a timeline, answers each request at once, and tells of each awaited start.
 
-ghost use Rattle.std.specs.Prelude.{◌≡◌, ◌++◌, ◌∷◌, [], length, max, false, IfOk, IfErr, OnOk, None};
+ghost use Rattle.std.specs.Prelude.{◌≡◌, ◌++◌, ◌∷◌, List, [], length, max, false, IfOk, IfErr, OnOk, None};
 ghost use Rattle.dialogue_sched.specs.declared.script.Script.{Script};
 ghost use Rattle.dialogue_sched.specs.Hall.{AllBegin};
 ghost use Rattle.dialogue_sched.specs.Refusal.{refusal_of};
 ghost use Rattle.dialogue_sched.specs.Took.{AllTook};
 ghost use Rattle.child_timeline.specs.Told.{IsTold, AreTold};
 ghost use Rattle.log_plan.specs.Given.{given};
-ghost use Rattle.log_plan.specs.Standing.{Stands, IsAnswered, IsWhole, Begins, moment_in, answer_at, AnswersNext, AnswersFrom, TellsAll};
-ghost use Rattle.log_plan.specs.Plan.{others, is_too_long};
+ghost use Rattle.child_events.specs.declared.event.HallEvent.{HallEvent as HallEventOf};
+ghost use Rattle.child_timeline.specs.declared.exits.Exit.{Exit};
+ghost use Rattle.log_plan.specs.Standing.{Stands, IsAnswered, IsWhole, Begins, moment_in, answer_at, start_at, AnswersNext, SeesNext, AnswersFrom, TellsAll};
+ghost use Rattle.log_plan.specs.Plan.{is_too_long};
 
 use crate::fault::PlanFault;
 use child_events::{Answer, HallEvent, HallEvents, What};
@@ -16,8 +18,9 @@ use child_timeline::Exits;
 use dialogue_sched::{Hall, HallFault, Script};
 use session::{Act, Ending, Request, SOURCE_LIMIT};
 use std::alloc::{AllocError, Global};
+use tcl_words::Text;
 
-/// The most answers at one place of a timeline.
+/// The most answers and starts at one place of a timeline.
 pub const MOST_ANSWERS: usize = 100_000;
 
 /// A script, and the events that it has taken.
@@ -115,55 +118,89 @@ impl Planner {
         }
     }
 
-    /// Answers the open request. Returns whether there was one.
-    fn answer_next(&mut self, alloc: Global, exits: &Exits) -> Result<bool, AllocError>
-        requires { (s : Script) × Stands s exits.now self.old }
-        ensures { (s : Script) → Stands s exits.now self.old → IfOk result (λ more. AnswersNext s exits.now more self.old self.new) }
+    /// Returns the first output of a child now.
+    fn start(&self, alloc: Global, child: u8) -> Result<HallEvent, AllocError>
+        ensures { IfOk result (λ e. e ≡ start_at self.now.moment child) }
     {
-        let Some(request) = self.hall.request(1) else {
+        Ok(HallEvent::Child {
+            script: 1,
+            child: u16::from(child),
+            moment: self.moment,
+            what: What::Out(Text::from_slice(alloc, b"\n")?),
+        })
+    }
+
+    /// Answers the open request, or else tells of the start that the script awaits. Returns whether
+    /// there was one of them.
+    fn answer_next(&mut self, alloc: Global, exits: &Exits) -> Result<bool, AllocError>
+        requires { (s : Script) × (told : List HallEventOf) × Stands s exits.now told self.old }
+        ensures { (s : Script) (told : List HallEventOf) → Stands s exits.now told self.old → IfOk result (λ more. AnswersNext s exits.now told more self.old self.new) }
+    {
+        if let Some(request) = self.hall.request(1) {
+            let event = self.answer(exits, &request);
+            self.take(alloc, event)?;
+            return Ok(true);
+        }
+        let Some(child) = self.hall.starting(1) else {
             return Ok(false);
         };
-        let event = self.answer(exits, &request);
+        let event = self.start(alloc, child)?;
         self.take(alloc, event)?;
         Ok(true)
     }
 
-    /// Answers requests until none is open, or until `MOST_ANSWERS` were answered.
+    /// Returns whether a request is open or a start awaited.
+    fn is_asked(&mut self) -> bool
+        ensures sees { (s : Script) (exits : List Exit) (told : List HallEventOf) → Stands s exits told self.old → SeesNext s exits told result self.old self.new }
+        ensures moment { self.new.moment ≡ self.old.moment }
+    {
+        if let Some(_) = self.hall.request(1) {
+            return true;
+        }
+        match self.hall.starting(1) {
+            Some(_) => true,
+            None => false,
+        }
+    }
+
+    /// Answers requests and tells of starts until none is left, or until `MOST_ANSWERS` events were
+    /// inserted.
     pub fn answer_all(&mut self, alloc: Global, exits: &Exits) -> Result<(), PlanFault>
-        requires { (s : Script) × Stands s exits.now self.old }
-        ensures { (s : Script) → Stands s exits.now self.old → AnswersFrom s exits.now self.old.events self.new result }
+        requires { (s : Script) × (told : List HallEventOf) × Stands s exits.now told self.old }
+        ensures { (s : Script) (told : List HallEventOf) → Stands s exits.now told self.old → AnswersFrom s exits.now told self.old.events self.new result }
     {
         for _ in 0..MOST_ANSWERS {
             if !self.answer_next(alloc, exits)? {
                 return Ok(());
             }
         }
-        let Some(_) = self.hall.request(1) else {
-            return Ok(());
-        };
-        Err(PlanFault::Unending(self.moment))
+        if self.is_asked() {
+            Err(PlanFault::Unending(self.moment))
+        } else {
+            Ok(())
+        }
     }
 
-    /// Passes an event of a timeline to the script, and answers its requests.
+    /// Passes an event of a timeline to the script, answers its requests and tells of starts.
     fn tell(&mut self, alloc: Global, exits: &Exits, event: HallEvent) -> Result<(), PlanFault>
-        requires stands { (s : Script) × Stands s exits.now self.old × IsAnswered s self.old }
+        requires stands { (s : Script) × (told : List HallEventOf) × Stands s exits.now told self.old × IsAnswered s exits.now self.old }
         requires told { IsTold event }
-        ensures { (s : Script) → Stands s exits.now self.old → IsAnswered s self.old → AnswersFrom s exits.now (self.old.events ++ event ∷ []) self.new result }
+        ensures { (s : Script) (told : List HallEventOf) → Stands s exits.now told self.old → IsAnswered s exits.now self.old → AnswersFrom s exits.now (told ++ event ∷ []) (self.old.events ++ event ∷ []) self.new result }
     {
         self.take(alloc, event)?;
         self.answer_all(alloc, exits)
     }
 
-    /// Passes the events of a timeline to the script, and answers its requests.
+    /// Passes the events of a timeline to the script, answers its requests and tells of starts.
     pub fn tell_all(
         &mut self,
         alloc: Global,
         exits: &Exits,
         events: Vec<HallEvent>,
     ) -> Result<(), PlanFault>
-        requires stands { (s : Script) × Stands s exits.now self.old × IsAnswered s self.old }
+        requires stands { (s : Script) × (told : List HallEventOf) × Stands s exits.now told self.old × IsAnswered s exits.now self.old }
         requires told { AreTold events.items }
-        ensures { (s : Script) → Stands s exits.now self.old → IsAnswered s self.old → TellsAll s exits.now (others self.old.events ++ events.items) self.new result }
+        ensures { (s : Script) (told : List HallEventOf) → Stands s exits.now told self.old → IsAnswered s exits.now self.old → TellsAll s exits.now (told ++ events.items) self.new result }
     {
         for event in events {
             self.tell(alloc, exits, event)?;

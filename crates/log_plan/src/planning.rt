@@ -13,12 +13,14 @@ use child_timeline::Timeline;
 use dialogue_sched::Script;
 use std::alloc::Global;
 
-/// Returns the events of a timeline with an answer inserted for each request of the script.
+/// Returns the events of a timeline with an answer inserted for each request of the script, and a
+/// newline of output for each child whose start the script awaits.
 ///
 /// The script takes the events of the timeline in order. Before the first event and after each one,
 /// its open requests are answered at once, at the current moment of the timeline. A start, a write
-/// and a close succeed. A wait is answered with the end that the timeline gives for the child. The
-/// script therefore never waits for an answer.
+/// and a close succeed. A wait is answered with the end that the timeline gives for the child. A
+/// child on a terminal of the system then starts at once. The script therefore never waits for an
+/// answer or a start.
 ///
 /// `Memory` means that the script, its hall or the events were refused memory.
 pub fn plan(alloc: Global, script: Script, timeline: Timeline) -> Result<HallEvents, PlanFault>

@@ -3,3 +3,4 @@ pub mod Series
 pub mod Whole
 pub mod Tallying
 pub mod Carried
+pub mod Longer

@@ -1,5 +1,5 @@
 -- A problem with the arguments of a command of the language is the error in which the command ends.
-use Rattle.std.proofs.Common.{◌≡◌, ℕ, suc, ◌+◌, Bool, true, false, ◌&&◌, List, [], ◌∷◌, length, drop, Option, Some, None, Ok, Err, if◌then◌else◌, sym, ap, subst, ◌∙◌, refl, true≢false, arith}
+use Rattle.std.proofs.Common.{◌≡◌, ℕ, suc, ◌+◌, ◌%◌, ◌==◌, Bool, true, false, ◌&&◌, List, [], ◌∷◌, length, drop, Option, Some, None, Ok, Err, if◌then◌else◌, sym, ap, subst, ◌∙◌, refl, true≢false, arith}
 use Rattle.std.specs.Prelude.{codes, bytes_eq, nat_le, nat_lt, option_map, option_and_then}
 use Rattle.std.proofs.lemmas.Bool.Decides.{nat_tests}
 use Rattle.std.proofs.lemmas.List.{drop-drop}
@@ -51,6 +51,7 @@ use Rattle.tcl_commands.specs.Choosing.{body_of_switch}
 use Rattle.tcl_commands.specs.Joining.{expr_text, eval_text}
 use Rattle.tcl_commands.specs.Verbs.{as_verb, exit_status}
 use Rattle.tcl_subst.specs.Entries.{find}
+use Rattle.tcl_commands.proofs.Grouped.{each_even}
 use Rattle.tcl_eval.specs.declared.procedure.Procedure.{Procedure}
 use Rattle.tcl_eval.specs.Tree.{State, Tree}
 use Rattle.tcl_eval.specs.Meaning.{Next, Eval, on_said, after, invoked, redefinable_or_begun, called_or_begun, named}
@@ -508,12 +509,19 @@ exit_wrong name [] is = absurd (true≢false is)
 exit_wrong name (n ∷ []) is = absurd (true≢false is)
 exit_wrong name (n ∷ other ∷ more) is = refl
 
-foreach_wrong : (name : List ℕ) (words : List (List ℕ)) → fits (tcl_row Foreach).count (length words) ≡ false → each_of name words ≡ Err (wrong_args name)
+even_is : (n : ℕ) → (n % 2 == 1) ≡ false → n % 2 ≡ 0
+even_is n is = grind (arith, nat_tests)
+
+three_fit : (n : ℕ) → nat_le 3 (suc (suc (suc n))) ≡ true
+three_fit n = grind (arith, nat_tests)
+
+foreach_wrong : (name : List ℕ) (words : List (List ℕ)) → (fits (tcl_row Foreach).count (length words) && (length words % 2 == 1)) ≡ false → each_of name words ≡ Err (wrong_args name)
 foreach_wrong name [] is = refl
 foreach_wrong name (a ∷ []) is = refl
 foreach_wrong name (a ∷ b ∷ []) is = refl
-foreach_wrong name (a ∷ b ∷ c ∷ []) is = absurd (true≢false is)
-foreach_wrong name (a ∷ b ∷ c ∷ d ∷ more) is = refl
+foreach_wrong name (a ∷ b ∷ c ∷ more) is =
+    let odd : (length (a ∷ b ∷ c ∷ more) % 2 == 1) ≡ false = ap (λ (t : Bool). t && (length (a ∷ b ∷ c ∷ more) % 2 == 1)) (sym (three_fit (length more))) ∙ is in
+    each_even name (a ∷ b ∷ c ∷ more) (even_is (length (a ∷ b ∷ c ∷ more)) odd)
 
 expr_wrong : (name : List ℕ) (words : List (List ℕ)) → fits (tcl_row Expr).count (length words) ≡ false → expr_text name words ≡ Err (wrong_args name)
 expr_wrong name [] is = refl
@@ -570,7 +578,10 @@ foretold If name args words are =
     if_short (is_short (last_stage Test args)) name (λ text. EndsIn text name words If)
     (λ is ev k st. said_ends (arms_of name words) (wrong_args name) k _ st (ap (or_wrong name) (shorts Test args words are is)))
 foretold Exit name args words are = counts_foretold Exit name args words are (λ is ev k st. said_ends (exit_status name words) (wrong_args name) k _ st (exit_wrong name words is))
-foretold Foreach name args words are = counts_foretold Foreach name args words are (λ is ev k st. said_ends (each_of name words) (wrong_args name) k _ st (foreach_wrong name words is))
+foretold Foreach name args words are =
+    if_wrong (fits (tcl_row Foreach).count (length args) && (length args % 2 == 1)) name (λ text. EndsIn text name words Foreach)
+    (λ is ev k st. said_ends (each_of name words) (wrong_args name) k _ st
+    (foreach_wrong name words (ap (λ (n : ℕ). fits (tcl_row Foreach).count n && (n % 2 == 1)) (lengths args words are) ∙ is)))
 foretold Expr name args words are = counts_foretold Expr name args words are (λ is ev k st. said_ends (expr_text name words) (wrong_args name) k _ st (expr_wrong name words is))
 foretold EvalCommand name args words are = counts_foretold EvalCommand name args words are (λ is ev k st. said_ends (eval_text name words) (wrong_args name) k _ st (eval_wrong name words is))
 foretold While name args words are = counts_foretold While name args words are (while_wrong name words)

@@ -1,6 +1,6 @@
 -- The error in the arguments of a command, by the command's row, as far as they are literal. `None` stands for a word
 -- that isn't literal and may be any word.
-use Rattle.std.specs.Prelude.{ℕ, suc, ◌-◌, nat_lt, drop, Bool, true, false, List, [], ◌∷◌, length, codes, Option, Some, None, is_some, option_and_then, bytes_eq, if◌then◌else◌}
+use Rattle.std.specs.Prelude.{ℕ, suc, ◌-◌, ◌%◌, ◌==◌, ◌&&◌, nat_lt, drop, Bool, true, false, List, [], ◌∷◌, length, codes, Option, Some, None, is_some, option_and_then, bytes_eq, if◌then◌else◌}
 use Rattle.tcl_words.specs.Bytes as ascii
 use Rattle.command_table.specs.declared.commands.Command.{Command}
 use Rattle.command_table.specs.declared.counts.Count.{Count}
@@ -10,7 +10,7 @@ use Rattle.command_table.specs.declared.flags.Role.TheVariants as role
 use Rattle.command_table.specs.declared.switches.Switch.{Switch}
 use Rattle.command_table.specs.declared.switches.Switches.{Switches}
 use Rattle.command_table.specs.declared.reading.Stage.{Stage}
-use Rattle.command_table.specs.declared.reading.Stage.TheVariants.{Choice, Front, Test, Pattern, Output}
+use Rattle.command_table.specs.declared.reading.Stage.TheVariants.{Choice, Lists, Front, Test, Pattern, Output}
 use Rattle.command_table.specs.declared.rows.Row.{Row}
 use Rattle.command_table.specs.Counts.{exactly, fits}
 use Rattle.command_table.specs.Flags.{begins_with_minus, flag_role}
@@ -65,15 +65,18 @@ abbrev pub choice_fault : Command → List ℕ → List Placed → Option Proble
 choice_fault command name [] = wrong name
 choice_fault command name (option ∷ args) = if fits (row_of command).count (suc (length args)) then chosen command name args option.value else wrong name
 
--- `on` gives the error after this flag; its argument tells whether the spawn id of an `-i` must follow.
+-- `on` gives the error after this flag; its argument tells whether the flag's value must follow.
 abbrev pub by_role : List ℕ → Count → ℕ → (Bool → Option Problem) → List ℕ → Role → Option Problem
 by_role name c left on w role.Word = counted name c (suc left)
 by_role name c left on w role.End = counted name c left
 by_role name c left on w role.Alone = on false
 by_role name c left on w role.Id = on true
+by_role name c left on w (role.Tty tty) = on false
+by_role name c left on w role.Shown = on false
+by_role name c left on w role.ShownWithValue = on true
 by_role name c left on w role.Bad = Some (BadFlag w)
 
--- Flags, followed by other words. `due` is true if the spawn id of an `-i` must follow.
+-- Flags, followed by other words. `due` is true if the value of a flag must follow.
 abbrev pub flagged : List ℕ → Flags → Count → Bool → List Placed → Option Problem
 flagged name f c true [] = wrong name
 flagged name f c true (w ∷ ws) = flagged name f c false ws
@@ -106,6 +109,10 @@ last_stage s (w ∷ ws) = last_stage (step s w.value).1 ws
 abbrev pub if_fault : List ℕ → List Placed → Option Problem
 if_fault name args = if is_short (last_stage Test args) then wrong name else None
 
+-- foreach varlist1 list1 ?varlist2 list2 ...? body
+abbrev pub lists_fault : List ℕ → Count → ℕ → Option Problem
+lists_fault name c n = if fits c n && (n % 2 == 1) then None else wrong name
+
 -- A word in the place of `stdout`.
 abbrev pub channel : Option (List ℕ) → Option Problem
 channel None = None
@@ -128,6 +135,7 @@ output_fault name (w ∷ other ∷ text ∷ more ∷ words) = wrong name
 abbrev pub by_stage : Command → Row → List ℕ → List Placed → Stage → Option Problem
 by_stage command r name args Test = if_fault name args
 by_stage command r name args Pattern = expect_fault args
+by_stage command r name args Lists = lists_fault name r.count (length args)
 by_stage command r name args Choice = choice_fault command name args
 by_stage command r name args (Front s) = fronted name s (words_behind s) false args
 by_stage command r name args Output = output_fault name args

@@ -2,7 +2,7 @@
 
 ghost use Rattle.std.specs.Prelude.{◌≡◌, false, IfOk};
 ghost use Rattle.command_table.specs.Counts.{exactly};
-ghost use Rattle.script_check.specs.Faults.{wrong, counted, switched, if_switched, chosen, choice_fault, flagged, fronted, last_stage, channel, output_fault, fault_of};
+ghost use Rattle.script_check.specs.Faults.{wrong, counted, switched, if_switched, chosen, choice_fault, flagged, fronted, last_stage, lists_fault, channel, output_fault, fault_of};
 
 use crate::expects::expect_fault;
 use crate::placed::Placed;
@@ -148,6 +148,9 @@ fn flagged(alloc: Global, name: &[u8], flags: Flags, count: Count, args: &[Place
             Role::End => return counted(alloc, name, count, more.len()),
             Role::Alone => {}
             Role::Id => due = true,
+            Role::Tty(_) => {}
+            Role::Shown => {}
+            Role::ShownWithValue => due = true,
             Role::Bad => return Ok(Some(Problem::BadFlag(text.copied(alloc)?))),
         }
         rest = more;
@@ -201,6 +204,17 @@ fn last_stage(stage: Stage, words: &[Placed]) -> Stage
     stage
 }
 
+/// Checks the number of arguments of `foreach`.
+fn lists_fault(alloc: Global, name: &[u8], count: Count, n: usize) -> Judged
+    ensures { IfOk result (λ p. p ≡ lists_fault name.now count n) }
+{
+    if fits(count, n) && n % 2 == 1 {
+        Ok(None)
+    } else {
+        wrong(alloc, name)
+    }
+}
+
 /// Checks a word in the place of `stdout`.
 fn channel(alloc: Global, word: &Placed) -> Judged
     ensures { IfOk result (λ p. p ≡ channel word.now.value) }
@@ -242,6 +256,7 @@ pub(crate) fn fault_of(alloc: Global, command: Command, name: &[u8], args: &[Pla
         Stage::Test if is_short(last_stage(Stage::Test, args)) => wrong(alloc, name),
         Stage::Test => Ok(None),
         Stage::Pattern => expect_fault(alloc, args),
+        Stage::Lists => lists_fault(alloc, name, row.count, args.len()),
         Stage::Choice => choice_fault(alloc, command, name, args),
         Stage::Front(switches) => fronted(alloc, name, switches, words_behind(switches), args),
         Stage::Output => output_fault(alloc, name, args),

@@ -92,9 +92,9 @@ told_grows tells first second (inr grown) = inr (grown.0, record { more = grown.
 
 meaning_grows : (source : List ℕ) (settings : Settings) (events later : List Event) → Grows (meaning source settings events) (meaning source settings (events ++ later))
 meaning_grows source settings events later =
-    let first : Dialogue = fresh settings.limit_ms in
+    let first : Dialogue = fresh settings in
     subst (λ (d : Dialogue). Grows (meaning source settings events) (told settings.tells_vars (play (steps_of settings.steps) (tree_of source settings) d))) (extended_append events later first)
-    (told_grows settings.tells_vars _ _ (play_grows later (steps_of settings.steps) (tree_of source settings) (extended events first) (good_extended events first (good_fresh settings.limit_ms))))
+    (told_grows settings.tells_vars _ _ (play_grows later (steps_of settings.steps) (tree_of source settings) (extended events first) (good_extended events first (good_fresh settings))))
 
 pub ending_stays : EndingStays
 ending_stays source settings events later ends = elim (meaning_grows source settings events later) [

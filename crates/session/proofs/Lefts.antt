@@ -15,6 +15,8 @@ use Rattle.tcl_eval.specs.Suspended.{IsOver}
 use Rattle.expect_core.specs.declared.own.Own.{Own}
 use Rattle.expect_core.specs.declared.request.Request.{Request}
 use Rattle.expect_core.specs.declared.dialogue.Dialogue.{Dialogue}
+use Rattle.expect_core.specs.declared.phase.Phase.{Phase}
+use Rattle.expect_core.specs.Awaited.{starting}
 use Rattle.expect_core.specs.Lanes.{offered, extended}
 use Rattle.session.specs.declared.place.ErrorPlace.{ErrorPlace}
 use Rattle.session.specs.declared.report.Report.{Report}
@@ -32,8 +34,12 @@ pub extended_append : (es later : List Event) (d : Dialogue) → extended later 
 extended_append [] later d = refl
 extended_append (e ∷ es) later d = extended_append es later (offered e d)
 
-said_by : Ending → List ℕ → List ErrorPlace → ℕ → Variables → Own → Report
-said_by e fault trail steps vars o = record {
+pub phase_extended : (es : List Event) (d : Dialogue) → (extended es d).phase ≡ d.phase
+phase_extended [] d = refl
+phase_extended (e ∷ es) d = phase_extended es (offered e d)
+
+said_by : Ending → List ℕ → List ErrorPlace → ℕ → Variables → Own → Phase → Report
+said_by e fault trail steps vars o at = record {
   ending = e;
   fault = fault;
   trail = trail;
@@ -42,11 +48,14 @@ said_by e fault trail steps vars o = record {
   requests = o.requests;
   sent = map (λ child. child.sent) o.children;
   steps = steps;
+  starting = starting at;
 }
 
 pub said_extended : (e : Ending) (fault : List ℕ) (trail : List ErrorPlace) (steps : ℕ) (vars : Variables) (es : List Event) (d : Dialogue) → said e fault trail steps vars (extended es d) ≡ said e fault trail steps vars d
 unfolding said_by
-said_extended e fault trail steps vars es d = ap (said_by e fault trail steps vars) (own_extended es d)
+said_extended e fault trail steps vars es d =
+    ap (λ (o : Own). said_by e fault trail steps vars o (extended es d).phase) (own_extended es d)
+    ∙ ap (λ (at : Phase). said_by e fault trail steps vars d.own at) (phase_extended es d)
 
 -- a run that is over says the same whatever comes
 over_says : (bound : ℕ) (engine : Engine) (mode : Mode) (steps : ℕ) (d : Dialogue) (xs ys : List Event) → IsOver mode → play bound (engine_rest engine steps mode) (extended xs d) ≡ play bound (engine_rest engine steps mode) (extended ys d)
@@ -113,6 +122,17 @@ pub has_begun : (a : Inside) → Sound a → IsTrue a.lives → a.bound - left_o
 unfolding left
 has_begun a sound lives =
     sym (ap (λ (r : Report). r.steps) (sound.shows lives) ∙ shown_steps a.bound a.machine.engine a.machine.mode _ a.dialogue)
+
+-- what is shown is the child whose start is awaited
+shown_starting : (bound : ℕ) (engine : Engine) (mode : Mode) (steps : ℕ) (d : Dialogue) → (shown bound engine mode steps d).starting ≡ starting d.phase
+shown_starting bound engine (Ended e) steps d = refl
+shown_starting bound engine _ steps d = refl
+
+-- the child whose start a session that lives awaits
+pub has_started : (a : Inside) → Sound a → IsTrue a.lives → starting a.dialogue.phase ≡ (left (kept_of a) []).starting
+unfolding left
+has_started a sound lives =
+    sym (ap (λ (r : Report). r.starting) (sound.shows lives) ∙ shown_starting a.bound a.machine.engine a.machine.mode _ a.dialogue)
 
 first_of : (xs : List Request) (n : ℕ) → slice_get xs n ≡ slice_get (drop n xs) 0
 first_of [] zero = refl

@@ -64,7 +64,7 @@ differs e s is = subst Spared is s
 pub limit_ends : LimitEnds
 limit_ends source settings events limit is lt =
     differs (meaning source settings events).ending
-    (play_past (steps_of settings.steps) (tree_of source settings) (extended events (fresh settings.limit_ms)) (tree_spared source settings) (past_extended events limit (fresh settings.limit_ms) is lt))
+    (play_past (steps_of settings.steps) (tree_of source settings) (extended events (fresh settings)) (tree_spared source settings) (past_extended events limit (fresh settings) is lt))
 
 -- sessions
 

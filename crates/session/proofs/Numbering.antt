@@ -48,7 +48,7 @@ numbered_extended (e ∷ es) d k = numbered_extended es (offered e d) k
 
 pub all_name_a_child : AllNameAChild
 all_name_a_child source settings events =
-    play_names (steps_of settings.steps) (tree_of source settings) (extended events (fresh settings.limit_ms)) (numbered_extended events (fresh settings.limit_ms) (numbered_fresh settings.limit_ms))
+    play_names (steps_of settings.steps) (tree_of source settings) (extended events (fresh settings)) (numbered_extended events (fresh settings) (numbered_fresh settings))
 
 pub begins_asking : (source : List ℕ) (settings : Settings) (k : Kept) → (IsTrue k.lives → (later : List Event) → left k later ≡ meaning source settings later) → AsksChildren k
 begins_asking source settings k says = λ lives later. subst NamesChildren (sym (says lives later)) (all_name_a_child source settings later)

@@ -466,7 +466,7 @@ differs e s is = subst Remembers is s
 
 pub none_means_memory : NoneMeansMemory
 none_means_memory source settings events =
-    differs (meaning source settings events).ending (play_spared (steps_of settings.steps) (tree_of source settings) (extended events (fresh settings.limit_ms)) (tree_spared source settings))
+    differs (meaning source settings events).ending (play_spared (steps_of settings.steps) (tree_of source settings) (extended events (fresh settings)) (tree_spared source settings))
 
 -- ---- of sessions
 

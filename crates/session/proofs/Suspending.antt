@@ -1,5 +1,5 @@
 -- A run of a machine leaves the report for whatever comes as it was.
-use Rattle.std.proofs.Common.{◌≡◌, ◌≢◌, ℕ, Bool, true, false, Option, ◌-◌, List, [], ◌∷◌, refl, sym, ap, ◌∙◌, subst, max, arith}
+use Rattle.std.proofs.Common.{◌≡◌, ◌≢◌, ℕ, Bool, true, false, ◌-◌, List, [], ◌∷◌, refl, sym, ap, ◌∙◌, subst, max, arith}
 use Rattle.std.specs.Prelude.{IsTrue}
 use Rattle.std.specs.Bool.{OnFalse}
 use Rattle.child_events.specs.declared.event.Event.{Event}
@@ -20,6 +20,7 @@ use Rattle.tcl_eval.specs.Tree.{Tree, Over, Ask, answered, follow, Leads}
 use Rattle.tcl_eval.specs.Rest.{engine_rest}
 use Rattle.tcl_eval.specs.Suspended.{IsPauseOf}
 use Rattle.tcl_eval.specs.Asked.{EndsInWait, IsAsking}
+use Rattle.expect_core.specs.declared.settings.Settings.{Settings}
 use Rattle.expect_core.specs.declared.dialogue.Dialogue.{Dialogue}
 use Rattle.expect_core.specs.Lanes.{offered, extended}
 use Rattle.expect_core.specs.Answered.{Outcome}
@@ -321,8 +322,8 @@ ran why old was had d new is has d' good differs lives h =
       quiet = quiet_pause why h.0 (engine_rest old had was) d new is has d' (good lived) differs h.1 lives h.2;
     }
 
-pub good_new : (limit : Option ℕ) (d : Dialogue) → d ≡ fresh limit → Good d
-good_new limit d e = subst Good (sym e) (good_fresh limit)
+pub good_new : (settings : Settings) (d : Dialogue) → d ≡ fresh settings → Good d
+good_new settings d e = subst Good (sym e) (good_fresh settings)
 
 pub good_fed : (e : Event) (d d' : Dialogue) → Good d → d' ≡ offered e d → Good d'
 good_fed e d d' g h = subst Good (sym h) (good_offered e d g)

@@ -13,6 +13,10 @@ goes_on k = if is_some (end_of k.mode) then false else k.lives
 abbrev pub answering : Kept → Option ℕ
 answering k = if goes_on k then dialogue.answering k.dialogue.phase else None
 
+-- The number, from 1, of the child whose start it awaits.
+abbrev pub starting : Kept → Option ℕ
+starting k = if k.lives then dialogue.starting k.dialogue.phase else None
+
 -- The expect that waits for an item of one of its children.
 abbrev pub expecting : Kept → Option Plan
 expecting k = if goes_on k then dialogue.expecting k.dialogue.phase else None

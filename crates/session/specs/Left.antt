@@ -51,6 +51,11 @@ pub record HasBegun (k : Kept) (steps : ℕ) : Type 0 where
   pub lives : IsTrue k.lives → steps ≡ (left k []).steps
   pub spent : k.lives ≡ false → steps ≡ 0
 
+-- The child whose start the script awaits, in that report. None if memory was refused.
+pub record HasStarted (k : Kept) (child : Option ℕ) : Type 0 where
+  pub lives : IsTrue k.lives → child ≡ (left k []).starting
+  pub spent : k.lives ≡ false → child ≡ None
+
 -- Hands out the next request, if there is one, and counts it.
 pub record HandsOut (old : Kept) (request : Option Request) (new : Kept) : Type 0 where
   pub lives : new.lives ≡ old.lives

@@ -22,4 +22,4 @@ tree_of source settings = eval 200 source at_the_end (record { vars = first_vari
 -- The meaning of a source, settings and the script's own events. The moment of each event is raised to the greatest one
 -- before it. Each call sees all events.
 abbrev pub meaning : List ℕ → Settings → List Event → Report
-meaning source settings events = told settings.tells_vars (play (steps_of settings.steps) (tree_of source settings) (extended events (fresh settings.limit_ms)))
+meaning source settings events = told settings.tells_vars (play (steps_of settings.steps) (tree_of source settings) (extended events (fresh settings)))

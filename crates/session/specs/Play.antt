@@ -16,6 +16,7 @@ use Rattle.tcl_eval.specs.Tree.{Tree, Over, Ask}
 use Rattle.tcl_eval.specs.Meaning.{outside_loop}
 use Rattle.expect_core.specs.declared.dialogue.Dialogue.{Dialogue}
 use Rattle.expect_core.specs.Answered.{Outcome}
+use Rattle.expect_core.specs.Awaited.{starting}
 use Rattle.expect_core.specs.Calls.{outcome, knows}
 use Rattle.session.specs.declared.place.ErrorPlace.{ErrorPlace}
 use Rattle.session.specs.declared.place.ErrorPlace.TheVariants.{Command, Procedure}
@@ -32,6 +33,7 @@ said_with e fault trail steps values st = record {
   requests = st.own.requests;
   sent = map (λ child. child.sent) st.own.children;
   steps = steps;
+  starting = starting st.phase;
 }
 
 abbrev pub said : Ending → List ℕ → List ErrorPlace → ℕ → Variables → Dialogue → Report

@@ -1,5 +1,5 @@
 -- The report of a script that was refused memory.
-use Rattle.std.specs.Prelude.{◌≡◌, ◌≢◌, ◌⊎◌, ℕ, List, [], false, IsTrue, Option}
+use Rattle.std.specs.Prelude.{◌≡◌, ◌≢◌, ◌⊎◌, ℕ, List, [], false, IsTrue, Option, None}
 use Rattle.child_events.specs.declared.event.Event.{Event}
 use Rattle.tcl_host.specs.declared.ending.Ending.TheVariants.{Memory}
 use Rattle.expect_core.specs.declared.request.Request.{Request}
@@ -19,6 +19,7 @@ memory_report = record {
   requests = [];
   sent = [];
   steps = 0;
+  starting = None;
 }
 
 -- The report of a session, or the report of a script that was refused memory. The report itself may be refused memory.

@@ -70,7 +70,7 @@ meets (Ask call left go) st = meets_asking (λ r. meets (go r)) call st
 
 -- All that a script meets over all its events.
 abbrev pub met_over : List ℕ → Settings → List Event → List Meeting
-met_over source settings events = meets (tree_of source settings) (extended events (fresh settings.limit_ms))
+met_over source settings events = meets (tree_of source settings) (extended events (fresh settings))
 
 -- All that a machine and a dialogue meet over later events.
 abbrev pub met_by_run : Engine → ℕ → Mode → Dialogue → List Event → List Meeting

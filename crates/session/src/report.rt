@@ -63,6 +63,8 @@ pub struct Report {
     pub sent: Counts,
     /// The number of steps begun.
     pub steps: u64,
+    /// The child, counted from 1, whose start the script awaits.
+    pub starting: Option<u8>,
 }
 
 impl Report {
@@ -82,6 +84,7 @@ impl Report {
                 list: Vec::new(alloc),
             },
             steps: 0,
+            starting: None,
         }
     }
 
@@ -98,6 +101,7 @@ impl Report {
             requests: self.requests.copied(alloc)?,
             sent: self.sent.copied(alloc)?,
             steps: self.steps,
+            starting: self.starting,
         })
     }
 }

@@ -1,6 +1,6 @@
 //! A script that takes its events one by one.
 
-ghost use Rattle.std.specs.Prelude.{◌≡◌, ◌<◌, ◌≤◌, ◌↔◌, ◌≢◌, ◌++◌, [], ◌∷◌, List, length, drop, IfOk, OnOk, MatchOption, IsTrue, IsErrOf, None, Some, Ok, false};
+ghost use Rattle.std.specs.Prelude.{◌≡◌, ◌<◌, ◌≤◌, ◌↔◌, ◌≢◌, ◌++◌, [], ◌∷◌, List, length, drop, IfOk, IfSome, OnOk, MatchOption, IsTrue, IsErrOf, None, Some, Ok, false};
 ghost use Rattle.std.specs.Bool.{OnFalse};
 ghost use Rattle.child_events.specs.declared.event.Event.{Event};
 ghost use Rattle.tcl_eval.specs.Steps.{left_of};
@@ -8,8 +8,8 @@ ghost use Rattle.tcl_eval.specs.Suspended.{IsOver};
 ghost use Rattle.expect_core.specs.Awaited.{buffer_of};
 ghost use Rattle.expect_core.specs.Good.{Good};
 ghost use Rattle.expect_core.specs.Lanes.{extended, untaken_of};
-ghost use Rattle.session.specs.Awaited.{goes_on, answering, expecting};
-ghost use Rattle.session.specs.Left.{left, Fed, HandsOut, HasShown, HasAsked, HasBegun};
+ghost use Rattle.session.specs.Awaited.{goes_on, answering, starting, expecting};
+ghost use Rattle.session.specs.Left.{left, Fed, HandsOut, HasShown, HasAsked, HasBegun, HasStarted};
 ghost use Rattle.session.specs.Meaning.{meaning, steps_of, tree_of};
 ghost use Rattle.session.specs.Quiet.{QuietUntil, waits_until};
 ghost use Rattle.session.specs.Shown.{Ran};
@@ -164,6 +164,7 @@ fn nothing(alloc: Global) -> Result<DialogueHost, AllocError> {
         steps: 0,
         limit_ms: None,
         vars: Pairs::new(alloc),
+        host: false,
         tells_vars: false,
     };
     DialogueHost::new(alloc, &settings)
@@ -507,6 +508,20 @@ impl Session {
     {
         if self.goes_on() {
             self.dialogue.state().answering()
+        } else {
+            None
+        }
+    }
+
+    /// Returns the number, from 1, of the child whose start the script awaits. `None` if it awaits
+    /// none, or was refused memory.
+    pub fn starting(&self) -> Option<u8>
+        ensures value { result ≡ starting self.now }
+        ensures says { HasStarted self.now result }
+        ensures few { IfSome result (λ c. (1 ≤ c) × (c ≤ 16)) }
+    {
+        if self.lives {
+            self.dialogue.state().starting()
         } else {
             None
         }

@@ -122,6 +122,7 @@ fn said(
             list: dialogue.state().sent(alloc)?,
         },
         steps,
+        starting: dialogue.state().starting(),
     })
 }
 
@@ -173,6 +174,7 @@ fn said_last(
     ensures { IfOk result (λ r. r ≡ said_with ending fault trail steps vars dialogue.old) }
 {
     let counts = dialogue.state().sent(alloc)?;
+    let starting = dialogue.state().starting();
     let (transcript, requests) = dialogue.give_told();
     Ok(Report {
         ending,
@@ -183,6 +185,7 @@ fn said_last(
         requests,
         sent: Counts { list: counts },
         steps,
+        starting,
     })
 }
 

@@ -323,7 +323,7 @@ fn assign_each(
 ) -> Result<(Code, Value), AllocError>
     ensures { IfOk result (λ r. assigned names.now elements.now vars.old ≡ (r.0, r.1, vars.new)) }
 {
-    assign_all(alloc, names, elements, 0, elements.len(), vars)
+    assign_all(alloc, names, elements, 0, vars)
 }
 
 /// Does the same, and returns a value if all names were set.

@@ -11,6 +11,10 @@ use Rattle.tcl_expr.specs.Number.{number_of}
 abbrev pub sane : Modes
 sane = record { icanon = true; echo = true; icrnl = true; opost = true; onlcr = true }
 
+-- The modes that `raw -echo` sets.
+abbrev pub bare : Modes
+bare = record { icanon = false; echo = false; icrnl = false; opost = false; onlcr = true }
+
 -- The modes after `cooked`, or with `false` after its opposite `raw`.
 abbrev pub cooked : Bool → Modes → Modes
 cooked on m = record m { icanon = on; icrnl = on; opost = on }

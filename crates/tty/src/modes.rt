@@ -1,8 +1,8 @@
 //! The modes of a terminal, and the words that set them.
 
-ghost use Rattle.std.specs.Prelude.{◌≡◌};
+ghost use Rattle.std.specs.Prelude.{◌≡◌, ◌∷◌, [], codes, Ok};
 ghost use Rattle.std.specs.Str.{bytes_eq};
-ghost use Rattle.tty.specs.Modes.{sane, cooked, switched, set_by, names_size, read};
+ghost use Rattle.tty.specs.Modes.{sane, bare, cooked, switched, set_by, names_size, read};
 
 use tcl_expr::read_number;
 use tcl_words::Text;
@@ -52,6 +52,21 @@ impl Modes {
             echo: true,
             icrnl: true,
             opost: true,
+            onlcr: true,
+        }
+    }
+
+    /// Returns the modes that `raw -echo` sets. The terminal hands over each text at once and as it
+    /// is, and echoes and maps nothing.
+    pub fn bare() -> Modes
+        ensures modes { result ≡ bare }
+        ensures words { read (codes "raw" ∷ codes "-echo" ∷ []) ≡ Ok bare }
+    {
+        Modes {
+            icanon: false,
+            echo: false,
+            icrnl: false,
+            opost: false,
             onlcr: true,
         }
     }

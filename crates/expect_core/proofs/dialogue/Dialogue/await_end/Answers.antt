@@ -14,4 +14,4 @@ returns-in-None-clause-goes c = λ k vars.
     let made : Answer → Own → Turn = λ a o. ended c.args.plan c.args.i (failure a) o in
     c.next_answer.ensures k c.args.left w made vars
     ∙ ap (λ (r : Option Answer). after k c.args.left w made r vars c.next_answer.new.self) c.in-None.is
-    ∙ c.wait_for.ensures k made vars
+    ∙ c.wait_for.ensures vars

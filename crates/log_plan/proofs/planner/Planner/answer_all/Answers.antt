@@ -1,23 +1,24 @@
-use Rattle.std.proofs.Common.{refl, arith}
-use Rattle.log_plan.proofs.Looping.{next_answered, none_left, asks_more, all_answered}
+use Rattle.std.proofs.Common.{arith}
+use Rattle.log_plan.proofs.Looping.{next_answered, none_left, nothing_seen, more_seen}
 use Rattle.log_plan.proofs.planner.Planner.answer_all.Goals as goal
 
 pub returns-then-not-branch : goal.returns-then-not-branch
-returns-then-not-branch c s st =
-    let so_far = c.loop.invariant s st in
-    none_left s c.args.exits.now c.loop.counter c.args.self.now.events c.loop.self c.answer_next.new.self c.in_ok-answer_next.field-0 c.if-not-branch.true so_far.1 (c.in_ok-answer_next.ensures s so_far.0)
+returns-then-not-branch c s told st =
+    let so_far = c.loop.invariant s told st in
+    none_left s c.args.exits.now told c.loop.self c.answer_next.new.self c.in_ok-answer_next.field-0 c.if-not-branch.true (c.in_ok-answer_next.ensures s told so_far.0)
 
 pub loop-preserved : goal.loop-preserved
-loop-preserved c s st =
-    let so_far = c.loop.invariant s st in
-    next_answered s c.args.exits.now c.loop.counter c.args.self.now.events c.loop.self c.answer_next.new.self c.in_ok-answer_next.field-0 c.if-not-branch.false so_far.1 (c.in_ok-answer_next.ensures s so_far.0)
+loop-preserved c s told st =
+    let so_far = c.loop.invariant s told st in
+    next_answered s c.args.exits.now told c.loop.counter c.args.self.now.events c.loop.self c.answer_next.new.self c.in_ok-answer_next.field-0 c.if-not-branch.false so_far.1 (c.in_ok-answer_next.ensures s told so_far.0)
 
-pub returns-in_default : goal.returns-in_default
-returns-in_default c s st =
-    let so_far = c.loop.invariant s st in
-    all_answered s c.args.exits.now c.loop.counter c.args.self.now.events c.loop.self (record { hall = c.request.new.self; events = c.loop.self.events; moment = c.loop.self.moment }) so_far.0 so_far.1 refl refl c.in_default.ensures
+pub returns-then-is_asked : goal.returns-then-is_asked
+returns-then-is_asked c s told st =
+    let so_far = c.loop.invariant s told st in
+    more_seen s c.args.exits.now told c.loop.counter c.args.self.now.events c.loop.self c.is_asked.new.self c.is_asked.result c.if-is_asked.true so_far.0 so_far.1 (omega arith)
+    (c.is_asked.ensures.sees s c.args.exits.now told so_far.0) c.is_asked.ensures.moment
 
-pub returns : goal.returns
-returns c s st =
-    let so_far = c.loop.invariant s st in
-    asks_more s c.args.exits.now c.loop.counter c.args.self.now.events c.loop.self c.in-Some.field-0 c.request.new.self so_far.0 so_far.1 (omega arith) c.in-Some.ensures
+pub returns-else-is_asked : goal.returns-else-is_asked
+returns-else-is_asked c s told st =
+    let so_far = c.loop.invariant s told st in
+    nothing_seen s c.args.exits.now told c.loop.self c.is_asked.new.self c.is_asked.result c.if-is_asked.false (c.is_asked.ensures.sees s c.args.exits.now told so_far.0)

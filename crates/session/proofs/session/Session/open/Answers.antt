@@ -16,7 +16,7 @@ use Rattle.session.proofs.Suspending.{good_new}
 use Rattle.session.proofs.session.Session.open.Goals as goal
 
 pub go_on_watched-lives-requires : goal.go_on_watched-lives-requires
-go_on_watched-lives-requires g c = λ h. good_new c.args.settings.now.limit_ms c.in_ok-dialogue.dialogue c.in_ok-dialogue.ensures
+go_on_watched-lives-requires g c = λ h. good_new c.args.settings.now c.in_ok-dialogue.dialogue c.in_ok-dialogue.ensures
 
 pub returns-clause-left : goal.returns-clause-left
 unfolding left tree_of
@@ -32,7 +32,7 @@ returns-clause-left g c = λ h later.
     ∙ ap (λ (vars : Variables). play bound (eval 200 source at_the_end (record { vars = vars; procs = []; left = bound; trail = [] })) (extended later d)) c.in_ok-vars.ensures
     ∙ ap (λ (pairs : List (List ℕ × List ℕ)). play bound (eval 200 source at_the_end (record { vars = first_variables pairs; procs = []; left = bound; trail = [] })) (extended later d)) c.as_slice.ensures
     ∙ ap (λ (x : Dialogue). play bound (eval 200 source at_the_end (record { vars = first_variables c.args.settings.now.vars; procs = []; left = bound; trail = [] })) (extended later x)) c.in_ok-dialogue.ensures
-    ∙ ap (λ (n : ℕ). play n (eval 200 source at_the_end (record { vars = first_variables c.args.settings.now.vars; procs = []; left = n; trail = [] })) (extended later (fresh c.args.settings.now.limit_ms))) c.bounded-bound.ensures
+    ∙ ap (λ (n : ℕ). play n (eval 200 source at_the_end (record { vars = first_variables c.args.settings.now.vars; procs = []; left = n; trail = [] })) (extended later (fresh c.args.settings.now))) c.bounded-bound.ensures
     )
 
 pub returns-clause-seen : goal.returns-clause-seen
@@ -52,7 +52,7 @@ returns-clause-seen g c = λ h.
           ∙ ap (λ (vars : Variables). meets (eval 200 source at_the_end (record { vars = vars; procs = []; left = bound; trail = [] })) (extended later d)) c.in_ok-vars.ensures
           ∙ ap (λ (pairs : List (List ℕ × List ℕ)). meets (eval 200 source at_the_end (record { vars = first_variables pairs; procs = []; left = bound; trail = [] })) (extended later d)) c.as_slice.ensures
           ∙ ap (λ (x : Dialogue). meets (eval 200 source at_the_end (record { vars = first_variables c.args.settings.now.vars; procs = []; left = bound; trail = [] })) (extended later x)) c.in_ok-dialogue.ensures
-          ∙ ap (λ (n : ℕ). meets (eval 200 source at_the_end (record { vars = first_variables c.args.settings.now.vars; procs = []; left = n; trail = [] })) (extended later (fresh c.args.settings.now.limit_ms))) c.bounded-bound.ensures
+          ∙ ap (λ (n : ℕ). meets (eval 200 source at_the_end (record { vars = first_variables c.args.settings.now.vars; procs = []; left = n; trail = [] })) (extended later (fresh c.args.settings.now))) c.bounded-bound.ensures
           )
           ∙ saw.each later;
       seen = saw.seen;

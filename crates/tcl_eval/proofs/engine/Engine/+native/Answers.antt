@@ -1,4 +1,4 @@
-use Rattle.std.proofs.Common.{◌≡◌, ℕ, List, [], Bool, sym, ◌∙◌, ap, subst, arith}
+use Rattle.std.proofs.Common.{◌≡◌, ℕ, List, [], Bool, Option, sym, ◌∙◌, ap, subst, arith}
 use Rattle.tcl_subst.specs.Filling.{Fill}
 use Rattle.tcl_subst.specs.Recipes.{Filling, given}
 use Rattle.tcl_subst.specs.Rests.{rest, told}
@@ -6,19 +6,21 @@ use Rattle.tcl_subst.specs.Variables.{Variables}
 use Rattle.tcl_subst.specs.declared.fill_step.FillStep.{FillStep}
 use Rattle.tcl_subst.specs.declared.fill_step.FillStep.TheVariants.{NeedScript}
 use Rattle.tcl_commands.specs.declared.code.Code.TheVariants.{Error}
+use Rattle.tcl_commands.specs.Groups.{Turns}
 use Rattle.tcl_eval.specs.declared.advance.Advance.{Advance}
 use Rattle.tcl_eval.specs.declared.begun.Begun.{Begun}
 use Rattle.tcl_eval.specs.declared.engine.Engine.{Engine}
+use Rattle.tcl_eval.specs.declared.frame.Frame.TheVariants.{Each as EachFrame}
 use Rattle.tcl_eval.specs.declared.frame.Onward.TheVariants.{Operand}
 use Rattle.tcl_eval.specs.declared.frame.Then.TheVariants.{Command}
 use Rattle.tcl_eval.specs.Advanced.{IsTold, NeedsFilled, begun_fill}
 use Rattle.tcl_eval.specs.Alone.{alone, asks_alone}
 use Rattle.tcl_eval.specs.Evaluated.{Evaluated, with_operand}
-use Rattle.tcl_eval.specs.Native.{at_ok, left}
+use Rattle.tcl_eval.specs.Native.{at_ok, each_begun, each_on, left}
 use Rattle.tcl_eval.specs.Meaning.{Next, condition, eval, fill_word, fill_parts, on_ok, on_said, tested, tree_of}
 use Rattle.tcl_eval.specs.Tree.{State}
 use Rattle.tcl_eval.specs.Worth.{worth}
-use Rattle.tcl_eval.specs.Rest.{arm_rest, onward_rest, then_rest, now_of}
+use Rattle.tcl_eval.specs.Rest.{arm_rest, frame_rest, onward_rest, then_rest, now_of}
 use Rattle.tcl_eval.proofs.Natives.{word_came, spent_on, arms_some, words_some, literals_fill, word_frame}
 use Rattle.tcl_eval.proofs.Passing.{operand_frame}
 use Rattle.tcl_eval.proofs.Told.{needs_worth, one_less}
@@ -213,3 +215,22 @@ choose-arms-preserved t c = record {
       ∙ c.arms.invariant.same k;
   spent = spent_on _ _ _ 0 c.arms.invariant.spent c.in-Ok-false.ensures.measures;
 }
+
+-- ---- `foreach`
+
+pub each_turns-turns-preserved : goal.each_turns-turns-preserved
+each_turns-turns-preserved t c =
+    let groups = c.each_begin.new.groups in
+    let body = c.args.body.now in
+    let begun = spent_on _ _ _ 0 c.turns.invariant.spent c.in_ok-each_begin.ensures.measures in
+    let out = c.script-out.ensures.measures in
+    record {
+      same = λ k.
+          ap (λ (o : Option Turns). each_on c.args.depth body k o (now_of c.script-out.new.self)) (sym c.in-Some.is)
+          ∙ c.in_ok-more.ensures.rest tt k (now_of c.script-out.new.self)
+          ∙ c.script-out.ensures.rest (c.in_ok-more.ensures.known tt) (frame_rest (EachFrame groups body c.args.depth) k)
+          ∙ ap (λ (b : Bool). each_begun c.args.depth body groups k b (now_of c.each_begin.new.self)) (sym c.if-not-branch.false)
+          ∙ c.in_ok-each_begin.ensures.rest c.args.depth body tt k
+          ∙ c.turns.invariant.same k;
+      spent = record { kept = out.kept ∙ begun.kept; less = omega (arith, begun.less, out.less); down = omega (arith, begun.down, out.down) };
+    }

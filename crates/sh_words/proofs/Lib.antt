@@ -1,0 +1,2 @@
+pub mod WordReads
+pub mod CommandReads

@@ -1,0 +1,4 @@
+pub mod Quoting
+pub mod Reading
+pub mod Changes
+pub mod Terminal
