@@ -26,10 +26,26 @@ ASKED = [b"match_max", b"match_max -d", b"remove_nulls", b"log_user -info", b"wa
 FLAGS = [b"-tty", b"-tty", b"-notty", b"-nottycopy", b"-nottyinit", b"-ignore SIGHUP", b"-noecho"]
 ENDS = [b"break", b"continue", b"{return r}", b"{set n got}", b"{error no}", b"{exit 3}", b"{}"]
 
+# What a procedure begins with.
+FRONTS = [
+    b"",
+    b"global spawn_id a; ",
+    b"global expect_out; ",
+    b"set timeout 1; ",
+    b"spawn p; ",
+    b"upvar spawn_id spawn_id a b; ",
+    b"upvar #0 expect_out expect_out; ",
+    b"upvar a spawn_id; ",
+    b"catch {upvar b a; upvar a(1) b}; upvar b x; ",
+]
+
 # Commands that are refused as they stand.
 REFUSED = [
     b"send -x a",
     b"send",
+    b"upvar a",
+    b"upvar #1 a b",
+    b"upvar 9 a b",
     b"exp_send a b",
     b"send -i",
     b"close now",
@@ -269,7 +285,7 @@ class Script:
     def procedure(self, depth):
         if depth >= DEEPEST:
             return b"return r"
-        front = self.rng.choice([b"", b"global spawn_id a; ", b"global expect_out; ", b"set timeout 1; ", b"spawn p; "])
+        front = self.rng.choice(FRONTS)
         back = self.rng.choice([b"", b"; return r"])
         return b"proc f {} {" + front + self.body(depth)[1:-1] + back + b"}; f"
 

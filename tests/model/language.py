@@ -24,7 +24,7 @@ NESTED = 200
 LEFT_OUT = b"unset append lrange for eval string info concat join lassign linsert lrepeat lreplace lreverse lsearch lset lsort split array format scan regexp regsub package exp_version expect_version exp_internal debug exp_debug strace exp_strace trap exp_trap exp_spawn exp_send_user exp_close exp_wait exp_match_max exp_remove_nulls exp_log_user exp_exit".split()
 
 # The simulated commands that a procedure may replace.
-REDEFINABLE = b"sleep exp_sleep after".split()
+REDEFINABLE = b"sleep exp_sleep after upvar".split()
 
 
 class NotSimulated(Exception):
@@ -71,21 +71,21 @@ def array_of(name):
 
 
 class Scope:
-    def __init__(self):
-        self.values, self.links = {}, set()
+    """The variables of a procedure, and where a linked name leads: to a scope and a name there."""
 
-    def refuse(self, act, name):
+    def __init__(self):
+        self.values, self.links = {}, {}
+
+    def holds(self, name):
+        return any(array_of(other) == name for other in self.values)
+
+    def refuse(self, act, name, written):
         """An array has no value of its own, and what has one has no elements."""
         array = array_of(name)
         if array != name and array in self.values:
-            raise Thrown(ERROR, b'can\'t %s "%s": variable isn\'t array' % (act, name[:200]))
-        if array == name and any(array_of(other) == name != other for other in self.values):
-            raise Thrown(ERROR, b'can\'t %s "%s": variable is array' % (act, name[:200]))
-
-    def value(self, name):
-        """The value of a variable, or None."""
-        self.refuse(b"read", name)
-        return self.values.get(name)
+            raise Thrown(ERROR, b'can\'t %s "%s": variable isn\'t array' % (act, written[:200]))
+        if array == name and name not in self.values and self.holds(name):
+            raise Thrown(ERROR, b'can\'t %s "%s": variable is array' % (act, written[:200]))
 
 
 class Interpreter:
@@ -175,24 +175,36 @@ class Interpreter:
 
     # variables
 
-    def scope_of(self, name):
-        return self.scopes[0] if array_of(name) in self.scopes[-1].links else self.scopes[-1]
+    def place(self, name):
+        """The scope of a variable, and its name there."""
+        array, here = array_of(name), self.scopes[-1]
+        scope, home = here.links.get(array, (here, array))
+        return scope, home + name[len(array) :]
+
+    def value(self, name):
+        """The value of a variable, or None."""
+        scope, home = self.place(name)
+        scope.refuse(b"read", home, name)
+        return scope.values.get(home)
 
     def get(self, name):
-        value = self.scope_of(name).value(name)
+        value = self.value(name)
         if value is None:
             raise Thrown(ERROR, b'can\'t read "%s": no such variable' % name[:200])
         return value
 
     def set(self, name, value):
-        scope = self.scope_of(name)
-        scope.refuse(b"set", name)
-        scope.values[name] = value
+        scope, home = self.place(name)
+        scope.refuse(b"set", home, name)
+        scope.values[home] = value
 
     def seen(self, name):
         """What a command of Expect reads: the variable of this scope, else the global one, else None."""
-        value = self.scope_of(name).value(name)
-        return self.scopes[0].value(name) if value is None else value
+        value = self.value(name)
+        if value is not None:
+            return value
+        self.scopes[0].refuse(b"read", name, name)
+        return self.scopes[0].values.get(name)
 
     def do_set(self, words):
         if len(words) > 1:
@@ -201,19 +213,38 @@ class Interpreter:
 
     def do_incr(self, words):
         (name,) = words
-        value = self.scope_of(name).value(name)
+        value = self.value(name)
         self.set(name, b"%d" % ((0 if value is None else number(value)) + 1))
         return self.get(name)
 
     def do_lappend(self, words):
         name, *values = words
-        self.set(name, write_list(elements(self.scope_of(name).value(name) or b"") + values))
+        self.set(name, write_list(elements(self.value(name) or b"") + values))
         return self.get(name)
 
     def do_global(self, words):
         if len(self.scopes) > 1:
-            self.scopes[-1].links.update(words)
+            self.scopes[-1].links.update((name, (self.scopes[0], name)) for name in words)
         return b""
+
+    def do_upvar(self, words):
+        self.counted(b"upvar", words, 2, len(words))
+        level, *names = words if len(words) % 2 else [b"1", *words]
+        calls = len(self.scopes) - 1
+        out = calls if level == b"#0" else int(level) if is_number(level) else 0
+        if not 1 <= out <= calls:
+            raise failed(b"bad level", level)
+        for other, my in zip(names[::2], names[1::2]):
+            self.link(self.scopes[-1 - out], other, my)
+        return b""
+
+    def link(self, there, other, my):
+        for name in (my, other):
+            if array_of(name) != name:
+                raise failed(b"bad variable name", name)
+        if self.scopes[-1].holds(my):
+            raise Thrown(ERROR, b'variable "%s" already exists' % my[:200])
+        self.scopes[-1].links[my] = there.links.get(other, (there, other))
 
     # control
 

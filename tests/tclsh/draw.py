@@ -428,6 +428,11 @@ class Program(Writer):
     def e_global(self):
         return self.call("global", *[self.variable(self.rng.choice("iwtlk")) for _ in range(self.rng.randrange(1, 3))])
 
+    def e_upvar(self):
+        kind = self.rng.choice("iwtlk")
+        level = self.rng.choice([[], [b"1"], [b"#0"]])
+        return self.call("upvar", *level, self.variable(kind), self.variable(kind))
+
     def w_append(self):
         return self.appended("w")
 
@@ -773,7 +778,7 @@ class Program(Writer):
         if has_args:
             names.append(b"args")
         known, self.procs, self.in_proc = self.procs, [], has_args
-        commands = [self.e_global()] if self.chance(0.3) else []
+        commands = [self.rng.choice([self.e_global, self.e_upvar])()] if self.chance(0.4) else []
         last = self.call("return", self.of(kind)) if self.chance(0.3) else self.command_of(kind)
         body = self.script([*commands, *[self.command_of(self.rng.choice("iwte")) for _ in range(self.rng.randrange(2))], last])
         name = f"f{self.serial}_{len(known)}"
@@ -930,7 +935,7 @@ string range abc 0 x   string index abc 1.5   llength "\{"   llength {"a"b}   ll
 lsort "a \{"   join "\{a"   lassign "\{" t1   lreverse "\{"   lsearch "\{" a   lsort -none {a b}   lsort -integer {1 x}
 lsort -index 1 {{a b} c}   lsearch -none {a} a   format %d   format %d x   format %q a   scan a %q t1   scan a %d t1 t2   expr 1 +
 expr {1 2}   expr {(1}   expr {1)}   expr {a}   expr {$}   expr {"a" + 1}   expr {!"a"}   expr {~true}   expr {1 / 0}   expr {1 % 0}
-expr {1 << -1}   expr {0 ** -1}
+expr {1 << -1}   expr {0 ** -1}   upvar   upvar a   upvar 1 a   upvar a b   upvar #0 a   upvar x a b
 """.strip(b"\n"))
 
 # What may be drawn at the greatest depth.

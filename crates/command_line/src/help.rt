@@ -16,8 +16,8 @@ A script is a file of Expect commands (spawn, send, expect, ..) in a subset of
 Tcl. It starts programs, sends input to them, and waits for their output.
 
 run starts the programs and runs the scripts with them. Once all scripts have
-finished, it prints one report per script: how it ended, and its transcript,
-which is what an operator would have seen. With --record it also writes a log of
+ended, it prints one report per script: how it ended, and its transcript, which
+is what an operator would have seen. With --record it also writes a log of
 what the programs did.
 
 script runs one script as a command, as expect(1) does: with arguments, the
@@ -80,8 +80,8 @@ read too. Version 3 begins with `exprun-log 3`, and its children are 0 to 999.
 If a log has an error, no script runs and the status is 2. The first bad line is
 printed as `exprun: log fault F at line L`, where F is
 
-    1  an unknown word or cause, a field too many or too few, or no LF
-    2  a number that is none, has a leading 0, or is too great
+    1  an unknown word or cause, a field too many or too few, or no newline
+    2  no number, one with a leading 0, or one that is too great
     3  bytes that aren't pairs of lower-case hexadecimal digits
     4  a script outside 1 to 64
     5  a child outside 1 to 16, in version 3 outside 0 to 999
@@ -92,8 +92,8 @@ printed as `exprun: log fault F at line L`, where F is
 
 Fault 8 after the last line means that the log was cut off, as in the FILE.part
 of a run that was killed. --cut reads such a log up to its last complete line.
-Scripts that were running then are reported as waiting. Fault 7 is not printed:
-it is refused memory, which is `exprun: out of memory`.
+Scripts that were running then are reported as waiting. Fault 7, refused memory,
+is printed as `exprun: out of memory`.
 
 A report is a line with the script's ending and counts, followed by its
 transcript. The endings are exit:N, error (its text follows the transcript),
@@ -145,17 +145,17 @@ The terminal showed the first hi when it was sent, and cat wrote the second.";
 
 /// The help of `run`.
 pub const RUN: &str = "\
-Each script spawns its own programs, over pipes. A program is searched in the
-folders of PATH, and sees pipes instead of a terminal. Its standard error is
-that of exprun; `spawn sh -c {exec 2>&1; ..}` joins it to the dialogue. With
---stderr label each program has its own standard error. exprun then prints its
-lines on standard error, after its script's number.
+Each script spawns its own programs, over pipes. A program is looked up in PATH,
+and sees pipes instead of a terminal. Its standard error is that of exprun;
+`spawn sh -c {exec 2>&1; ..}` joins it to the dialogue. With --stderr label each
+program has its own standard error. exprun then prints its lines on standard
+error, after its script's number.
 
 `spawn -tty` runs a program on a terminal of the system, by setsid(1), script(1)
-and stty(1), as programs that ask for a password want it. With --host every
-spawn without -notty does. The terminal joins standard error to the output, and
-stty_init may have any words of stty(1). The status of a program that a signal
-ended is 128 plus the signal's number.
+and stty(1), as ssh and sudo need. With --host every spawn without -notty does.
+The terminal joins standard error to the output, and stty_init may have any
+words of stty(1). The status of a program that a signal ended is 128 plus the
+signal's number.
 
 The scripts run side by side, and no script affects another. --workers shares
 them among threads in turn: of two workers, the first runs scripts 1, 3, .. A
@@ -206,7 +206,7 @@ values:
 --each sets them after --set. A report then names its script FILE:VALUE, with
 the row's first value. LIST has at most 64 rows, or fewer for several FILEs.
 
---explain writes to FILE, once all scripts have finished, what each script did
+--explain writes to FILE, once all scripts have ended, what each script did
 at each event and what it then waited for: see `exprun explain --help`. If FILE
 can't be written, an error is printed and the status is 2. The reports are
 printed anyway.
@@ -323,11 +323,15 @@ had ended: a run then closes the output itself. These lines may follow an event:
     asks child C: ..      a request to a child: spawn, write, end, close or wait
     waits for the answer of child C
                           it continues once the answer has arrived
+    waits for the start of child C
+                          the same, for the first newline on a terminal
     waits for output until M ms
                           an expect waits, until that moment at the latest
     child C has N bytes, the last are ..
                           output of the child that no pattern has taken
     -ex, -gl, -re ..  no  a pattern of the expect, which doesn't match there
+    ..  no, only FRONT    the longest front of the pattern that matches there
+    ..  no, nothing of it no front of it does
     .. was met by child C
                           what ended a wait; below it, the new expect_out
 
@@ -363,7 +367,7 @@ Then `exprun explain log ask.exp` prints
           20 ms  script 1  child 1  wrote \"Name: \"
                  waits for output until 10005 ms
                    child 1 has 6 bytes, the last are \"Name: \"
-                     -ex \"name: \"  no
+                     -ex \"name: \"  no, nothing of it
     script 1 end=waiting steps=2 sent=0 transcript=17";
 
 /// The help of `plan`.
@@ -373,7 +377,7 @@ script 1. plan runs the script over the timeline, and answers each request to a
 child at once. A start, a write and a close succeed, and a wait is answered with
 the end of the child.
 
-A line of a timeline is one of these, with blanks between its words:
+A line of a timeline is one of these, with spaces or tabs between its words:
 
     MOMENT \"TEXT\"         the child writes this
     MOMENT end            the child's output ends
@@ -381,7 +385,7 @@ A line of a timeline is one of these, with blanks between its words:
                           broken, memory or other
     MOMENT tick           only the time passes, as for a timeout after the last
                           of the other lines
-    exit STATUS           the answer to a wait for the child: its status, or
+    exit N                the answer to a wait for the child: its status N, or
                           killed; 0 if there is no such line
 
 MOMENT is in milliseconds, and never falls. +N is N milliseconds after the
@@ -439,8 +443,8 @@ that a run would end with. check finds
     flags and options that a command doesn't have
     malformed regular patterns and expressions
 
-as far as the words are literal. The value of a word with $ or [ is known only
-when the script runs, and so are the words after {*}.
+in words without $ and [. The value of other words is known only when the script
+runs, and so are the words after {*}.
 
 The status is 0 if nothing is found, 1 if something is, and 2 on an error.
 

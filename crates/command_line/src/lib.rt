@@ -6,5 +6,5 @@ mod offers;
 mod order;
 mod reading;
 
-pub use order::{Alone, Check, Explain, Order, Plan, Replay, Run, Scripts, Show, Variables};
+pub use order::{Alone, Check, Explain, LogPlan, Order, Replay, Run, Scripts, Show, Variables};
 pub use reading::read_words;

@@ -78,7 +78,7 @@ const VARS: Offer = Offer {
 const REQUESTS: Offer = Offer {
     name: "requests",
     takes: Takes::Nothing,
-    help: "Show each script's requests to its children, in hex",
+    help: "Show each script's requests, in hexadecimal",
 };
 
 const FORMAT: Offer = Offer {
@@ -427,17 +427,17 @@ static COMMANDS: [CommandOffer; 7] = [
     },
     CommandOffer {
         name: "show",
-        about: "Shows a log of a run, one line per event",
+        about: "Prints a log of a run, one line per event",
         after: help::SHOW,
     },
     CommandOffer {
         name: "explain",
-        about: "Explains what scripts did over a log, and what they waited for",
+        about: "Prints what scripts did over a log, and what they waited for",
         after: help::EXPLAIN,
     },
     CommandOffer {
         name: "plan",
-        about: "Plans a log for replay, from a script and a timeline",
+        about: "Writes a log for replay, from a script and a timeline",
         after: help::PLAN,
     },
     CommandOffer {

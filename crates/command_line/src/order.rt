@@ -13,7 +13,7 @@ pub enum Order<'a> {
     Run(Run<'a>),
     Script(Alone<'a>),
     Show(Show<'a>),
-    Plan(Plan<'a>),
+    Plan(LogPlan<'a>),
     Check(Check<'a>),
     Explain(Explain<'a>),
 }
@@ -148,7 +148,7 @@ pub struct Explain<'a> {
 
 /// The request to plan a log of a script from a timeline.
 #[derive(Drop)]
-pub struct Plan<'a> {
+pub struct LogPlan<'a> {
     /// The most steps of the script.
     pub steps: u64,
     /// The time limit of the script, in milliseconds.
@@ -165,7 +165,7 @@ pub struct Plan<'a> {
     pub timing: Option<&'a str>,
 }
 
-impl<'a> Plan<'a> {
+impl<'a> LogPlan<'a> {
     /// Returns the file whose lines may be bad: the timing file if there is one, otherwise the
     /// timeline.
     pub fn lines(&self) -> &'a str

@@ -4,7 +4,7 @@ ghost use Rattle.std.specs.Prelude.{◌≡◌, ◌≤◌, ◌*◌, codes, not, o
 ghost use Rattle.command_line.specs.Given.{steps_given, alone_steps_given, grace_seconds, all_taken, names_of, words_told, files_told, env_told, sets_told, each_told, args_told, format_given, labels_given, IsFlag};
 
 use crate::offers::command;
-use crate::order::{Alone, Check, Explain, Order, Plan, Replay, Run, Scripts, Show, Variables};
+use crate::order::{Alone, Check, Explain, LogPlan, Order, Replay, Run, Scripts, Show, Variables};
 use child_pipes::Terms;
 use clap::{ArgMatches, Error};
 use report_texts::{Form, Format, Shown};
@@ -212,7 +212,7 @@ fn explain_of<'a>(alloc: Global, matches: &ArgMatches<'a>) -> Result<Order<'a>, 
 }
 
 fn plan_of<'a>(alloc: Global, matches: &ArgMatches<'a>) -> Result<Order<'a>, AllocError> {
-    Ok(Order::Plan(Plan {
+    Ok(Order::Plan(LogPlan {
         steps: steps_of(matches.get_one::<u64>("steps")),
         limit_ms: limit_of(matches.get_one::<u64>("limit")),
         variables: variables_of(alloc, matches)?,

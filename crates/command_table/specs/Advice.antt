@@ -15,7 +15,7 @@ choosing word =
     else if bytes_eq word (codes "apply") then codes "use proc"
     else if bytes_eq word (codes "try") then codes "use catch"
     else if bytes_eq word (codes "throw") then codes "use error"
-    else if bytes_eq word (codes "uplevel") || bytes_eq word (codes "upvar") then codes "use global, or return the value"
+    else if bytes_eq word (codes "uplevel") then codes "use global, or return the value"
     else if bytes_eq word (codes "namespace") || bytes_eq word (codes "variable") then codes "use a prefix of the names"
     else if bytes_eq word (codes "source") then codes "concatenate the files first"
     else if bytes_eq word (codes "subst") then codes "use words in quotes"

@@ -87,6 +87,7 @@ redefinable_value word =
     else if bytes_eq word (codes "scan") then Some value.Scan
     else if bytes_eq word (codes "regexp") then Some value.Regexp
     else if bytes_eq word (codes "regsub") then Some value.Regsub
+    else if bytes_eq word (codes "upvar") then Some value.Upvar
     else interpreter_value word
 
 -- The command that a word names, if it evaluates a script or ends it, and a procedure can have its name.

@@ -103,6 +103,7 @@ value_row value.Split = plain (between 1 2) texts
 value_row value.String = plain (at_least 1) Choice
 -- unset ?-nocomplain? ?name name name ...?
 value_row value.Unset = plain (at_least 0) (Each Name Name Name Name)
+value_row value.Upvar = plain (at_least 2) texts
 
 abbrev pub tcl_row : TclCommand → Row
 tcl_row (tcl.Value c) = value_row c

@@ -32,7 +32,7 @@ fn choosing(word: &[u8]) -> &'static [u8]
         b"use catch"
     } else if is(word, b"throw") {
         b"use error"
-    } else if is(word, b"uplevel") || is(word, b"upvar") {
+    } else if is(word, b"uplevel") {
         b"use global, or return the value"
     } else if is(word, b"namespace") || is(word, b"variable") {
         b"use a prefix of the names"

@@ -44,6 +44,7 @@ pub enum ValueCommand {
     Split,
     String,
     Unset,
+    Upvar,
 }
 
 /// A command of Tcl.
@@ -241,6 +242,8 @@ fn redefinable_value(word: &[u8]) -> Option<ValueCommand>
         Some(ValueCommand::Regexp)
     } else if is(word, b"regsub") {
         Some(ValueCommand::Regsub)
+    } else if is(word, b"upvar") {
+        Some(ValueCommand::Upvar)
     } else {
         interpreter_value(word)
     }

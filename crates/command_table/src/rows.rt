@@ -101,6 +101,7 @@ pub fn value_row(command: ValueCommand) -> Row
         ValueCommand::Split => plain(between(1, 2), texts()),
         ValueCommand::String => plain(at_least(1), Choice),
         ValueCommand::Unset => plain(at_least(0), Each(Name, Name, Name, Name)),
+        ValueCommand::Upvar => plain(at_least(2), texts()),
     }
 }
 

@@ -21,6 +21,7 @@ impl Model for Reports {
 }
 
 impl Reports {
+    /// Returns the reports in order.
     pub fn as_slice(&self) -> &[Report]
         ensures value { result.now ≡ self.now }
     {

@@ -6,8 +6,8 @@ use Rattle.command_table.specs.declared.commands.ExpectCommand.{ExpectCommand}
 use Rattle.command_table.specs.declared.rows.Row.{Row}
 use Rattle.command_table.specs.Counts.{fits}
 use Rattle.command_table.specs.Rows.{expect_row}
-use Rattle.tcl_commands.specs.Said.{◌>>=◌}
-use Rattle.tcl_commands.specs.Texts.{wrong_args}
+use Rattle.tcl_results.specs.Said.{◌>>=◌}
+use Rattle.tcl_results.specs.Texts.{wrong_args}
 use Rattle.expect_core.specs.declared.flags.Flags.{Flags}
 use Rattle.expect_core.specs.Flags.{Flagged, flags_if, arguments}
 

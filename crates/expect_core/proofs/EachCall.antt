@@ -7,7 +7,7 @@ use Rattle.child_events.specs.declared.event.Event.{Event}
 use Rattle.child_events.specs.World.{moment_of}
 use Rattle.tty.specs.Sends.{handed_by, line_after, echo_of}
 use Rattle.tcl_subst.specs.Variables.{Variables}
-use Rattle.tcl_commands.specs.Said.{Said}
+use Rattle.tcl_results.specs.Said.{Said}
 use Rattle.tcl_host.specs.declared.host.HostStep.TheVariants as step
 use Rattle.tcl_host.specs.declared.ending.Ending.TheVariants.{TimeLimit}
 use Rattle.tcl_host.specs.Calls.{Call, Begin, Resume, AfterWords, AfterBody, Knows}

@@ -6,9 +6,9 @@ use Rattle.std.specs.Prelude.{◌==◌, nat_lt, insert, slice_index_or, slice_se
 use Rattle.exp_match.specs.declared.list.PatternList.{PatternList}
 use Rattle.exp_match.specs.Arguments.{patterns_of}
 use Rattle.tcl_subst.specs.Variables.{Variables}
-use Rattle.tcl_commands.specs.declared.complaint.Complaint.{Complaint}
-use Rattle.tcl_commands.specs.Said.{Said, ◌>>=◌}
-use Rattle.tcl_commands.specs.Says.{Says}
+use Rattle.tcl_results.specs.declared.complaint.Complaint.{Complaint}
+use Rattle.tcl_results.specs.Said.{Said, ◌>>=◌}
+use Rattle.tcl_results.specs.Says.{Says}
 use Rattle.expect_core.specs.declared.plan.Plan.{Plan}
 use Rattle.expect_core.specs.declared.own.Own.{Own}
 use Rattle.expect_core.specs.Heard.{Watch}

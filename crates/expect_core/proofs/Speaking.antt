@@ -4,10 +4,10 @@ use Rattle.std.specs.Prelude.{◌==◌, nat_lt, slice_get, if◌then◌else◌}
 use Rattle.exp_match.specs.declared.list.PatternList.{PatternList}
 use Rattle.exp_match.specs.Arguments.{patterns_of}
 use Rattle.tcl_subst.specs.Variables.{Variables}
-use Rattle.tcl_commands.specs.declared.code.Code.{Code}
-use Rattle.tcl_commands.specs.declared.code.Code.TheVariants as code
-use Rattle.tcl_commands.specs.Given.{arg}
-use Rattle.tcl_commands.specs.Said.{Said, ◌>>=◌}
+use Rattle.tcl_results.specs.declared.code.Code.{Code}
+use Rattle.tcl_results.specs.declared.code.Code.TheVariants as code
+use Rattle.tcl_results.specs.Given.{arg}
+use Rattle.tcl_results.specs.Said.{Said, ◌>>=◌}
 use Rattle.tcl_host.specs.Calls.{Call, Begin, Resume, AfterWords, AfterBody, Knows}
 use Rattle.command_table.specs.declared.commands.ExpectCommand.{ExpectCommand}
 use Rattle.command_table.specs.declared.commands.ExpectCommand.TheVariants as command

@@ -1,9 +1,9 @@
 -- `exp_continue`: an action goes back to its `expect` (expect(1)).
 use Rattle.std.specs.Prelude.{ℕ, List, [], if◌then◌else◌, Ok}
 use Rattle.command_table.specs.declared.commands.ExpectCommand.TheVariants as command
-use Rattle.tcl_commands.specs.declared.code.Code.{Code}
-use Rattle.tcl_commands.specs.declared.code.Code.TheVariants as code
-use Rattle.tcl_commands.specs.Said.{Said, ◌>>=◌}
+use Rattle.tcl_results.specs.declared.code.Code.{Code}
+use Rattle.tcl_results.specs.declared.code.Code.TheVariants as code
+use Rattle.tcl_results.specs.Said.{Said, ◌>>=◌}
 use Rattle.expect_core.specs.declared.flags.Flags.{Flags}
 use Rattle.expect_core.specs.declared.turn.Reply.TheVariants.{Done}
 use Rattle.expect_core.specs.declared.turn.Deed.{Deed}

@@ -8,9 +8,9 @@ use Rattle.command_table.specs.declared.commands.ExpectCommand.TheVariants as co
 use Rattle.command_table.specs.Commands.{expect_command}
 use Rattle.exp_match.specs.Arguments.{patterns_of}
 use Rattle.tcl_subst.specs.Variables.{Variables}
-use Rattle.tcl_commands.specs.declared.code.Code.{Code}
-use Rattle.tcl_commands.specs.declared.code.Code.TheVariants as code
-use Rattle.tcl_commands.specs.Said.{Said, ◌>>=◌}
+use Rattle.tcl_results.specs.declared.code.Code.{Code}
+use Rattle.tcl_results.specs.declared.code.Code.TheVariants as code
+use Rattle.tcl_results.specs.Said.{Said, ◌>>=◌}
 use Rattle.tcl_host.specs.Calls.{Call, Begin, Resume, AfterWords, AfterBody, Knows}
 use Rattle.expect_core.specs.declared.request.Request.{Request}
 use Rattle.expect_core.specs.declared.plan.Plan.{Plan}

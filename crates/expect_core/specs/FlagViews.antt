@@ -1,8 +1,8 @@
 -- Flags that were read, and the index of the first word after them.
 use Rattle.std.specs.Prelude.{◌≡◌, ◌≢◌, ◌≤◌, ℕ, List, length, drop, Result, Ok, Err}
-use Rattle.tcl_commands.specs.declared.complaint.Complaint.{Complaint}
-use Rattle.tcl_commands.specs.declared.complaint.Complaint.TheVariants.{Memory}
-use Rattle.tcl_commands.specs.Says.{text_of}
+use Rattle.tcl_results.specs.declared.complaint.Complaint.{Complaint}
+use Rattle.tcl_results.specs.declared.complaint.Complaint.TheVariants.{Memory}
+use Rattle.tcl_results.specs.Says.{text_of}
 use Rattle.expect_core.specs.declared.flags.Flags.{Flags}
 use Rattle.expect_core.specs.Flags.{Flagged}
 

@@ -7,8 +7,8 @@ use Rattle.command_table.specs.declared.flags.Role.TheVariants.{Word, End, Alone
 use Rattle.command_table.specs.Counts.{fits}
 use Rattle.command_table.specs.Flags.{flag_role}
 use Rattle.command_table.specs.Rows.{expect_row}
-use Rattle.tcl_commands.specs.Said.{Said, ◌>>=◌}
-use Rattle.tcl_commands.specs.Texts.{quoted, wrong_args}
+use Rattle.tcl_results.specs.Said.{Said, ◌>>=◌}
+use Rattle.tcl_results.specs.Texts.{quoted, wrong_args}
 use Rattle.expect_core.specs.declared.flags.Flags.{Flags}
 use Rattle.expect_core.specs.declared.flags.Due.{Due}
 use Rattle.expect_core.specs.declared.flags.Due.TheVariants as due

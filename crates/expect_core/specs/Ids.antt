@@ -2,7 +2,7 @@
 use Rattle.std.specs.Prelude.{ℕ, List, codes, Bool, true, false, ◌&&◌, Option, Some, None, position, if◌then◌else◌, Ok, Err}
 use Rattle.std.specs.Str.{bytes_eq}
 use Rattle.tcl_subst.specs.Variables.{Variables}
-use Rattle.tcl_commands.specs.Said.{Said, ◌>>=◌}
+use Rattle.tcl_results.specs.Said.{Said, ◌>>=◌}
 use Rattle.expect_core.specs.declared.child.Standing.{Standing}
 use Rattle.expect_core.specs.declared.child.Standing.TheVariants.{Unborn, Open, Closed}
 use Rattle.expect_core.specs.declared.child.Child.{Child}

@@ -6,7 +6,7 @@ use Rattle.command_table.specs.declared.commands.ExpectCommand.{ExpectCommand}
 use Rattle.command_table.specs.declared.commands.ExpectCommand.TheVariants as command
 use Rattle.tcl_expr.specs.Number.{number_of}
 use Rattle.tcl_subst.specs.Variables.{Variables}
-use Rattle.tcl_commands.specs.Said.{Said, ◌>>=◌}
+use Rattle.tcl_results.specs.Said.{Said, ◌>>=◌}
 use Rattle.expect_core.specs.declared.flags.Flags.{Flags}
 use Rattle.expect_core.specs.declared.child.Change.TheVariants.{Size, Removal}
 use Rattle.expect_core.specs.declared.effect.Effect.TheVariants.{Alter}

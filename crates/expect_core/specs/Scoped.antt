@@ -5,8 +5,8 @@ use Rattle.tcl_subst.specs.declared.faults.SubstFault.{SubstFault}
 use Rattle.tcl_subst.specs.Slots.{read}
 use Rattle.tcl_subst.specs.Variables.{Variables, value_of, with_value}
 use Rattle.tcl_subst.specs.Writes.{set_to}
-use Rattle.tcl_commands.specs.Texts.{is_missing, not_read, not_set}
-use Rattle.tcl_commands.specs.Said.{Said}
+use Rattle.tcl_results.specs.Texts.{is_missing, not_read, not_set}
+use Rattle.tcl_results.specs.Said.{Said}
 
 abbrev pub or_global : List ℕ → Variables → Result (List ℕ) SubstFault → Result (List ℕ) SubstFault
 or_global name vars (Ok value) = Ok value

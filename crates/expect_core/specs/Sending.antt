@@ -7,8 +7,8 @@ use Rattle.tty.specs.declared.action.Action.{Action}
 use Rattle.tty.specs.declared.action.Action.TheVariants.{Write, End}
 use Rattle.tty.specs.Sends.{line_after, echo_of}
 use Rattle.tcl_subst.specs.Variables.{Variables}
-use Rattle.tcl_commands.specs.Given.{arg}
-use Rattle.tcl_commands.specs.Said.{Said, ◌>>=◌}
+use Rattle.tcl_results.specs.Given.{arg}
+use Rattle.tcl_results.specs.Said.{Said, ◌>>=◌}
 use Rattle.expect_core.specs.declared.request.Act.{Act}
 use Rattle.expect_core.specs.declared.request.Act.TheVariants as act
 use Rattle.expect_core.specs.declared.child.Change.TheVariants.{Sent}

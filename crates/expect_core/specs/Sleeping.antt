@@ -1,9 +1,9 @@
 -- `sleep` (expect(1)), and `after` with nothing but a time (after(n)). They wait, and take no output meanwhile.
 use Rattle.std.specs.Prelude.{ℕ, ◌+◌, ◌*◌, ◌-◌, ◌==◌, nat_le, nat_lt, ◌&&◌, min, List, [], ◌∷◌, take, drop, slice_index_or, position, if◌then◌else◌, Option, Some, None, option_map, option_and_then, Ok, Err}
 use Rattle.tcl_words.specs.Bytes as ascii
-use Rattle.tcl_commands.specs.Given.{arg}
-use Rattle.tcl_commands.specs.Said.{Said, ◌>>=◌}
-use Rattle.tcl_commands.specs.Texts.{expected_number}
+use Rattle.tcl_results.specs.Given.{arg}
+use Rattle.tcl_results.specs.Said.{Said, ◌>>=◌}
+use Rattle.tcl_results.specs.Texts.{expected_number}
 use Rattle.command_table.specs.declared.commands.ExpectCommand.{ExpectCommand}
 use Rattle.command_table.specs.declared.commands.ExpectCommand.TheVariants as command
 use Rattle.expect_core.specs.declared.plan.Plan.{Plan}

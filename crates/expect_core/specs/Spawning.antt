@@ -11,7 +11,7 @@ use Rattle.tty.specs.declared.modes.BadMode.{BadMode}
 use Rattle.tty.specs.Modes.{sane, bare, read as read_modes}
 use Rattle.sh_words.specs.Terminal.{terminal_words}
 use Rattle.tcl_subst.specs.Variables.{Variables}
-use Rattle.tcl_commands.specs.Said.{Said, ◌>>=◌, list_of}
+use Rattle.tcl_results.specs.Said.{Said, ◌>>=◌, list_of}
 use Rattle.expect_core.specs.declared.request.Act.TheVariants as act
 use Rattle.expect_core.specs.declared.child.Standing.TheVariants as standing
 use Rattle.expect_core.specs.declared.child.Change.TheVariants.{Stand}

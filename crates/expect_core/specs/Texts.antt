@@ -6,7 +6,7 @@ use Rattle.tcl_words.specs.Bytes as ascii
 use Rattle.child_events.specs.declared.event.Cause.{Cause}
 use Rattle.child_events.specs.declared.event.Cause.TheVariants as cause
 use Rattle.child_events.specs.Log.{cause_text}
-use Rattle.tcl_commands.specs.Texts.{quoted}
+use Rattle.tcl_results.specs.Texts.{quoted}
 
 -- The spawn id of the child at a place.
 abbrev pub id_at : ℕ → List ℕ

@@ -4,9 +4,9 @@ use Rattle.std.specs.Str.{bytes_eq}
 use Rattle.tcl_words.specs.Bytes as ascii
 use Rattle.command_table.specs.declared.commands.ExpectCommand.TheVariants as command
 use Rattle.command_table.specs.Flags.{begins_with_minus}
-use Rattle.tcl_commands.specs.Given.{arg}
-use Rattle.tcl_commands.specs.Said.{Said, ◌>>=◌}
-use Rattle.tcl_commands.specs.Texts.{wrong_args, bad_option}
+use Rattle.tcl_results.specs.Given.{arg}
+use Rattle.tcl_results.specs.Said.{Said, ◌>>=◌}
+use Rattle.tcl_results.specs.Texts.{wrong_args, bad_option}
 use Rattle.expect_core.specs.declared.effect.Effect.{Effect}
 use Rattle.expect_core.specs.declared.effect.Effect.TheVariants.{Tell, LogUser}
 use Rattle.expect_core.specs.declared.turn.Deed.{Deed}

@@ -1,7 +1,7 @@
 -- Turns: what a call does to a child, and what it does next.
 use Rattle.std.specs.Prelude.{ℕ, List, [], Option, Some, None, Ok, Err}
-use Rattle.tcl_commands.specs.declared.code.Code.TheVariants as code
-use Rattle.tcl_commands.specs.Said.{Said}
+use Rattle.tcl_results.specs.declared.code.Code.TheVariants as code
+use Rattle.tcl_results.specs.Said.{Said}
 use Rattle.expect_core.specs.declared.effect.Effect.{Effect}
 use Rattle.expect_core.specs.declared.turn.Reply.{Reply}
 use Rattle.expect_core.specs.declared.turn.Reply.TheVariants.{Done, Fail}

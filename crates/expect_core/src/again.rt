@@ -1,7 +1,7 @@
 //! `exp_continue`: an action goes back to its `expect` (expect(1)).
 
 ghost use Rattle.std.specs.Prelude.{◌≡◌};
-ghost use Rattle.tcl_commands.specs.Says.{Says};
+ghost use Rattle.tcl_results.specs.Says.{Says};
 ghost use Rattle.expect_core.specs.Again.{again_code, continued as continued_of, continuing};
 
 use crate::effect::Effects;
@@ -9,7 +9,7 @@ use crate::flags::{Flags, arguments};
 use crate::turn::{Deed, Reply};
 use command_table::ExpectCommand;
 use std::alloc::Global;
-use tcl_commands::{Code, Complaint};
+use tcl_results::{Code, Complaint};
 use tcl_values::Value;
 
 /// Returns the code with which `exp_continue` ends.

@@ -2,8 +2,8 @@
 
 ghost use Rattle.std.specs.Prelude.{◌≡◌, IfOk};
 ghost use Rattle.command_table.specs.Commands.{expect_command};
-ghost use Rattle.tcl_commands.specs.Said.{Said};
-ghost use Rattle.tcl_commands.specs.Says.{Says};
+ghost use Rattle.tcl_results.specs.Said.{Said};
+ghost use Rattle.tcl_results.specs.Says.{Says};
 ghost use Rattle.expect_core.specs.declared.turn.Deed.{Deed as DeedOf};
 ghost use Rattle.expect_core.specs.Answered.{idle};
 ghost use Rattle.expect_core.specs.Calls.{began, begun as begun_of, ended_body, filled, filling as filling_of, knows as knows_of, named, resumed};
@@ -30,8 +30,8 @@ use crate::turn::{Deed, Reply, Turn};
 use command_table::{ExpectCommand, expect_command, fixed_expect};
 use std::alloc::{AllocError, Global};
 use std::mem;
-use tcl_commands::{Code, Complaint, said};
 use tcl_host::HostStep;
+use tcl_results::{Code, Complaint, said};
 use tcl_subst::Vars;
 use tcl_values::Value;
 

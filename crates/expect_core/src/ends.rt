@@ -2,7 +2,7 @@
 
 ghost use Rattle.std.specs.Prelude.{◌≡◌, ◌+◌, ◌++◌, ◌∷◌, IfOk};
 ghost use Rattle.std.specs.Fmt.{decimal as decimal_of};
-ghost use Rattle.tcl_commands.specs.Says.{Says};
+ghost use Rattle.tcl_results.specs.Says.{Says};
 ghost use Rattle.expect_core.specs.Ends.{broken as broken_of, closed as closed_of, closing, end_text as end_text_of, failed_by, if_unwaited, waited as waited_of, waiting};
 ghost use Rattle.expect_core.specs.Owned.{child_of};
 
@@ -18,7 +18,7 @@ use crate::turn::{Deed, Next, Purpose, Reaction, done};
 use child_events::{Answer, Cause};
 use command_table::ExpectCommand;
 use std::alloc::{AllocError, Global};
-use tcl_commands::Complaint;
+use tcl_results::Complaint;
 use tcl_subst::Vars;
 use tcl_values::Value;
 use tcl_words::Text;

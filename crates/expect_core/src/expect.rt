@@ -2,7 +2,7 @@
 
 ghost use Rattle.std.specs.Prelude.{◌≡◌, ◌<◌, ◌++◌, ◌∷◌, [], List, IfOk, OnOk, take};
 ghost use Rattle.exp_match.specs.Choice.{first_in, waits_for_end, waits_for_full};
-ghost use Rattle.tcl_commands.specs.Says.{Says};
+ghost use Rattle.tcl_results.specs.Says.{Says};
 ghost use Rattle.expect_core.specs.declared.plan.Plan.{Plan as PlanOf};
 ghost use Rattle.expect_core.specs.Calls.{outer};
 ghost use Rattle.expect_core.specs.Heard.{groups_at};
@@ -24,7 +24,7 @@ use crate::turn::{Deed, Next, Purpose, Reaction, Reply, Stage, Turn, Want, done}
 use child_events::Cause;
 use exp_match::Spans;
 use std::alloc::{AllocError, Global};
-use tcl_commands::{Code, Complaint, said};
+use tcl_results::{Code, Complaint, said};
 use tcl_subst::Vars;
 use tcl_values::Value;
 use tcl_words::Text;

@@ -1,13 +1,13 @@
 //! The arguments of a command: its flags, followed by as many words as its row of the table allows.
 
 ghost use Rattle.std.specs.Prelude.{◌≡◌, Some, IfOk, OnOk, slice_get};
-ghost use Rattle.tcl_commands.specs.Given.{arg};
+ghost use Rattle.tcl_results.specs.Given.{arg};
 ghost use Rattle.expect_core.specs.Flags.{arguments, bad_flag as bad_flag_text, flags_if, flags_of, no_flags, showing};
 ghost use Rattle.expect_core.specs.FlagViews.{ReadsFlags};
 
 use command_table::{ExpectCommand, Flags as Takes, Role, expect_row, fits, flag_role};
 use std::alloc::{AllocError, Global};
-use tcl_commands::{Complaint, quoted, wrong_args};
+use tcl_results::{Complaint, quoted, wrong_args};
 use tcl_values::Value;
 use tcl_words::{Text, Texts};
 

@@ -1,6 +1,6 @@
 //! The child that a command is for.
 
-ghost use Rattle.tcl_commands.specs.Says.{Says};
+ghost use Rattle.tcl_results.specs.Says.{Says};
 ghost use Rattle.expect_core.specs.Sides.{still_open};
 ghost use Rattle.expect_core.specs.Ids.{known as known_of, id_of as id_named, spoken_to as spoken_to_of, if_open as if_open_of, open_to as open_to_of};
 
@@ -10,7 +10,7 @@ use crate::plan::Places;
 use crate::scoped::needed;
 use crate::texts::{no_such_id, not_open};
 use std::alloc::Global;
-use tcl_commands::Complaint;
+use tcl_results::Complaint;
 use tcl_subst::Vars;
 use tcl_values::Value;
 

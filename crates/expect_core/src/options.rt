@@ -1,6 +1,6 @@
 //! `match_max` and `remove_nulls` (expect(1)).
 
-ghost use Rattle.tcl_commands.specs.Says.{Says};
+ghost use Rattle.tcl_results.specs.Says.{Says};
 ghost use Rattle.expect_core.specs.Options.{option_of, removal_of, removing, removing_at, size_by, size_of, sizing, sizing_at, whose};
 
 use crate::child::Change;
@@ -13,8 +13,8 @@ use crate::texts::{bad_removal, bad_size, bit, decimal};
 use crate::turn::{Deed, done};
 use command_table::{ExpectCommand, is};
 use std::alloc::Global;
-use tcl_commands::Complaint;
 use tcl_expr::read_number;
+use tcl_results::Complaint;
 use tcl_subst::Vars;
 use tcl_values::Value;
 

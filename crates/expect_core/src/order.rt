@@ -3,7 +3,7 @@
 ghost use Rattle.std.specs.Prelude.{◌≡◌, [], true, false, slice_index_or, IfOk};
 ghost use Rattle.tty.specs.Modes.{read as read_modes};
 ghost use Rattle.sh_words.specs.Terminal.{terminal_words};
-ghost use Rattle.tcl_commands.specs.Says.{Says};
+ghost use Rattle.tcl_results.specs.Says.{Says};
 ghost use Rattle.expect_core.specs.Spawning.{modes_in, modes_by as modes_by_of, modes_of as modes_named, settings_by as settings_by_of, settings_of as settings_named, is_on_terminal, order_of as order_meant, order_by};
 
 use crate::flags::{Flags, arguments};
@@ -12,7 +12,7 @@ use crate::texts::bad_stty;
 use command_table::ExpectCommand;
 use sh_words::terminal_words;
 use std::alloc::{AllocError, Global};
-use tcl_commands::{Complaint, list_of, texts_of};
+use tcl_results::{Complaint, list_of, texts_of};
 use tcl_subst::Vars;
 use tcl_values::Value;
 use tcl_words::{Text, Texts};

@@ -1,7 +1,7 @@
 //! The arguments of an `expect` (expect(1)).
 
 ghost use Rattle.std.specs.Prelude.{◌≡◌, ◌<◌, ◌+◌, ◌^◌, [], slice_index_or, if◌then◌else◌, IfOk};
-ghost use Rattle.tcl_commands.specs.Says.{Says};
+ghost use Rattle.tcl_results.specs.Says.{Says};
 ghost use Rattle.exp_match.specs.Arguments.{patterns_of as patterns_meant};
 ghost use Rattle.expect_core.specs.Expecting.{is_list as is_list_of, listed as listed_of, patterns_by, span_by as span_by_of, span_or_ten as span_or_ten_of, span_in as span_meant, plan_at as plan_there, plan_by as plan_by_of, plan_of as plan_meant};
 ghost use Rattle.expect_core.specs.Heard.{span_of as span_told};
@@ -15,7 +15,7 @@ use crate::scoped::optional;
 use crate::texts::{bad_expect_flag, bad_regular};
 use exp_match::{PatternFault, PatternList};
 use std::alloc::{AllocError, Global};
-use tcl_commands::{Complaint, as_number};
+use tcl_results::{Complaint, as_number};
 use tcl_subst::Vars;
 use tcl_values::Value;
 use tcl_words::{Text, is_white};

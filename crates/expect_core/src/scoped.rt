@@ -2,13 +2,13 @@
 //! the outermost one. It sets the current scope.
 
 ghost use Rattle.std.specs.Prelude.{◌≡◌, IfOk};
-ghost use Rattle.tcl_commands.specs.Says.{Says};
+ghost use Rattle.tcl_results.specs.Says.{Says};
 ghost use Rattle.tcl_subst.specs.Faults.{Gives};
 ghost use Rattle.expect_core.specs.Scoped.{scoped as scoped_of, optional as optional_of, needed as needed_of, set_all as set_all_of};
 
 use crate::stored::Stores;
 use std::alloc::{AllocError, Global};
-use tcl_commands::{Complaint, not_read, not_set};
+use tcl_results::{Complaint, not_read, not_set};
 use tcl_subst::{SubstFault, Vars};
 use tcl_values::Value;
 

@@ -1,7 +1,7 @@
 //! `send` (expect(1)).
 
 ghost use Rattle.std.specs.Prelude.{◌≡◌, ◌++◌, IfOk};
-ghost use Rattle.tcl_commands.specs.Says.{Says};
+ghost use Rattle.tcl_results.specs.Says.{Says};
 ghost use Rattle.expect_core.specs.Sending.{act_of as act_meant, counting, handed as handed_of, handing, refused as refused_text, sending};
 
 use crate::child::Change;
@@ -16,8 +16,8 @@ use crate::turn::{Deed, Next, Purpose, Reaction};
 use child_events::Cause;
 use command_table::ExpectCommand;
 use std::alloc::{AllocError, Global};
-use tcl_commands::Complaint;
 use tcl_host::Pile;
+use tcl_results::Complaint;
 use tcl_subst::Vars;
 use tcl_values::Value;
 use tcl_words::Text;

@@ -2,7 +2,7 @@
 
 ghost use Rattle.std.specs.Prelude.{◌≡◌, ◌≤◌, ◌<◌, ◌+◌, ◌*◌, ◌-◌, ◌==◌, ◌&&◌, nat_le, ℕ, Option, length, position, option_map, IfOk, IfSome};
 ghost use Rattle.tcl_words.specs.Bytes as ascii;
-ghost use Rattle.tcl_commands.specs.Says.{Says};
+ghost use Rattle.tcl_results.specs.Says.{Says};
 ghost use Rattle.expect_core.specs.Sleeping.{digit_at as digit_of, digits as digits_of, kept, nothing_until as nothing_of, seconds as seconds_of, signed as signed_of, sleeping, sleeping_for as sleeping_of, sleeping_if, thousandths as thousandths_of, until as until_of, waiting_after, whole as whole_of};
 
 use crate::effect::Effects;
@@ -13,7 +13,7 @@ use crate::turn::{Deed, done};
 use command_table::ExpectCommand;
 use exp_match::{Entries, PatternList};
 use std::alloc::{AllocError, Global};
-use tcl_commands::{Complaint, expected_number};
+use tcl_results::{Complaint, expected_number};
 use tcl_values::Value;
 use tcl_words::Texts;
 

@@ -1,7 +1,7 @@
 //! `spawn` (expect(1)).
 
 ghost use Rattle.std.specs.Prelude.{◌≡◌, ◌++◌, ◌∷◌, [], codes, drop, IfOk};
-ghost use Rattle.tcl_commands.specs.Says.{Says};
+ghost use Rattle.tcl_results.specs.Says.{Says};
 ghost use Rattle.expect_core.specs.Spawning.{announcing, begun as begun_of, gone as gone_of, heard_first as heard_first_of, missed as missed_of, missing as missing_of, ordering, spawned as spawned_of, spawning, spawning_as, started as started_of};
 ghost use Rattle.expect_core.specs.Texts.{id_at as id_of};
 
@@ -16,7 +16,7 @@ use crate::texts::{decimal, id_at, not_executed, spawn_line};
 use crate::turn::{Deed, Next, Purpose, Reaction, done};
 use child_events::{Cause, Item};
 use std::alloc::{AllocError, Global};
-use tcl_commands::Complaint;
+use tcl_results::Complaint;
 use tcl_subst::Vars;
 use tcl_values::Value;
 use tcl_words::{Text, Texts};

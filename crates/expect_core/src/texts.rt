@@ -7,7 +7,7 @@ ghost use Rattle.expect_core.specs.Texts.{id_at as id_of, spaced, spawn_line as 
 use crate::place::Place;
 use child_events::{Cause, cause_name};
 use std::alloc::{AllocError, Global};
-use tcl_commands::quoted;
+use tcl_results::quoted;
 use tcl_values::Value;
 use tcl_words::Text;
 

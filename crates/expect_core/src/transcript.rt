@@ -1,7 +1,7 @@
 //! `puts`, `send_user` and `log_user` (expect(1)).
 
 ghost use Rattle.std.specs.Prelude.{◌≡◌, IfOk, ◌∷◌, []};
-ghost use Rattle.tcl_commands.specs.Says.{Says};
+ghost use Rattle.tcl_results.specs.Says.{Says};
 ghost use Rattle.expect_core.specs.Transcript.{ended as ended_of, log_set, log_told, log_word, logging as logging_of, no_channel as no_channel_text, put_of as put_meant, put_to, put_words, puts_to as puts_to_of, to_user as user_text, writing};
 ghost use Rattle.expect_core.specs.Turns.{done as done_of};
 
@@ -12,7 +12,7 @@ use crate::texts::bit;
 use crate::turn::{Deed, done};
 use command_table::{ExpectCommand, is};
 use std::alloc::{AllocError, Global};
-use tcl_commands::{Complaint, bad_option, wrong_args};
+use tcl_results::{Complaint, bad_option, wrong_args};
 use tcl_values::Value;
 use tcl_words::Text;
 

@@ -2,7 +2,7 @@
 use Rattle.std.specs.Prelude.{◌≡◌, ℕ, Bool, true, false, List, [], ◌∷◌, Some, codes}
 use Rattle.tcl_words.specs.Bytes.{minus}
 use Rattle.tcl_words.specs.Lists.{begins_with}
-use Rattle.tcl_commands.specs.Texts.{wrong_args}
+use Rattle.tcl_results.specs.Texts.{wrong_args}
 use Rattle.expect_core.specs.Flags.{no_flags, bad_flag, showing}
 use Rattle.expect_core.specs.declared.flags.Flags.{Flags}
 use Rattle.command_table.specs.declared.flags.Own.{Own}

@@ -6,7 +6,7 @@ ghost use Rattle.expect_prog.specs.Complaint.{LogLine, OpeningLine, RunLine, Fau
 use child_events::LogFault;
 use child_serve::ServeFault;
 use child_timeline::TimelineFault;
-use command_line::{Explain, Plan, Show};
+use command_line::{Explain, LogPlan, Show};
 use course_texts::{ExplainFault, ShowFault};
 use dialogue_sched::{HallFault, HallRefusal, RunFault};
 use log_plan::PlanFault;
@@ -326,7 +326,7 @@ impl<'a> Complaint<'a> {
     }
 
     /// Returns the complaint for an error in planning a log.
-    pub fn of_plan(fault: PlanLogFault, order: &Plan<'a>) -> Complaint<'a>
+    pub fn of_plan(fault: PlanLogFault, order: &LogPlan<'a>) -> Complaint<'a>
         ensures { PlanLine order.now.source order.now.timeline order.now.timing fault result }
     {
         match fault {

@@ -13,7 +13,7 @@ use crate::sized::{Bounded, LONGEST_LOG};
 use crate::standard::Patient;
 use crate::variables::{alone_given, own_entries, variables_given};
 use child_events::Counted;
-use command_line::{Alone, Check, Explain, Plan, Replay, Scripts, Show, Variables};
+use command_line::{Alone, Check, Explain, LogPlan, Replay, Scripts, Show, Variables};
 use course_texts::{explain, show_log};
 use dialogue_sched::Script;
 use report_texts::{Form, Format, ReadFault, read_all};
@@ -450,7 +450,7 @@ fn timing<'a, R: Files>(
 pub fn plan_file<'a, R: Files + Env + Print>(
     rt: &R,
     alloc: Global,
-    order: &Plan<'a>,
+    order: &LogPlan<'a>,
 ) -> Result<Outcome, Complaint<'a>> {
     let vars = variables(&System { rt }, alloc, &order.variables)?;
     let source = source(rt, alloc, order.source)?;

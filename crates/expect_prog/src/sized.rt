@@ -36,6 +36,7 @@ fn line_behind(line: u64, bytes: &[u8]) -> u64 {
 }
 
 impl<D: Drop> Bounded<D> {
+    /// Bounds what is read of a device. With `has_lines` its lines are counted.
     pub fn new(device: D, has_lines: bool) -> Bounded<D> {
         Bounded {
             device,

@@ -43,6 +43,7 @@ pub struct Form {
 }
 
 impl Form {
+    /// Returns a copy.
     pub fn copied(&self, alloc: Global) -> Result<Form, AllocError>
         ensures { IfOk result (λ f. f ≡ self.now) }
     {

@@ -32,26 +32,26 @@ use Rattle.command_table.specs.Switches.{switch_of, takes_value, is_end, words_b
 use Rattle.command_table.specs.Options.{string_option, string_count, string_switches, info_option, info_count, array_option, array_count, package_option, package_count, option_count, option_switches}
 use Rattle.command_table.specs.Reading.{step, is_short}
 use Rattle.command_table.specs.Rows.{value_row, tcl_row}
-use Rattle.tcl_commands.specs.declared.code.Code.TheVariants as code
-use Rattle.tcl_commands.specs.Texts.{wrong_args}
-use Rattle.tcl_commands.specs.Said.{Said, Outcome, told, ◌>>=◌, on_said as on_value}
-use Rattle.tcl_commands.specs.Front.{Front, with_flag, at_flag, front_from, front_of}
-use Rattle.tcl_commands.specs.Regexps.{matched}
+use Rattle.tcl_results.specs.declared.code.Code.TheVariants as code
+use Rattle.tcl_results.specs.Texts.{wrong_args}
+use Rattle.tcl_results.specs.Said.{Said, Outcome, told, ◌>>=◌, on_said as on_value}
+use Rattle.tcl_results.specs.Front.{Front, with_flag, at_flag, front_from, front_of}
+use Rattle.tcl_patterns.specs.Regexps.{matched}
 use Rattle.tcl_commands.specs.Versions.{package_by, package_named, package_command}
-use Rattle.tcl_commands.specs.Replacing.{changed}
-use Rattle.tcl_commands.specs.Given.{if_fits}
+use Rattle.tcl_patterns.specs.Replacing.{changed}
+use Rattle.tcl_results.specs.Given.{if_fits}
 use Rattle.tcl_commands.specs.Plain.{plain, allowed, info_by, info_named, info}
 use Rattle.tcl_commands.specs.Arrays.{array_by, array_named, array}
-use Rattle.tcl_commands.specs.Switches.{nothing, with_switch, if_switch, flag_step, on_flag, flags_from, flags_of}
-use Rattle.tcl_commands.specs.Classes.{classed}
-use Rattle.tcl_commands.specs.Strings.{string_by, string_named, string}
-use Rattle.tcl_commands.specs.Arms.{arms_of, with_arm, only_body, tests, bodies, body, ends, or_wrong}
-use Rattle.tcl_commands.specs.Groups.{each_of}
-use Rattle.tcl_commands.specs.Choosing.{body_of_switch}
-use Rattle.tcl_commands.specs.Joining.{expr_text, eval_text}
-use Rattle.tcl_commands.specs.Verbs.{as_verb, exit_status}
+use Rattle.tcl_results.specs.Switches.{nothing, with_switch, if_switch, flag_step, on_flag, flags_from, flags_of}
+use Rattle.tcl_strings.specs.Classes.{classed}
+use Rattle.tcl_strings.specs.Strings.{string_by, string_named, string}
+use Rattle.tcl_control.specs.Arms.{arms_of, with_arm, only_body, tests, bodies, body, ends, or_wrong}
+use Rattle.tcl_control.specs.Groups.{each_of}
+use Rattle.tcl_control.specs.Choosing.{body_of_switch}
+use Rattle.tcl_lists.specs.Joining.{expr_text, eval_text}
+use Rattle.tcl_control.specs.Verbs.{as_verb, exit_status}
 use Rattle.tcl_subst.specs.Entries.{find}
-use Rattle.tcl_commands.proofs.Grouped.{each_even}
+use Rattle.tcl_control.proofs.Grouped.{each_even}
 use Rattle.tcl_eval.specs.declared.procedure.Procedure.{Procedure}
 use Rattle.tcl_eval.specs.Tree.{State, Tree}
 use Rattle.tcl_eval.specs.Meaning.{Next, Eval, on_said, after, invoked, redefinable_or_begun, called_or_begun, named}

@@ -4,7 +4,7 @@ use Rattle.command_table.specs.declared.commands.Command.TheVariants.{Tcl}
 use Rattle.command_table.specs.declared.commands.TclCommand.{TclCommand}
 use Rattle.tcl_subst.specs.Entries.{find}
 use Rattle.command_table.specs.Commands.{tcl_command, command_of}
-use Rattle.tcl_commands.specs.declared.code.Code.TheVariants.{Error}
+use Rattle.tcl_results.specs.declared.code.Code.TheVariants.{Error}
 use Rattle.tcl_eval.specs.Tree.{State}
 use Rattle.tcl_eval.specs.Meaning.{Next, Eval, invoke}
 use Rattle.script_check.specs.declared.placed.Placed.{Placed}

@@ -1,7 +1,7 @@
 -- The texts of findings: those of the errors that a run would end with.
 use Rattle.std.specs.Prelude.{ℕ, List, [], ◌∷◌, ◌++◌, codes}
 use Rattle.tcl_expr.specs.declared.faults.ExprFault.TheVariants as expr
-use Rattle.tcl_commands.specs.Texts.{quoted, wrong_args, bad_option, too_deep, word_fault, expr_fault}
+use Rattle.tcl_results.specs.Texts.{quoted, wrong_args, bad_option, too_deep, word_fault, expr_fault}
 use Rattle.script_check.specs.declared.problem.Problem.{Problem}
 use Rattle.script_check.specs.declared.problem.Problem.TheVariants.{Malformed, NoCommand, WrongArgs, BadOption, BadFlag, BadExpectFlag, BadRegular, BadExpression, DeepExpression, TooDeep}
 use Rattle.command_table.specs.Advice.{advice_for}

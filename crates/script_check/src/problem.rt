@@ -5,8 +5,8 @@ ghost use Rattle.script_check.specs.Texts.{no_command, text_of};
 
 use command_table::advice_for;
 use std::alloc::{AllocError, Global};
-use tcl_commands::{bad_option, expr_fault, quoted, too_deep, word_fault, wrong_args};
 use tcl_expr::ExprFault;
+use tcl_results::{bad_option, expr_fault, quoted, too_deep, word_fault, wrong_args};
 use tcl_words::{Text, WordFault};
 
 /// An error of a command.

@@ -22,7 +22,7 @@ pub struct Played {
 }
 
 impl Played {
-    /// Nothing is known yet.
+    /// Creates one of which nothing is known yet.
     pub fn new() -> Played {
         Played {
             report: None,
@@ -44,6 +44,7 @@ pub struct Player<R: SystemClock + Drop, O: Drop> {
 }
 
 impl<R: SystemClock + Drop, O: Drop> Player<R, O> {
+    /// Creates the clock, and enters it in `stop`.
     pub fn new(
         rt: R,
         wall: Wall<R>,

@@ -324,6 +324,7 @@ pub struct Follower<R: SystemClock + Drop> {
 }
 
 impl<R: SystemClock + Drop> Follower<R> {
+    /// Creates a follower, and enters it in `stop`.
     pub fn new(
         wall: Wall<R>,
         told: Told<R>,

@@ -1,7 +1,7 @@
 -- The initial variables of a script.
 use Rattle.std.specs.Prelude.{ℕ, List, [], ◌∷◌, codes, Result, Ok, Err}
 use Rattle.tcl_subst.specs.declared.faults.SubstFault.{SubstFault}
-use Rattle.tcl_subst.specs.Variables.{Variables, no_variables, with_value, without_value}
+use Rattle.tcl_subst.specs.Variables.{Variables, no_variables, with_value, with_array}
 use Rattle.tcl_subst.specs.Writes.{set_to}
 
 -- The variables after a change, or the old ones if the change fails.
@@ -17,12 +17,10 @@ abbrev pub with_variables : List (List ℕ × List ℕ) → Variables → Variab
 with_variables [] vars = vars
 with_variables (p ∷ ps) vars = with_variables ps (setting p.0 p.1 vars)
 
--- Makes `env` an array, without elements.
-abbrev pub with_array : Variables → Variables
-with_array vars =
-    let set = setting (codes "env()") [] vars in
-    or_same set (without_value (codes "env()") set)
+-- Makes a variable an array, without elements.
+abbrev pub as_array : List ℕ → Variables → Variables
+as_array name vars = or_same vars (with_array name vars)
 
 -- `timeout` is 10, and `env` is an array without elements. Then the variables of the settings are set.
 abbrev pub first_variables : List (List ℕ × List ℕ) → Variables
-first_variables pairs = with_variables pairs (with_array (setting (codes "timeout") (codes "10") no_variables))
+first_variables pairs = with_variables pairs (as_array (codes "env") (setting (codes "timeout") (codes "10") no_variables))

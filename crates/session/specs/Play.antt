@@ -2,8 +2,8 @@
 use Rattle.std.specs.Prelude.{ℕ, ◌-◌, Bool, List, [], ◌∷◌, map, codes, if◌then◌else◌}
 use Rattle.tcl_subst.specs.Report.{values_of}
 use Rattle.tcl_subst.specs.Variables.{Variables}
-use Rattle.tcl_commands.specs.declared.code.Code.{Code}
-use Rattle.tcl_commands.specs.declared.code.Code.TheVariants.{Ok, Error, Return, Break, Continue, Again, AgainLater}
+use Rattle.tcl_results.specs.declared.code.Code.{Code}
+use Rattle.tcl_results.specs.declared.code.Code.TheVariants.{Ok, Error, Return, Break, Continue, Again, AgainLater}
 use Rattle.tcl_host.specs.declared.ending.Ending.{Ending}
 use Rattle.tcl_host.specs.declared.ending.Ending.TheVariants as ending
 use Rattle.tcl_eval.specs.declared.frame.End.{End}

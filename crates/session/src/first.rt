@@ -1,7 +1,7 @@
 //! The initial variables of a script.
 
 ghost use Rattle.std.specs.Prelude.{◌≡◌, IfOk, OnOk};
-ghost use Rattle.session.specs.First.{first_variables as first_of, setting, with_array, with_variables};
+ghost use Rattle.session.specs.First.{first_variables as first_of, setting, as_array, with_variables};
 
 use std::alloc::{AllocError, Global};
 use tcl_subst::{SubstFault, Vars};
@@ -19,12 +19,11 @@ fn set(vars: &mut Vars, name: &[u8], value: Value) -> Result<(), AllocError>
     }
 }
 
-/// Makes `env` an array, without elements.
-fn add_array(alloc: Global, vars: &mut Vars) -> Result<(), AllocError>
-    ensures { OnOk result (vars.new ≡ with_array vars.old) }
+/// Makes a variable an array, without elements. Changes nothing if it is a text.
+fn make_array(vars: &mut Vars, name: &[u8]) -> Result<(), AllocError>
+    ensures { OnOk result (vars.new ≡ as_array name.now vars.old) }
 {
-    set(vars, b"env()", Value::new(alloc))?;
-    match vars.unset(b"env()") {
+    match vars.make_array(name) {
         Ok(()) => Ok(()),
         Err(SubstFault::Memory) => Err(AllocError),
         Err(_) => Ok(()),
@@ -49,7 +48,7 @@ pub(crate) fn first_variables(alloc: Global, pairs: &[(Text, Text)]) -> Result<V
 {
     let mut vars = Vars::new(alloc);
     set(&mut vars, b"timeout", Value::from_slice(alloc, b"10")?)?;
-    add_array(alloc, &mut vars)?;
+    make_array(&mut vars, b"env")?;
     add_variables(alloc, &mut vars, pairs)?;
     Ok(vars)
 }

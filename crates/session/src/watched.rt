@@ -5,8 +5,8 @@ ghost use Rattle.session.specs.Watching.{Sees, met_by};
 
 use crate::watcher::Watcher;
 use expect_core::DialogueHost;
-use tcl_commands::Code;
 use tcl_host::{Host, HostStep, Values};
+use tcl_results::Code;
 use tcl_subst::Vars;
 use tcl_values::Value;
 

@@ -4,11 +4,11 @@ use Rattle.tcl_subst.specs.declared.faults.SubstFault.{SubstFault}
 use Rattle.tcl_subst.specs.Filling.{element_name}
 use Rattle.tcl_subst.specs.Variables.{Variables, with_value}
 use Rattle.tcl_subst.specs.Writes.{set_to}
-use Rattle.tcl_commands.specs.declared.code.Code.TheVariants as code
+use Rattle.tcl_results.specs.declared.code.Code.TheVariants as code
 use Rattle.tcl_commands.specs.Arrays.{set_elements}
-use Rattle.tcl_commands.specs.Said.{Outcome, on_changed}
-use Rattle.tcl_commands.specs.Texts.{not_set}
-use Rattle.tcl_commands.proofs.Mapped.{drop_two}
+use Rattle.tcl_results.specs.Said.{Outcome, on_changed}
+use Rattle.tcl_results.specs.Texts.{not_set}
+use Rattle.tcl_strings.proofs.Mapped.{drop_two}
 
 module _ (name : List ℕ) (es : List (List ℕ)) (n : ℕ) (vars : Variables) (whole : Outcome) where
   set_is : 2 * n + 1 < length es

@@ -13,13 +13,13 @@ use Rattle.command_table.specs.declared.options.ArrayOption.{ArrayOption}
 use Rattle.command_table.specs.declared.options.ArrayOption.TheVariants.{Exists, Get, Names, Set, Size, Unset}
 use Rattle.command_table.specs.Counts.{fits}
 use Rattle.command_table.specs.Options.{array_option, array_count}
-use Rattle.tcl_commands.specs.Texts.{bad_option, wrong_args, not_set}
-use Rattle.tcl_commands.specs.Said.{Outcome, told, on_said, on_changed, limited}
-use Rattle.tcl_commands.specs.Given.{arg, arg_or}
-use Rattle.tcl_commands.specs.Mapping.{pairs_of}
-use Rattle.tcl_commands.specs.Sets.{is_one_of}
-use Rattle.tcl_commands.specs.Strings.{count_text, bit_text}
-use Rattle.tcl_commands.specs.Setting.{unset_quietly}
+use Rattle.tcl_results.specs.Texts.{bad_option, wrong_args, not_set}
+use Rattle.tcl_results.specs.Said.{Outcome, told, on_said, on_changed, limited}
+use Rattle.tcl_results.specs.Given.{arg, arg_or}
+use Rattle.tcl_strings.specs.Mapping.{pairs_of}
+use Rattle.tcl_results.specs.Sets.{is_one_of}
+use Rattle.tcl_results.specs.Values.{count_text, bit_text}
+use Rattle.tcl_results.specs.Setting.{unset_quietly}
 
 -- The elements of an array, in byte order of indexes. There are none if there is no such array.
 abbrev pub elements_of : List ℕ → Variables → Entries (List ℕ)

@@ -8,31 +8,33 @@ use Rattle.tcl_expr.specs.Value.{is_within}
 use Rattle.tcl_subst.specs.declared.faults.SubstFault.{SubstFault}
 use Rattle.tcl_subst.specs.Variables.{Variables, value_of, has, with_value, without_value, linked}
 use Rattle.tcl_subst.specs.Writes.{set_to, appended, elements_appended}
-use Rattle.tcl_commands.specs.declared.code.Code.TheVariants as code
+use Rattle.tcl_results.specs.declared.code.Code.TheVariants as code
 use Rattle.command_table.specs.declared.commands.ValueCommand.{ValueCommand}
 use Rattle.command_table.specs.declared.options.InfoOption.{InfoOption}
 use Rattle.command_table.specs.declared.options.InfoOption.TheVariants.{Exists}
 use Rattle.command_table.specs.Counts.{fits}
 use Rattle.command_table.specs.Options.{info_option, info_count}
 use Rattle.command_table.specs.Rows.{value_row}
-use Rattle.command_table.specs.declared.commands.ValueCommand.TheVariants.{Set, Array, Format, Unset, Incr, Append, Lappend, List as ListOf, Llength, Lindex, Lrange, Break, Continue, Return, Global, Error, String, Info, Split, Join, Concat, Linsert, Lreplace, Lset, Lreverse, Lrepeat, Lassign, Lsearch, Lsort, Scan, Regexp, Regsub, Package, ExpVersion, Ignored}
-use Rattle.tcl_commands.specs.Texts.{is_missing, wrong_args, bad_option, not_read, not_set, not_unset}
-use Rattle.tcl_commands.specs.Said.{Said, ◌>>=◌, Outcome, told, on_changed, limited, list_of, as_number}
-use Rattle.tcl_commands.specs.Given.{arg, if_fits}
-use Rattle.tcl_commands.specs.Indices.{index_of, element_at, between}
-use Rattle.tcl_commands.specs.Setting.{read, written_to, set_if_said, unset_quietly}
-use Rattle.tcl_commands.specs.Strings.{count_text, bit_text, string}
+use Rattle.command_table.specs.declared.commands.ValueCommand.TheVariants.{Set, Array, Format, Unset, Incr, Append, Lappend, List as ListOf, Llength, Lindex, Lrange, Break, Continue, Return, Global, Upvar, Error, String, Info, Split, Join, Concat, Linsert, Lreplace, Lset, Lreverse, Lrepeat, Lassign, Lsearch, Lsort, Scan, Regexp, Regsub, Package, ExpVersion, Ignored}
+use Rattle.tcl_results.specs.Texts.{is_missing, wrong_args, bad_option, not_read, not_set, not_unset}
+use Rattle.tcl_results.specs.Said.{Said, ◌>>=◌, Outcome, told, on_changed, limited, as_number}
+use Rattle.tcl_results.specs.Given.{arg, if_fits}
+use Rattle.tcl_results.specs.Setting.{read, written_to, set_if_said, unset_quietly}
+use Rattle.tcl_results.specs.Values.{bit_text}
+use Rattle.tcl_strings.specs.Strings.{string}
 use Rattle.tcl_commands.specs.Arrays.{array}
-use Rattle.tcl_commands.specs.Formats.{format}
-use Rattle.tcl_commands.specs.Scanning.{scan}
-use Rattle.tcl_commands.specs.Joining.{concat}
-use Rattle.tcl_commands.specs.Splitting.{split, join}
-use Rattle.tcl_commands.specs.Searching.{lsearch}
-use Rattle.tcl_commands.specs.Sorting.{lsort}
-use Rattle.tcl_commands.specs.Regexps.{regexp}
-use Rattle.tcl_commands.specs.Replacing.{regsub}
+use Rattle.tcl_formats.specs.Formats.{format}
+use Rattle.tcl_formats.specs.Scanning.{scan}
+use Rattle.tcl_lists.specs.Joining.{concat}
+use Rattle.tcl_lists.specs.Splitting.{split, join}
+use Rattle.tcl_lists.specs.Searching.{lsearch}
+use Rattle.tcl_lists.specs.Sorting.{lsort}
+use Rattle.tcl_patterns.specs.Regexps.{regexp}
+use Rattle.tcl_patterns.specs.Replacing.{regsub}
+use Rattle.tcl_commands.specs.Upvars.{upvar}
 use Rattle.tcl_commands.specs.Versions.{package_command, exp_version}
-use Rattle.tcl_commands.specs.Editing.{linsert, lreplace, lset, lreverse, lrepeat, lassign}
+use Rattle.tcl_lists.specs.Editing.{linsert, lreplace, lset, lreverse, lrepeat, lassign}
+use Rattle.tcl_lists.specs.Lists.{llength, lindex, lrange}
 
 abbrev pub set : List (List ℕ) → Variables → Outcome
 set (name ∷ value ∷ more) vars = on_changed vars (not_set name) (with_value (set_to value) name vars) (λ new. told (Ok value) new)
@@ -87,27 +89,6 @@ append args vars = written_to (arg 0 args) vars (with_value (appended (flat_map 
 abbrev pub lappend : List (List ℕ) → Variables → Outcome
 lappend args vars = written_to (arg 0 args) vars (with_value (elements_appended (drop 1 args)) (arg 0 args) vars)
 
-abbrev pub list_length : List ℕ → Said (List ℕ)
-list_length l = list_of l >>= λ es. Ok (count_text (length es))
-
-abbrev pub llength : List (List ℕ) → Said (List ℕ)
-llength args = list_length (arg 0 args)
-
-abbrev pub list_element : List ℕ → List ℕ → Said (List ℕ)
-list_element l i = list_of l >>= λ es. index_of (length es) i >>= λ at. Ok (element_at at es)
-
--- Without an index, the list is not parsed.
-abbrev pub lindex : List (List ℕ) → Said (List ℕ)
-lindex (l ∷ i ∷ more) = list_element l i
-lindex args = Ok (arg 0 args)
-
-abbrev pub list_range : List ℕ → List ℕ → List ℕ → Said (List ℕ)
-list_range l i j =
-    list_of l >>= λ es. index_of (length es) i >>= λ from. index_of (length es) j >>= λ to. limited (written (between from to es))
-
-abbrev pub lrange : List (List ℕ) → Said (List ℕ)
-lrange args = list_range (arg 0 args) (arg 1 args) (arg 2 args)
-
 abbrev pub info_by : InfoOption → List (List ℕ) → Variables → Said (List ℕ)
 info_by Exists args vars = Ok (bit_text (has (arg 0 args) vars))
 
@@ -134,6 +115,7 @@ allowed Break command args vars = (code.Break, [], vars)
 allowed Continue command args vars = (code.Continue, [], vars)
 allowed Return command args vars = (code.Return, arg 0 args, vars)
 allowed Global command args vars = global args vars
+allowed Upvar command args vars = upvar args vars
 allowed Error command args vars = told (Err (arg 0 args)) vars
 allowed String command args vars = told (string command args) vars
 allowed Info command args vars = told (info command args vars) vars

@@ -7,11 +7,11 @@ use Rattle.command_table.specs.declared.options.PackageOption.TheVariants.{Requi
 use Rattle.command_table.specs.declared.switches.Switches.TheVariants as switches
 use Rattle.command_table.specs.Options.{package_option, package_count}
 use Rattle.command_table.specs.Switches.{words_behind}
-use Rattle.tcl_commands.specs.Front.{front, front_of}
-use Rattle.tcl_commands.specs.Given.{arg, arg_or, if_fits}
-use Rattle.tcl_commands.specs.Said.{Said, ◌>>=◌, as_number}
-use Rattle.tcl_commands.specs.Splitting.{some_parts}
-use Rattle.tcl_commands.specs.Texts.{bad_option, no_package, version_conflict}
+use Rattle.tcl_results.specs.Front.{front, front_of}
+use Rattle.tcl_results.specs.Given.{arg, arg_or, if_fits}
+use Rattle.tcl_results.specs.Said.{Said, ◌>>=◌, as_number}
+use Rattle.tcl_lists.specs.Splitting.{some_parts}
+use Rattle.tcl_results.specs.Texts.{bad_option, no_package, version_conflict}
 
 -- The version of expect(1) that the commands follow.
 abbrev pub expect_version : List ℕ

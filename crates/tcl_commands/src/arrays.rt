@@ -3,29 +3,26 @@
 ghost use Rattle.std.specs.Prelude.{◌≡◌, ◌∷◌, [], false, IfOk, length, map, is_some, if◌then◌else◌};
 ghost use Rattle.exp_glob.specs.Whole.{whole_of, matches};
 ghost use Rattle.tcl_commands.specs.Arrays.{elements_of, matching, indexes, alternating, set_elements, set_named, array_set, removed, pattern, array_by, array};
-ghost use Rattle.tcl_commands.specs.Says.{Says};
-ghost use Rattle.tcl_commands.specs.Said.{limited};
-ghost use Rattle.tcl_commands.specs.Given.{arg};
-ghost use Rattle.tcl_commands.specs.Setting.{unset_quietly};
-ghost use Rattle.tcl_commands.specs.Strings.{count_text, bit_text};
+ghost use Rattle.tcl_results.specs.Says.{Says};
+ghost use Rattle.tcl_results.specs.Said.{limited};
+ghost use Rattle.tcl_results.specs.Given.{arg};
+ghost use Rattle.tcl_results.specs.Setting.{unset_quietly};
+ghost use Rattle.tcl_results.specs.Values.{count_text, bit_text};
 ghost use Rattle.tcl_subst.specs.Variables.{array_of};
 ghost use Rattle.tcl_subst.specs.Filling.{element_name};
 ghost use Rattle.tcl_words.specs.Lists.{written};
 
-use crate::code::Code;
-use crate::complaint::Complaint;
-use crate::given::{arg, arg_or, others};
-use crate::indices::element;
-use crate::lists::list;
-use crate::mapping::pairs_of;
-use crate::strings::bit_text;
-use crate::texts::{bad_option, not_set};
-use crate::told::{error, said, told, wrong_call};
-use crate::values::count_text;
 use crate::variables::unset_quietly;
 use command_table::{ArrayOption, array_count, array_option, fits};
 use exp_glob::Glob;
 use std::alloc::{AllocError, Global};
+use tcl_lists::list;
+use tcl_results::given::{arg, arg_or, others};
+use tcl_results::indices::element;
+use tcl_results::{
+    Code, Complaint, bad_option, bit_text, count_text, error, not_set, said, told, wrong_call,
+};
+use tcl_strings::pairs_of;
 use tcl_subst::{Names, SubstFault, Vars, element_name};
 use tcl_values::{Elements, Value};
 

@@ -4,26 +4,22 @@ ghost use Rattle.std.specs.Prelude.{◌≡◌, IfOk};
 ghost use Rattle.tcl_commands.specs.Plain.{allowed, plain};
 
 use crate::arrays::array;
-use crate::code::Code;
-use crate::editing::{lassign, linsert, lrepeat, lreplace, lreverse, lset};
 use crate::ends::returns;
-use crate::formats::format;
-use crate::given::arg;
-use crate::joining::concat;
-use crate::lists::{lindex, list, llength, lrange};
-use crate::regexps::regexp;
-use crate::replacing::regsub;
-use crate::scanning::scan;
-use crate::searching::lsearch;
-use crate::sorting::lsort;
-use crate::splitting::{join, split};
-use crate::strings::string;
-use crate::told::{error, told, wrong_call};
+use crate::upvars::upvar;
 use crate::variables::{append, global, incr, info, lappend, set, unset_names};
 use crate::versions::{exp_version, package_command};
 use command_table::{ValueCommand, fits, value_row};
 use exp_match::Compiled;
 use std::alloc::{AllocError, Global};
+use tcl_formats::{format, scan};
+use tcl_lists::{
+    concat, join, lassign, lindex, linsert, list, llength, lrange, lrepeat, lreplace, lreverse,
+    lsearch, lset, lsort, split,
+};
+use tcl_patterns::{regexp, regsub};
+use tcl_results::given::arg;
+use tcl_results::{Code, error, told, wrong_call};
+use tcl_strings::string;
 use tcl_subst::Vars;
 use tcl_values::Value;
 use tcl_words::Text;
@@ -53,6 +49,7 @@ fn allowed(
         ValueCommand::Continue => Ok((Code::Continue, Value::new(alloc))),
         ValueCommand::Return => returns(alloc, args),
         ValueCommand::Global => global(alloc, args, vars),
+        ValueCommand::Upvar => upvar(alloc, args, vars),
         ValueCommand::Error => error(alloc, Text::from_slice(alloc, arg(args, 0))?),
         ValueCommand::String => told(alloc, string(alloc, command, args)),
         ValueCommand::Info => told(alloc, info(alloc, command, args, vars)),

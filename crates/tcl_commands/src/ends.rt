@@ -1,10 +1,10 @@
 //! The command `return`.
 
 ghost use Rattle.std.specs.Prelude.{◌≡◌, IfOk};
-ghost use Rattle.tcl_commands.specs.Given.{arg};
+ghost use Rattle.tcl_results.specs.Given.{arg};
 
-use crate::code::Code;
 use std::alloc::{AllocError, Global};
+use tcl_results::Code;
 use tcl_values::Value;
 
 /// Runs `return ?value?`.

@@ -1,53 +1,24 @@
 //! The commands that read and change variables.
 
-ghost use Rattle.std.specs.Prelude.{◌≡◌, ℕ, List, IfOk, OnOk, Ok};
+ghost use Rattle.std.specs.Prelude.{◌≡◌, IfOk, OnOk};
 ghost use Rattle.std.specs.List.{flat_map};
 ghost use Rattle.tcl_commands.specs.Plain.{set, unset, is_quiet, unset_names, global, old_number, sum, incremented, increment, incr, append, lappend, info_by, info};
-ghost use Rattle.tcl_commands.specs.Said.{Said as Meant, told, on_changed};
-ghost use Rattle.tcl_commands.specs.Says.{Says};
-ghost use Rattle.tcl_commands.specs.Setting.{read, written_to, set_if_said, changed_or, unset_quietly};
-ghost use Rattle.tcl_commands.specs.Texts.{not_set};
+ghost use Rattle.tcl_results.specs.Says.{Says};
+ghost use Rattle.tcl_results.specs.Setting.{written_to, changed_or, unset_quietly};
 ghost use Rattle.tcl_subst.specs.Variables.{with_value, without_value};
-ghost use Rattle.tcl_subst.specs.Writes.{set_to, appended, elements_appended};
+ghost use Rattle.tcl_subst.specs.Writes.{appended, elements_appended};
 
-use crate::code::Code;
-use crate::complaint::Complaint;
-use crate::given::{arg, others};
-use crate::strings::bit_text;
-use crate::texts::{bad_option, is_missing, not_read, not_set, not_unset, wrong};
-use crate::told::{error, told};
-use crate::values::{as_number, number_text, packed};
 use command_table::{InfoOption, fits, info_count, info_option, is};
 use std::alloc::{AllocError, Global};
+use tcl_results::given::{arg, others};
+use tcl_results::setting::{read, set_if_said, set_to};
+use tcl_results::{
+    Code, Complaint, as_number, bad_option, bit_text, error, is_missing, not_read, not_set,
+    not_unset, number_text, packed, told, wrong,
+};
 use tcl_subst::{SubstFault, Vars};
 use tcl_values::Value;
 use tcl_words::Text;
-
-/// Returns the value of a variable. The error says why it can't be read.
-pub(crate) fn read(alloc: Global, name: &[u8], vars: &Vars) -> Result<Value, Complaint>
-    ensures { Says result (read name.now vars.now) }
-{
-    match vars.get(name) {
-        Ok(value) => Ok(value),
-        Err(fault) => Err(Complaint::Said(not_read(alloc, name, fault)?)),
-    }
-}
-
-/// Sets a variable, and returns its value.
-fn set_to(
-    alloc: Global,
-    name: &[u8],
-    value: &Value,
-    vars: &mut Vars,
-) -> Result<(Code, Value), AllocError>
-    ensures { IfOk result (λ r. on_changed vars.old (not_set name.now) (with_value (set_to value.now) name.now vars.old) (λ new. told (Ok value.now) new) ≡ (r.0, r.1, vars.new)) }
-{
-    let answer = value.shared(alloc)?;
-    match vars.set(name, value.shared(alloc)?) {
-        Ok(()) => Ok((Code::Ok, answer)),
-        Err(fault) => error(alloc, not_set(alloc, name, fault)?),
-    }
-}
 
 /// Runs `set name ?value?`.
 pub(crate) fn set(
@@ -187,22 +158,6 @@ fn incremented(alloc: Global, name: &[u8], by: &[u8], vars: &Vars) -> Result<Val
     let old = old_number(alloc, name, vars)?;
     let by = as_number(alloc, by)?;
     sum(alloc, old, by)
-}
-
-/// Sets a variable to a value, or returns the error that came instead.
-pub(crate) fn set_if_said(
-    alloc: Global,
-    name: &[u8],
-    said: Result<Value, Complaint>,
-    vars: &mut Vars,
-) -> Result<(Code, Value), AllocError>
-    ensures { (meant : Meant (List ℕ)) → Says said meant → IfOk result (λ r. set_if_said name.now meant vars.old ≡ (r.0, r.1, vars.new)) }
-{
-    match said {
-        Ok(value) => set_to(alloc, name, &value, vars),
-        Err(Complaint::Said(text)) => error(alloc, text),
-        Err(Complaint::Memory) => Err(AllocError),
-    }
 }
 
 /// Returns the increment of `incr`, by default 1.

@@ -1,20 +1,18 @@
 //! Versions of packages (`package`, `exp_version`).
 
 ghost use Rattle.std.specs.Prelude.{◌≡◌, codes, None, Some, MatchOption};
-ghost use Rattle.tcl_commands.specs.Given.{arg_or};
-ghost use Rattle.tcl_commands.specs.Says.{Says};
+ghost use Rattle.tcl_results.specs.Given.{arg_or};
+ghost use Rattle.tcl_results.specs.Says.{Says};
 ghost use Rattle.tcl_commands.specs.Versions.{version_of, numbers, serves, if_serves, required, required_by, package_by, package_command, version_told, exp_version};
 
-use crate::complaint::Complaint;
-use crate::front::{front, front_of};
-use crate::given::{arg, behind, others};
-use crate::splitting::some_parts;
-use crate::texts::{bad_option, no_package, version_conflict, wrong};
-use crate::values::as_number;
 use command_table::{
     PackageOption, Switches, fits, is, package_count, package_option, words_behind,
 };
 use std::alloc::Global;
+use tcl_lists::some_parts;
+use tcl_results::front::{front, front_of};
+use tcl_results::given::{arg, behind, others};
+use tcl_results::{Complaint, as_number, bad_option, no_package, version_conflict, wrong};
 use tcl_values::Value;
 use tcl_words::Packed;
 

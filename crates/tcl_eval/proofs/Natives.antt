@@ -3,11 +3,11 @@ use Rattle.std.proofs.Common.{◌≡◌, ℕ, zero, suc, ◌==◌, ◌+◌, ◌-
 use Rattle.std.proofs.Math.Path.{fun_ext}
 use Rattle.std.proofs.lemmas.List.{append-nil}
 use Rattle.tcl_words.specs.Pieces.{Spelled}
-use Rattle.tcl_commands.specs.Arms.{Arms}
+use Rattle.tcl_control.specs.Arms.{Arms}
 use Rattle.tcl_scripts.specs.Commands.{commands}
 use Rattle.tcl_scripts.specs.Literals.{AreLiterals}
-use Rattle.tcl_commands.specs.declared.code.Code.{Code}
-use Rattle.tcl_commands.specs.declared.code.Code.TheVariants.{Ok, Error, Return, Break, Continue, Again, AgainLater}
+use Rattle.tcl_results.specs.declared.code.Code.{Code}
+use Rattle.tcl_results.specs.declared.code.Code.TheVariants.{Ok, Error, Return, Break, Continue, Again, AgainLater}
 use Rattle.tcl_subst.specs.declared.fill_step.FillStep.{FillStep}
 use Rattle.tcl_subst.specs.declared.fill_step.FillStep.TheVariants.{Value, NeedScript, Fault}
 use Rattle.tcl_subst.specs.Filling.{Fill, Full as Filled, Asks, Failed as Unfilled}

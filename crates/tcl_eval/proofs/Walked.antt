@@ -7,8 +7,8 @@ use Rattle.tcl_expr.specs.Number.{number_text}
 use Rattle.tcl_expr.specs.Truth.{truth_of}
 use Rattle.tcl_expr.specs.Tree.{Tree as Expression, number, word, operand, unary, binary, lazy, choice}
 use Rattle.tcl_expr.specs.Value.{Valued, valued, failed, asks, ◌>>=◌, computed as computed_value, on_test, second, eval, outcome, outcome_of, known, faulty, needs, prefixed, combined, decides, on_truth, bit, bit_text}
-use Rattle.tcl_commands.specs.declared.code.Code.TheVariants.{Error}
-use Rattle.tcl_commands.specs.Texts.{expr_fault}
+use Rattle.tcl_results.specs.declared.code.Code.TheVariants.{Error}
+use Rattle.tcl_results.specs.Texts.{expr_fault}
 use Rattle.tcl_eval.specs.Tree.{State}
 use Rattle.tcl_eval.specs.Meaning.{To, on_bool, tested, computed, value_from}
 

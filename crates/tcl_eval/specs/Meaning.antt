@@ -14,19 +14,20 @@ use Rattle.tcl_subst.specs.Entries.{find, with_entry}
 use Rattle.tcl_subst.specs.Filling.{Fill, Full, Asks, Failed, fill}
 use Rattle.tcl_subst.specs.Variables.{with_value}
 use Rattle.tcl_subst.specs.Writes.{set_to}
-use Rattle.tcl_commands.specs.declared.code.Code.{Code}
-use Rattle.tcl_commands.specs.declared.code.Code.TheVariants.{Ok, Error, Return, Break, Continue, Again, AgainLater}
-use Rattle.tcl_commands.specs.declared.verbs.Verb.{Verb}
-use Rattle.tcl_commands.specs.declared.verbs.Verb.TheVariants.{Plain, If, While, For, Foreach, Proc, Expr, Eval as EvalCommand, Catch, Exit, Switch}
-use Rattle.tcl_commands.specs.Texts.{quoted, wrong_args, expected_number, not_read, word_fault, expr_fault, too_deep}
-use Rattle.tcl_commands.specs.Said.{Said, Outcome, list_of}
+use Rattle.tcl_results.specs.declared.code.Code.{Code}
+use Rattle.tcl_results.specs.declared.code.Code.TheVariants.{Ok, Error, Return, Break, Continue, Again, AgainLater}
+use Rattle.tcl_control.specs.declared.verbs.Verb.{Verb}
+use Rattle.tcl_control.specs.declared.verbs.Verb.TheVariants.{Plain, If, While, For, Foreach, Proc, Expr, Eval as EvalCommand, Catch, Exit, Switch}
+use Rattle.tcl_results.specs.Texts.{quoted, wrong_args, expected_number, not_read, word_fault, expr_fault, too_deep}
+use Rattle.tcl_results.specs.Said.{Said, Outcome, list_of}
 use Rattle.tcl_commands.specs.Plain.{plain}
-use Rattle.tcl_commands.specs.Verbs.{verb_of, redefinable_verb, exit_status}
-use Rattle.tcl_commands.specs.Joining.{expr_text, eval_text}
-use Rattle.tcl_commands.specs.Arms.{arms_of}
-use Rattle.tcl_commands.specs.Choosing.{body_of_switch}
-use Rattle.tcl_commands.specs.Groups.{each_of, assigned}
-use Rattle.tcl_commands.specs.Procs.{formals_of, entered, or_not_set}
+use Rattle.tcl_control.specs.Verbs.{verb_of, redefinable_verb, exit_status}
+use Rattle.tcl_lists.specs.Joining.{expr_text, eval_text}
+use Rattle.tcl_control.specs.Arms.{arms_of}
+use Rattle.tcl_control.specs.Choosing.{body_of_switch}
+use Rattle.tcl_control.specs.Groups.{each_of}
+use Rattle.tcl_results.specs.Setting.{assigned}
+use Rattle.tcl_control.specs.Procs.{formals_of, entered, or_not_set}
 use Rattle.tcl_scripts.specs.declared.script.Reading.{Reading}
 use Rattle.tcl_scripts.specs.declared.script.Reading.TheVariants.{Command, Malformed}
 use Rattle.tcl_scripts.specs.Commands.{commands}

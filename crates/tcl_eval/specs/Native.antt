@@ -1,9 +1,9 @@
 -- The rest of a run after an evaluating function has returned, given its continuation.
 use Rattle.std.specs.Prelude.{◌≡◌, ℕ, ◌+◌, ◌*◌, ◌≤◌, Bool, true, false, Option, Some, None, Result, Ok as Fine, Err, List, [], ◌∷◌}
 use Rattle.tcl_subst.specs.Entries.{find}
-use Rattle.tcl_commands.specs.declared.code.Code.{Code}
-use Rattle.tcl_commands.specs.declared.code.Code.TheVariants as code
-use Rattle.tcl_commands.specs.Groups.{Turns}
+use Rattle.tcl_results.specs.declared.code.Code.{Code}
+use Rattle.tcl_results.specs.declared.code.Code.TheVariants as code
+use Rattle.tcl_control.specs.Groups.{Turns}
 use Rattle.tcl_eval.specs.declared.stop.Stop.{Stop}
 use Rattle.tcl_eval.specs.declared.out.Exception.{Exception}
 use Rattle.tcl_eval.specs.declared.out.Exception.TheVariants.{Error, Return, Break, Continue, Again, AgainLater}
@@ -16,7 +16,7 @@ use Rattle.tcl_eval.specs.declared.frame.Onward.TheVariants.{Start}
 use Rattle.tcl_eval.specs.declared.frame.Turning.{Turning}
 use Rattle.tcl_eval.specs.declared.engine.Engine.{Engine}
 use Rattle.tcl_eval.specs.Tree.{State, Tree, Over}
-use Rattle.tcl_commands.specs.Verbs.{redefinable_verb}
+use Rattle.tcl_control.specs.Verbs.{redefinable_verb}
 use Rattle.tcl_eval.specs.Meaning.{Eval, Next, on_ok, tested, eval, expression, arms, each, caught, begin, redefinable_or_begun, called_or_begun, scope_end}
 use Rattle.tcl_eval.specs.Rest.{frame_rest, onward_rest, mode_rest, looped, now_of}
 use Rattle.tcl_eval.specs.Potential.{again, bodies, credit}

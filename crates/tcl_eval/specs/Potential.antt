@@ -1,7 +1,7 @@
 -- Shows that a run ends, or waits: the potential falls with each step and each reply.
 use Rattle.std.specs.Prelude.{ℕ, ◌+◌, ◌*◌, List, [], ◌∷◌}
-use Rattle.tcl_commands.specs.declared.code.Code.{Code}
-use Rattle.tcl_commands.specs.declared.code.Code.TheVariants.{Ok, Error, Return, Break, Continue, Again, AgainLater}
+use Rattle.tcl_results.specs.declared.code.Code.{Code}
+use Rattle.tcl_results.specs.declared.code.Code.TheVariants.{Ok, Error, Return, Break, Continue, Again, AgainLater}
 use Rattle.tcl_eval.specs.declared.engine.Engine.{Engine}
 use Rattle.tcl_eval.specs.declared.frame.Then.{Then}
 use Rattle.tcl_eval.specs.declared.frame.Then.TheVariants.{Command, List as HostList}

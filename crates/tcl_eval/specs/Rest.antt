@@ -3,9 +3,9 @@ use Rattle.std.specs.Prelude.{◌≡◌, ℕ, Bool, true, false, Some, Result, I
 use Rattle.tcl_subst.specs.Recipes.{given}
 use Rattle.tcl_subst.specs.Rests.{rest}
 use Rattle.tcl_subst.specs.Variables.{Variables}
-use Rattle.tcl_commands.specs.declared.code.Code.{Code}
-use Rattle.tcl_commands.specs.declared.code.Code.TheVariants.{Ok, Error}
-use Rattle.tcl_commands.specs.Arms.{Arms}
+use Rattle.tcl_results.specs.declared.code.Code.{Code}
+use Rattle.tcl_results.specs.declared.code.Code.TheVariants.{Ok, Error}
+use Rattle.tcl_control.specs.Arms.{Arms}
 use Rattle.tcl_scripts.specs.Commands.{commands}
 use Rattle.tcl_eval.specs.declared.frame.End.TheVariants.{Finished}
 use Rattle.tcl_eval.specs.declared.frame.Then.{Then}

@@ -7,7 +7,7 @@ use crate::engine::Engine;
 use crate::frame::Onward;
 use crate::out::Leave;
 use crate::stops::onward_below;
-use tcl_commands::Arms;
+use tcl_control::Arms;
 use tcl_values::Value;
 
 impl Engine {

@@ -1,9 +1,9 @@
 //! The commands of the language that evaluate scripts or expressions.
 
 ghost use Rattle.std.specs.Prelude.{◌≡◌, [], Some};
-ghost use Rattle.tcl_commands.specs.Texts.{wrong_args};
-ghost use Rattle.tcl_commands.specs.declared.code.Code.TheVariants as code;
-ghost use Rattle.tcl_commands.specs.Verbs.{exit_status};
+ghost use Rattle.tcl_results.specs.Texts.{wrong_args};
+ghost use Rattle.tcl_results.specs.declared.code.Code.TheVariants as code;
+ghost use Rattle.tcl_control.specs.Verbs.{exit_status};
 ghost use Rattle.tcl_host.specs.declared.ending.Ending.TheVariants.{Exit};
 ghost use Rattle.tcl_eval.specs.declared.frame.End.TheVariants.{Stopped};
 ghost use Rattle.tcl_eval.specs.Meaning.{Next, eval, invoked, while_command, for_command, proc_command, catch_command, on_said};
@@ -16,11 +16,11 @@ use crate::out::{Exception, Leave, came, given};
 use crate::procs::reserved;
 use crate::stops::{onward_below, stopped};
 use std::alloc::Global;
-use tcl_commands::{
-    Verb, arms_of, body_of_switch, each_of, eval_text, exit_status, expr_text, plain, verb_of,
-    wrong_args,
-};
+use tcl_commands::plain;
+use tcl_control::{Verb, arms_of, body_of_switch, each_of, exit_status, verb_of};
 use tcl_host::Ending;
+use tcl_lists::{eval_text, expr_text};
+use tcl_results::wrong_args;
 use tcl_values::Value;
 
 /// Returns the error `wrong # args`.

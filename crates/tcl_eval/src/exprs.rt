@@ -2,7 +2,7 @@
 
 ghost use Rattle.std.specs.Prelude.{◌≡◌, ℕ, ◌≤◌, Bool, List, [], IfOk};
 ghost use Rattle.tcl_expr.specs.Tree.{Tree as Expression};
-ghost use Rattle.tcl_commands.specs.Texts.{expr_fault};
+ghost use Rattle.tcl_results.specs.Texts.{expr_fault};
 ghost use Rattle.tcl_eval.specs.Advanced.{begun_fill};
 ghost use Rattle.tcl_eval.specs.Meaning.{Next, Eval, eval, fill_word, on_ok, on_said, tree_of, expression, condition, tested};
 ghost use Rattle.tcl_eval.specs.Rest.{now_of};
@@ -20,8 +20,8 @@ use crate::out::{Exception, Leave};
 use crate::stops::onward_below;
 use crate::words::unfilled;
 use std::alloc::{AllocError, Global};
-use tcl_commands::{expected_number, expr_fault};
 use tcl_expr::{ExprFault, operands_are_bounded, read_truth, write_number};
+use tcl_results::{expected_number, expr_fault};
 use tcl_subst::FillStep;
 use tcl_values::Value;
 

@@ -4,8 +4,9 @@ ghost use Rattle.std.specs.Prelude.{◌≡◌, IfOk};
 
 use crate::evaluation::{Evaluation, Test};
 use std::alloc::AllocError;
-use tcl_commands::{Arms, Code, Groups};
+use tcl_control::{Arms, Groups};
 use tcl_host::{Ending, Values};
+use tcl_results::Code;
 use tcl_scripts::{Script, Words};
 use tcl_subst::Filler;
 use tcl_values::Value;

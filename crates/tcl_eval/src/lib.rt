@@ -40,5 +40,5 @@ pub use frame::End;
 pub use laws::loops_unroll;
 pub use machine::{Machine, Pause};
 pub use meter::Meter;
-pub use tcl_commands::Code;
+pub use tcl_results::Code;
 pub use trail::{Origin, Trail};

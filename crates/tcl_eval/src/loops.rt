@@ -10,7 +10,7 @@ use crate::engine::Engine;
 use crate::frame::{End, Frame, Mode, Onward, Turning};
 use crate::out::{Exception, Leave, came};
 use crate::stops::{below, stopped};
-use tcl_commands::Groups;
+use tcl_control::Groups;
 use tcl_scripts::Script;
 use tcl_values::Value;
 

@@ -1,8 +1,8 @@
 //! The results of evaluating functions.
 
 ghost use Rattle.std.specs.Prelude.{◌≡◌, ◌≤◌, ℕ, List};
-ghost use Rattle.tcl_commands.specs.Said.{Said as Meant};
-ghost use Rattle.tcl_commands.specs.Says.{Says};
+ghost use Rattle.tcl_results.specs.Said.{Said as Meant};
+ghost use Rattle.tcl_results.specs.Says.{Says};
 ghost use Rattle.tcl_eval.specs.Meaning.{Next, on_ok, on_said};
 ghost use Rattle.tcl_eval.specs.Native.{Known, code_of, ended, flow, owed};
 ghost use Rattle.tcl_eval.specs.Potential.{again};
@@ -10,7 +10,7 @@ ghost use Rattle.tcl_eval.specs.Tree.{State, Tree};
 
 use crate::stop::Stop;
 use std::alloc::{AllocError, AllocFailed, Global};
-use tcl_commands::{Code, Complaint};
+use tcl_results::{Code, Complaint};
 use tcl_values::Value;
 
 /// A return code other than `Ok` (Tcl(n): an exceptional return).

@@ -1,6 +1,6 @@
 //! Procedures.
 
-use tcl_commands::Formals;
+use tcl_control::Formals;
 use tcl_scripts::Script;
 
 /// A procedure.

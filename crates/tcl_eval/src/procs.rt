@@ -1,7 +1,7 @@
 //! Evaluates procedures and `catch`.
 
 ghost use Rattle.std.specs.Prelude.{◌≡◌, ◌+◌, ◌≤◌, [], drop, IfOk, ◌≢◌, ℕ};
-ghost use Rattle.tcl_commands.specs.Texts.{quoted, not_set};
+ghost use Rattle.tcl_results.specs.Texts.{quoted, not_set};
 ghost use Rattle.tcl_eval.specs.Meaning.{eval, caught, digit, Next, no_command, passed, scope_end, outside_loop, reserved, defined};
 ghost use Rattle.tcl_eval.specs.Rest.{frame_rest, now_of, RestIs};
 ghost use Rattle.tcl_eval.specs.Native.{ended, entered_rest, other_command, owed, CameIs, Comes, Known, Spent};
@@ -14,8 +14,9 @@ use crate::procedure::Procedure;
 use crate::stops::below;
 use crate::trail::Origin;
 use std::alloc::{AllocError, Global};
-use tcl_commands::{Code, Complaint, enter, formals_of, not_set, quoted, said};
+use tcl_control::{enter, formals_of};
 use tcl_host::Values;
+use tcl_results::{Code, Complaint, not_set, quoted, said};
 use tcl_scripts::Script;
 use tcl_subst::SubstFault;
 use tcl_values::Value;

@@ -12,8 +12,8 @@ use crate::engine::Engine;
 use crate::frame::{Asked, Call, End, Frame, Mode, Then};
 use crate::procs::no_command;
 use std::alloc::{AllocError, Global};
-use tcl_commands::Code;
 use tcl_host::{HostStep, Values};
+use tcl_results::Code;
 use tcl_values::Value;
 
 /// Returns a result that continues with this mode.

@@ -15,8 +15,9 @@ use crate::trail::Origin;
 use crate::values::Handed;
 use std::alloc::AllocError;
 use std::mem;
-use tcl_commands::{redefinable_verb, too_deep, verb_of, word_fault};
+use tcl_control::{redefinable_verb, verb_of};
 use tcl_host::Values;
+use tcl_results::{too_deep, word_fault};
 use tcl_scripts::{Reading, Script, Words};
 use tcl_values::Value;
 

@@ -3,7 +3,7 @@
 ghost use Rattle.std.specs.Prelude.{◌≡◌, ℕ, ◌+◌, ◌≤◌, List, [], drop, unwrap_or, IfOk};
 ghost use Rattle.tcl_subst.specs.Recipes.{IsOnward, given, script_at, refused_name};
 ghost use Rattle.tcl_subst.specs.Rests.{rest, told};
-ghost use Rattle.tcl_commands.specs.Texts.{not_read};
+ghost use Rattle.tcl_results.specs.Texts.{not_read};
 ghost use Rattle.tcl_eval.specs.Alone.{alone, asks_alone};
 ghost use Rattle.tcl_eval.specs.Tree.{State, Tree};
 ghost use Rattle.tcl_eval.specs.Meaning.{Next, Eval, eval, fill_word, fill_words, fill_parts, on_ok, on_said, spread};
@@ -19,8 +19,8 @@ use crate::read_texts::ReadTexts;
 use crate::stops::{below, onward_below};
 use std::alloc::{AllocError, Global};
 use std::mem;
-use tcl_commands::{bad_list, not_read};
 use tcl_host::Values;
+use tcl_results::{bad_list, not_read};
 use tcl_scripts::{KeptWord, Script, Words};
 use tcl_subst::{FillStep, Filler, SubstFault, VALUE_LIMIT, Vars};
 use tcl_values::Value;

@@ -6,7 +6,7 @@ use Rattle.std.proofs.lemmas.Bool.Decides.{leb_tells}
 use Rattle.tcl_expr.specs.declared.faults.ExprFault.{ExprFault}
 use Rattle.tcl_expr.specs.declared.faults.ExprFault.TheVariants.{Syntax, NotNumber, DivideByZero, ZeroToNegative, NegativeShift, Overflow, BadList, TooDeep, Memory}
 use Rattle.tcl_expr.specs.declared.code.Op.{Op}
-use Rattle.tcl_expr.specs.declared.stack.Item.{Item}
+use Rattle.tcl_expr.specs.declared.stack.StackEntry.{StackEntry}
 use Rattle.tcl_expr.specs.declared.progress.Operands.{Operands}
 use Rattle.tcl_expr.specs.declared.advance.Step.{Step}
 use Rattle.tcl_expr.specs.declared.advance.Step.TheVariants.{Value, NeedVar, NeedScript, Fault}
@@ -159,7 +159,7 @@ asks_tell (Fault f) t i at old new given next serves e w here a = absurd (never 
 
 -- ---- all instructions are done
 
-pub held_first : (given : Texts) (st : List Item) (item : Item) (text : List ℕ) → Some item ≡ first st → text ≡ item_text given item → map (item_text given) st ≡ text ∷ map (item_text given) (drop 1 st)
+pub held_first : (given : Texts) (st : List StackEntry) (item : StackEntry) (text : List ℕ) → Some item ≡ first st → text ≡ item_text given item → map (item_text given) st ≡ text ∷ map (item_text given) (drop 1 st)
 held_first given [] item text h e = absurd (let no : Some item ≡ None = h in cc)
 held_first given (x ∷ st) item text h e =
     let same : item ≡ x = (let is : Some item ≡ Some x = h in cc) in

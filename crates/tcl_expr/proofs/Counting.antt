@@ -2,7 +2,7 @@
 use Rattle.std.proofs.Common.{◌≡◌, ℕ, zero, suc, ◌+◌, ◌-◌, ◌≤◌, min, List, [], ◌∷◌, ◌++◌, map, length, drop, Option, Some, None, IfSome, ℤ, refl, ap, sym, ◌∙◌, append_assoc}
 use Rattle.tcl_words.specs.Pieces.{Spelled}
 use Rattle.tcl_expr.specs.declared.code.Op.{Op}
-use Rattle.tcl_expr.specs.declared.stack.Item.TheVariants as items
+use Rattle.tcl_expr.specs.declared.stack.StackEntry.TheVariants as items
 use Rattle.tcl_expr.specs.declared.progress.Operands.{Operands}
 use Rattle.tcl_expr.specs.Number.{number_text}
 use Rattle.tcl_expr.specs.Tree.{Tree}

@@ -4,8 +4,8 @@ use Rattle.std.specs.List.{list_all}
 use Rattle.std.proofs.Math.ListN.{set, get_or-append}
 use Rattle.std.proofs.lemmas.List.{drop-append-le, reverse-append, get_or-reverse, length-reverse}
 use Rattle.std.proofs.lemmas.Bool.Decides.{nat_tests}
-use Rattle.tcl_expr.specs.declared.stack.Item.{Item}
-use Rattle.tcl_expr.specs.declared.stack.Item.TheVariants as items
+use Rattle.tcl_expr.specs.declared.stack.StackEntry.{StackEntry}
+use Rattle.tcl_expr.specs.declared.stack.StackEntry.TheVariants as items
 use Rattle.tcl_expr.specs.Tree.{Tree}
 use Rattle.tcl_expr.specs.Instr.{Instr, postfix}
 use Rattle.tcl_expr.specs.Value.{Valued, valued, failed, asks, ◌>>=◌, eval}
@@ -33,7 +33,7 @@ exec_all t vs =
 
 -- ---- values that wait
 
-pub all_later : (n m : ℕ) → n ≤ m → (xs : List Item) → list_all (is_below n) xs ≡ true → list_all (is_below m) xs ≡ true
+pub all_later : (n m : ℕ) → n ≤ m → (xs : List StackEntry) → list_all (is_below n) xs ≡ true → list_all (is_below m) xs ≡ true
 all_later n m le [] h = refl
 all_later n m le (items.Number z ∷ xs) h = all_later n m le xs h
 all_later n m le (items.Word w ∷ xs) h = all_later n m le xs h
@@ -44,13 +44,13 @@ all_later n m le (items.Given k ∷ xs) h =
     grind (arith, nat_tests)
 
 -- the next operand is in use
-pub taken_below : (n : ℕ) (xs : List Item) → list_all (is_below n) xs ≡ true → list_all (is_below (n + 1)) (items.Given n ∷ xs) ≡ true
+pub taken_below : (n : ℕ) (xs : List StackEntry) → list_all (is_below n) xs ≡ true → list_all (is_below (n + 1)) (items.Given n ∷ xs) ≡ true
 taken_below n xs h =
     let r = all_later n (n + 1) (omega arith) xs h in
     grind (arith, nat_tests)
 
 -- the operands in use keep their texts
-pub texts_kept : (given : Texts) (v : List ℕ) (xs : List Item) → list_all (is_below (length given)) xs ≡ true → map (item_text (given ++ v ∷ [])) xs ≡ map (item_text given) xs
+pub texts_kept : (given : Texts) (v : List ℕ) (xs : List StackEntry) → list_all (is_below (length given)) xs ≡ true → map (item_text (given ++ v ∷ [])) xs ≡ map (item_text given) xs
 texts_kept given v [] h = refl
 texts_kept given v (items.Number z ∷ xs) h = ap (λ l. item_text given (items.Number z) ∷ l) (texts_kept given v xs h)
 texts_kept given v (items.Word w ∷ xs) h = ap (λ l. item_text given (items.Word w) ∷ l) (texts_kept given v xs h)
@@ -61,7 +61,7 @@ texts_kept given v (items.Given k ∷ xs) h =
     ∙ ap (λ l. item_text given (items.Given k) ∷ l) (texts_kept given v xs more)
 
 -- a further operand was given
-pub given_serves : (t : Tree) (given : Texts) (used at : ℕ) (stack : List Item) (v : List ℕ) → used ≤ length given → list_all (is_below used) stack ≡ true
+pub given_serves : (t : Tree) (given : Texts) (used at : ℕ) (stack : List StackEntry) (v : List ℕ) → used ≤ length given → list_all (is_below used) stack ≡ true
     → ((more : Texts) → exec (drop at (postfix t)) 0 (map (item_text given) stack) (drop used given ++ more) ≡ eval t (given ++ more))
     → (more : Texts) → exec (drop at (postfix t)) 0 (map (item_text (given ++ v ∷ [])) stack) (drop used (given ++ v ∷ []) ++ more) ≡ eval t ((given ++ v ∷ []) ++ more)
 given_serves t given used at stack v le below serves more =
@@ -73,17 +73,17 @@ given_serves t given used at stack v le below serves more =
 
 -- ---- the stack
 
-reverse_cons : (x : Item) (xs : List Item) → reverse (x ∷ xs) ≡ reverse xs ++ (x ∷ [])
+reverse_cons : (x : StackEntry) (xs : List StackEntry) → reverse (x ∷ xs) ≡ reverse xs ++ (x ∷ [])
 reverse_cons x xs = reverse-append (x ∷ []) xs
 
-reverse_some : (x : Item) (xs : List Item) → 0 < length (reverse (x ∷ xs))
+reverse_some : (x : StackEntry) (xs : List StackEntry) → 0 < length (reverse (x ∷ xs))
 reverse_some x xs = omega (arith, ap length (reverse_cons x xs), length-append (reverse xs) (x ∷ []))
 
-pub drop_one : (xs ys : List Item) → 0 < length xs → drop 1 (xs ++ ys) ≡ drop 1 xs ++ ys
+pub drop_one : (xs ys : List StackEntry) → 0 < length xs → drop 1 (xs ++ ys) ≡ drop 1 xs ++ ys
 drop_one [] ys h = absurd (omega arith)
 drop_one (x ∷ xs) ys h = refl
 
-pub reverse_set : (xs : List Item) (x : Item) → 0 < length xs → reverse (set xs (length xs - 1) x) ≡ x ∷ drop 1 (reverse xs)
+pub reverse_set : (xs : List StackEntry) (x : StackEntry) → 0 < length xs → reverse (set xs (length xs - 1) x) ≡ x ∷ drop 1 (reverse xs)
 reverse_set [] x h = absurd (omega arith)
 reverse_set (y ∷ []) x h = refl
 reverse_set (y ∷ (z ∷ xs)) x h =
@@ -94,17 +94,17 @@ reverse_set (y ∷ (z ∷ xs)) x h =
     ∙ ap (λ l. x ∷ l) (sym (drop_one (reverse (z ∷ xs)) (y ∷ []) (reverse_some z xs)))
     ∙ ap (λ l. x ∷ drop 1 l) (sym (reverse_cons y (z ∷ xs)))
 
-pub first_at : (xs : List Item) (d : Item) → 0 < length xs → first xs ≡ Some (get_or xs 0 d)
+pub first_at : (xs : List StackEntry) (d : StackEntry) → 0 < length xs → first xs ≡ Some (get_or xs 0 d)
 first_at [] d h = absurd (omega arith)
 first_at (x ∷ xs) d h = refl
 
-pub second_at : (xs : List Item) (d : Item) → 1 < length xs → first (drop 1 xs) ≡ Some (get_or xs 1 d)
+pub second_at : (xs : List StackEntry) (d : StackEntry) → 1 < length xs → first (drop 1 xs) ≡ Some (get_or xs 1 d)
 second_at [] d h = absurd (omega arith)
 second_at (x ∷ []) d h = absurd (omega arith)
 second_at (x ∷ (y ∷ xs)) d h = refl
 
 -- the one before the last
-pub second_behind : (xs : List Item) (d : Item) → 1 < length xs → Some (get_or xs (length xs - 2) d) ≡ first (drop 1 (reverse xs))
+pub second_behind : (xs : List StackEntry) (d : StackEntry) → 1 < length xs → Some (get_or xs (length xs - 2) d) ≡ first (drop 1 (reverse xs))
 second_behind xs d h =
     let place : length xs - 1 - 1 ≡ length xs - 2 = omega arith in
     ap (λ k. Some (get_or xs k d)) (sym place) ∙ ap Some (sym (get_or-reverse xs 1 d h)) ∙ sym (second_at (reverse xs) d (rw length-reverse h))

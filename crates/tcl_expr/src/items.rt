@@ -12,7 +12,7 @@ use crate::faults::ExprFault;
 use crate::number::{read_number, write_number};
 use crate::operators::{Arithmetic, Eager, Prefix};
 use crate::progress::Operands;
-use crate::stack::Item;
+use crate::stack::StackEntry;
 use crate::values::{arithmetic, bit, holds, negated};
 use std::alloc::{AllocError, Global};
 use std::cmp::Ordering;
@@ -59,13 +59,13 @@ impl Operands {
     ghost use Rattle.tcl_expr.specs.Reads.{Gives, Fails};
 
     /// Returns the text of a value.
-    fn shown(&self, alloc: Global, item: Item) -> Result<Shown<'_>, AllocError>
+    fn shown(&self, alloc: Global, item: StackEntry) -> Result<Shown<'_>, AllocError>
         ensures { IfOk result (λ s. shown_text s ≡ item_text self.now.given item) }
     {
         match item {
-            Item::Number(z) => Ok(Shown::Written(write_number(alloc, z)?)),
-            Item::Word(word) => Ok(Shown::Lent(word.text())),
-            Item::Given(k) => match self.given.as_slice().get(k) {
+            StackEntry::Number(z) => Ok(Shown::Written(write_number(alloc, z)?)),
+            StackEntry::Word(word) => Ok(Shown::Lent(word.text())),
+            StackEntry::Given(k) => match self.given.as_slice().get(k) {
                 None => Ok(Shown::Lent(b"")),
                 Some(value) => Ok(Shown::Lent(value.as_slice())),
             },
@@ -73,7 +73,7 @@ impl Operands {
     }
 
     /// Returns a copy of the text of a value.
-    fn text(&self, alloc: Global, item: Item) -> Result<Text, AllocError>
+    fn text(&self, alloc: Global, item: StackEntry) -> Result<Text, AllocError>
         ensures { IfOk result (λ t. t ≡ item_text self.now.given item) }
     {
         let shown = self.shown(alloc, item)?;
@@ -82,13 +82,13 @@ impl Operands {
 
     /// Returns a value on the stack as one that the caller may keep. A given value is shared, not
     /// copied.
-    pub(crate) fn value(&self, alloc: Global, item: Item) -> Result<Value, AllocError>
+    pub(crate) fn value(&self, alloc: Global, item: StackEntry) -> Result<Value, AllocError>
         ensures { IfOk result (λ v. v ≡ item_text self.now.given item) }
     {
         match item {
-            Item::Number(z) => write_number(alloc, z),
-            Item::Word(word) => Value::from_slice(alloc, word.text()),
-            Item::Given(k) => match self.given.as_slice().get(k) {
+            StackEntry::Number(z) => write_number(alloc, z),
+            StackEntry::Word(word) => Value::from_slice(alloc, word.text()),
+            StackEntry::Given(k) => match self.given.as_slice().get(k) {
                 None => Ok(Value::new(alloc)),
                 Some(value) => value.shared(alloc),
             },
@@ -96,13 +96,13 @@ impl Operands {
     }
 
     /// Returns the number that a value is. `None` if it is none.
-    fn number(&self, item: Item) -> Option<i64>
+    fn number(&self, item: StackEntry) -> Option<i64>
         ensures { result ≡ number_of (item_text self.now.given item) }
     {
         match item {
-            Item::Number(z) => Some(z),
-            Item::Word(_) => None,
-            Item::Given(k) => match self.given.as_slice().get(k) {
+            StackEntry::Number(z) => Some(z),
+            StackEntry::Word(_) => None,
+            StackEntry::Given(k) => match self.given.as_slice().get(k) {
                 None => None,
                 Some(value) => read_number(value.as_slice()),
             },
@@ -110,13 +110,13 @@ impl Operands {
     }
 
     /// Returns the truth value of a value. `None` if it has none.
-    pub(crate) fn truth(&self, item: Item) -> Option<bool>
+    pub(crate) fn truth(&self, item: StackEntry) -> Option<bool>
         ensures { result ≡ truth_of (item_text self.now.given item) }
     {
         match item {
-            Item::Number(z) => truth_from(Some(z), b""),
-            Item::Word(word) => Some(word.says()),
-            Item::Given(k) => match self.given.as_slice().get(k) {
+            StackEntry::Number(z) => truth_from(Some(z), b""),
+            StackEntry::Word(word) => Some(word.says()),
+            StackEntry::Given(k) => match self.given.as_slice().get(k) {
                 None => None,
                 Some(value) => read_truth(value.as_slice()),
             },
@@ -124,7 +124,7 @@ impl Operands {
     }
 
     /// Returns the error for a value that is no number.
-    pub(crate) fn not_number(&self, alloc: Global, item: Item) -> ExprFault
+    pub(crate) fn not_number(&self, alloc: Global, item: StackEntry) -> ExprFault
         ensures { IsNotNumber result (item_text self.now.given item) }
     {
         match self.text(alloc, item) {
@@ -134,7 +134,7 @@ impl Operands {
     }
 
     /// Applies a prefix operator on numbers to a value.
-    fn on_number(&self, alloc: Global, op: Prefix, item: Item) -> Result<i64, ExprFault>
+    fn on_number(&self, alloc: Global, op: Prefix, item: StackEntry) -> Result<i64, ExprFault>
         ensures { Gives result (on_number (item_text self.now.given item) (number_of (item_text self.now.given item)) (negated op)) }
     {
         match self.number(item) {
@@ -147,7 +147,7 @@ impl Operands {
     pub(crate) fn on_truth(
         &self,
         alloc: Global,
-        item: Item,
+        item: StackEntry,
         opposite: bool,
     ) -> Result<i64, ExprFault>
         ensures { Gives result (on_truth (item_text self.now.given item) (truth_of (item_text self.now.given item)) (λ b. Ok (bit (opposed opposite b)))) }
@@ -159,7 +159,12 @@ impl Operands {
     }
 
     /// Applies a prefix operator to a value.
-    pub(crate) fn prefixed(&self, alloc: Global, op: Prefix, item: Item) -> Result<i64, ExprFault>
+    pub(crate) fn prefixed(
+        &self,
+        alloc: Global,
+        op: Prefix,
+        item: StackEntry,
+    ) -> Result<i64, ExprFault>
         ensures { Gives result (prefixed op (item_text self.now.given item)) }
     {
         match op {
@@ -171,7 +176,13 @@ impl Operands {
     }
 
     /// Applies an operator on numbers to two values. The left one is checked first.
-    fn computed(&self, alloc: Global, op: Arithmetic, a: Item, b: Item) -> Result<i64, ExprFault>
+    fn computed(
+        &self,
+        alloc: Global,
+        op: Arithmetic,
+        a: StackEntry,
+        b: StackEntry,
+    ) -> Result<i64, ExprFault>
         ensures { Gives result (combined (Eager.Arithmetic op) (item_text self.now.given a) (item_text self.now.given b)) }
     {
         let Some(x) = self.number(a) else {
@@ -184,7 +195,12 @@ impl Operands {
     }
 
     /// Compares two values as texts.
-    fn text_order(&self, alloc: Global, a: Item, b: Item) -> Result<Ordering, AllocError>
+    fn text_order(
+        &self,
+        alloc: Global,
+        a: StackEntry,
+        b: StackEntry,
+    ) -> Result<Ordering, AllocError>
         ensures { IfOk result (λ o. o ≡ slice_cmp nat_cmp (item_text self.now.given a) (item_text self.now.given b)) }
     {
         let a = self.shown(alloc, a)?;
@@ -193,7 +209,7 @@ impl Operands {
     }
 
     /// Compares two values: as numbers if both are numbers, otherwise as texts.
-    fn order(&self, alloc: Global, a: Item, b: Item) -> Result<Ordering, AllocError>
+    fn order(&self, alloc: Global, a: StackEntry, b: StackEntry) -> Result<Ordering, AllocError>
         ensures { IfOk result (λ o. o ≡ order_of (number_of (item_text self.now.given a)) (number_of (item_text self.now.given b)) (item_text self.now.given a) (item_text self.now.given b)) }
     {
         match self.number(a) {
@@ -206,7 +222,7 @@ impl Operands {
     }
 
     /// Returns whether two values have the same text.
-    fn same(&self, alloc: Global, a: Item, b: Item) -> Result<bool, AllocError>
+    fn same(&self, alloc: Global, a: StackEntry, b: StackEntry) -> Result<bool, AllocError>
         ensures { IfOk result (λ s. s ≡ bytes_eq (item_text self.now.given a) (item_text self.now.given b)) }
     {
         let a = self.shown(alloc, a)?;
@@ -216,7 +232,13 @@ impl Operands {
 
     /// Returns whether the text of a value is an element of the list that another one is, or the
     /// opposite, as 1 or 0. An error if that one is no list.
-    fn on_element(&self, alloc: Global, a: Item, b: Item, opposite: bool) -> Result<i64, ExprFault>
+    fn on_element(
+        &self,
+        alloc: Global,
+        a: StackEntry,
+        b: StackEntry,
+        opposite: bool,
+    ) -> Result<i64, ExprFault>
         ensures { Gives result (on_element (item_text self.now.given a) (elements (item_text self.now.given b)) (opposed opposite)) }
     {
         let text = self.shown(alloc, a)?;
@@ -230,8 +252,8 @@ impl Operands {
         &self,
         alloc: Global,
         op: Eager,
-        a: Item,
-        b: Item,
+        a: StackEntry,
+        b: StackEntry,
     ) -> Result<i64, ExprFault>
         ensures { Gives result (combined op (item_text self.now.given a) (item_text self.now.given b)) }
     {

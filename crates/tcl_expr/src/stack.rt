@@ -10,17 +10,17 @@ use std::marker::Model;
 
 /// A value. A number is written as text only when its text is needed.
 #[derive(Clone, Copy)]
-pub(crate) enum Item {
+pub(crate) enum StackEntry {
     Number(i64),
     Word(Bareword),
     /// A given operand, by its index among all given ones.
     Given(usize),
 }
 
-impl Default for Item {
+impl Default for StackEntry {
     /// Returns the filler for unused places of a stack.
-    fn default() -> Item {
-        Item::Number(0)
+    fn default() -> StackEntry {
+        StackEntry::Number(0)
     }
 }
 
@@ -31,22 +31,22 @@ const FEW: usize = 4;
 #[derive(Drop)]
 pub(crate) struct Stack {
     /// The lowest ones.
-    low: ArrayVec<Item, FEW>,
+    low: ArrayVec<StackEntry, FEW>,
     /// The ones above them.
-    high: Vec<Item>,
+    high: Vec<StackEntry>,
 }
 
 impl Model for Stack {
     ghost use Rattle.std.specs.Prelude.{List, reverse, ◌++◌};
-    ghost use Rattle.tcl_expr.specs.declared.stack.Item.{Item};
+    ghost use Rattle.tcl_expr.specs.declared.stack.StackEntry.{StackEntry};
 
-    ghost Value = { List Item };
+    ghost Value = { List StackEntry };
 
     ghost view = { λ s. reverse (s.low.items ++ s.high.items) };
 }
 
 /// Returns the last value.
-fn last(items: &[Item]) -> Option<Item>
+fn last(items: &[StackEntry]) -> Option<StackEntry>
     ensures { result ≡ first (reverse items.now) }
 {
     match items {
@@ -56,7 +56,7 @@ fn last(items: &[Item]) -> Option<Item>
 }
 
 /// Returns the value before the last one.
-fn last_but_one(items: &[Item]) -> Option<Item>
+fn last_but_one(items: &[StackEntry]) -> Option<StackEntry>
     ensures { result ≡ first (drop 1 (reverse items.now)) }
 {
     match items {
@@ -78,7 +78,7 @@ impl Stack {
     }
 
     #[inline(always)]
-    pub(crate) fn push(&mut self, item: Item) -> Result<(), AllocError>
+    pub(crate) fn push(&mut self, item: StackEntry) -> Result<(), AllocError>
         ensures pushed { OnOk result (self.new ≡ item ∷ self.old) }
         ensures kept { OnErr result (self.new ≡ self.old) }
     {
@@ -92,7 +92,7 @@ impl Stack {
 
     /// Returns the value on top.
     #[inline(always)]
-    pub(crate) fn first(&self) -> Option<Item>
+    pub(crate) fn first(&self) -> Option<StackEntry>
         ensures { result ≡ first self.now }
     {
         if self.high.is_empty() {
@@ -103,17 +103,17 @@ impl Stack {
 
     /// Returns the number on top. `None` if the top value is no number item.
     pub(crate) fn number(&self) -> Option<i64>
-        ensures { IfSome result (λ z. first self.now ≡ Some (Item.Number z)) }
+        ensures { IfSome result (λ z. first self.now ≡ Some (StackEntry.Number z)) }
     {
         match self.first() {
-            Some(Item::Number(z)) => Some(z),
+            Some(StackEntry::Number(z)) => Some(z),
             _ => None,
         }
     }
 
     /// Returns the value below the top.
     #[inline(always)]
-    pub(crate) fn second(&self) -> Option<Item>
+    pub(crate) fn second(&self) -> Option<StackEntry>
         ensures { result ≡ first (drop 1 self.now) }
     {
         if self.high.is_empty() {
@@ -137,7 +137,7 @@ impl Stack {
 
     /// Replaces the top value.
     #[inline(always)]
-    pub(crate) fn replace(&mut self, item: Item)
+    pub(crate) fn replace(&mut self, item: StackEntry)
         requires { 0 < length self.old }
         ensures { self.new ≡ item ∷ drop 1 self.old }
     {

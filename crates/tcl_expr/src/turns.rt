@@ -6,7 +6,7 @@ use crate::code::Op;
 use crate::faults::ExprFault;
 use crate::operators::{Eager, Lazy, Prefix};
 use crate::progress::Operands;
-use crate::stack::Item;
+use crate::stack::StackEntry;
 use std::alloc::Global;
 
 /// The result of an instruction.
@@ -41,7 +41,7 @@ impl Operands {
     pub(crate) fn hold_number(&mut self, number: i64) -> Turn
         ensures { Turns result (push number) self.old self.new }
     {
-        match self.stack.push(Item::Number(number)) {
+        match self.stack.push(StackEntry::Number(number)) {
             Ok(()) => Turn::Went(0),
             Err(_) => Turn::Failed(ExprFault::Memory),
         }
@@ -51,7 +51,7 @@ impl Operands {
     fn hold_word(&mut self, word: Bareword) -> Turn
         ensures { Turns result (push_word word) self.old self.new }
     {
-        match self.stack.push(Item::Word(word)) {
+        match self.stack.push(StackEntry::Word(word)) {
             Ok(()) => Turn::Went(0),
             Err(_) => Turn::Failed(ExprFault::Memory),
         }
@@ -64,7 +64,7 @@ impl Operands {
         if self.given.len() <= self.used {
             return Turn::Asks;
         }
-        match self.stack.push(Item::Given(self.used)) {
+        match self.stack.push(StackEntry::Given(self.used)) {
             Ok(()) => {
                 self.used += 1;
                 Turn::Went(0)
@@ -83,7 +83,7 @@ impl Operands {
         match self.prefixed(alloc, op, a) {
             Err(fault) => Turn::Failed(fault),
             Ok(z) => {
-                self.stack.replace(Item::Number(z));
+                self.stack.replace(StackEntry::Number(z));
                 Turn::Went(0)
             }
         }
@@ -103,7 +103,7 @@ impl Operands {
             Err(fault) => Turn::Failed(fault),
             Ok(z) => {
                 self.stack.pop();
-                self.stack.replace(Item::Number(z));
+                self.stack.replace(StackEntry::Number(z));
                 Turn::Went(0)
             }
         }
@@ -120,7 +120,7 @@ impl Operands {
             return Turn::Failed(self.not_number(alloc, a));
         };
         if decides(op, truth) {
-            self.stack.replace(Item::Number(bit(truth)));
+            self.stack.replace(StackEntry::Number(bit(truth)));
             return Turn::Went(n);
         }
         self.stack.pop();
@@ -137,7 +137,7 @@ impl Operands {
         match self.on_truth(alloc, a, false) {
             Err(fault) => Turn::Failed(fault),
             Ok(z) => {
-                self.stack.replace(Item::Number(z));
+                self.stack.replace(StackEntry::Number(z));
                 Turn::Went(0)
             }
         }

@@ -1,7 +1,7 @@
 -- The calls of a host, and its replies.
 use Rattle.std.specs.Prelude.{ℕ, Bool, true, List}
 use Rattle.tcl_subst.specs.Variables.{Variables, no_variables}
-use Rattle.tcl_commands.specs.declared.code.Code.{Code}
+use Rattle.tcl_results.specs.declared.code.Code.{Code}
 use Rattle.tcl_host.specs.declared.host.HostStep.{HostStep}
 use Rattle.tcl_host.specs.declared.host.HostStep.TheVariants.{Wait}
 

@@ -4,7 +4,7 @@ ghost use Rattle.std.specs.Prelude.{◌≡◌};
 
 use crate::ending::Ending;
 use crate::values::Values;
-use tcl_commands::Code;
+use tcl_results::Code;
 use tcl_subst::Vars;
 use tcl_values::Value;
 

@@ -2,7 +2,6 @@ pub mod Both
 pub mod Entries
 pub mod Faults
 pub mod Filling
-pub mod HomeLending
 pub mod Lending
 pub mod ByteLending
 pub mod Plain

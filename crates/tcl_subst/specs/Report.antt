@@ -19,7 +19,7 @@ elements_onto sorted array es = sorted_onto sorted (map (λ e. (element_name arr
 abbrev pub slot_onto : Entries (List ℕ) → List ℕ → Slot → Entries (List ℕ)
 slot_onto sorted name (Text value) = with_entry name value sorted
 slot_onto sorted name (Array es) = elements_onto sorted name es
-slot_onto sorted name Link = sorted
+slot_onto sorted name (Link place) = sorted
 
 abbrev pub scope_onto : Entries (List ℕ) → Scope → Entries (List ℕ)
 scope_onto sorted [] = sorted

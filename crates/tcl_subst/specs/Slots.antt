@@ -4,6 +4,7 @@ use Rattle.tcl_words.specs.Bytes as ascii
 use Rattle.tcl_words.specs.Lists.{elements}
 use Rattle.tcl_subst.specs.declared.faults.SubstFault.{SubstFault}
 use Rattle.tcl_subst.specs.declared.faults.SubstFault.TheVariants.{NoVariable, IsArray, NotArray, Exists, BadList}
+use Rattle.tcl_subst.specs.declared.scope.VariablePlace.{VariablePlace}
 use Rattle.tcl_subst.specs.declared.scope.Slot.{Slot}
 use Rattle.tcl_subst.specs.declared.scope.Slot.TheVariants.{Text, Array, Link}
 use Rattle.tcl_subst.specs.Entries.{Entries, find, without, with_entry}
@@ -24,6 +25,22 @@ element name =
     if slice_index name (length name - 1) == ascii.close_paren then parted (take (length name - 1) name) (position (λ b. b == ascii.open_paren) (take (length name - 1) name))
     else None
 
+-- The variable that a name is looked up as: for an element, its array.
+abbrev pub base_of : Option (List ℕ × List ℕ) → List ℕ → List ℕ
+base_of None name = name
+base_of (Some e) name = e.0
+
+abbrev pub base : List ℕ → List ℕ
+base name = base_of (element name) name
+
+abbrev pub index_of : Option (List ℕ × List ℕ) → Option (List ℕ)
+index_of None = None
+index_of (Some e) = Some e.1
+
+-- The index of an element's name.
+abbrev pub index : List ℕ → Option (List ℕ)
+index name = index_of (element name)
+
 -- Reading.
 
 -- The value of a variable that isn't an array.
@@ -31,7 +48,7 @@ abbrev pub text_in : Option Slot → Result (List ℕ) SubstFault
 text_in None = Err NoVariable
 text_in (Some (Text value)) = Ok value
 text_in (Some (Array es)) = Err IsArray
-text_in (Some Link) = Err NoVariable
+text_in (Some (Link place)) = Err NoVariable
 
 abbrev pub there : {X : Type 0} → Option X → Result X SubstFault
 there None = Err NoVariable
@@ -42,35 +59,36 @@ abbrev pub element_in : List ℕ → Option Slot → Result (List ℕ) SubstFaul
 element_in index None = Err NoVariable
 element_in index (Some (Text value)) = Err NotArray
 element_in index (Some (Array es)) = there (find index es)
-element_in index (Some Link) = Err NoVariable
+element_in index (Some (Link place)) = Err NoVariable
 
-abbrev pub read_of : Option (List ℕ × List ℕ) → List ℕ → Scope → Result (List ℕ) SubstFault
-read_of None name scope = text_in (find name scope)
-read_of (Some e) name scope = element_in e.1 (find e.0 scope)
+abbrev pub slot_read : Option (List ℕ) → Option Slot → Result (List ℕ) SubstFault
+slot_read None slot = text_in slot
+slot_read (Some index) slot = element_in index slot
+
+-- The value of a variable, or of its element with an index.
+abbrev pub read_at : List ℕ → Option (List ℕ) → Scope → Result (List ℕ) SubstFault
+read_at variable index scope = slot_read index (find variable scope)
 
 -- The value of a variable or an element.
 abbrev pub read : List ℕ → Scope → Result (List ℕ) SubstFault
-read name scope = read_of (element name) name scope
+read name scope = read_at (base name) (index name) scope
 
 abbrev pub text_exists : Option Slot → Bool
 text_exists None = false
 text_exists (Some (Text value)) = true
 text_exists (Some (Array es)) = true
-text_exists (Some Link) = false
+text_exists (Some (Link place)) = false
 
 abbrev pub element_exists : List ℕ → Option Slot → Bool
 element_exists index None = false
 element_exists index (Some (Text value)) = false
 element_exists index (Some (Array es)) = is_some (find index es)
-element_exists index (Some Link) = false
+element_exists index (Some (Link place)) = false
 
-abbrev pub exists_of : Option (List ℕ × List ℕ) → List ℕ → Scope → Bool
-exists_of None name scope = text_exists (find name scope)
-exists_of (Some e) name scope = element_exists e.1 (find e.0 scope)
-
--- The variable or element exists.
-abbrev pub is_there : List ℕ → Scope → Bool
-is_there name scope = exists_of (element name) name scope
+-- The variable exists, or its element with an index.
+abbrev pub slot_exists : Option (List ℕ) → Option Slot → Bool
+slot_exists None slot = text_exists slot
+slot_exists (Some index) slot = element_exists index slot
 
 abbrev pub as_text : Result (List ℕ) SubstFault → Result Slot SubstFault
 as_text (Ok value) = Ok (Text value)
@@ -98,21 +116,21 @@ module _ (g : List ℕ → Result (List ℕ) SubstFault) where
   text_written None = as_text (g [])
   text_written (Some (Text value)) = as_text (g value)
   text_written (Some (Array es)) = Err IsArray
-  text_written (Some Link) = as_text (g [])
+  text_written (Some (Link place)) = as_text (g [])
 
   abbrev pub element_written : List ℕ → Option Slot → Result Slot SubstFault
   element_written index None = as_array (entry_written index [])
   element_written index (Some (Text value)) = Err NotArray
   element_written index (Some (Array es)) = as_array (entry_written index es)
-  element_written index (Some Link) = as_array (entry_written index [])
+  element_written index (Some (Link place)) = as_array (entry_written index [])
 
-  abbrev pub written_of : Option (List ℕ × List ℕ) → List ℕ → Scope → Result Scope SubstFault
-  written_of None name scope = entered name scope (text_written (find name scope))
-  written_of (Some e) name scope = entered e.0 scope (element_written e.1 (find e.0 scope))
+  abbrev pub slot_written : Option (List ℕ) → Option Slot → Result Slot SubstFault
+  slot_written None slot = text_written slot
+  slot_written (Some index) slot = element_written index slot
 
-  -- The scope after g was applied to a variable or an element.
-  abbrev pub written : List ℕ → Scope → Result Scope SubstFault
-  written name scope = written_of (element name) name scope
+  -- The scope after g was applied to a variable, or to its element with an index.
+  abbrev pub written : List ℕ → Option (List ℕ) → Scope → Result Scope SubstFault
+  written variable index scope = entered variable scope (slot_written index (find variable scope))
 
 -- Unsetting.
 
@@ -127,31 +145,45 @@ abbrev pub element_unset : List ℕ → Option Slot → Result Slot SubstFault
 element_unset index None = Err NoVariable
 element_unset index (Some (Text value)) = Err NotArray
 element_unset index (Some (Array es)) = as_array (entry_unset (find index es) index es)
-element_unset index (Some Link) = Err NoVariable
+element_unset index (Some (Link place)) = Err NoVariable
 
-abbrev pub unset_of : Option (List ℕ × List ℕ) → List ℕ → Scope → Result Scope SubstFault
-unset_of None name scope = text_unset (find name scope) name scope
-unset_of (Some e) name scope = entered e.0 scope (element_unset e.1 (find e.0 scope))
-
--- The scope without a variable or an element.
-abbrev pub unset : List ℕ → Scope → Result Scope SubstFault
-unset name scope = unset_of (element name) name scope
+-- The scope without a variable, or without its element with an index.
+abbrev pub unset : List ℕ → Option (List ℕ) → Scope → Result Scope SubstFault
+unset variable None scope = text_unset (find variable scope) variable scope
+unset variable (Some index) scope = entered variable scope (element_unset index (find variable scope))
 
 -- Linking.
 
-abbrev pub link_over : Option Slot → List ℕ → Scope → Result Scope SubstFault
-link_over None name scope = Ok (with_entry name Link scope)
-link_over (Some (Text value)) name scope = Err Exists
-link_over (Some (Array es)) name scope = Err Exists
-link_over (Some Link) name scope = Ok scope
+-- The place of a variable of the scope itself.
+abbrev pub here : VariablePlace
+here = record { calls = 0; name = None }
 
-abbrev pub link_of : Option (List ℕ × List ℕ) → List ℕ → Scope → Result Scope SubstFault
-link_of None name scope = link_over (find name scope) name scope
-link_of (Some e) name scope = Ok scope
+-- The name at a place, given the one under which it is looked for.
+abbrev pub name_or : List ℕ → Option (List ℕ) → List ℕ
+name_or name None = name
+name_or name (Some other) = other
+
+-- Where the entry of a name leads.
+abbrev pub leads : Option Slot → VariablePlace
+leads None = here
+leads (Some (Text value)) = here
+leads (Some (Array es)) = here
+leads (Some (Link place)) = place
+
+-- A link replaces another one, but no variable.
+abbrev pub linked_over : VariablePlace → Option Slot → Result Slot SubstFault
+linked_over place None = Ok (Link place)
+linked_over place (Some (Text value)) = Err Exists
+linked_over place (Some (Array es)) = Err Exists
+linked_over place (Some (Link old)) = Ok (Link place)
+
+abbrev pub link_of : Option (List ℕ × List ℕ) → VariablePlace → List ℕ → Scope → Result Scope SubstFault
+link_of None place name scope = entered name scope (linked_over place (find name scope))
+link_of (Some e) place name scope = Ok scope
 
 -- The scope with a link. The name of an element can't be a link.
-abbrev pub link : List ℕ → Scope → Result Scope SubstFault
-link name scope = link_of (element name) name scope
+abbrev pub link : VariablePlace → List ℕ → Scope → Result Scope SubstFault
+link place name scope = link_of (element name) place name scope
 
 -- Arrays.
 
@@ -160,14 +192,14 @@ abbrev pub elements_in : Option Slot → Option (Entries (List ℕ))
 elements_in None = None
 elements_in (Some (Text value)) = None
 elements_in (Some (Array es)) = Some es
-elements_in (Some Link) = None
+elements_in (Some (Link place)) = None
 
 -- A missing variable becomes an array without elements.
 abbrev pub array_made : Option Slot → Result Slot SubstFault
 array_made None = Ok (Array [])
 array_made (Some (Text value)) = Err NotArray
 array_made (Some (Array es)) = Ok (Array es)
-array_made (Some Link) = Ok (Array [])
+array_made (Some (Link place)) = Ok (Array [])
 
 -- Lists.
 

@@ -20,7 +20,7 @@ pub fn elements<'a>(scope: &'a Scope, name: &[u8]) -> Option<&'a Names<Value>>
         None => None,
         Some(Slot::Text(_)) => None,
         Some(Slot::Array(elements)) => Some(elements),
-        Some(Slot::Link) => None,
+        Some(Slot::Link(_)) => None,
     }
 }
 
@@ -41,7 +41,7 @@ fn make_slot(slot: &mut Slot, alloc: Global) -> Result<(), SubstFault>
     match slot {
         Slot::Text(_) => Err(SubstFault::NotArray),
         Slot::Array(_) => Ok(()),
-        Slot::Link => {
+        Slot::Link(_) => {
             *slot = Slot::Array(Names::new(alloc));
             Ok(())
         }

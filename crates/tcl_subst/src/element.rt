@@ -1,7 +1,26 @@
 //! Names of array elements.
 
-ghost use Rattle.std.specs.Prelude.{◌≡◌, ◌<◌, ◌==◌, length, option_map, position, IfSome};
-ghost use Rattle.tcl_subst.specs.Slots.{element, parted};
+ghost use Rattle.std.specs.Prelude.{◌≡◌, ◌<◌, ◌==◌, length, option_map, is_some, position, IfSome};
+ghost use Rattle.std.specs.Option.{option_copied};
+ghost use Rattle.tcl_subst.specs.Slots.{base, element, index, parted};
+
+/// Returns the variable that a name is looked up as, and the index if it is the name of an element.
+pub fn parts(name: &[u8]) -> (&[u8], Option<&[u8]>)
+    ensures variable { result.0.now ≡ base name.now }
+    ensures index { option_copied result.1 ≡ index name.now }
+{
+    match element(name) {
+        None => (name, None),
+        Some((array, index)) => (array, Some(index)),
+    }
+}
+
+/// Returns whether a name is that of an array's element: `array(index)`.
+pub fn is_element(name: &[u8]) -> bool
+    ensures { result ≡ is_some (element name.now) }
+{
+    element(name).is_some()
+}
 
 /// Splits a name `array(index)`: its last byte is `)`, and the array stands before the first `(`.
 /// `None` for other names.

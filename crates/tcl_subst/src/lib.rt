@@ -29,6 +29,7 @@ mod vars;
 mod write;
 mod writes;
 
+pub use element::is_element;
 pub use faults::SubstFault;
 pub use fill_step::FillStep;
 pub use filler::Filler;

@@ -1,26 +1,32 @@
 //! Parses values of a scope as lists.
 
 ghost use Rattle.std.specs.Prelude.{◌≡◌, Some};
+ghost use Rattle.std.specs.Option.{option_copied};
 ghost use Rattle.tcl_subst.specs.Entries.{find};
 ghost use Rattle.tcl_subst.specs.Faults.{Tells};
-ghost use Rattle.tcl_subst.specs.Slots.{text_in, element_in, read, some_list, there, list_in};
+ghost use Rattle.tcl_subst.specs.Slots.{text_in, element_in, read_at, some_list, there, list_in};
 ghost use Rattle.tcl_words.specs.Lists.{elements};
 
-use crate::element::element;
 use crate::faults::SubstFault;
 use crate::names::Names;
 use crate::scope::{Scope, Slot};
 use std::alloc::Global;
 use tcl_values::Value;
 
-/// Parses a variable or an element as a list, and keeps its elements. Its value is unchanged.
-pub fn list(scope: &mut Scope, alloc: Global, name: &[u8]) -> Result<(), SubstFault>
+/// Parses a variable, or its element with an index, as a list, and keeps its elements. Its value is
+/// unchanged.
+pub fn list(
+    scope: &mut Scope,
+    alloc: Global,
+    variable: &[u8],
+    index: Option<&[u8]>,
+) -> Result<(), SubstFault>
     ensures same { scope.new ≡ scope.old }
-    ensures told { Tells result (list_in (read name.now scope.old)) }
+    ensures told { Tells result (list_in (read_at variable.now (option_copied index.entry) scope.old)) }
 {
-    match element(name) {
-        None => list_text(scope, alloc, name),
-        Some((array, index)) => list_element(scope, alloc, array, index),
+    match index {
+        None => list_text(scope, alloc, variable),
+        Some(index) => list_element(scope, alloc, variable, index),
     }
 }
 
@@ -41,7 +47,7 @@ fn list_slot(slot: &mut Slot, alloc: Global) -> Result<(), SubstFault>
     match slot {
         Slot::Text(value) => list_value(value, alloc),
         Slot::Array(_) => Err(SubstFault::IsArray),
-        Slot::Link => Err(SubstFault::NoVariable),
+        Slot::Link(_) => Err(SubstFault::NoVariable),
     }
 }
 
@@ -67,7 +73,7 @@ fn list_member(slot: &mut Slot, alloc: Global, index: &[u8]) -> Result<(), Subst
     match slot {
         Slot::Text(_) => Err(SubstFault::NotArray),
         Slot::Array(elements) => list_entry(elements, alloc, index),
-        Slot::Link => Err(SubstFault::NoVariable),
+        Slot::Link(_) => Err(SubstFault::NoVariable),
     }
 }
 

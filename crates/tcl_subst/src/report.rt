@@ -37,7 +37,7 @@ fn add_slot(
     match slot {
         Slot::Text(value) => add_value(values, alloc, name, value),
         Slot::Array(elements) => add_elements(values, alloc, name, elements),
-        Slot::Link => Ok(()),
+        Slot::Link(_) => Ok(()),
     }
 }
 

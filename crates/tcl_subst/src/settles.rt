@@ -2,20 +2,19 @@
 
 ghost use Rattle.std.specs.Prelude.{◌≡◌};
 
-use crate::element::element;
 use crate::names::Names;
 use crate::scope::{Scope, Slot};
 use std::alloc::Global;
 use tcl_values::Value;
 
-/// Adopts the list that another owner parsed of the value of a variable or an element. No value
-/// changes.
-pub fn settle(scope: &mut Scope, alloc: Global, name: &[u8])
+/// Adopts the list that another owner parsed of the value of a variable, or of its element with an
+/// index. No value changes.
+pub fn settle(scope: &mut Scope, alloc: Global, variable: &[u8], index: Option<&[u8]>)
     ensures { scope.new ≡ scope.old }
 {
-    match element(name) {
-        None => settle_text(scope, alloc, name),
-        Some((array, index)) => settle_element(scope, alloc, array, index),
+    match index {
+        None => settle_text(scope, alloc, variable),
+        Some(index) => settle_element(scope, alloc, variable, index),
     }
 }
 
@@ -33,7 +32,7 @@ fn settle_slot(slot: &mut Slot, alloc: Global)
     match slot {
         Slot::Text(value) => value.settle(alloc),
         Slot::Array(_) => {}
-        Slot::Link => {}
+        Slot::Link(_) => {}
     }
 }
 
@@ -51,7 +50,7 @@ fn settle_member(slot: &mut Slot, alloc: Global, index: &[u8])
     match slot {
         Slot::Text(_) => {}
         Slot::Array(elements) => settle_entry(elements, alloc, index),
-        Slot::Link => {}
+        Slot::Link(_) => {}
     }
 }
 

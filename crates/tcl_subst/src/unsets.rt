@@ -1,25 +1,26 @@
 //! Removes variables from a scope, and adds links to another one.
 
 ghost use Rattle.std.specs.Prelude.{◌≡◌, Some};
+ghost use Rattle.std.specs.Option.{option_copied};
 ghost use Rattle.tcl_subst.specs.Entries.{find};
 ghost use Rattle.tcl_subst.specs.Faults.{Changes};
-ghost use Rattle.tcl_subst.specs.Slots.{entered, text_unset, entry_unset, element_unset, unset, link_over, link};
+ghost use Rattle.tcl_subst.specs.Slots.{entered, text_unset, entry_unset, element_unset, unset, linked_over, link};
 
 use crate::element::element;
 use crate::faults::SubstFault;
 use crate::names::Names;
 use crate::reads::text_exists;
-use crate::scope::{Scope, Slot};
+use crate::scope::{Link, Scope, Slot};
 use std::alloc::Global;
 use tcl_values::Value;
 
-/// Removes a variable or an element. On an error the scope is unchanged.
-pub fn unset(scope: &mut Scope, name: &[u8]) -> Result<(), SubstFault>
-    ensures { Changes result (unset name.now scope.old) scope.old scope.new }
+/// Removes a variable, or its element with an index. On an error the scope is unchanged.
+pub fn unset(scope: &mut Scope, variable: &[u8], index: Option<&[u8]>) -> Result<(), SubstFault>
+    ensures { Changes result (unset variable.now (option_copied index.entry) scope.old) scope.old scope.new }
 {
-    match element(name) {
-        None => unset_text(scope, name),
-        Some((array, index)) => unset_element(scope, array, index),
+    match index {
+        None => unset_text(scope, variable),
+        Some(index) => unset_element(scope, variable, index),
     }
 }
 
@@ -48,7 +49,7 @@ fn unset_member(slot: &mut Slot, index: &[u8]) -> Result<(), SubstFault>
     match slot {
         Slot::Text(_) => Err(SubstFault::NotArray),
         Slot::Array(elements) => unset_entry(elements, index),
-        Slot::Link => Err(SubstFault::NoVariable),
+        Slot::Link(_) => Err(SubstFault::NoVariable),
     }
 }
 
@@ -61,26 +62,35 @@ fn unset_entry(elements: &mut Names<Value>, index: &[u8]) -> Result<(), SubstFau
     }
 }
 
-/// Links a name to the variable of that name in the outermost scope. On an error the scope is
-/// unchanged.
-pub fn link(scope: &mut Scope, alloc: Global, name: &[u8]) -> Result<(), SubstFault>
-    ensures { Changes result (link name.now scope.old) scope.old scope.new }
+/// Links a name to another variable. On an error the scope is unchanged.
+pub fn link(scope: &mut Scope, alloc: Global, to: Link, name: &[u8]) -> Result<(), SubstFault>
+    ensures { Changes result (link to name.now scope.old) scope.old scope.new }
 {
     match element(name) {
-        None => link_name(scope, alloc, name),
+        None => link_name(scope, alloc, to, name),
         Some(_) => Ok(()),
     }
 }
 
-fn link_name(scope: &mut Scope, alloc: Global, name: &[u8]) -> Result<(), SubstFault>
-    ensures { Changes result (link_over (find name.now scope.old) name.now scope.old) scope.old scope.new }
+fn link_name(scope: &mut Scope, alloc: Global, to: Link, name: &[u8]) -> Result<(), SubstFault>
+    ensures { Changes result (entered name.now scope.old (linked_over to (find name.now scope.old))) scope.old scope.new }
 {
-    match scope.get(name) {
-        None => {}
-        Some(Slot::Text(_)) => return Err(SubstFault::Exists),
-        Some(Slot::Array(_)) => return Err(SubstFault::Exists),
-        Some(Slot::Link) => return Ok(()),
+    if let Some(slot) = scope.get_mut(name) {
+        return link_slot(slot, to);
     }
-    scope.insert_new(alloc, name, Slot::Link)?;
+    scope.insert_new(alloc, name, Slot::Link(to))?;
     Ok(())
+}
+
+fn link_slot(slot: &mut Slot, to: Link) -> Result<(), SubstFault>
+    ensures { Changes result (linked_over to (Some slot.old)) slot.old slot.new }
+{
+    match slot {
+        Slot::Text(_) => Err(SubstFault::Exists),
+        Slot::Array(_) => Err(SubstFault::Exists),
+        Slot::Link(_) => {
+            *slot = Slot::Link(to);
+            Ok(())
+        }
+    }
 }

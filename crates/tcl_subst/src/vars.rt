@@ -1,29 +1,29 @@
 //! The variables of a script.
 
-ghost use Rattle.std.specs.Prelude.{◌≡◌, ◌≢◌, ◌<◌, ◌==◌, ◌∷◌, [], length, drop, true, Ok, Err, MatchResult, IfOk, IfSome, IfNone};
+ghost use Rattle.std.specs.Prelude.{◌≡◌, ◌≢◌, ◌<◌, ◌==◌, ◌+◌, min, ◌∷◌, [], length, drop, true, Ok, Err, MatchResult, IfOk, IfSome, IfNone};
 ghost use Rattle.std.specs.Option.{option_copied};
 ghost use Rattle.tcl_subst.specs.Faults.{Gives, Changes, Tells};
 ghost use Rattle.tcl_subst.specs.Report.{values_of};
-ghost use Rattle.tcl_subst.specs.Slots.{read};
-ghost use Rattle.tcl_subst.specs.Variables.{list_of, base, home, home_in, member_of, is_global, has, is_link, value_of, array_of, with_value, with_array, without_value, linked, no_variables};
+ghost use Rattle.tcl_subst.specs.Slots.{here, leads, read};
+ghost use Rattle.tcl_subst.specs.Variables.{list_of, home, name_there, place, place_from, scope_at, link_in, member_of, has, value_of, array_of, with_value, with_array, without_value, linked, linked_up, no_variables};
 ghost use Rattle.tcl_subst.specs.Entries.{find};
 ghost use Rattle.tcl_subst.specs.Writes.{write_of, set_to, appended, elements_appended};
 
 use crate::arrays::{elements, make_array};
 use crate::byte_names::ByteNames;
-use crate::element::element;
+use crate::element::parts;
 use crate::faults::SubstFault;
 use crate::lists::list;
 use crate::names::Names;
-use crate::reads::{is_there, member, read};
+use crate::reads::{is_there, read, read_at};
 use crate::report::{add_scope, listed_values};
-use crate::scope::{Scope, Slot};
+use crate::scope::{Link, Scope, Slot, VariablePlace};
 use crate::settles::settle;
 use crate::unsets::{link, unset};
 use crate::write::Write;
 use crate::writes::write;
 use std::alloc::{AllocError, Global};
-use std::collections::LinkedList;
+use std::collections::VecDeque;
 use std::marker::Model;
 use tcl_values::Value;
 use tcl_words::{Packed, Text};
@@ -31,8 +31,8 @@ use tcl_words::{Packed, Text};
 /// The variables of a script: a list of scopes, the innermost of them being the current one
 /// (Tcl(n), proc(n), global(n)).
 ///
-/// A name is looked up in the current scope. If it is a link there, it is looked up in the
-/// outermost scope. A name whose last byte is `)` and that contains a `(` is the name of an array
+/// A name is looked up in the current scope. If it is a link there, it names a variable of a scope
+/// further out (upvar(n)). A name whose last byte is `)` and that contains a `(` is the name of an array
 /// element: the array stands before the first `(`, the index after it.
 ///
 /// Reading returns `NoVariable` if there is no such variable or element. It returns `IsArray` for
@@ -48,7 +48,7 @@ pub struct Vars {
     /// The outermost scope.
     globals: Scope,
     /// The other scopes, the innermost first.
-    locals: LinkedList<Scope>,
+    locals: VecDeque<Scope>,
 }
 
 impl Model for Vars {
@@ -56,34 +56,44 @@ impl Model for Vars {
 
     ghost Value = { Variables };
 
-    ghost view = { λ v. record { globals = v.globals; locals = v.locals } };
+    ghost view = { λ v. record { globals = v.globals; locals = v.locals.items } };
 }
 
-/// Returns the name to look up in a scope: for an element, the name of its array.
-fn base(name: &[u8]) -> &[u8]
-    ensures { result.now ≡ base name.now }
-{
-    match element(name) {
-        None => name,
-        Some((array, _)) => array,
-    }
-}
-
-fn is_link(scope: &Scope, name: &[u8]) -> bool
-    ensures { result ≡ is_link (find name.now scope.now) }
+/// Returns where the name of a variable leads in a scope.
+fn leads(scope: &Scope, alloc: Global, name: &[u8]) -> Result<VariablePlace, AllocError>
+    ensures { IfOk result (λ p. p ≡ leads (find name.now scope.now)) }
 {
     match scope.get(name) {
-        None => false,
-        Some(Slot::Text(_)) => false,
-        Some(Slot::Array(_)) => false,
-        Some(Slot::Link) => true,
+        None => Ok(here()),
+        Some(Slot::Text(_)) => Ok(here()),
+        Some(Slot::Array(_)) => Ok(here()),
+        Some(Slot::Link(link)) => link.place().copied(alloc),
     }
+}
+
+fn here() -> VariablePlace
+    ensures { result ≡ here }
+{
+    VariablePlace {
+        calls: 0,
+        name: None,
+    }
+}
+
+/// Returns the sum of two numbers of calls, or the number of all calls if that is less.
+fn bounded(calls: usize, more: usize, depth: usize) -> usize
+    ensures { result ≡ min (calls + more) depth }
+{
+    if depth <= calls {
+        return depth;
+    }
+    if depth - calls <= more {
+        return depth;
+    }
+    calls + more
 }
 
 impl Vars {
-    ghost use Rattle.std.specs.Borrow.{sem};
-    ghost use Rattle.tcl_subst.specs.HomeLending.{lends_home};
-
     /// Creates an empty outermost scope without allocating.
     pub fn new(alloc: Global) -> Vars
         ensures { result ≡ no_variables }
@@ -91,65 +101,62 @@ impl Vars {
         Vars {
             alloc,
             globals: Names::new(alloc),
-            locals: LinkedList::new(alloc),
+            locals: VecDeque::new(alloc),
         }
     }
 
-    /// Returns whether a name is looked up in the outermost scope.
-    fn is_global(&self, name: &[u8]) -> bool
-        ensures { result ≡ is_global name.now self.now }
-    {
-        match self.locals.front() {
-            None => true,
-            Some(scope) => is_link(scope, base(name)),
-        }
-    }
-
-    /// Returns the scope in which a name is looked up.
+    /// Returns the scope so many calls further out than the current one, or the outermost one.
     #[inline(always)]
-    fn home(&self, name: &[u8]) -> &Scope
-        ensures { result.now ≡ home name.now self.now }
+    fn scope_at(&self, calls: usize) -> &Scope
+        ensures { result.now ≡ scope_at calls self.now }
     {
-        self.home_of(base(name))
-    }
-
-    /// Returns the scope in which a name is looked up. The name is not that of an element.
-    #[inline(always)]
-    fn home_of(&self, name: &[u8]) -> &Scope
-        ensures { result.now ≡ home_in name.now self.now.globals self.now.locals }
-    {
-        match self.locals.front() {
+        match self.locals.get(calls) {
             None => &self.globals,
-            Some(scope) => {
-                if is_link(scope, name) {
-                    return &self.globals;
-                }
-                scope
+            Some(scope) => scope,
+        }
+    }
+
+    /// Returns the scope in which a variable is looked up, and its name there.
+    #[inline(always)]
+    fn there<'s: 'n, 'n>(&'s self, name: &'n [u8]) -> (&'s Scope, &'n [u8])
+        ensures scope { result.0.now ≡ home name.now self.now }
+        ensures name { result.1.now ≡ name_there name.now self.now }
+    {
+        let Some(scope) = self.locals.front() else {
+            return (&self.globals, name);
+        };
+        match scope.get(name) {
+            None => (scope, name),
+            Some(Slot::Text(_)) => (scope, name),
+            Some(Slot::Array(_)) => (scope, name),
+            Some(Slot::Link(link)) => {
+                let place = link.place();
+                (self.scope_at(place.calls), place.name_or(name))
             }
         }
     }
 
-    /// Returns the current scope for a change, if the name is looked up there and it isn't the
-    /// outermost scope.
-    fn local_mut(&mut self, name: &[u8]) -> Option<&mut Scope>
-        ensures* writes_back { sem 𝓛 (lends_home name.now self.entry result) }
-        ensures value { IfSome result (λ s. s.now ≡ home name.now self.old) }
-        ensures global { IfNone result (is_global name.now self.old ≡ true) }
+    /// Returns where a variable of the current scope is.
+    fn place(&self, name: &[u8]) -> Result<VariablePlace, AllocError>
+        ensures { IfOk result (λ p. p ≡ place name.now self.now) }
     {
-        if self.is_global(name) {
-            return None;
+        match self.locals.front() {
+            None => Ok(here()),
+            Some(scope) => leads(scope, self.alloc, name),
         }
-        self.locals.front_mut()
     }
 
     fn write(&mut self, name: &[u8], by: Write<'_>) -> Result<(), SubstFault>
         ensures { Changes result (with_value (write_of by.entry) name.now self.old) self.old self.new }
     {
         let alloc = self.alloc;
-        if let Some(scope) = self.local_mut(name) {
-            return write(scope, alloc, name, by);
+        let (variable, index) = parts(name);
+        let place = self.place(variable)?;
+        let variable = place.name_or(variable);
+        if let Some(scope) = self.locals.get_mut(place.calls) {
+            return write(scope, alloc, variable, index, by);
         }
-        write(&mut self.globals, alloc, name, by)
+        write(&mut self.globals, alloc, variable, index, by)
     }
 
     /// Returns the value of a variable or an element, shared. The errors are `NoVariable`,
@@ -158,7 +165,9 @@ impl Vars {
     pub fn get(&self, name: &[u8]) -> Result<Value, SubstFault>
         ensures { Gives result (value_of name.now self.now) }
     {
-        let value = read(self.home(name), name)?;
+        let (variable, index) = parts(name);
+        let (scope, variable) = self.there(variable);
+        let value = read_at(scope, variable, index)?;
         Ok(value.shared(self.alloc)?)
     }
 
@@ -166,20 +175,26 @@ impl Vars {
     pub fn get_member(&self, array: &[u8], index: &[u8]) -> Result<Value, SubstFault>
         ensures { Gives result (member_of array.now index.now self.now) }
     {
-        let value = member(self.home_of(array), array, index)?;
+        let (scope, array) = self.there(array);
+        let value = read_at(scope, array, Some(index))?;
         Ok(value.shared(self.alloc)?)
     }
 
-    /// Adopts the list that another owner parsed of the value of a variable or an element. No value
-    /// changes.
+    /// Adopts the list that another owner parsed of the value of a variable or an element, unless
+    /// memory is refused. No value changes.
     fn settle(&mut self, name: &[u8])
         ensures { self.new ≡ self.old }
     {
         let alloc = self.alloc;
-        if let Some(scope) = self.local_mut(name) {
-            return settle(scope, alloc, name);
+        let (variable, index) = parts(name);
+        let Ok(place) = self.place(variable) else {
+            return;
+        };
+        let variable = place.name_or(variable);
+        if let Some(scope) = self.locals.get_mut(place.calls) {
+            return settle(scope, alloc, variable, index);
         }
-        settle(&mut self.globals, alloc, name)
+        settle(&mut self.globals, alloc, variable, index)
     }
 
     /// Returns the value of a variable or an element, shared, as `get` does. If another owner
@@ -230,21 +245,26 @@ impl Vars {
     pub fn peek(&self, name: &[u8]) -> Result<&[u8], SubstFault>
         ensures { MatchResult result (λ v. value_of name.now self.now ≡ Ok v.now) (λ f. value_of name.now self.now ≡ Err f) }
     {
-        Ok(read(self.home(name), name)?.as_slice())
+        let (variable, index) = parts(name);
+        let (scope, variable) = self.there(variable);
+        Ok(read_at(scope, variable, index)?.as_slice())
     }
 
     /// Returns whether a variable or an element exists.
     pub fn exists(&self, name: &[u8]) -> bool
         ensures { result ≡ has name.now self.now }
     {
-        is_there(self.home(name), name)
+        let (variable, index) = parts(name);
+        let (scope, variable) = self.there(variable);
+        is_there(scope, variable, index)
     }
 
     /// Returns the elements of an array. `None` if there is no such array.
     pub fn array(&self, name: &[u8]) -> Option<&Names<Value>>
         ensures { option_copied result ≡ array_of name.now self.now }
     {
-        elements(self.home(name), name)
+        let (scope, name) = self.there(name);
+        elements(scope, name)
     }
 
     /// Makes a missing variable an array without elements. `NotArray` if it is a text. On an error
@@ -253,7 +273,9 @@ impl Vars {
         ensures { Changes result (with_array name.now self.old) self.old self.new }
     {
         let alloc = self.alloc;
-        if let Some(scope) = self.local_mut(name) {
+        let place = self.place(name)?;
+        let name = place.name_or(name);
+        if let Some(scope) = self.locals.get_mut(place.calls) {
             return make_array(scope, alloc, name);
         }
         make_array(&mut self.globals, alloc, name)
@@ -296,10 +318,13 @@ impl Vars {
         ensures told { Tells result (list_of name.now self.old) }
     {
         let alloc = self.alloc;
-        if let Some(scope) = self.local_mut(name) {
-            return list(scope, alloc, name);
+        let (variable, index) = parts(name);
+        let place = self.place(variable)?;
+        let variable = place.name_or(variable);
+        if let Some(scope) = self.locals.get_mut(place.calls) {
+            return list(scope, alloc, variable, index);
         }
-        list(&mut self.globals, alloc, name)
+        list(&mut self.globals, alloc, variable, index)
     }
 
     /// Returns the variables and elements of the outermost scope that have a value, with their
@@ -318,10 +343,24 @@ impl Vars {
     pub fn unset(&mut self, name: &[u8]) -> Result<(), SubstFault>
         ensures { Changes result (without_value name.now self.old) self.old self.new }
     {
-        if let Some(scope) = self.local_mut(name) {
-            return unset(scope, name);
+        let (variable, index) = parts(name);
+        let place = self.place(variable)?;
+        let variable = place.name_or(variable);
+        if let Some(scope) = self.locals.get_mut(place.calls) {
+            return unset(scope, variable, index);
         }
-        unset(&mut self.globals, name)
+        unset(&mut self.globals, variable, index)
+    }
+
+    fn link(&mut self, place: VariablePlace, name: &[u8]) -> Result<(), SubstFault>
+        ensures { Changes result (link_in place name.now self.old self.old.locals) self.old self.new }
+    {
+        let alloc = self.alloc;
+        let link_to = Link::new(alloc, place)?;
+        match self.locals.front_mut() {
+            None => Ok(()),
+            Some(scope) => link(scope, alloc, link_to, name),
+        }
     }
 
     /// Links a name of the current scope to the variable of that name in the outermost scope. Does
@@ -330,11 +369,38 @@ impl Vars {
     pub fn link_global(&mut self, name: &[u8]) -> Result<(), SubstFault>
         ensures { Changes result (linked name.now self.old) self.old self.new }
     {
-        let alloc = self.alloc;
-        match self.locals.front_mut() {
-            None => Ok(()),
-            Some(scope) => link(scope, alloc, name),
-        }
+        let calls = self.locals.len();
+        self.link(VariablePlace { calls, name: None }, name)
+    }
+
+    /// Links `my` of the current scope to `other` of the scope so many calls further out; past the
+    /// last call that is the outermost one. If `other` is a link there, `my` leads where it leads.
+    /// Does nothing in the outermost scope, or if `my` is the name of an element. `Exists` if `my`
+    /// is already the name of a variable. On an error nothing changes.
+    pub fn link_up(&mut self, calls: usize, other: &[u8], my: &[u8]) -> Result<(), SubstFault>
+        ensures { Changes result (linked_up calls other.now my.now self.old) self.old self.new }
+    {
+        let place = self.place_from(calls, other)?;
+        self.link(place, my)
+    }
+
+    /// Returns where a variable of the scope so many calls further out leads.
+    fn place_from(&self, calls: usize, other: &[u8]) -> Result<VariablePlace, AllocError>
+        ensures { IfOk result (λ p. p ≡ place_from calls other.now self.now) }
+    {
+        let place = leads(self.scope_at(calls), self.alloc, other)?;
+        let name = Text::from_slice(self.alloc, place.name_or(other))?;
+        Ok(VariablePlace {
+            calls: bounded(calls, place.calls, self.locals.len()),
+            name: Some(name),
+        })
+    }
+
+    /// Returns the number of calls under way.
+    pub fn calls(&self) -> usize
+        ensures { result ≡ length self.now.locals }
+    {
+        self.locals.len()
     }
 
     /// Begins a scope without variables, which becomes the current one. On an error nothing

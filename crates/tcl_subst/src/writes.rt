@@ -1,12 +1,12 @@
 //! Changes a scope.
 
+ghost use Rattle.std.specs.Option.{option_copied};
 ghost use Rattle.std.specs.Prelude.{Some};
 ghost use Rattle.tcl_subst.specs.Entries.{find};
 ghost use Rattle.tcl_subst.specs.Faults.{Changes};
 ghost use Rattle.tcl_subst.specs.Slots.{entered, entry_written, text_written, element_written, written};
 ghost use Rattle.tcl_subst.specs.Writes.{write_of};
 
-use crate::element::element;
 use crate::faults::SubstFault;
 use crate::names::Names;
 use crate::scope::{Scope, Slot};
@@ -14,19 +14,20 @@ use crate::write::{Write, write_value};
 use std::alloc::Global;
 use tcl_values::Value;
 
-/// Writes a variable or an element. A missing value counts as empty. On an error the scope is
-/// unchanged.
+/// Writes a variable, or its element with an index. A missing value counts as empty. On an error
+/// the scope is unchanged.
 pub fn write(
     scope: &mut Scope,
     alloc: Global,
-    name: &[u8],
+    variable: &[u8],
+    index: Option<&[u8]>,
     write: Write<'_>,
 ) -> Result<(), SubstFault>
-    ensures { Changes result (written (write_of write.entry) name.now scope.old) scope.old scope.new }
+    ensures { Changes result (written (write_of write.entry) variable.now (option_copied index.entry) scope.old) scope.old scope.new }
 {
-    match element(name) {
-        None => write_text(scope, alloc, name, write),
-        Some((array, index)) => write_element(scope, alloc, array, index, write),
+    match index {
+        None => write_text(scope, alloc, variable, write),
+        Some(index) => write_element(scope, alloc, variable, index, write),
     }
 }
 
@@ -53,7 +54,7 @@ fn write_slot(slot: &mut Slot, alloc: Global, write: Write<'_>) -> Result<(), Su
     match slot {
         Slot::Text(value) => write_value(value, alloc, write),
         Slot::Array(_) => Err(SubstFault::IsArray),
-        Slot::Link => {
+        Slot::Link(_) => {
             let mut value = Value::new(alloc);
             write_value(&mut value, alloc, write)?;
             *slot = Slot::Text(value);
@@ -91,7 +92,7 @@ fn write_member(
     match slot {
         Slot::Text(_) => Err(SubstFault::NotArray),
         Slot::Array(elements) => write_entry(elements, alloc, index, write),
-        Slot::Link => {
+        Slot::Link(_) => {
             let mut elements = Names::new(alloc);
             write_entry(&mut elements, alloc, index, write)?;
             *slot = Slot::Array(elements);

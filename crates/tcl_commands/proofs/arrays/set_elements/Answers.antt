@@ -1,6 +1,6 @@
 use Rattle.std.proofs.Common.{◌≡◌, ◌+◌, ◌*◌, ◌<◌, ◌≤◌, length, IfOk, subst, ◌∙◌, arith}
 use Rattle.tcl_commands.specs.Arrays.{set_elements}
-use Rattle.tcl_commands.specs.Said.{Outcome}
+use Rattle.tcl_results.specs.Said.{Outcome}
 use Rattle.tcl_commands.proofs.Pairwise.{set_on, set_end}
 use Rattle.tcl_commands.proofs.arrays.set_elements.Goals as goal
 

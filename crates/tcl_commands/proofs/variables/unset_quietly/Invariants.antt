@@ -1,5 +1,5 @@
 use Rattle.std.proofs.Common.{◌≡◌, length}
-use Rattle.tcl_commands.specs.Setting.{unset_quietly}
+use Rattle.tcl_results.specs.Setting.{unset_quietly}
 use Rattle.tcl_commands.proofs.variables.unset_quietly.Given as goal
 
 abbrev pub invariant-loop-names : goal.invariant-loop-names

@@ -1,4 +1,4 @@
-use Rattle.tcl_expr.specs.declared.stack.Item.TheVariants as items
+use Rattle.tcl_expr.specs.declared.stack.StackEntry.TheVariants as items
 use Rattle.std.proofs.Common.{pos}
 use Rattle.tcl_expr.proofs.Serving.{second_behind}
 use Rattle.tcl_expr.proofs.stack.last_but_one.Goals as goal

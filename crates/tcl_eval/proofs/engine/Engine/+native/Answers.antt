@@ -5,8 +5,8 @@ use Rattle.tcl_subst.specs.Rests.{rest, told}
 use Rattle.tcl_subst.specs.Variables.{Variables}
 use Rattle.tcl_subst.specs.declared.fill_step.FillStep.{FillStep}
 use Rattle.tcl_subst.specs.declared.fill_step.FillStep.TheVariants.{NeedScript}
-use Rattle.tcl_commands.specs.declared.code.Code.TheVariants.{Error}
-use Rattle.tcl_commands.specs.Groups.{Turns}
+use Rattle.tcl_results.specs.declared.code.Code.TheVariants.{Error}
+use Rattle.tcl_control.specs.Groups.{Turns}
 use Rattle.tcl_eval.specs.declared.advance.Advance.{Advance}
 use Rattle.tcl_eval.specs.declared.begun.Begun.{Begun}
 use Rattle.tcl_eval.specs.declared.engine.Engine.{Engine}

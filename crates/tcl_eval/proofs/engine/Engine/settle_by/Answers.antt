@@ -1,5 +1,5 @@
 use Rattle.std.proofs.Common.{◌≡◌, ◌+◌, ℕ, List, Result, Err, sym, ◌∙◌, ap, subst, arith}
-use Rattle.tcl_commands.specs.declared.code.Code.{Code}
+use Rattle.tcl_results.specs.declared.code.Code.{Code}
 use Rattle.tcl_eval.specs.declared.frame.Frame.{Frame}
 use Rattle.tcl_eval.specs.declared.out.Leave.{Leave}
 use Rattle.tcl_eval.specs.Native.{Known, ended, owed}

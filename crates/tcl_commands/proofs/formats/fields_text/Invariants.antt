@@ -1,6 +1,0 @@
-use Rattle.std.proofs.Common.{◌≡◌, take, flat_map}
-use Rattle.tcl_commands.specs.Formats.{field_text}
-use Rattle.tcl_commands.proofs.formats.fields_text.Given as goal
-
-abbrev pub invariant-loop-field : goal.invariant-loop-field
-invariant-loop-field l = l.text ≡ flat_map field_text (take l.field-index l.fields)

@@ -1,9 +1,0 @@
-use Rattle.std.proofs.Common.{◌≡◌, length}
-use Rattle.tcl_commands.specs.Groups.{assigned, all_names, values_in}
-use Rattle.tcl_commands.proofs.groups.assign_more.Given as goal
-
-abbrev pub invariant-loop-rest : goal.invariant-loop-rest
-invariant-loop-rest l = assigned (all_names l.rest) (values_in l.rest l.turn) l.vars ≡ assigned (all_names l.pairs) (values_in l.pairs l.turn) l.fn.vars
-
-abbrev pub decreases-loop-rest : goal.decreases-loop-rest
-decreases-loop-rest l = length l.rest

@@ -1,9 +1,0 @@
-use Rattle.std.proofs.Common.{◌≡◌, ◌++◌, length}
-use Rattle.tcl_commands.specs.Sorting.{chosen, elements_at}
-use Rattle.tcl_commands.proofs.sorting.elements_at.Given as goal
-
-abbrev pub invariant-loop-rest : goal.invariant-loop-rest
-invariant-loop-rest l = l.made ++ elements_at l.elements (chosen l.given l.rest) ≡ elements_at l.elements (chosen l.given l.entries)
-
-abbrev pub decreases-loop-rest : goal.decreases-loop-rest
-decreases-loop-rest l = length l.rest

@@ -1,0 +1,9 @@
+use Rattle.std.proofs.Common.{◌≡◌, ◌-◌, drop, length}
+use Rattle.tcl_control.specs.Choosing.{body, case_words}
+use Rattle.tcl_control.proofs.choosing.body.Given as goal
+
+abbrev pub invariant-loop-alloc : goal.invariant-loop-alloc
+invariant-loop-alloc l = body (drop l.at (case_words l.cases)) ≡ body (drop l.from (case_words l.cases))
+
+abbrev pub decreases-loop-alloc : goal.decreases-loop-alloc
+decreases-loop-alloc l = length (case_words l.cases) - l.at

@@ -1,0 +1,4 @@
+pub mod Parts
+pub mod Fielded
+pub mod Capped
+pub mod Signs

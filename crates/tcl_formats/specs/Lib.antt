@@ -1,0 +1,4 @@
+pub mod Parts
+pub mod Templates
+pub mod Formats
+pub mod Scanning

@@ -1,0 +1,6 @@
+pub mod Matches
+pub mod Shown
+pub mod Parens
+pub mod Inlining
+pub mod Regexps
+pub mod Replacing

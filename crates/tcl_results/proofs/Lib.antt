@@ -1,0 +1,4 @@
+pub mod Onto
+mod Fronts
+pub mod Assigned
+pub mod Limits

@@ -1,0 +1,13 @@
+pub mod Texts
+pub mod Said
+pub mod Given
+pub mod Sets
+pub mod Says
+pub mod Switches
+pub mod Front
+pub mod Indices
+pub mod Cases
+pub mod Setting
+pub mod Values
+pub mod Ways
+pub mod White

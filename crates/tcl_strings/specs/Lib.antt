@@ -1,0 +1,3 @@
+pub mod Classes
+pub mod Mapping
+pub mod Strings
