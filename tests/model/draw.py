@@ -24,7 +24,7 @@ MARKS = [(b"-nocase", 0.3), (b"-indices", 0.2), (b"-notransfer", 0.1)]
 SHOWN = [b"buffer", b"buffer", b"0,string", b"0,string", b"1,string", b"0,start", b"1,end", b"spawn_id"]
 ASKED = [b"match_max", b"match_max -d", b"remove_nulls", b"log_user -info", b"wait", b"set spawn_id", b"set timeout"]
 FLAGS = [b"-tty", b"-tty", b"-notty", b"-nottycopy", b"-nottyinit", b"-ignore SIGHUP", b"-noecho"]
-ENDS = [b"break", b"continue", b"{return r}", b"{set n got}", b"{error no}", b"{exit 3}", b"{}"]
+ENDS = [b"break", b"continue", b"{return r}", b"{return -code break}", b"{return -code return r}", b"{return -code error r}", b"{set n got}", b"{error no}", b"{exit 3}", b"{}"]
 
 # What a procedure begins with.
 FRONTS = [

@@ -17,11 +17,15 @@ OPERATIONS = {
     b"-": lambda a, b: a - b,
 }
 
+# The codes that `return` takes.
+CODES = {b"ok": 0, b"error": ERROR, b"return": RETURN, b"break": BREAK, b"continue": CONTINUE}
+CODES |= {b"%d" % code: code for code in CODES.values()}
+
 # How many scripts may be evaluated within one another.
 NESTED = 200
 
 # The other commands of the language.
-LEFT_OUT = b"unset append lrange for eval string info concat join lassign linsert lrepeat lreplace lreverse lsearch lset lsort split array format scan regexp regsub package exp_version expect_version exp_internal debug exp_debug strace exp_strace trap exp_trap exp_spawn exp_send_user exp_close exp_wait exp_match_max exp_remove_nulls exp_log_user exp_exit".split()
+LEFT_OUT = b"unset append lrange for eval string info concat join lassign linsert lrepeat lreplace lreverse lsearch lset lsort split subst array format scan regexp regsub package exp_version expect_version exp_internal debug exp_debug strace exp_strace trap exp_trap exp_spawn exp_send_user exp_close exp_wait exp_match_max exp_remove_nulls exp_log_user exp_exit".split()
 
 # The simulated commands that a procedure may replace.
 REDEFINABLE = b"sleep exp_sleep after upvar".split()
@@ -36,11 +40,17 @@ class Stopped(Exception):
 
 
 class Thrown(Exception):
-    """A code that isn't 0, and its value."""
+    """A code that isn't 0, and its value. After `return` it carries the code of what ends there."""
 
-    def __init__(self, code, value=b""):
-        super().__init__(code, value)
-        self.code, self.value = code, value
+    def __init__(self, code, value=b"", carried=0):
+        super().__init__(code, value, carried)
+        self.code, self.value, self.carried = code, value, carried
+
+    def returned(self):
+        """The value behind a `return` that has ended a procedure or the script, or the code that it carries."""
+        if self.carried:
+            raise Thrown(self.carried, self.value)
+        return self.value
 
 
 def failed(text, quoted=None):
@@ -102,9 +112,10 @@ class Interpreter:
         except Stopped as stop:
             return stop.args[0], b""
         except Thrown as thrown:
-            if thrown.code == RETURN:
+            code = thrown.carried if thrown.code == RETURN else thrown.code
+            if code in (0, RETURN):
                 return "exit:0", b""
-            return "error", self.astray(thrown).value
+            return "error", self.astray(Thrown(code, thrown.value)).value
         return "exit:0", b""
 
     def astray(self, thrown):
@@ -277,7 +288,16 @@ class Interpreter:
         raise Thrown(ERROR, words[0])
 
     def do_return(self, words):
-        raise Thrown(RETURN, *words)
+        code, rest = b"ok", words
+        while len(rest) > 1:
+            option, word, *rest = rest
+            if option == b"-code":
+                code = word
+            elif option not in (b"-errorinfo", b"-errorcode"):
+                raise failed(b"bad flag", option) if option.startswith(b"-") else failed(b"wrong # args for", b"return")
+        if code not in CODES:
+            raise failed(b"bad option", code)
+        raise Thrown(RETURN, *(rest or [b""]), CODES[code])
 
     def do_break(self, _words):
         raise Thrown(BREAK)
@@ -349,7 +369,7 @@ class Interpreter:
             return self.evaluate(body)
         except Thrown as thrown:
             if thrown.code == RETURN:
-                return thrown.value
+                return thrown.returned()
             raise self.astray(thrown) if thrown.code in (BREAK, CONTINUE) else thrown
         finally:
             self.scopes.pop()

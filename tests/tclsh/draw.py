@@ -277,7 +277,9 @@ class Program(Writer):
         self.rng.shuffle(flags)
         if self.chance(0.25):
             flags += ["-start", self.index()]
-        pattern = self.word(self.regular()) if mode == "-regexp" else self.of("t") if mode == "-exact" else self.glob()
+        # with -nocase pieces of letters would share bytes
+        regular = self.rng.choice(EITHER_CASE) if "-nocase" in flags else self.regular()
+        pattern = self.word(regular) if mode == "-regexp" else self.of("t") if mode == "-exact" else self.glob()
         return self.call("lsearch", *flags, self.listed(), pattern)
 
     def regular(self, can_be_empty=True):
@@ -444,6 +446,18 @@ class Program(Writer):
         name = self.element_name() if kind == "t" and self.chance(0.3) else self.variable(kind)
         words = [self.word(self.literal(kind)) if self.in_loop else self.of(kind) for _ in range(self.rng.choice([1, 1, 1, 2]))]
         return self.call("append", name, *words)
+
+    def t_subst(self):
+        # tclsh writes a list otherwise where an element has a bracket, a quote or a backslash
+        return self.substituted([it for it in REPLACED if not set(it) & set(b'[]"') and it != rb"\\"])
+
+    def i_subst(self):
+        return self.call("string length", b"[" + self.substituted(REPLACED) + b"]")
+
+    def substituted(self, parts):
+        # a bracket in an index is a byte here: LANGUAGE, "Against Tcl"
+        pieces = [b"$" + self.variable(self.rng.choice("iwt")), b"${" + self.variable("t") + b"}", *self.rng.choices(parts, k=3)]
+        return self.call("subst", *[b"-nocommands"] * self.rng.choice([1, 1, 2]), self.word(b"".join(self.rng.choices(pieces, k=4))))
 
     def w_part(self):
         return self.part_of("w")
@@ -779,7 +793,8 @@ class Program(Writer):
             names.append(b"args")
         known, self.procs, self.in_proc = self.procs, [], has_args
         commands = [self.rng.choice([self.e_global, self.e_upvar])()] if self.chance(0.4) else []
-        last = self.call("return", self.of(kind)) if self.chance(0.3) else self.command_of(kind)
+        codes = ["-code", self.rng.choice(["ok", "0", "ok", "error", "4"])] if self.chance(0.2) else []
+        last = self.call("return", *codes, self.of(kind)) if self.chance(0.3) else self.command_of(kind)
         body = self.script([*commands, *[self.command_of(self.rng.choice("iwte")) for _ in range(self.rng.randrange(2))], last])
         name = f"f{self.serial}_{len(known)}"
         self.in_proc, self.procs = False, [*known, (name, kind, kinds, has_default, has_args)]
@@ -887,6 +902,9 @@ SCANNED = [(b"%d", "i"), (b"%d.%d", "ii"), (b"%s %d", "ti"), (b"%*s %s", "t"), (
 TEXTS_TO_SCAN = [b"12", b"1.5", b"ab 7", b"a5 6 b", b" -3x", b"4,zz top", b"", b"+8", b"x"]
 FORMATS = b"%d %5d| %-5d| %05d %.3d %6.3d %x %X %o %u %04x %c %3c %d%% %d,%d %ld %*d %08X %-4x| %.0d %02d:%02d".split()
 
+# Parts of a text that subst replaces, or leaves as they are.
+REPLACED = rb"$a(x) $b($w1) ${a(y)} $a($a(x)) $ $. \n \x41 \101 \u007e \$ \[ \\ [list [ ] [$w1] ; - # )".split() + [b" ", b'"', b"\n", b"\\\n  "]
+
 # Operators that bind looser than a shift, and the one that makes a number small.
 LOOSE = "< > <= >= == != & ^ | && || >>".split()
 
@@ -906,9 +924,9 @@ def weights(text):
 
 # What is drawn for each kind, and how often.
 MAKERS = {
-    "i": weights("set 3 incr 3 expr 14 llength 3 length 3 compare 3 match 3 first 4 is 4 lsearch 3 regexp 5 regsub 2 scan 2 exists 2 array 2 catch 4 lindex 2 chosen 2 call 4"),
+    "i": weights("set 3 incr 3 expr 14 llength 3 length 3 compare 3 match 3 first 4 is 4 lsearch 3 regexp 5 regsub 2 scan 2 exists 2 array 2 catch 4 lindex 2 subst 1 chosen 2 call 4"),
     "w": weights("set 4 append 3 part 6 map 3 concat 2 format 3 chosen 2 call 4"),
-    "t": weights("set 4 append 3 part 7 map 3 format 5 lindex 5 join 4 element 4 lsearch 2 regsub 4 chosen 3 error 1 refused 1.5 call 4"),
+    "t": weights("set 4 append 3 part 7 map 3 format 5 lindex 5 join 4 element 4 lsearch 2 regsub 4 subst 2 chosen 3 error 1 refused 1.5 call 4"),
     "l": weights(
         "set 2 list 4 expanded 2 split 4 lrange 3 linsert 3 lreplace 3 lreverse 2 lrepeat 2 lsort 3 lsort_index 2 lsearch 2 concat 2 lappend 3"
         " lset 3 lassign 3 regexp 3 array 2"
@@ -936,6 +954,7 @@ lsort "a \{"   join "\{a"   lassign "\{" t1   lreverse "\{"   lsearch "\{" a   l
 lsort -index 1 {{a b} c}   lsearch -none {a} a   format %d   format %d x   format %q a   scan a %q t1   scan a %d t1 t2   expr 1 +
 expr {1 2}   expr {(1}   expr {1)}   expr {a}   expr {$}   expr {"a" + 1}   expr {!"a"}   expr {~true}   expr {1 / 0}   expr {1 % 0}
 expr {1 << -1}   expr {0 ** -1}   upvar   upvar a   upvar 1 a   upvar a b   upvar #0 a   upvar x a b
+subst   subst a b   subst -none a   subst -nocommands {$nosuch}   subst -nocommands {$a(}   subst -nocommands "\${"
 """.strip(b"\n"))
 
 # What may be drawn at the greatest depth.

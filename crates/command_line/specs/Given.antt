@@ -39,6 +39,10 @@ env_told matches = words_told (codes "env") matches
 abbrev pub sets_told : ArgMatches → List (List ℕ)
 sets_told matches = words_told (codes "set") matches
 
+-- The words of `--secret`.
+abbrev pub secrets_told : ArgMatches → List (List ℕ)
+secrets_told matches = words_told (codes "secret") matches
+
 -- The word of `--each`.
 abbrev pub each_told : ArgMatches → Option (List ℕ)
 each_told matches = first_value (found_of matches) (codes "each")

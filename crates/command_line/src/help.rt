@@ -113,7 +113,8 @@ hexadecimal digits, a carriage return as \\r, and a backslash as two. A byte tha
 isn't UTF-8 is written as \\x and digits too. Tabs and ends of lines are kept,
 with their carriage returns. Counts are those of the unescaped bytes.
 
---set, --env, --env-all and --each set variables: see `exprun run --help`.
+--set, --secret, --env, --env-all and --each set variables: see `exprun run
+--help`.
 
 --transcripts also writes each transcript, unescaped, to a file DIR/N-NAME. N is
 the script's number, NAME the last part of its file's name. DIR is created if it
@@ -196,6 +197,10 @@ own, if it has one. --env-all first sets env to all of exprun's own environment.
 Programs have the environment of exprun in any case. A log contains no
 variables, so give replay the same options.
 
+--secret NAME=FILE sets the variable NAME to the bytes of FILE, without a newline
+at their end. In all that exprun prints and writes, NAME then stands in place of
+these bytes. Only the record is unchanged.
+
 --each runs each FILE once per row of LIST, a file of comma-separated values
 (CSV). Its first line names variables, and each later line, a row, has their
 values:
@@ -203,8 +208,9 @@ values:
     device,password
     sw001,\"s3,same\"
 
---each sets them after --set. A report then names its script FILE:VALUE, with
-the row's first value. LIST has at most 64 rows, or fewer for several FILEs.
+--each sets them after --set and --secret. A report then names its script
+FILE:VALUE, with the row's first value. LIST has at most 64 rows, or fewer for
+several FILEs.
 
 --explain writes to FILE, once all scripts have ended, what each script did
 at each event and what it then waited for: see `exprun explain --help`. If FILE
@@ -238,7 +244,7 @@ pub const SCRIPT: &str = "\
 All words after FILE belong to the script, even if they begin with -. The
 variable argv0 is FILE, argv the list of the ARGs, and argc their number. The
 array env is exprun's own environment. With --env or --env-none it is only what
---env sets. --set comes last, so it may replace argv.
+--env sets. --set and --secret come last, so they may replace argv.
 
 What the script shows is printed on standard output as it appears, byte for
 byte, and nothing else is. Programs are run on terminals, as by `run --host`:

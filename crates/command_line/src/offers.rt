@@ -111,6 +111,12 @@ const SET: Offer = Offer {
     help: "Set the variable NAME of scripts to VALUE",
 };
 
+const SECRET: Offer = Offer {
+    name: "secret",
+    takes: Takes::Words("NAME=FILE"),
+    help: "Set NAME to the secret in FILE, and show NAME for it",
+};
+
 const EACH: Offer = Offer {
     name: "each",
     takes: Takes::Word("LIST"),
@@ -261,12 +267,13 @@ const TIMELINE: Offer = Offer {
     help: "The timeline of its children, or /dev/stdin",
 };
 
-static RUN: [Offer; 22] = [
+static RUN: [Offer; 23] = [
     WORKERS,
     EACH,
     LIMIT,
     STEPS,
     SET,
+    SECRET,
     ENV,
     ENV_ALL,
     HOST,
@@ -286,12 +293,13 @@ static RUN: [Offer; 22] = [
     SOURCES,
 ];
 
-static REPLAY: [Offer; 16] = [
+static REPLAY: [Offer; 17] = [
     CUT,
     EACH,
     LIMIT,
     STEPS,
     SET,
+    SECRET,
     ENV,
     ENV_ALL,
     HOST,
@@ -305,10 +313,11 @@ static REPLAY: [Offer; 16] = [
     SOURCES,
 ];
 
-static SCRIPT: [Offer; 10] = [
+static SCRIPT: [Offer; 11] = [
     LIMIT,
     ALONE_STEPS,
     SET,
+    SECRET,
     ENV,
     ENV_NONE,
     NO_HOST,
@@ -320,12 +329,13 @@ static SCRIPT: [Offer; 10] = [
 
 static SHOW: [Offer; 2] = [SHOWN_SCRIPT, LOG];
 
-static EXPLAIN: [Offer; 10] = [
+static EXPLAIN: [Offer; 11] = [
     TOLD_SCRIPT,
     EACH,
     LIMIT,
     STEPS,
     SET,
+    SECRET,
     ENV,
     ENV_ALL,
     HOST,
@@ -333,8 +343,8 @@ static EXPLAIN: [Offer; 10] = [
     SOURCES,
 ];
 
-static PLAN: [Offer; 9] = [
-    LIMIT, STEPS, SET, ENV, ENV_ALL, HOST, TIMING, SOURCE, TIMELINE,
+static PLAN: [Offer; 10] = [
+    LIMIT, STEPS, SET, SECRET, ENV, ENV_ALL, HOST, TIMING, SOURCE, TIMELINE,
 ];
 
 static CHECK: [Offer; 1] = [SOURCES];

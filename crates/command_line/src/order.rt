@@ -58,6 +58,8 @@ pub struct Variables<'a> {
     pub env: Vec<&'a str>,
     /// The other variables, in order: NAME=VALUE.
     pub sets: Vec<&'a str>,
+    /// The secrets, in order: NAME=FILE.
+    pub secrets: Vec<&'a str>,
 }
 
 /// The request for a replay of a log.
@@ -119,7 +121,7 @@ impl Run<'_> {
     /// the report. If a format was named, the report is unchanged.
     pub fn show_once(&mut self, is_one_terminal: bool)
         ensures format { self.new.scripts.form.format ≡ format_on_terminal is_one_terminal self.old.follow (is_single self.old.scripts) self.old.has_format self.old.scripts.form.format }
-        ensures form { (self.new.scripts.form.shown ≡ self.old.scripts.form.shown) × (self.new.scripts.form.files ≡ self.old.scripts.form.files) }
+        ensures form { (self.new.scripts.form.shown ≡ self.old.scripts.form.shown) × (self.new.scripts.form.files ≡ self.old.scripts.form.files) × (self.new.scripts.form.secrets ≡ self.old.scripts.form.secrets) }
         ensures limits { (self.new.scripts.steps ≡ self.old.scripts.steps) × (self.new.scripts.limit_ms ≡ self.old.scripts.limit_ms) × (self.new.scripts.host ≡ self.old.scripts.host) }
         ensures files { (self.new.scripts.transcripts ≡ self.old.scripts.transcripts) × (self.new.scripts.variables ≡ self.old.scripts.variables) × (self.new.scripts.each ≡ self.old.scripts.each) × (self.new.scripts.sources ≡ self.old.scripts.sources) }
         ensures products { (self.new.record ≡ self.old.record) × (self.new.explain ≡ self.old.explain) }

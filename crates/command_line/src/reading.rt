@@ -1,13 +1,14 @@
 //! Reads the words of the command line.
 
 ghost use Rattle.std.specs.Prelude.{◌≡◌, ◌≤◌, ◌*◌, codes, not, option_map, IfOk, IfSome, Some, None};
-ghost use Rattle.command_line.specs.Given.{steps_given, alone_steps_given, grace_seconds, all_taken, names_of, words_told, files_told, env_told, sets_told, each_told, args_told, format_given, labels_given, IsFlag};
+ghost use Rattle.command_line.specs.Given.{steps_given, alone_steps_given, grace_seconds, all_taken, names_of, words_told, files_told, env_told, sets_told, secrets_told, each_told, args_told, format_given, labels_given, IsFlag};
 
 use crate::offers::command;
 use crate::order::{Alone, Check, Explain, LogPlan, Order, Replay, Run, Scripts, Show, Variables};
 use child_pipes::Terms;
 use clap::{ArgMatches, Error};
 use report_texts::{Form, Format, Shown};
+use secret_words::Secrets;
 use std::alloc::{AllocError, Global};
 use tcl_words::{Text, Texts};
 
@@ -68,15 +69,24 @@ fn files_of<'a>(alloc: Global, matches: &ArgMatches<'a>) -> Result<Vec<&'a str>,
     words_of(alloc, matches, "sources")
 }
 
+/// Returns the words of secrets, in the order of the command line.
+fn secrets_of<'a>(alloc: Global, matches: &ArgMatches<'a>) -> Result<Vec<&'a str>, AllocError>
+    ensures { IfOk result (λ words. names_of words.items ≡ secrets_told matches.now) }
+{
+    words_of(alloc, matches, "secret")
+}
+
 /// Returns the variables of scripts at the start.
 fn variables_of<'a>(alloc: Global, matches: &ArgMatches<'a>) -> Result<Variables<'a>, AllocError>
     ensures env { IfOk result (λ v. names_of v.env.items ≡ env_told matches.now) }
     ensures sets { IfOk result (λ v. names_of v.sets.items ≡ sets_told matches.now) }
+    ensures secrets { IfOk result (λ v. names_of v.secrets.items ≡ secrets_told matches.now) }
 {
     Ok(Variables {
         all: matches.get_flag("env-all"),
         env: words_of(alloc, matches, "env")?,
         sets: words_of(alloc, matches, "set")?,
+        secrets: secrets_of(alloc, matches)?,
     })
 }
 
@@ -122,6 +132,7 @@ fn scripts_of<'a>(alloc: Global, matches: &ArgMatches<'a>) -> Result<Scripts<'a>
     ensures names { IfOk result (λ scripts. scripts.form.files ≡ files_told matches.now) }
     ensures env { IfOk result (λ scripts. names_of scripts.variables.env.items ≡ env_told matches.now) }
     ensures sets { IfOk result (λ scripts. names_of scripts.variables.sets.items ≡ sets_told matches.now) }
+    ensures secrets { IfOk result (λ scripts. names_of scripts.variables.secrets.items ≡ secrets_told matches.now) }
     ensures each { IfOk result (λ scripts. option_map (λ w. w.now) scripts.each ≡ each_told matches.now) }
     ensures host { IfOk result (λ scripts. IsFlag (codes "host") matches.now scripts.host) }
 {
@@ -141,6 +152,7 @@ fn scripts_of<'a>(alloc: Global, matches: &ArgMatches<'a>) -> Result<Scripts<'a>
                 requests: matches.get_flag("requests"),
             },
             files: names,
+            secrets: Secrets::new(alloc),
         },
         transcripts: matches.get_str("transcripts"),
         variables: variables_of(alloc, matches)?,
@@ -246,12 +258,14 @@ fn alone_variables_of<'a>(
 ) -> Result<Variables<'a>, AllocError>
     ensures env { IfOk result (λ v. names_of v.env.items ≡ env_told matches.now) }
     ensures sets { IfOk result (λ v. names_of v.sets.items ≡ sets_told matches.now) }
+    ensures secrets { IfOk result (λ v. names_of v.secrets.items ≡ secrets_told matches.now) }
 {
     let named = words_of(alloc, matches, "env")?;
     Ok(Variables {
         all: takes_all(matches.get_flag("env-none"), named.as_slice()),
         env: named,
         sets: words_of(alloc, matches, "set")?,
+        secrets: secrets_of(alloc, matches)?,
     })
 }
 
@@ -260,6 +274,7 @@ fn alone_of<'a>(alloc: Global, matches: &ArgMatches<'a>) -> Result<Alone<'a>, Al
     ensures args { IfOk result (λ alone. names_of alone.args.items ≡ args_told matches.now) }
     ensures env { IfOk result (λ alone. names_of alone.variables.env.items ≡ env_told matches.now) }
     ensures sets { IfOk result (λ alone. names_of alone.variables.sets.items ≡ sets_told matches.now) }
+    ensures secrets { IfOk result (λ alone. names_of alone.variables.secrets.items ≡ secrets_told matches.now) }
     ensures host { IfOk result (λ alone. IsFlag (codes "no-host") matches.now (not alone.host)) }
 {
     Ok(Alone {

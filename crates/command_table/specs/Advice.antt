@@ -18,7 +18,6 @@ choosing word =
     else if bytes_eq word (codes "uplevel") then codes "use global, or return the value"
     else if bytes_eq word (codes "namespace") || bytes_eq word (codes "variable") then codes "use a prefix of the names"
     else if bytes_eq word (codes "source") then codes "concatenate the files first"
-    else if bytes_eq word (codes "subst") then codes "use words in quotes"
     else []
 
 abbrev pub lists : List ℕ → List ℕ

@@ -88,6 +88,7 @@ redefinable_value word =
     else if bytes_eq word (codes "regexp") then Some value.Regexp
     else if bytes_eq word (codes "regsub") then Some value.Regsub
     else if bytes_eq word (codes "upvar") then Some value.Upvar
+    else if bytes_eq word (codes "subst") then Some value.Subst
     else interpreter_value word
 
 -- The command that a word names, if it evaluates a script or ends it, and a procedure can have its name.

@@ -15,7 +15,7 @@ use Rattle.command_table.specs.declared.reading.Kind.TheVariants.{Text, Name, Sc
 use Rattle.command_table.specs.declared.reading.Stage.{Stage}
 use Rattle.command_table.specs.declared.reading.Stage.TheVariants.{Each, Alone, Lists, Choice, Front, Test, Pattern, Output}
 use Rattle.command_table.specs.declared.switches.Switches.{Switches}
-use Rattle.command_table.specs.declared.switches.Switches.TheVariants.{Search, Sort, Match, Replace, Version}
+use Rattle.command_table.specs.declared.switches.Switches.TheVariants.{Search, Sort, Match, Replace, Substitute, Version}
 use Rattle.command_table.specs.declared.rows.Row.{Row}
 use Rattle.command_table.specs.Counts.{exactly, at_least, between}
 use Rattle.command_table.specs.Reading.{texts}
@@ -28,7 +28,8 @@ plain count words = record { count = count; flags = None; switches = None; words
 abbrev pub flagged : Own → Bool → Bool → Count → Row
 flagged o id end count = record { count = count; flags = Some (record { own = o; id = id; end = end }); switches = None; words = texts }
 
--- A command with flags before its last n arguments. All its arguments are texts.
+-- A command with flags before its last arguments. It has at least n arguments, with the flags that it needs. All its
+-- arguments are texts.
 abbrev pub switched : Switches → ℕ → Row
 switched s n = record { count = at_least n; flags = None; switches = Some s; words = texts }
 
@@ -92,7 +93,7 @@ value_row value.Regexp = plain (at_least 0) (Front Match)
 -- regsub ?-all? ?-lineanchor? ?-nocase? ?-start index? ?--? exp string subSpec ?varName?
 value_row value.Regsub = plain (at_least 0) (Front Replace)
 -- return ?result?
-value_row value.Return = plain (between 0 1) texts
+value_row value.Return = plain (at_least 0) texts
 -- scan string format varName ?varName ...?
 value_row value.Scan = plain (at_least 3) (Each Text Text Name Name)
 -- set varName ?value?
@@ -101,6 +102,8 @@ value_row value.Set = plain (between 1 2) (Each Name Text Text Text)
 value_row value.Split = plain (between 1 2) texts
 -- string option arg ?arg ...?
 value_row value.String = plain (at_least 1) Choice
+-- subst -nocommands string
+value_row value.Subst = switched Substitute 2
 -- unset ?-nocomplain? ?name name name ...?
 value_row value.Unset = plain (at_least 0) (Each Name Name Name Name)
 value_row value.Upvar = plain (at_least 2) texts

@@ -1,5 +1,5 @@
 -- The flags of value commands. They come before the last arguments: string(n), lsearch(n), lsort(n), switch(n), regexp(n),
--- regsub(n). No word is a flag of `package require` and of `exp_version`, but it may not look like one.
+-- regsub(n), subst(n). No word is a flag of `package require` and of `exp_version`, but it may not look like one.
 use Rattle.std.specs.Prelude.{ℕ, Bool, true, false, List, codes, Option, Some, None, bytes_eq, if◌then◌else◌}
 use Rattle.command_table.specs.declared.counts.Count.{Count}
 use Rattle.command_table.specs.declared.switches.Switch.{Switch}
@@ -70,6 +70,7 @@ switch_of switches.Require word = None
 switch_of switches.Strict word = if bytes_eq word (codes "-strict") then Some switch.Strict else None
 switch_of switches.Search word = search_switch word
 switch_of switches.Sort word = sort_switch word
+switch_of switches.Substitute word = if bytes_eq word (codes "-nocommands") then Some switch.Nocommands else None
 switch_of switches.Version word = None
 
 -- The next word is the value of the flag.
@@ -97,3 +98,8 @@ words_behind other = at_least 0
 abbrev pub words_before : Switches → ℕ
 words_before switches.Strict = 1
 words_before other = 0
+
+-- The number of flags that a command needs. `subst` needs `-nocommands`.
+abbrev pub flags_needed : Switches → ℕ
+flags_needed switches.Substitute = 1
+flags_needed other = 0

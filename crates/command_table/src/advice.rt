@@ -38,8 +38,6 @@ fn choosing(word: &[u8]) -> &'static [u8]
         b"use a prefix of the names"
     } else if is(word, b"source") {
         b"concatenate the files first"
-    } else if is(word, b"subst") {
-        b"use words in quotes"
     } else {
         b""
     }

@@ -43,6 +43,7 @@ pub enum ValueCommand {
     Set,
     Split,
     String,
+    Subst,
     Unset,
     Upvar,
 }
@@ -244,6 +245,8 @@ fn redefinable_value(word: &[u8]) -> Option<ValueCommand>
         Some(ValueCommand::Regsub)
     } else if is(word, b"upvar") {
         Some(ValueCommand::Upvar)
+    } else if is(word, b"subst") {
+        Some(ValueCommand::Subst)
     } else {
         interpreter_value(word)
     }

@@ -28,4 +28,6 @@ pub use options::{
 };
 pub use reading::{Kind, Stage, begin, is_short, step, texts};
 pub use rows::{Row, expect_row, row_of, tcl_row, value_row};
-pub use switches::{Switch, Switches, is_end, switch_of, takes_value, words_before, words_behind};
+pub use switches::{
+    Switch, Switches, flags_needed, is_end, switch_of, takes_value, words_before, words_behind,
+};

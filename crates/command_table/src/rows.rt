@@ -18,8 +18,8 @@ pub struct Row {
     pub count: Count,
     /// The flags. `None` if no argument is a flag.
     pub flags: Option<Flags>,
-    /// The flags before its last arguments, as many as `count.least` says. `None` if it has no such
-    /// flags.
+    /// The flags before its last arguments. `count.least` counts these and the flags that it needs.
+    /// `None` if it has no such flags.
     pub switches: Option<Switches>,
     /// How the arguments are read.
     pub words: Stage,
@@ -49,7 +49,8 @@ fn flagged(own: Own, id: bool, end: bool, count: Count) -> Row
     }
 }
 
-/// Returns the row of a command with flags before its last n arguments. All its arguments are texts.
+/// Returns the row of a command with flags before its last arguments. It has at least n arguments,
+/// with the flags that it needs. All its arguments are texts.
 fn switched(switches: Switches, n: usize) -> Row
     ensures { result ≡ switched switches n }
 {
@@ -95,11 +96,12 @@ pub fn value_row(command: ValueCommand) -> Row
         ValueCommand::Package => plain(at_least(1), Choice),
         ValueCommand::Regexp => plain(at_least(0), Front(Switches::Match)),
         ValueCommand::Regsub => plain(at_least(0), Front(Switches::Replace)),
-        ValueCommand::Return => plain(between(0, 1), texts()),
+        ValueCommand::Return => plain(at_least(0), texts()),
         ValueCommand::Scan => plain(at_least(3), Each(Text, Text, Name, Name)),
         ValueCommand::Set => plain(between(1, 2), Each(Name, Text, Text, Text)),
         ValueCommand::Split => plain(between(1, 2), texts()),
         ValueCommand::String => plain(at_least(1), Choice),
+        ValueCommand::Subst => switched(Switches::Substitute, 2),
         ValueCommand::Unset => plain(at_least(0), Each(Name, Name, Name, Name)),
         ValueCommand::Upvar => plain(at_least(2), texts()),
     }

@@ -1,7 +1,7 @@
 //! The flags of value commands. They come before the last arguments.
 
 ghost use Rattle.std.specs.Prelude.{◌≡◌};
-ghost use Rattle.command_table.specs.Switches.{case_switch, search_switch, sort_switch, place_switch, match_switch, replace_switch, switch_of, takes_value, is_end, words_before, words_behind};
+ghost use Rattle.command_table.specs.Switches.{case_switch, search_switch, sort_switch, place_switch, match_switch, replace_switch, switch_of, takes_value, is_end, words_before, words_behind, flags_needed};
 
 use crate::commands::is;
 use crate::counts::{Count, at_least, between};
@@ -22,6 +22,7 @@ pub enum Switch {
     Integer,
     LineAnchor,
     Nocase,
+    Nocommands,
     Not,
     Regexp,
     /// `-start` and an index.
@@ -49,6 +50,8 @@ pub enum Switches {
     Search,
     /// The flags of `lsort`.
     Sort,
+    /// `-nocommands`
+    Substitute,
     /// No flags, as of `exp_version`.
     Version,
 }
@@ -179,6 +182,13 @@ pub fn switch_of(allowed: Switches, word: &[u8]) -> Option<Switch>
         }
         Switches::Search => search_switch(word),
         Switches::Sort => sort_switch(word),
+        Switches::Substitute => {
+            if is(word, b"-nocommands") {
+                Some(Switch::Nocommands)
+            } else {
+                None
+            }
+        }
         Switches::Version => None,
     }
 }
@@ -222,6 +232,16 @@ pub fn words_before(switches: Switches) -> usize
 {
     match switches {
         Switches::Strict => 1,
+        _ => 0,
+    }
+}
+
+/// Returns how many flags a command needs. `subst` needs `-nocommands`.
+pub fn flags_needed(switches: Switches) -> usize
+    ensures { result ≡ flags_needed switches }
+{
+    match switches {
+        Switches::Substitute => 1,
         _ => 0,
     }
 }

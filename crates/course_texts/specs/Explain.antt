@@ -23,7 +23,9 @@ use Rattle.course_texts.specs.declared.explaining.ExplainFault.TheVariants.{Read
 use Rattle.report_texts.specs.Report.{labelled, head_line}
 use Rattle.report_texts.specs.Escape.{quoted}
 use Rattle.report_texts.specs.Devices.{WasPut}
-use Rattle.course_texts.specs.Show.{told_line}
+use Rattle.secret_words.specs.declared.secrets.Secret.{Secret}
+use Rattle.report_texts.specs.Masked.{IsMasked}
+use Rattle.course_texts.specs.Shown.{event_line}
 use Rattle.course_texts.specs.Closing.{is_closed}
 use Rattle.course_texts.specs.Trail.{line_label, place_lines}
 use Rattle.course_texts.specs.Waits.{request_lines, wait_lines}
@@ -31,8 +33,8 @@ use Rattle.course_texts.specs.Meetings.{course_text}
 use Rattle.course_texts.specs.declared.meetings.Teller.{Teller}
 
 -- The text of a teller, and the requests of the session that it has not written yet.
-abbrev pub SaysAll : Teller → Kept → List ℕ → Type 0
-SaysAll t k text = IsTrue k.lives × (t.refused ≡ false) × ((asked : List Request) × HasAsked k asked × (text ≡ t.text ++ request_lines (drop t.told asked)))
+abbrev pub SaysAll : List Secret → Teller → Kept → List ℕ → Type 0
+SaysAll ss t k text = IsTrue k.lives × (t.refused ≡ false) × ((asked : List Request) × HasAsked k asked × (text ≡ t.text ++ request_lines ss (drop t.told asked)))
 
 -- Whether an event is a tick after which the script began no further step.
 abbrev pub is_quiet : HallEvent → Bool → Bool
@@ -40,25 +42,25 @@ is_quiet (hall.Child s c m w) still = false
 is_quiet (hall.Tick m) still = still
 
 -- The line of an event. The script's report up to then says what the script had asked for, and whether it had ended.
-abbrev pub line_behind : Report → HallEvent → List ℕ
-line_behind so_far e = told_line (is_closed so_far.requests so_far.ending e) e
+abbrev pub line_behind : List Secret → Report → HallEvent → List ℕ
+line_behind ss so_far e = event_line ss (is_closed so_far.requests so_far.ending e) e
 
 -- The text of an event: its line, the matches, the requests after the first `n`, and what the script waits for then.
 -- The last part is left out for a tick after which the script began no further step.
-abbrev pub step_text : Report → HallEvent → ℕ → List Meeting → List Request → Bool → Kept → List ℕ
-step_text so_far e n met asked still k = line_behind so_far e ++ (course_text n met asked ++ (if is_quiet e still then [] else wait_lines k))
+abbrev pub step_text : List Secret → Report → HallEvent → ℕ → List Meeting → List Request → Bool → Kept → List ℕ
+step_text ss so_far e n met asked still k = line_behind ss so_far e ++ (course_text ss n met asked ++ (if is_quiet e still then [] else wait_lines ss k))
 
 -- The text of a script's own events, from its first state to its state now. Events of other scripts add no text.
-pub data Told (n : ℕ) (first : Kept) : List HallEvent → List ℕ → Kept → Type 0 where
-  at_first : Told n first [] [] first
-  others : (es : List HallEvent) (text : List ℕ) (k : Kept) (e : HallEvent) → own_of n e ≡ None → Told n first es text k → Told n first (es ++ e ∷ []) text k
+pub data Told (ss : List Secret) (n : ℕ) (first : Kept) : List HallEvent → List ℕ → Kept → Type 0 where
+  at_first : Told ss n first [] [] first
+  others : (es : List HallEvent) (text : List ℕ) (k : Kept) (e : HallEvent) → own_of n e ≡ None → Told ss n first es text k → Told ss n first (es ++ e ∷ []) text k
   own : (es : List HallEvent) (text : List ℕ) (k l : Kept) (e : HallEvent) (event : Event) (before after : List Request) (met : List Meeting) (begun steps : ℕ)
       → own_of n e ≡ Some event → HasAsked k before → HasBegun k begun → Fed k (event ∷ []) l → HasAsked l after → HasBegun l steps
       → ((later : List Event) → met_from k (event ∷ later) ≡ met ++ met_from l later)
-      → Told n first es text k → Told n first (es ++ e ∷ []) (text ++ step_text (left k []) e (length before) met after (begun == steps) l) l
+      → Told ss n first es text k → Told ss n first (es ++ e ∷ []) (text ++ step_text ss (left k []) e (length before) met after (begun == steps) l) l
 
 -- What one of a script's own events changes, and the text that it adds.
-pub record OwnTold (e : HallEvent) (event : Event) (old new : Kept) (text text' : List ℕ) : Type 0 where
+pub record OwnTold (ss : List Secret) (e : HallEvent) (event : Event) (old new : Kept) (text text' : List ℕ) : Type 0 where
   pub before : List Request
   pub after : List Request
   pub met : List Meeting
@@ -70,44 +72,44 @@ pub record OwnTold (e : HallEvent) (event : Event) (old new : Kept) (text text' 
   pub asks : HasAsked new after
   pub begins : HasBegun new steps
   pub meets : (later : List Event) → met_from old (event ∷ later) ≡ met ++ met_from new later
-  pub told : text' ≡ text ++ step_text (left old []) e (length before) met after (begun == steps) new
+  pub told : text' ≡ text ++ step_text ss (left old []) e (length before) met after (begun == steps) new
 
 -- The same for any event. An event of another script changes nothing.
-abbrev pub StepOf : Option Event → HallEvent → Kept → Kept → List ℕ → List ℕ → Type 0
-StepOf None e old new text text' = (new ≡ old) × (text' ≡ text)
-StepOf (Some event) e old new text text' = OwnTold e event old new text text'
+abbrev pub StepOf : List Secret → Option Event → HallEvent → Kept → Kept → List ℕ → List ℕ → Type 0
+StepOf ss None e old new text text' = (new ≡ old) × (text' ≡ text)
+StepOf ss (Some event) e old new text text' = OwnTold ss e event old new text text'
 
-abbrev pub StepTold : ℕ → HallEvent → Kept → Kept → List ℕ → List ℕ → Type 0
-StepTold n e old new text text' = StepOf (own_of n e) e old new text text'
+abbrev pub StepTold : List Secret → ℕ → HallEvent → Kept → Kept → List ℕ → List ℕ → Type 0
+StepTold ss n e old new text text' = StepOf ss (own_of n e) e old new text text'
 
 -- The text of a script's events is appended to another text.
-abbrev pub TellsBehind : ℕ → Kept → List HallEvent → List ℕ → Kept → List ℕ → Type 0
-TellsBehind n first es before k text = (told : List ℕ) × Told n first es told k × (text ≡ before ++ told)
+abbrev pub TellsBehind : List Secret → ℕ → Kept → List HallEvent → List ℕ → Kept → List ℕ → Type 0
+TellsBehind ss n first es before k text = (told : List ℕ) × Told ss n first es told k × (text ≡ before ++ told)
 
 unfoldable pub heading : ℕ → List ℕ
 heading n = labelled (codes "script ") n ++ codes "\n"
 
 -- The beginning of an explanation.
-abbrev pub start_text : ℕ → List Meeting → List Request → Kept → List ℕ
-start_text n met asked k = heading n ++ (course_text 0 met asked ++ wait_lines k)
+abbrev pub start_text : List Secret → ℕ → List Meeting → List Request → Kept → List ℕ
+start_text ss n met asked k = heading n ++ (course_text ss 0 met asked ++ wait_lines ss k)
 
 -- The session of script `n` at its first wait, and its text.
-pub record Starts (n : ℕ) (script : Script) (k : Kept) (text : List ℕ) : Type 0 where
+pub record Starts (ss : List Secret) (n : ℕ) (script : Script) (k : Kept) (text : List ℕ) : Type 0 where
   pub asked : List Request
   pub met : List Meeting
   pub begins : Begins script k
   pub asks : HasAsked k asked
   pub meets : (later : List Event) → met_over script.source script.settings later ≡ met ++ met_from k later
-  pub is : text ≡ start_text n met asked k
+  pub is : text ≡ start_text ss n met asked k
 
-abbrev pub StartsOne : ℕ → Script → Result (Kept × List ℕ) ExplainFault → Type 0
-StartsOne n script (Ok r) = Starts n script r.0 r.1
-StartsOne n script (Err Read) = ⊥
-StartsOne n script (Err (Log f)) = ⊥
-StartsOne n script (Err TooManyScripts) = ⊥
-StartsOne n script (Err (SourceTooLong at)) = (at ≡ n) × (1048576 < length script.source)
-StartsOne n script (Err Write) = ⊥
-StartsOne n script (Err Memory) = Unit {0}
+abbrev pub StartsOne : List Secret → ℕ → Script → Result (Kept × List ℕ) ExplainFault → Type 0
+StartsOne ss n script (Ok r) = Starts ss n script r.0 r.1
+StartsOne ss n script (Err Read) = ⊥
+StartsOne ss n script (Err (Log f)) = ⊥
+StartsOne ss n script (Err TooManyScripts) = ⊥
+StartsOne ss n script (Err (SourceTooLong at)) = (at ≡ n) × (1048576 < length script.source)
+StartsOne ss n script (Err Write) = ⊥
+StartsOne ss n script (Err Memory) = Unit {0}
 
 -- The line of an error. It is empty for the other endings.
 abbrev pub fault_line : Ending → List ℕ → List ℕ
@@ -123,16 +125,18 @@ unfoldable pub end_text : ℕ → Report → List ℕ
 end_text n r = head_line n r ++ fault_line r.ending r.fault ++ place_lines line_label r.trail
 
 -- The explanation of script `n` over events.
-pub record Course (n : ℕ) (script : Script) (events : List HallEvent) (text : List ℕ) : Type 0 where
+pub record Course (ss : List Secret) (n : ℕ) (script : Script) (events : List HallEvent) (text : List ℕ) : Type 0 where
   pub first : Kept
   pub start : List ℕ
   pub told : List ℕ
   pub last : Kept
   pub report : Report
-  pub starts : Starts n script first start
-  pub goes : Told n first events told last
+  pub starts : Starts ss n script first start
+  pub goes : Told ss n first events told last
   pub ends : Reports last report
-  pub is : text ≡ start ++ (told ++ end_text n report)
+  pub shown : Report
+  pub masks : IsMasked ss report shown
+  pub is : text ≡ start ++ (told ++ end_text n shown)
 
 -- Whether script `n` is explained: all are, or only one is.
 abbrev pub is_told : Option ℕ → ℕ → Bool
@@ -140,51 +144,51 @@ is_told None n = true
 is_told (Some only) n = n == only
 
 -- The explanations of scripts, numbered from 1, in order.
-pub data Explained (only : Option ℕ) (events : List HallEvent) : List Script → List ℕ → Type 0 where
-  no_script : Explained only events [] []
-  silent : (ss : List Script) (text : List ℕ) (s : Script) → is_told only (length ss + 1) ≡ false → Explained only events ss text → Explained only events (ss ++ s ∷ []) text
-  told : (ss : List Script) (text course : List ℕ) (s : Script) → is_told only (length ss + 1) ≡ true → Course (length ss + 1) s events course
-      → Explained only events ss text → Explained only events (ss ++ s ∷ []) (text ++ course)
+pub data Explained (ss : List Secret) (only : Option ℕ) (events : List HallEvent) : List Script → List ℕ → Type 0 where
+  no_script : Explained ss only events [] []
+  silent : (done : List Script) (text : List ℕ) (s : Script) → is_told only (length done + 1) ≡ false → Explained ss only events done text → Explained ss only events (done ++ s ∷ []) text
+  told : (done : List Script) (text course : List ℕ) (s : Script) → is_told only (length done + 1) ≡ true → Course ss (length done + 1) s events course
+      → Explained ss only events done text → Explained ss only events (done ++ s ∷ []) (text ++ course)
 
 -- The source of script `n` is too long.
 abbrev pub IsTooLong : List Script → ℕ → Type 0
 IsTooLong scripts n = IsSomeAnd (slice_get scripts (n - 1)) (λ s. 1048576 < length s.source)
 
 -- The bytes are the log of events, and the text explains the scripts over these events.
-pub record Courses (only : Option ℕ) (scripts : List Script) (bytes text : List ℕ) : Type 0 where
+pub record Courses (ss : List Secret) (only : Option ℕ) (scripts : List Script) (bytes text : List ℕ) : Type 0 where
   pub events : List HallEvent
   pub log : LogText bytes events
-  pub courses : Explained only events scripts text
+  pub courses : Explained ss only events scripts text
 
 -- What explaining the scripts over a log returns, and what it appends to the output.
-abbrev pub Explains : Option ℕ → List Script → List ℕ → Option (List ℕ) → Option (List ℕ) → Result (Unit {0}) ExplainFault → Type 0
-Explains only scripts bytes old new (Ok done) = (text : List ℕ) × Courses only scripts bytes text × Appends old new text
-Explains only scripts bytes old new (Err Read) = Unit {0}
-Explains only scripts bytes old new (Err (Log f)) = Refused bytes f
-Explains only scripts bytes old new (Err TooManyScripts) = 64 < length scripts
-Explains only scripts bytes old new (Err (SourceTooLong n)) = IsTooLong scripts n
-Explains only scripts bytes old new (Err Write) = (text : List ℕ) × Courses only scripts bytes text × WasPut old new text
-Explains only scripts bytes old new (Err Memory) = Unit {0}
+abbrev pub Explains : List Secret → Option ℕ → List Script → List ℕ → Option (List ℕ) → Option (List ℕ) → Result (Unit {0}) ExplainFault → Type 0
+Explains ss only scripts bytes old new (Ok done) = (text : List ℕ) × Courses ss only scripts bytes text × Appends old new text
+Explains ss only scripts bytes old new (Err Read) = Unit {0}
+Explains ss only scripts bytes old new (Err (Log f)) = Refused bytes f
+Explains ss only scripts bytes old new (Err TooManyScripts) = 64 < length scripts
+Explains ss only scripts bytes old new (Err (SourceTooLong n)) = IsTooLong scripts n
+Explains ss only scripts bytes old new (Err Write) = (text : List ℕ) × Courses ss only scripts bytes text × WasPut old new text
+Explains ss only scripts bytes old new (Err Memory) = Unit {0}
 
 -- What explaining the scripts over events returns.
-abbrev pub Tells : Option ℕ → List HallEvent → List Script → Result (List ℕ) ExplainFault → Type 0
-Tells only events scripts (Ok text) = Explained only events scripts text
-Tells only events scripts (Err Read) = ⊥
-Tells only events scripts (Err (Log f)) = ⊥
-Tells only events scripts (Err TooManyScripts) = ⊥
-Tells only events scripts (Err (SourceTooLong n)) = IsTooLong scripts n
-Tells only events scripts (Err Write) = ⊥
-Tells only events scripts (Err Memory) = Unit {0}
+abbrev pub Tells : List Secret → Option ℕ → List HallEvent → List Script → Result (List ℕ) ExplainFault → Type 0
+Tells ss only events scripts (Ok text) = Explained ss only events scripts text
+Tells ss only events scripts (Err Read) = ⊥
+Tells ss only events scripts (Err (Log f)) = ⊥
+Tells ss only events scripts (Err TooManyScripts) = ⊥
+Tells ss only events scripts (Err (SourceTooLong n)) = IsTooLong scripts n
+Tells ss only events scripts (Err Write) = ⊥
+Tells ss only events scripts (Err Memory) = Unit {0}
 
 -- What explaining one script returns. A source that is too long has no explanation.
-abbrev pub TellsOne : ℕ → Script → List HallEvent → Result (List ℕ) ExplainFault → Type 0
-TellsOne n script events (Ok text) = Course n script events text
-TellsOne n script events (Err Read) = ⊥
-TellsOne n script events (Err (Log f)) = ⊥
-TellsOne n script events (Err TooManyScripts) = ⊥
-TellsOne n script events (Err (SourceTooLong at)) = (at ≡ n) × (1048576 < length script.source)
-TellsOne n script events (Err Write) = ⊥
-TellsOne n script events (Err Memory) = Unit {0}
+abbrev pub TellsOne : List Secret → ℕ → Script → List HallEvent → Result (List ℕ) ExplainFault → Type 0
+TellsOne ss n script events (Ok text) = Course ss n script events text
+TellsOne ss n script events (Err Read) = ⊥
+TellsOne ss n script events (Err (Log f)) = ⊥
+TellsOne ss n script events (Err TooManyScripts) = ⊥
+TellsOne ss n script events (Err (SourceTooLong at)) = (at ≡ n) × (1048576 < length script.source)
+TellsOne ss n script events (Err Write) = ⊥
+TellsOne ss n script events (Err Memory) = Unit {0}
 
 -- What checking a log returns.
 abbrev pub Judged : List ℕ → Result (List HallEvent) ExplainFault → Type 0

@@ -6,3 +6,4 @@ pub mod Meetings
 pub mod Trail
 pub mod Closing
 pub mod Explain
+pub mod Shown

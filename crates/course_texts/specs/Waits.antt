@@ -16,7 +16,9 @@ use Rattle.report_texts.specs.Acts.{act_text}
 use Rattle.report_texts.specs.Report.{labelled}
 use Rattle.report_texts.specs.Escape.{quoted}
 use Rattle.course_texts.specs.Nearest.{front_of}
-use Rattle.course_texts.specs.Patterns.{want_text}
+use Rattle.secret_words.specs.declared.secrets.Secret.{Secret}
+use Rattle.course_texts.specs.Patterns.{is_hidden, want_text}
+use Rattle.course_texts.specs.Shown.{shown_bytes, shown_requests}
 
 -- The columns of an event's moment, as spaces. They are closed, so that the text of a line stays in pieces.
 unfoldable pub margin : List ℕ
@@ -26,9 +28,13 @@ margin = codes "             "
 unfoldable pub request_line : Request → List ℕ
 request_line r = margin ++ labelled (codes "asks child ") r.child ++ codes ": " ++ act_text Quoted r.act ++ codes "\n"
 
-abbrev pub request_lines : List Request → List ℕ
-request_lines [] = []
-request_lines (r ∷ rs) = request_line r ++ request_lines rs
+abbrev pub plain_lines : List Request → List ℕ
+plain_lines [] = []
+plain_lines (r ∷ rs) = request_line r ++ plain_lines rs
+
+-- The lines of requests, with names in place of secrets.
+abbrev pub request_lines : List Secret → List Request → List ℕ
+request_lines ss rs = plain_lines (shown_requests ss rs)
 
 -- The line of the answer that the script waits for.
 unfoldable pub answer_line : Option ℕ → List ℕ
@@ -54,38 +60,46 @@ verdict_by (b ∷ bytes) (c ∷ front) = only_line (c ∷ front)
 abbrev pub verdict_in : List ℕ → Want → List ℕ
 verdict_in bytes w = if nat_le (length bytes) 4000 then verdict_by bytes (front_of w bytes) else codes "  no\n"
 
--- The verdict for a pattern that did not match, or for a keyword whose event has not happened.
-abbrev pub verdict : List ℕ → Want → List ℕ
-verdict bytes (want.Exact text nocase) = verdict_in bytes (want.Exact text nocase)
-verdict bytes (want.Glob glob nocase) = verdict_in bytes (want.Glob glob nocase)
-verdict bytes (want.Regular r) = codes "  no\n"
-verdict bytes (want.Keyword k) = codes "\n"
+abbrev pub plain_verdict : List ℕ → Want → List ℕ
+plain_verdict bytes (want.Exact text nocase) = verdict_in bytes (want.Exact text nocase)
+plain_verdict bytes (want.Glob glob nocase) = verdict_in bytes (want.Glob glob nocase)
+plain_verdict bytes (want.Regular r) = codes "  no\n"
+plain_verdict bytes (want.Keyword k) = codes "\n"
 
-unfoldable pub entry_line : List ℕ → Entry → List ℕ
-entry_line bytes e = margin ++ codes "    " ++ want_text e.want ++ verdict bytes e.want
+-- The verdict for a pattern that did not match, or for a keyword whose event has not happened. Of a pattern in which a
+-- secret occurs it shows no front.
+abbrev pub verdict : List Secret → List ℕ → Want → List ℕ
+verdict ss bytes w = if is_hidden ss w then codes "  no\n" else plain_verdict bytes w
+
+unfoldable pub entry_line : List Secret → List ℕ → Entry → List ℕ
+entry_line ss bytes e = margin ++ codes "    " ++ want_text ss e.want ++ verdict ss bytes e.want
 
 -- The line of an entry, if it belongs to one of these groups.
-abbrev pub own_line : List ℕ → List ℕ → Entry → List ℕ
-own_line bytes groups e = if in_groups groups e then entry_line bytes e else []
+abbrev pub own_line : List Secret → List ℕ → List ℕ → Entry → List ℕ
+own_line ss bytes groups e = if in_groups groups e then entry_line ss bytes e else []
 
-abbrev pub own_lines : List ℕ → List ℕ → List Entry → List ℕ
-own_lines bytes groups [] = []
-own_lines bytes groups (e ∷ es) = own_line bytes groups e ++ own_lines bytes groups es
+abbrev pub own_lines : List Secret → List ℕ → List ℕ → List Entry → List ℕ
+own_lines ss bytes groups [] = []
+own_lines ss bytes groups (e ∷ es) = own_line ss bytes groups e ++ own_lines ss bytes groups es
 
 -- The last 200 bytes of a text, or all of a shorter one.
 abbrev pub tail_of : List ℕ → List ℕ
 tail_of bytes = drop (length bytes - 200) bytes
 
 -- The number of bytes from a child that no pattern has consumed, and the last of them.
-unfoldable pub buffer_line : ℕ → List ℕ → List ℕ
-buffer_line c bytes =
+unfoldable pub plain_buffer : ℕ → List ℕ → List ℕ
+plain_buffer c bytes =
     margin ++ labelled (codes "  child ") c ++ labelled (codes " has ") (length bytes) ++ codes " bytes, the last are " ++ quoted (tail_of bytes) ++ codes "\n"
 
+-- The same, with names in place of secrets.
+abbrev pub buffer_line : List Secret → ℕ → List ℕ → List ℕ
+buffer_line ss c bytes = plain_buffer c (shown_bytes ss bytes)
+
 -- Each child with its bytes and its patterns.
-abbrev pub side_lines : List Child → List Entry → List (ℕ × List ℕ) → List ℕ
-side_lines children entries [] = []
-side_lines children entries ((i, groups) ∷ sides) =
-    (buffer_line (i + 1) (buffer_of (i + 1) children) ++ own_lines (buffer_of (i + 1) children) groups entries) ++ side_lines children entries sides
+abbrev pub side_lines : List Secret → List Child → List Entry → List (ℕ × List ℕ) → List ℕ
+side_lines ss children entries [] = []
+side_lines ss children entries ((i, groups) ∷ sides) =
+    (buffer_line ss (i + 1) (buffer_of (i + 1) children) ++ own_lines ss (buffer_of (i + 1) children) groups entries) ++ side_lines ss children entries sides
 
 unfoldable pub deadline_line : ℕ → List ℕ
 deadline_line m = margin ++ labelled (codes "waits for output until ") m ++ codes " ms\n"
@@ -99,10 +113,10 @@ until_line None = endless_line
 until_line (Some m) = deadline_line m
 
 -- The lines of the `expect` that waits.
-abbrev pub expect_lines : List Child → Option Plan → List ℕ
-expect_lines children None = []
-expect_lines children (Some p) = until_line (as_moment p.deadline) ++ side_lines children p.list.entries p.sides
+abbrev pub expect_lines : List Secret → List Child → Option Plan → List ℕ
+expect_lines ss children None = []
+expect_lines ss children (Some p) = until_line (as_moment p.deadline) ++ side_lines ss children p.list.entries p.sides
 
 -- The lines of what a session waits for.
-unfoldable pub wait_lines : Kept → List ℕ
-wait_lines k = answer_line (answering k) ++ start_line (starting k) ++ expect_lines k.dialogue.own.children (expecting k)
+unfoldable pub wait_lines : List Secret → Kept → List ℕ
+wait_lines ss k = answer_line (answering k) ++ start_line (starting k) ++ expect_lines ss k.dialogue.own.children (expecting k)

@@ -8,13 +8,16 @@ ghost use Rattle.course_texts.specs.Waits.{wait_lines};
 ghost use Rattle.course_texts.specs.Explain.{is_quiet as is_quiet_of, SaysAll, TellsBehind, heading as heading_of, StartsOne, fault_line, end_text, is_told as is_told_of, Explains, Tells, TellsOne, StepTold, Judged, IsNoWant};
 
 use crate::closing::is_closed;
-use crate::events::push_line;
 use crate::meetings::{Teller, rest_of};
+use crate::shown::push_shown_line;
 use crate::trail::{line_label, push_places};
 use crate::waits::{push_requests, push_waits};
 use child_events::{Counted, HallEvent, HallEvents, LogFault, LogReader, own_event};
 use dialogue_sched::{MOST_SCRIPTS, Script};
-use report_texts::{ReadFault, push_head, push_labelled, push_quoted, read_all, write_all};
+use report_texts::{
+    ReadFault, masked_report, push_head, push_labelled, push_quoted, read_all, write_all,
+};
+use secret_words::Secrets;
 use session::{Ending, NewFault, Report, Session};
 use std::alloc::{AllocError, Global};
 use std::io::{Read, Write};
@@ -67,15 +70,25 @@ fn is_spent(session: &Session) -> bool
 }
 
 /// Returns the text of a teller, and the session's requests that it has not written yet.
-fn told(alloc: Global, teller: Teller, session: &Session) -> Result<Text, AllocError>
-    ensures { IfOk result (λ t. SaysAll teller session.now t) }
+fn told(
+    alloc: Global,
+    secrets: &Secrets,
+    teller: Teller,
+    session: &Session,
+) -> Result<Text, AllocError>
+    ensures { IfOk result (λ t. SaysAll secrets.now teller session.now t) }
 {
     if teller.is_refused() || is_spent(session) {
         return Err(AllocError);
     }
     let told = teller.told();
     let mut text = teller.into_text();
-    push_requests(alloc, &mut text, rest_of(session.requests(), told))?;
+    push_requests(
+        alloc,
+        &mut text,
+        secrets.as_slice(),
+        rest_of(session.requests(), told),
+    )?;
     Ok(text)
 }
 
@@ -83,15 +96,16 @@ fn told(alloc: Global, teller: Teller, session: &Session) -> Result<Text, AllocE
 fn push_unless(
     alloc: Global,
     text: &mut Text,
+    secrets: &Secrets,
     quiet: bool,
     session: &Session,
 ) -> Result<(), AllocError>
-    ensures { OnOk result (text.new ≡ text.old ++ (if quiet then [] else wait_lines session.now)) }
+    ensures { OnOk result (text.new ≡ text.old ++ (if quiet then [] else wait_lines secrets.now session.now)) }
 {
     if quiet {
         return Ok(());
     }
-    push_waits(alloc, text, session)
+    push_waits(alloc, text, secrets.as_slice(), session)
 }
 
 /// Passes an event to the session of script `number`, if it belongs to that script, and appends the
@@ -99,39 +113,42 @@ fn push_unless(
 fn step(
     alloc: Global,
     text: &mut Text,
+    secrets: &Secrets,
     number: u8,
     session: &mut Session,
     event: &HallEvent,
 ) -> Result<(), AllocError>
-    ensures { OnOk result (StepTold number event.now session.old session.new text.old text.new) }
+    ensures { OnOk result (StepTold secrets.now number event.now session.old session.new text.old text.new) }
 {
     let Some(own) = own_event(alloc, number, event)? else {
         return Ok(());
     };
     let closed = is_closed(session.requests(), session.ending(), event);
-    push_line(alloc, text, closed, event)?;
+    push_shown_line(alloc, text, secrets, closed, event)?;
     let asked = session.requests().len();
     let begun = session.steps();
     let front = mem::replace(text, Text::new(alloc));
-    let teller = session.feed_watched(own, Teller::new(alloc, front, asked));
-    let told = told(alloc, teller, session)?;
+    let own_secrets = secrets.copied(alloc)?;
+    let teller = session.feed_watched(own, Teller::new(alloc, own_secrets, front, asked));
+    let told = told(alloc, secrets, teller, session)?;
     drop(mem::replace(text, told));
     let quiet = is_quiet(event, begun == session.steps());
-    push_unless(alloc, text, quiet, session)
+    push_unless(alloc, text, secrets, quiet, session)
 }
 
 /// Appends the text of events for a session.
 fn push_course(
     alloc: Global,
     text: &mut Text,
+    secrets: &Secrets,
     number: u8,
     session: &mut Session,
     events: &[HallEvent],
 ) -> Result<(), AllocError>
-    ensures { OnOk result (TellsBehind number session.old events.now text.old session.new text.new) }
+    ensures { OnOk result (TellsBehind secrets.now number session.old events.now text.old session.new text.new) }
 {
     for event in events {
-        step(alloc, text, number, session, event)?;
+        step(alloc, text, secrets, number, session, event)?;
     }
     Ok(())
 }
@@ -148,20 +165,30 @@ fn heading(alloc: Global, number: u8) -> Result<Text, AllocError>
 }
 
 /// Returns the text of a teller at a session's first wait, and what the session waits for.
-fn first_told(alloc: Global, teller: Teller, session: &Session) -> Result<Text, AllocError>
-    ensures { IfOk result (λ t. (told : List ℕ) × SaysAll teller session.now told × (t ≡ told ++ wait_lines session.now)) }
+fn first_told(
+    alloc: Global,
+    secrets: &Secrets,
+    teller: Teller,
+    session: &Session,
+) -> Result<Text, AllocError>
+    ensures { IfOk result (λ t. (told : List ℕ) × SaysAll secrets.now teller session.now told × (t ≡ told ++ wait_lines secrets.now session.now)) }
 {
-    let mut text = told(alloc, teller, session)?;
-    push_waits(alloc, &mut text, session)?;
+    let mut text = told(alloc, secrets, teller, session)?;
+    push_waits(alloc, &mut text, secrets.as_slice(), session)?;
     Ok(text)
 }
 
 /// Returns the session of script `number` at its first wait, and the beginning of its explanation.
-fn begun(alloc: Global, number: u8, script: Script) -> Result<(Session, Text), ExplainFault>
-    ensures { StartsOne number script result }
+fn begun(
+    alloc: Global,
+    secrets: &Secrets,
+    number: u8,
+    script: Script,
+) -> Result<(Session, Text), ExplainFault>
+    ensures { StartsOne secrets.now number script result }
 {
     let Script { source, settings } = script;
-    let teller = Teller::new(alloc, heading(alloc, number)?, 0);
+    let teller = Teller::new(alloc, secrets.copied(alloc)?, heading(alloc, number)?, 0);
     let (session, teller) = match Session::watched(alloc, source, settings, teller) {
         Ok(begun) => begun,
         Err(NewFault::SourceTooLong) => {
@@ -169,7 +196,7 @@ fn begun(alloc: Global, number: u8, script: Script) -> Result<(Session, Text), E
         }
         Err(NewFault::Memory) => return Err(ExplainFault::Memory),
     };
-    match first_told(alloc, teller, &session) {
+    match first_told(alloc, secrets, teller, &session) {
         Ok(text) => Ok((session, text)),
         Err(AllocError) => {
             drop(session);
@@ -214,18 +241,19 @@ fn push_end(alloc: Global, text: &mut Text, number: u8, report: &Report) -> Resu
 /// Returns the explanation of script `number` over events.
 fn course(
     alloc: Global,
+    secrets: &Secrets,
     number: u8,
     script: Script,
     events: &[HallEvent],
 ) -> Result<Text, ExplainFault>
-    ensures { TellsOne number script events.now result }
+    ensures { TellsOne secrets.now number script events.now result }
 {
-    let (mut session, mut text) = match begun(alloc, number, script) {
+    let (mut session, mut text) = match begun(alloc, secrets, number, script) {
         Ok(begun) => begun,
         Err(fault) => return Err(fault),
     };
-    push_course(alloc, &mut text, number, &mut session, events)?;
-    let report = session.into_report();
+    push_course(alloc, &mut text, secrets, number, &mut session, events)?;
+    let report = masked_report(alloc, secrets.as_slice(), session.into_report());
     push_end(alloc, &mut text, number, &report)?;
     Ok(text)
 }
@@ -244,18 +272,19 @@ fn is_told(only: Option<u8>, number: u8) -> bool
 fn courses(
     alloc: Global,
     only: Option<u8>,
+    secrets: &Secrets,
     events: &[HallEvent],
     scripts: Vec<Script>,
 ) -> Result<Text, ExplainFault>
     requires few { vec_len scripts ≤ 64 }
-    ensures { Tells only events.now scripts.items result }
+    ensures { Tells secrets.now only events.now scripts.items result }
 {
     let mut text = Text::new(alloc);
     let mut number: u8 = 0;
     for script in scripts {
         number += 1;
         if is_told(only, number) {
-            match course(alloc, number, script, events) {
+            match course(alloc, secrets, number, script, events) {
                 Ok(told) => text.extend(told.as_slice())?,
                 Err(fault) => return Err(fault),
             }
@@ -278,8 +307,8 @@ fn judged(alloc: Global, bytes: &[u8]) -> Result<HallEvents, ExplainFault>
 }
 
 /// Reads a log and writes the explanations of its scripts, or of only one. After each event of a
-/// script, an explanation shows the script's requests, its matches, and what it then waits for.
-/// Events of scripts that don't exist are ignored.
+/// script, an explanation shows the script's requests, its matches, and what it then waits for. Names
+/// stand in place of secrets. Events of scripts that don't exist are ignored.
 ///
 /// Errors are returned in the order of `ExplainFault`'s variants, except `Memory`. `Memory` may
 /// replace any of them before the first byte is written. After `Write`, a front of the text was
@@ -288,6 +317,7 @@ fn judged(alloc: Global, bytes: &[u8]) -> Result<HallEvents, ExplainFault>
 pub fn explain<R: Read, W: Write>(
     alloc: Global,
     only: Option<u8>,
+    secrets: &Secrets,
     log: &mut Counted<R>,
     scripts: Vec<Script>,
     out: &mut Counted<W>,
@@ -297,7 +327,7 @@ pub fn explain<R: Read, W: Write>(
     requires out_failures { out.old.failures ≡ 0 }
     requires out_calls { out.old.calls ≡ 0 }
     ensures answers { IfSome (R.remaining log.old.device) (λ bytes.
-        Explains only scripts.items bytes (W.contents out.old.device) (W.contents out.new.device) result) }
+        Explains secrets.now only scripts.items bytes (W.contents out.old.device) (W.contents out.new.device) result) }
     ensures unwritten { IfErr result (λ fault. fault ≢ ExplainFault.Write → out.new ≡ out.old) }
     ensures read { result ≡ Err ExplainFault.Read → GaveUp log.new.failures log.new.calls }
     ensures read_whole { result ≢ Err ExplainFault.Read → log.new.failures ≡ 0 }
@@ -314,7 +344,7 @@ pub fn explain<R: Read, W: Write>(
     if scripts.len() > MOST_SCRIPTS {
         return Err(ExplainFault::TooManyScripts);
     }
-    let text = courses(alloc, only, events.as_slice(), scripts)?;
+    let text = courses(alloc, only, secrets, events.as_slice(), scripts)?;
     match write_all(out, text.as_slice()) {
         Ok(()) => Ok(()),
         Err(_) => Err(ExplainFault::Write),

@@ -12,6 +12,7 @@ mod meetings;
 mod nearest;
 mod patterns;
 mod showing;
+mod shown;
 mod trail;
 mod waits;
 

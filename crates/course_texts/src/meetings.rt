@@ -1,13 +1,14 @@
 //! The text of what a script's `expect` commands match.
 
 ghost use Rattle.std.specs.Prelude.{◌≡◌, ◌++◌, drop, length, IfOk, OnOk, false};
-ghost use Rattle.course_texts.specs.Meetings.{group_name as group_name_of, groups_of, shown_text, stored_line, stored_part, places_part, group_part, group_lines, of_child, met_line, buffer_part, entry_lines, number_of, plan_lines, meeting_text};
+ghost use Rattle.course_texts.specs.Meetings.{group_name as group_name_of, groups_of, plain_text, shown_text, stored_line, stored_part, places_part, group_part, group_lines, of_child, met_line, buffer_part, entry_lines, number_of, plan_lines, meeting_text};
 
 use crate::patterns::push_want;
 use crate::waits::{SHOWN, push_margin, push_requests, tail};
 use exp_match::{Entry, Want};
 use expect_core::{Met, Place, Plan};
 use report_texts::{push_labelled, push_quoted};
+use secret_words::{Secret, Secrets, masked};
 use session::{Request, Watcher};
 use std::alloc::{AllocError, Global};
 use tcl_subst::Vars;
@@ -51,9 +52,9 @@ fn groups(want: &Want) -> &'static [u8]
 
 /// Appends a value in quotes. If it has more than `SHOWN` bytes, appends its length and its last
 /// bytes.
-#[tactic(auto, unfolding(crate::specs::Meetings::shown_text))]
-fn push_shown(alloc: Global, text: &mut Text, bytes: &[u8]) -> Result<(), AllocError>
-    ensures { OnOk result (text.new ≡ text.old ++ shown_text bytes.now) }
+#[tactic(auto, unfolding(crate::specs::Meetings::plain_text))]
+fn push_plain(alloc: Global, text: &mut Text, bytes: &[u8]) -> Result<(), AllocError>
+    ensures { OnOk result (text.new ≡ text.old ++ plain_text bytes.now) }
 {
     if bytes.len() <= SHOWN {
         return push_quoted(alloc, text, bytes);
@@ -63,25 +64,53 @@ fn push_shown(alloc: Global, text: &mut Text, bytes: &[u8]) -> Result<(), AllocE
     push_quoted(alloc, text, tail(bytes))
 }
 
+/// Appends the same of a value with names in place of secrets.
+fn push_shown(
+    alloc: Global,
+    text: &mut Text,
+    secrets: &[Secret],
+    bytes: &[u8],
+) -> Result<(), AllocError>
+    ensures { OnOk result (text.new ≡ text.old ++ shown_text secrets.now bytes.now) }
+{
+    if secrets.is_empty() {
+        return push_plain(alloc, text, bytes);
+    }
+    let shown = masked(alloc, secrets, bytes)?;
+    push_plain(alloc, text, shown.as_slice())
+}
+
 /// Appends the line of a variable.
 #[tactic(auto, unfolding(crate::specs::Meetings::stored_line))]
-fn push_stored(alloc: Global, text: &mut Text, name: &[u8], bytes: &[u8]) -> Result<(), AllocError>
-    ensures { OnOk result (text.new ≡ text.old ++ stored_line name.now bytes.now) }
+fn push_stored(
+    alloc: Global,
+    text: &mut Text,
+    secrets: &[Secret],
+    name: &[u8],
+    bytes: &[u8],
+) -> Result<(), AllocError>
+    ensures { OnOk result (text.new ≡ text.old ++ stored_line secrets.now name.now bytes.now) }
 {
     push_margin(text)?;
     text.extend(b"  ")?;
     text.extend(name)?;
     text.push(b' ')?;
-    push_shown(alloc, text, bytes)?;
+    push_shown(alloc, text, secrets, bytes)?;
     text.extend(b"\n")
 }
 
 /// Appends the line of a variable, if it has a value.
-fn push_value(alloc: Global, text: &mut Text, vars: &Vars, name: &[u8]) -> Result<(), AllocError>
-    ensures { OnOk result (text.new ≡ text.old ++ stored_part name.now vars.now) }
+fn push_value(
+    alloc: Global,
+    text: &mut Text,
+    secrets: &[Secret],
+    vars: &Vars,
+    name: &[u8],
+) -> Result<(), AllocError>
+    ensures { OnOk result (text.new ≡ text.old ++ stored_part secrets.now name.now vars.now) }
 {
     match vars.peek(name) {
-        Ok(bytes) => push_stored(alloc, text, name, bytes),
+        Ok(bytes) => push_stored(alloc, text, secrets, name, bytes),
         Err(_) => Ok(()),
     }
 }
@@ -90,47 +119,50 @@ fn push_value(alloc: Global, text: &mut Text, vars: &Vars, name: &[u8]) -> Resul
 fn push_places(
     alloc: Global,
     text: &mut Text,
+    secrets: &[Secret],
     vars: &Vars,
     indices: bool,
     digit: u8,
 ) -> Result<(), AllocError>
-    ensures { OnOk result (text.new ≡ text.old ++ places_part indices digit vars.now) }
+    ensures { OnOk result (text.new ≡ text.old ++ places_part secrets.now indices digit vars.now) }
 {
     if !indices {
         return Ok(());
     }
     let start = group_name(alloc, digit, b"start")?;
-    push_value(alloc, text, vars, start.as_slice())?;
+    push_value(alloc, text, secrets, vars, start.as_slice())?;
     let end = group_name(alloc, digit, b"end")?;
-    push_value(alloc, text, vars, end.as_slice())
+    push_value(alloc, text, secrets, vars, end.as_slice())
 }
 
 /// Appends the lines of a group.
 fn push_group(
     alloc: Global,
     text: &mut Text,
+    secrets: &[Secret],
     vars: &Vars,
     indices: bool,
     digit: u8,
 ) -> Result<(), AllocError>
-    ensures { OnOk result (text.new ≡ text.old ++ group_part indices vars.now digit) }
+    ensures { OnOk result (text.new ≡ text.old ++ group_part secrets.now indices vars.now digit) }
 {
-    push_places(alloc, text, vars, indices, digit)?;
+    push_places(alloc, text, secrets, vars, indices, digit)?;
     let string = group_name(alloc, digit, b"string")?;
-    push_value(alloc, text, vars, string.as_slice())
+    push_value(alloc, text, secrets, vars, string.as_slice())
 }
 
 fn push_groups(
     alloc: Global,
     text: &mut Text,
+    secrets: &[Secret],
     vars: &Vars,
     indices: bool,
     digits: &[u8],
 ) -> Result<(), AllocError>
-    ensures { OnOk result (text.new ≡ text.old ++ group_lines indices vars.now digits.now) }
+    ensures { OnOk result (text.new ≡ text.old ++ group_lines secrets.now indices vars.now digits.now) }
 {
     for digit in digits {
-        push_group(alloc, text, vars, indices, *digit)?;
+        push_group(alloc, text, secrets, vars, indices, *digit)?;
     }
     Ok(())
 }
@@ -151,13 +183,14 @@ fn push_of_child(alloc: Global, text: &mut Text, child: Option<u8>) -> Result<()
 fn push_met(
     alloc: Global,
     text: &mut Text,
+    secrets: &[Secret],
     want: &Want,
     child: Option<u8>,
 ) -> Result<(), AllocError>
-    ensures { OnOk result (text.new ≡ text.old ++ met_line want.now child) }
+    ensures { OnOk result (text.new ≡ text.old ++ met_line secrets.now want.now child) }
 {
     push_margin(text)?;
-    push_want(alloc, text, want)?;
+    push_want(alloc, text, secrets, want)?;
     text.extend(b" was met")?;
     push_of_child(alloc, text, child)?;
     text.extend(b"\n")
@@ -167,13 +200,14 @@ fn push_met(
 fn push_buffer(
     alloc: Global,
     text: &mut Text,
+    secrets: &[Secret],
     vars: &Vars,
     child: Option<u8>,
 ) -> Result<(), AllocError>
-    ensures { OnOk result (text.new ≡ text.old ++ buffer_part child vars.now) }
+    ensures { OnOk result (text.new ≡ text.old ++ buffer_part secrets.now child vars.now) }
 {
     match child {
-        Some(_) => push_value(alloc, text, vars, b"expect_out(buffer)"),
+        Some(_) => push_value(alloc, text, secrets, vars, b"expect_out(buffer)"),
         None => Ok(()),
     }
 }
@@ -182,15 +216,23 @@ fn push_buffer(
 fn push_entry(
     alloc: Global,
     text: &mut Text,
+    secrets: &[Secret],
     vars: &Vars,
     entry: &Entry,
     child: Option<u8>,
 ) -> Result<(), AllocError>
-    ensures { OnOk result (text.new ≡ text.old ++ entry_lines vars.now child entry.now) }
+    ensures { OnOk result (text.new ≡ text.old ++ entry_lines secrets.now vars.now child entry.now) }
 {
-    push_met(alloc, text, &entry.want, child)?;
-    push_groups(alloc, text, vars, entry.indices, groups(&entry.want))?;
-    push_buffer(alloc, text, vars, child)
+    push_met(alloc, text, secrets, &entry.want, child)?;
+    push_groups(
+        alloc,
+        text,
+        secrets,
+        vars,
+        entry.indices,
+        groups(&entry.want),
+    )?;
+    push_buffer(alloc, text, secrets, vars, child)
 }
 
 /// Returns the number of the child at a place, from 1.
@@ -204,14 +246,20 @@ fn number(place: Option<Place>) -> Option<u8>
 }
 
 /// Appends the lines of what an `expect` matched.
-fn push_plan(alloc: Global, text: &mut Text, plan: &Plan, vars: &Vars) -> Result<(), AllocError>
-    ensures { OnOk result (text.new ≡ text.old ++ plan_lines plan.now vars.now) }
+fn push_plan(
+    alloc: Global,
+    text: &mut Text,
+    secrets: &[Secret],
+    plan: &Plan,
+    vars: &Vars,
+) -> Result<(), AllocError>
+    ensures { OnOk result (text.new ≡ text.old ++ plan_lines secrets.now plan.now vars.now) }
 {
     let Some(Met { entry, child }) = plan.met else {
         return Ok(());
     };
     match plan.list.entries.as_slice().get(entry) {
-        Some(entry) => push_entry(alloc, text, vars, entry, number(child)),
+        Some(entry) => push_entry(alloc, text, secrets, vars, entry, number(child)),
         None => Ok(()),
     }
 }
@@ -220,6 +268,8 @@ fn push_plan(alloc: Global, text: &mut Text, plan: &Plan, vars: &Vars) -> Result
 #[derive(Drop)]
 pub(crate) struct Teller {
     alloc: Global,
+    /// Names stand in place of these secrets.
+    secrets: Secrets,
     /// The text written so far.
     text: Text,
     /// The number of requests written.
@@ -230,11 +280,13 @@ pub(crate) struct Teller {
 
 impl Teller {
     /// Creates a teller that appends to a text. It counts the first `told` requests as written.
-    pub(crate) fn new(alloc: Global, text: Text, told: usize) -> Teller
-        ensures { (result.text ≡ text) × (result.told ≡ told) × (result.refused ≡ false) }
+    pub(crate) fn new(alloc: Global, secrets: Secrets, text: Text, told: usize) -> Teller
+        ensures state { (result.text ≡ text) × (result.told ≡ told) × (result.refused ≡ false) }
+        ensures secrets { result.secrets ≡ secrets }
     {
         Teller {
             alloc,
+            secrets,
             text,
             told,
             refused: false,
@@ -262,12 +314,18 @@ impl Teller {
     }
 
     fn write(&mut self, plan: &Plan, vars: &Vars, asked: &[Request]) -> Result<(), AllocError>
-        ensures written { OnOk result (self.new.text ≡ self.old.text ++ meeting_text self.old.told plan.now vars.now asked.now) }
+        ensures written { OnOk result (self.new.text ≡ self.old.text ++ meeting_text self.old.secrets self.old.told plan.now vars.now asked.now) }
         ensures told { OnOk result (self.new.told ≡ length asked.now) }
-        ensures same { self.new.refused ≡ self.old.refused }
+        ensures same { (self.new.refused ≡ self.old.refused) × (self.new.secrets ≡ self.old.secrets) }
     {
-        push_requests(self.alloc, &mut self.text, rest_of(asked, self.told))?;
-        push_plan(self.alloc, &mut self.text, plan, vars)?;
+        let secrets = self.secrets.as_slice();
+        push_requests(
+            self.alloc,
+            &mut self.text,
+            secrets,
+            rest_of(asked, self.told),
+        )?;
+        push_plan(self.alloc, &mut self.text, secrets, plan, vars)?;
         self.told = asked.len();
         Ok(())
     }

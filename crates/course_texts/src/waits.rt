@@ -3,13 +3,14 @@
 ghost use Rattle.std.specs.Prelude.{◌≡◌, ◌++◌, IfOk, OnOk, Some, None, MatchOption};
 ghost use Rattle.exp_match.specs.Choice.{in_groups};
 ghost use Rattle.session.specs.Awaited.{answering, starting, expecting};
-ghost use Rattle.course_texts.specs.Waits.{margin, request_line, request_lines, answer_line, start_line, only_line, verdict_by, verdict_in, verdict as verdict_of, entry_line, own_line, own_lines, tail_of, buffer_line, side_lines, deadline_line, endless_line, until_line, expect_lines, wait_lines};
+ghost use Rattle.course_texts.specs.Waits.{margin, request_line, plain_lines, request_lines, answer_line, start_line, only_line, verdict_by, verdict_in, verdict as verdict_of, entry_line, own_line, own_lines, tail_of, plain_buffer, buffer_line, side_lines, deadline_line, endless_line, until_line, expect_lines, wait_lines};
 
 use crate::nearest::front_of;
-use crate::patterns::push_want;
+use crate::patterns::{is_hidden, push_want};
 use exp_match::{Entry, Want};
 use expect_core::{Groups, Place, Plan};
-use report_texts::{Spelling, push_act, push_labelled, push_quoted};
+use report_texts::{Spelling, masked_requests, push_act, push_labelled, push_quoted};
+use secret_words::{Secret, masked};
 use session::{Request, Session};
 use std::alloc::{AllocError, Global};
 use tcl_words::Text;
@@ -40,14 +41,34 @@ fn push_request(alloc: Global, text: &mut Text, request: &Request) -> Result<(),
     text.extend(b"\n")
 }
 
-/// Appends the lines of requests.
-pub fn push_requests(alloc: Global, text: &mut Text, requests: &[Request]) -> Result<(), AllocError>
-    ensures { OnOk result (text.new ≡ text.old ++ request_lines requests.now) }
+/// Appends the lines of requests as they are.
+fn push_plain_requests(
+    alloc: Global,
+    text: &mut Text,
+    requests: &[Request],
+) -> Result<(), AllocError>
+    ensures { OnOk result (text.new ≡ text.old ++ plain_lines requests.now) }
 {
     for request in requests {
         push_request(alloc, text, request)?;
     }
     Ok(())
+}
+
+/// Appends the lines of requests.
+pub fn push_requests(
+    alloc: Global,
+    text: &mut Text,
+    secrets: &[Secret],
+    requests: &[Request],
+) -> Result<(), AllocError>
+    ensures { OnOk result (text.new ≡ text.old ++ request_lines secrets.now requests.now) }
+{
+    if secrets.is_empty() {
+        return push_plain_requests(alloc, text, requests);
+    }
+    let shown = masked_requests(alloc, secrets, requests)?;
+    push_plain_requests(alloc, text, shown.as_slice())
 }
 
 /// Appends the line of the child whose answer the script waits for, if there is one.
@@ -130,10 +151,20 @@ fn push_verdict_in(
     }
 }
 
-/// Appends the verdict for an entry that did not match in bytes.
-fn push_verdict(alloc: Global, text: &mut Text, bytes: &[u8], want: &Want) -> Result<(), AllocError>
-    ensures { OnOk result (text.new ≡ text.old ++ verdict_of bytes.now want.now) }
+/// Appends the verdict for an entry that did not match in bytes. Of a pattern with a secret it shows
+/// no front.
+fn push_verdict(
+    alloc: Global,
+    text: &mut Text,
+    secrets: &[Secret],
+    bytes: &[u8],
+    want: &Want,
+) -> Result<(), AllocError>
+    ensures { OnOk result (text.new ≡ text.old ++ verdict_of secrets.now bytes.now want.now) }
 {
+    if is_hidden(alloc, secrets, want)? {
+        return text.extend(b"  no\n");
+    }
     match want {
         Want::Exact { .. } => push_verdict_in(alloc, text, bytes, want),
         Want::Glob { .. } => push_verdict_in(alloc, text, bytes, want),
@@ -143,13 +174,19 @@ fn push_verdict(alloc: Global, text: &mut Text, bytes: &[u8], want: &Want) -> Re
 }
 
 #[tactic(auto, unfolding(crate::specs::Waits::entry_line))]
-fn push_entry(alloc: Global, text: &mut Text, bytes: &[u8], entry: &Entry) -> Result<(), AllocError>
-    ensures { OnOk result (text.new ≡ text.old ++ entry_line bytes.now entry.now) }
+fn push_entry(
+    alloc: Global,
+    text: &mut Text,
+    secrets: &[Secret],
+    bytes: &[u8],
+    entry: &Entry,
+) -> Result<(), AllocError>
+    ensures { OnOk result (text.new ≡ text.old ++ entry_line secrets.now bytes.now entry.now) }
 {
     push_margin(text)?;
     text.extend(b"    ")?;
-    push_want(alloc, text, &entry.want)?;
-    push_verdict(alloc, text, bytes, &entry.want)
+    push_want(alloc, text, secrets, &entry.want)?;
+    push_verdict(alloc, text, secrets, bytes, &entry.want)
 }
 
 /// Returns whether an entry belongs to one of the groups.
@@ -164,14 +201,15 @@ fn is_own(groups: &[usize], entry: &Entry) -> bool
 fn push_own(
     alloc: Global,
     text: &mut Text,
+    secrets: &[Secret],
     bytes: &[u8],
     groups: &[usize],
     entry: &Entry,
 ) -> Result<(), AllocError>
-    ensures { OnOk result (text.new ≡ text.old ++ own_line bytes.now groups.now entry.now) }
+    ensures { OnOk result (text.new ≡ text.old ++ own_line secrets.now bytes.now groups.now entry.now) }
 {
     if is_own(groups, entry) {
-        return push_entry(alloc, text, bytes, entry);
+        return push_entry(alloc, text, secrets, bytes, entry);
     }
     Ok(())
 }
@@ -179,14 +217,15 @@ fn push_own(
 fn push_entries(
     alloc: Global,
     text: &mut Text,
+    secrets: &[Secret],
     bytes: &[u8],
     groups: &[usize],
     entries: &[Entry],
 ) -> Result<(), AllocError>
-    ensures { OnOk result (text.new ≡ text.old ++ own_lines bytes.now groups.now entries.now) }
+    ensures { OnOk result (text.new ≡ text.old ++ own_lines secrets.now bytes.now groups.now entries.now) }
 {
     for entry in entries {
-        push_own(alloc, text, bytes, groups, entry)?;
+        push_own(alloc, text, secrets, bytes, groups, entry)?;
     }
     Ok(())
 }
@@ -199,9 +238,14 @@ pub(crate) fn tail(bytes: &[u8]) -> &[u8]
 }
 
 /// Appends the number of bytes from a child that no pattern has consumed, and the last of them.
-#[tactic(auto, unfolding(crate::specs::Waits::buffer_line))]
-fn push_buffer(alloc: Global, text: &mut Text, child: u8, bytes: &[u8]) -> Result<(), AllocError>
-    ensures { OnOk result (text.new ≡ text.old ++ buffer_line child bytes.now) }
+#[tactic(auto, unfolding(crate::specs::Waits::plain_buffer))]
+fn push_plain_buffer(
+    alloc: Global,
+    text: &mut Text,
+    child: u8,
+    bytes: &[u8],
+) -> Result<(), AllocError>
+    ensures { OnOk result (text.new ≡ text.old ++ plain_buffer child bytes.now) }
 {
     push_margin(text)?;
     push_labelled(alloc, text, b"  child ", u128::from(child))?;
@@ -211,21 +255,46 @@ fn push_buffer(alloc: Global, text: &mut Text, child: u8, bytes: &[u8]) -> Resul
     text.extend(b"\n")
 }
 
+/// Appends the same, with names in place of secrets.
+fn push_buffer(
+    alloc: Global,
+    text: &mut Text,
+    secrets: &[Secret],
+    child: u8,
+    bytes: &[u8],
+) -> Result<(), AllocError>
+    ensures { OnOk result (text.new ≡ text.old ++ buffer_line secrets.now child bytes.now) }
+{
+    if secrets.is_empty() {
+        return push_plain_buffer(alloc, text, child, bytes);
+    }
+    let shown = masked(alloc, secrets, bytes)?;
+    push_plain_buffer(alloc, text, child, shown.as_slice())
+}
+
 /// Appends each child's bytes and patterns.
 fn push_sides(
     alloc: Global,
     text: &mut Text,
+    secrets: &[Secret],
     session: &Session,
     entries: &[Entry],
     sides: &[(Place, Groups)],
 ) -> Result<(), AllocError>
-    ensures { OnOk result (text.new ≡ text.old ++ side_lines session.now.dialogue.own.children entries.now sides.now) }
+    ensures { OnOk result (text.new ≡ text.old ++ side_lines secrets.now session.now.dialogue.own.children entries.now sides.now) }
 {
     for (place, groups) in sides {
         let child = place.number();
         let bytes = session.buffer_copied(alloc, child)?;
-        push_buffer(alloc, text, child, bytes.as_slice())?;
-        push_entries(alloc, text, bytes.as_slice(), groups.as_slice(), entries)?;
+        push_buffer(alloc, text, secrets, child, bytes.as_slice())?;
+        push_entries(
+            alloc,
+            text,
+            secrets,
+            bytes.as_slice(),
+            groups.as_slice(),
+            entries,
+        )?;
     }
     Ok(())
 }
@@ -263,15 +332,17 @@ fn push_until(alloc: Global, text: &mut Text, last: Option<u64>) -> Result<(), A
 fn push_expect(
     alloc: Global,
     text: &mut Text,
+    secrets: &[Secret],
     session: &Session,
     plan: &Plan,
 ) -> Result<(), AllocError>
-    ensures { OnOk result (text.new ≡ text.old ++ expect_lines session.now.dialogue.own.children (Some plan.now)) }
+    ensures { OnOk result (text.new ≡ text.old ++ expect_lines secrets.now session.now.dialogue.own.children (Some plan.now)) }
 {
     push_until(alloc, text, plan.last_moment())?;
     push_sides(
         alloc,
         text,
+        secrets,
         session,
         plan.list.entries.as_slice(),
         plan.sides.as_slice(),
@@ -280,13 +351,18 @@ fn push_expect(
 
 /// Appends the lines of what a session waits for.
 #[tactic(auto, unfolding(crate::specs::Waits::wait_lines))]
-pub fn push_waits(alloc: Global, text: &mut Text, session: &Session) -> Result<(), AllocError>
-    ensures { OnOk result (text.new ≡ text.old ++ wait_lines session.now) }
+pub fn push_waits(
+    alloc: Global,
+    text: &mut Text,
+    secrets: &[Secret],
+    session: &Session,
+) -> Result<(), AllocError>
+    ensures { OnOk result (text.new ≡ text.old ++ wait_lines secrets.now session.now) }
 {
     push_answer(alloc, text, session.answering())?;
     push_start(alloc, text, session.starting())?;
     match session.expecting() {
-        Some(plan) => push_expect(alloc, text, session, plan),
+        Some(plan) => push_expect(alloc, text, secrets, session, plan),
         None => Ok(()),
     }
 }

@@ -12,7 +12,9 @@ use Rattle.dialogue_sched.specs.declared.script.Script.{Script}
 use Rattle.dialogue_sched.specs.Pairs.{Paired}
 use Rattle.expect_prog.specs.Variables.{Variables, AreGiven, AreAlone}
 use Rattle.expect_prog.specs.Each.{AreRowsGiven, names_given}
+use Rattle.expect_prog.specs.Secrets.{AreSecrets, pairs_of}
 use Rattle.expect_prog.specs.declared.files.Cast.{Cast}
+use Rattle.expect_prog.specs.declared.files.Single.{Single}
 
 -- Whether reports in a format contain the variables, given whether they were requested. Summaries and TAP never do.
 abbrev pub vars_told : Format → Bool → Bool
@@ -42,15 +44,16 @@ abbrev pub all_scripts : Scripts → Variables → List Variables → List (List
 all_scripts order vars rows sources = flat_map (λ row. scripts_given (settings_given order (vars ++ row)) sources) rows
 
 -- The scripts of an order's files, in their order, and their names. Each file has one script per row, whose source was
--- read at the file's path. All have the order's settings, and the variables that it requests.
+-- read at the file's path. All have the order's settings, and the variables and secrets that it requests.
 pub record AreOfFiles (holds : List ℕ → List ℕ → Type 0) (sets : List (List ℕ) → Type 0) (order : Scripts) (cast : Cast) : Type 0 where
   pub rows : List Variables
   pub each : AreRowsGiven holds order.each rows
   pub vars : Variables
   pub asked : AreGiven sets order.variables vars
+  pub hidden : AreSecrets holds order.variables.secrets.items cast.secrets
   pub sources : List (List ℕ)
   pub held : AreHeld holds order.sources.items sources
-  pub given : cast.scripts.items ≡ all_scripts order vars rows sources
+  pub given : cast.scripts.items ≡ all_scripts order (vars ++ pairs_of cast.secrets) rows sources
   pub named : cast.names ≡ names_given rows (names_of order.sources.items)
 
 -- The settings of a script that is run as a command: its step limit, its last moment in milliseconds, and these
@@ -58,10 +61,11 @@ pub record AreOfFiles (holds : List ℕ → List ℕ → Type 0) (sets : List (L
 abbrev pub alone_settings : Alone → Variables → Settings
 alone_settings order vars = record { steps = order.steps; limit_ms = order.limit_ms; vars = vars; host = order.host; tells_vars = false }
 
--- The script of a command. Its source was read at the path of its file, and it has the command's settings, arguments
--- and variables.
-pub record IsOfFile (holds : List ℕ → List ℕ → Type 0) (sets : List (List ℕ) → Type 0) (order : Alone) (script : Script) : Type 0 where
+-- The script of a command. Its source was read at the path of its file, and it has the command's settings, arguments,
+-- variables and secrets.
+pub record IsOfFile (holds : List ℕ → List ℕ → Type 0) (sets : List (List ℕ) → Type 0) (order : Alone) (one : Single) : Type 0 where
   pub vars : Variables
   pub given : AreAlone sets order vars
-  pub held : holds order.source.now script.source
-  pub settings : script.settings ≡ alone_settings order vars
+  pub hidden : AreSecrets holds order.variables.secrets.items one.secrets
+  pub held : holds order.source.now one.script.source
+  pub settings : one.script.settings ≡ alone_settings order (vars ++ pairs_of one.secrets)

@@ -7,6 +7,7 @@ use crate::part::{Careful, Target, given};
 use child_events::Counted;
 use course_texts::explain;
 use dialogue_sched::Script;
+use secret_words::Secrets;
 use std::alloc::{AllocError, Global};
 use std::io::Write;
 use std::rt::Files;
@@ -68,12 +69,13 @@ pub fn remove_account<R: Files>(rt: &R, account: Option<Account<'_, R::File>>) {
     }
 }
 
-/// Writes the explanation of scripts over the record of their run. If the file is complete, it gets
-/// its name. Otherwise it is removed.
+/// Writes the explanation of scripts over the record of their run, with names in place of secrets. If
+/// the file is complete, it gets its name. Otherwise it is removed.
 pub fn tell_account<'a, R: Files>(
     rt: &R,
     alloc: Global,
     account: Account<'a, R::File>,
+    secrets: &Secrets,
     record: &[u8],
 ) -> Result<(), Complaint<'a>> {
     let Account {
@@ -84,7 +86,7 @@ pub fn tell_account<'a, R: Files>(
     let path = target.path();
     let mut log = Counted::new(record);
     let mut out = Counted::new(file);
-    let told = match explain(alloc, None, &mut log, scripts, &mut out) {
+    let told = match explain(alloc, None, secrets, &mut log, scripts, &mut out) {
         Ok(()) => match given(rt, &target, out.device.whole()) {
             Ok(()) => Ok(()),
             Err(reason) => Err(Complaint::NotWritten { path, reason }),

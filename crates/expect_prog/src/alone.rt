@@ -5,7 +5,7 @@ ghost use Rattle.tcl_words.specs.Bytes as ascii;
 ghost use Rattle.expect_prog.specs.Outcome.{last_line, last_lines};
 
 use crate::complaint::Complaint;
-use crate::files::{System, alone_script, opened_log, unless_long};
+use crate::files::{Single, System, alone_script, opened_log, unless_long};
 use crate::names::{Names, Role, judge_old};
 use crate::outcome::Outcome;
 use crate::part::SyncedFile;
@@ -15,8 +15,9 @@ use child_pipes::{Free, Programs, Reaper, Stop, Terms, Wall, Watch};
 use command_line::Alone;
 use course_texts::push_places;
 use dialogue_sched::Script;
-use report_texts::write_all;
+use report_texts::{masked_report, write_all};
 use script_runs::{DriveFault, LogWriteFault, Played, Player, Record, drive_early, reports_read};
+use secret_words::{Secrets, masker_of};
 use session::{Ending, Report};
 use std::alloc::{AllocError, Global};
 use std::env::Env;
@@ -124,11 +125,12 @@ fn replay_alone<
     alloc: Global,
     order: &Alone<'a>,
     path: &'a str,
-    script: Script,
+    single: Single,
     errors: E,
     out: O,
     stop: &Arc<Stop>,
 ) -> Result<Report, Complaint<'a>> {
+    let Single { script, secrets } = single;
     let reaper = Reaper::new(alloc, TERMS, None)?;
     let watch = Watch::start(
         rt,
@@ -142,7 +144,7 @@ fn replay_alone<
     let replayed = replayed(&rt, alloc, order, path, script);
     stop.leave();
     watch.stop(rt, alloc, errors);
-    let report = replayed?;
+    let report = masked_report(alloc, secrets.as_slice(), replayed?);
     written(out, report.transcript.as_slice())?;
     Ok(report)
 }
@@ -159,6 +161,7 @@ fn judge_alone<'a, R: Files>(
     };
     let mut names = Names::new(alloc);
     names.push_read(rt, alloc, Role::Script, order.source)?;
+    names.push_secrets(rt, alloc, order.variables.secrets.as_slice())?;
     names.push_product(rt, alloc, Role::Record, record)?;
     names.judged(alloc)?;
     judge_old(rt, alloc, record, Role::Record)
@@ -190,6 +193,7 @@ fn run_script<
     rt: R,
     alloc: Global,
     script: Script,
+    secrets: &Secrets,
     errors: E,
     out: O,
     recorded: bool,
@@ -204,8 +208,10 @@ fn run_script<
     let played = unplayed(alloc)?;
     let player = Player::new(
         rt,
+        alloc,
         wall.again(),
         out,
+        masker_of(alloc, secrets)?,
         Arc::try_clone(&cancellations[0])?,
         Arc::try_clone(stop)?,
         Arc::try_clone(&played)?,
@@ -235,11 +241,12 @@ fn play<
     rt: R,
     alloc: Global,
     order: &Alone<'a>,
-    script: Script,
+    single: Single,
     errors: E,
     out: O,
     stop: &Arc<Stop>,
 ) -> Result<(Report, bool), Complaint<'a>> {
+    let Single { script, secrets } = single;
     judge_alone(&rt, alloc, order)?;
     let (target, file) = match opened_record(&rt, alloc, order.record)? {
         Some(RecordFile { target, file }) => (Some(target), Some(SyncedFile::new(rt, file))),
@@ -247,7 +254,9 @@ fn play<
     };
     let recorded = target.is_some();
     let record = Record::new(file, None);
-    let ran = run_script(rt, alloc, script, errors, out, recorded, record, stop);
+    let ran = run_script(
+        rt, alloc, script, &secrets, errors, out, recorded, record, stop,
+    );
     let Ran {
         played,
         log,
@@ -263,7 +272,10 @@ fn play<
         Played {
             report: Some(report),
             ..
-        } => Ok((report, is_recorded)),
+        } => Ok((
+            masked_report(alloc, secrets.as_slice(), report),
+            is_recorded,
+        )),
         Played { report: None, .. } => Err(Complaint::Memory),
     }
 }
@@ -276,14 +288,14 @@ pub fn run_alone<
     E: Write + Copy + Send + Drop + 'static,
     O: Write + Copy + Send + Drop + 'static,
 >(rt: R, alloc: Global, order: &Alone<'a>, errors: E, out: O) -> Result<Outcome, Complaint<'a>> {
-    let script = alone_script(&System { rt: &rt }, alloc, order)?;
+    let single = alone_script(&System { rt: &rt }, alloc, order)?;
     let stop = Arc::new(alloc, Stop::new(&rt))?;
     let (report, is_recorded) = match order.log {
         Some(path) => {
-            let report = replay_alone(rt, alloc, order, path, script, errors, out, &stop)?;
+            let report = replay_alone(rt, alloc, order, path, single, errors, out, &stop)?;
             (report, true)
         }
-        None => play(rt, alloc, order, script, errors, out, &stop)?,
+        None => play(rt, alloc, order, single, errors, out, &stop)?,
     };
     if stop.signal().is_none() || report.ending != Ending::Waiting {
         let lines = lines_after(alloc, order.source.as_bytes(), &report)?;

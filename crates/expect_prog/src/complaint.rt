@@ -55,6 +55,12 @@ pub enum Complaint<'a> {
     NoName(&'a str),
     #[error("--set {0} sets no variable: write NAME=VALUE, with a NAME that isn't env and has no parenthesis")]
     BadSet(&'a str),
+    #[error("--secret {0} sets no variable: write NAME=FILE, with a NAME that isn't env and has no parenthesis")]
+    BadSecret(&'a str),
+    #[error("--secret {0}: its NAME is given twice")]
+    SecretAgain(&'a str),
+    #[error("--secret {0}: its file has no secret")]
+    EmptySecret(&'a str),
     #[error("{0} has more than 1048576 bytes")]
     LongList(&'a str),
     #[error("{0} isn't UTF-8")]

@@ -2,6 +2,7 @@
 
 ghost use Rattle.std.specs.Prelude.{◌≡◌, ◌++◌, ◌≤◌, ◌<◌, ℕ, List, length, IsTrue, IfOk, OnOk};
 ghost use Rattle.expect_prog.specs.Variables.{AreGiven, AreAlone};
+ghost use Rattle.expect_prog.specs.Secrets.{pairs_of};
 ghost use Rattle.expect_prog.specs.Given.{settings_given, alone_settings, all_scripts, scripts_given, vars_told, AreHeld, AreOfFiles, IsOfFile};
 
 use crate::complaint::Complaint;
@@ -9,6 +10,7 @@ use crate::each::{names_given, rows_given};
 use crate::folder::{Folder, Pages, paths_of};
 use crate::names::{Names, Role};
 use crate::outcome::Outcome;
+use crate::secrets::{push_secrets, secrets_given};
 use crate::sized::{Bounded, LONGEST_LOG};
 use crate::standard::Patient;
 use crate::variables::{alone_given, own_entries, variables_given};
@@ -18,6 +20,7 @@ use course_texts::{explain, show_log};
 use dialogue_sched::Script;
 use report_texts::{Form, Format, ReadFault, read_all};
 use script_runs::{CheckFault, NoShelf, Shelf, check_source, plan_log, replay};
+use secret_words::Secrets;
 use session::{Pairs, SOURCE_LIMIT, Settings};
 use std::alloc::{AllocError, Global};
 use std::env::Env;
@@ -159,6 +162,15 @@ fn variables<'a, S: Sources>(
     variables_given(alloc, asked, entries.as_slice())
 }
 
+/// Returns variables, and then those whose values are secrets.
+fn with_secrets(alloc: Global, vars: Pairs, secrets: &Secrets) -> Result<Pairs, AllocError>
+    ensures { IfOk result (λ ps. ps ≡ vars ++ pairs_of secrets.now) }
+{
+    let mut vars = vars;
+    push_secrets(alloc, &mut vars, secrets.as_slice())?;
+    Ok(vars)
+}
+
 /// Reads the sources at paths, in order. Returns the complaint for the first one that can't be
 /// read.
 fn read_sources<'a, S: Sources>(
@@ -258,11 +270,14 @@ fn settings_of(asked: &Scripts<'_>, vars: Pairs) -> Settings
 pub struct Cast {
     pub scripts: Vec<Script>,
     pub names: Texts,
+    /// The secrets that scripts have as variables.
+    pub secrets: Secrets,
 }
 
-/// Reads the list of an order, then exprun's own environment, as far as they are needed, and then its
-/// sources, in order. Returns their scripts. Returns the complaint for what is wrong in the list, for
-/// the first word that sets no variable, or for the first source that can't be read.
+/// Reads the list of an order, then exprun's own environment, as far as they are needed, then its
+/// secrets, and then its sources, in order. Returns their scripts. Returns the complaint for what is
+/// wrong in the list, for the first word that sets no variable or gives no secret, or for the first
+/// source that can't be read.
 pub fn cast_of<'a, S: Sources>(
     from: &S,
     alloc: Global,
@@ -272,11 +287,14 @@ pub fn cast_of<'a, S: Sources>(
 {
     let rows = rows_given(from, alloc, order.each)?;
     let vars = variables(from, alloc, &order.variables)?;
+    let secrets = secrets_given(from, alloc, order.variables.secrets.as_slice())?;
+    let vars = with_secrets(alloc, vars, &secrets)?;
     let files = order.sources.as_slice();
     let sources = read_sources(from, alloc, files)?;
     Ok(Cast {
         scripts: scripts_of(alloc, order, &vars, rows.as_slice(), sources.as_slice())?,
         names: names_given(alloc, rows.as_slice(), files)?,
+        secrets,
     })
 }
 
@@ -312,19 +330,31 @@ fn alone_settings(alone: &Alone<'_>, vars: Pairs) -> Settings
     }
 }
 
-/// Reads exprun's own environment, if needed, and then the source of a script that is run as a
-/// command. Returns the script. Returns the complaint for the first word that sets no variable, or
-/// for a source that can't be read.
+/// A script that is run as a command, and its secrets.
+#[derive(Drop)]
+pub struct Single {
+    pub script: Script,
+    pub secrets: Secrets,
+}
+
+/// Reads exprun's own environment, if needed, then the secrets, and then the source of a script that
+/// is run as a command. Returns the script and its secrets. Returns the complaint for the first word
+/// that sets no variable or gives no secret, or for a source that can't be read.
 pub fn alone_script<'a, S: Sources>(
     from: &S,
     alloc: Global,
     order: &Alone<'a>,
-) -> Result<Script, Complaint<'a>>
+) -> Result<Single, Complaint<'a>>
     ensures { IfOk result (IsOfFile S.holds S.sets order.now) }
 {
-    let settings = alone_settings(order, alone_variables(from, alloc, order)?);
+    let vars = alone_variables(from, alloc, order)?;
+    let secrets = secrets_given(from, alloc, order.variables.secrets.as_slice())?;
+    let settings = alone_settings(order, with_secrets(alloc, vars, &secrets)?);
     let source = from.source(alloc, order.source)?;
-    Ok(Script { source, settings })
+    Ok(Single {
+        script: Script { source, settings },
+        secrets,
+    })
 }
 
 /// Replays an order's scripts over its log, passes their transcripts to a shelf, and prints the
@@ -381,8 +411,13 @@ pub fn replay_files<'a, R: Files + Env + Print + Eprint + Pages + Copy + Drop>(
     alloc: Global,
     order: &mut Replay<'a>,
 ) -> Result<Outcome, Complaint<'a>> {
-    let Cast { scripts, names } = cast_of(&System { rt }, alloc, &order.scripts)?;
+    let Cast {
+        scripts,
+        names,
+        secrets,
+    } = cast_of(&System { rt }, alloc, &order.scripts)?;
     order.scripts.form.files = names;
+    order.scripts.form.secrets = secrets;
     let log = opened_log(rt, order.log, order.cut)?;
     let Some(path) = order.scripts.transcripts else {
         let well = replay_order(rt, alloc, order, scripts, log, &mut NoShelf)?;
@@ -421,10 +456,14 @@ pub fn explain_files<'a, R: Files + Env + Print>(
     alloc: Global,
     order: &Explain<'a>,
 ) -> Result<Outcome, Complaint<'a>> {
-    let Cast { scripts, .. } = cast_of(&System { rt }, alloc, &order.scripts)?;
+    let Cast {
+        scripts,
+        secrets,
+        ..
+    } = cast_of(&System { rt }, alloc, &order.scripts)?;
     let mut log = Counted::new(opened_log(rt, order.log, false)?);
     let mut out = Counted::new(Patient(io::writer(rt)));
-    match explain(alloc, order.only, &mut log, scripts, &mut out) {
+    match explain(alloc, order.only, &secrets, &mut log, scripts, &mut out) {
         Ok(()) => Ok(Outcome::Well),
         Err(fault) => {
             let complaint = Complaint::of_explain(fault, order);
@@ -452,7 +491,10 @@ pub fn plan_file<'a, R: Files + Env + Print>(
     alloc: Global,
     order: &LogPlan<'a>,
 ) -> Result<Outcome, Complaint<'a>> {
-    let vars = variables(&System { rt }, alloc, &order.variables)?;
+    let from = System { rt };
+    let vars = variables(&from, alloc, &order.variables)?;
+    let secrets = secrets_given(&from, alloc, order.variables.secrets.as_slice())?;
+    let vars = with_secrets(alloc, vars, &secrets)?;
     let source = source(rt, alloc, order.source)?;
     let settings = Settings {
         steps: order.steps,

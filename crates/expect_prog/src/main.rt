@@ -12,6 +12,7 @@ mod names;
 mod outcome;
 mod part;
 mod running;
+mod secrets;
 mod sized;
 mod standard;
 mod variables;

@@ -3,6 +3,7 @@
 use crate::complaint::Complaint;
 use crate::files::opened;
 use crate::part::found;
+use crate::secrets::file_of_secret;
 use child_events::Counted;
 use command_line::Scripts;
 use product_files::{Entry, Found, Node, Way, clash, part_name, way_to};
@@ -20,6 +21,8 @@ pub enum Role {
     Script,
     /// The list of a script's rows.
     List,
+    /// The file of a secret.
+    Secret,
     Log,
     Record,
     Account,
@@ -34,6 +37,7 @@ impl Role {
         match self {
             Role::Script => "a script",
             Role::List => "--each",
+            Role::Secret => "--secret",
             Role::Log => "the log",
             Role::Record => "--record",
             Role::Account => "--explain",
@@ -119,7 +123,21 @@ impl Names {
         if let Some(path) = order.each {
             names.push_read(rt, alloc, Role::List, path)?;
         }
+        names.push_secrets(rt, alloc, order.variables.secrets.as_slice())?;
         Ok(names)
+    }
+
+    /// Adds the files of secrets, given the words of `--secret`.
+    pub fn push_secrets<R: Files>(
+        &mut self,
+        rt: &R,
+        alloc: Global,
+        words: &[&str],
+    ) -> Result<(), AllocError> {
+        for word in words {
+            self.push_read(rt, alloc, Role::Secret, file_of_secret(word))?;
+        }
+        Ok(())
     }
 
     /// Adds a name that belongs to an owner and leads to a file.
@@ -242,6 +260,7 @@ fn clash_text(alloc: Global, a: &Name, b: &Name) -> Result<String, AllocError> {
     match a.role {
         Role::Script => text.push_str(" is a script of this run and can't be written")?,
         Role::List => text.push_str(" is the list of this run and can't be written")?,
+        Role::Secret => text.push_str(" is the file of a secret and can't be written")?,
         Role::Log => text.push_str(" is the log and can't be written")?,
         _ => {
             text.push_str(" is asked for twice: ")?;

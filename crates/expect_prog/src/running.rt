@@ -18,6 +18,7 @@ use script_runs::{
     DriveFault, Early, LogWriteFault, NoShelf, Record, Telling, Told, Written, clocks, drive,
     drive_early,
 };
+use secret_words::Secrets;
 use std::alloc::{AllocError, Global};
 use std::env::Env;
 use std::io::{self, ErrorKind, IsTerminal, Write};
@@ -139,14 +140,25 @@ fn run_scripts<
         false => None,
     };
     let keepers = keepers(rt, alloc, &reaper, &pipes, cancellations.as_slice())?;
-    let telling = Telling::new(rt, alloc, errors, order.follow, pipes, count, workers)?;
-    let wall = Wall::new(rt);
     let form = &order.scripts.form;
+    let secrets = &form.secrets;
+    let telling = Telling::new(
+        rt,
+        alloc,
+        errors,
+        order.follow,
+        pipes,
+        secrets,
+        count,
+        workers,
+    )?;
+    let wall = Wall::new(rt);
     let is_early = matches!(form.format, Format::JsonLines);
     let early = Early::start(
         rt,
         alloc,
         count,
+        secrets,
         if is_early { Some(form) } else { None },
         out,
         folder,
@@ -380,6 +392,7 @@ fn tell_kept<R: Files + Eprint>(
     rt: &R,
     alloc: Global,
     account: Account<'_, R::File>,
+    secrets: &Secrets,
     record: Option<Text>,
 ) -> bool {
     let Some(record) = record else {
@@ -387,7 +400,7 @@ fn tell_kept<R: Files + Eprint>(
         tell(rt, alloc, &Complaint::Memory);
         return false;
     };
-    match tell_account(rt, alloc, account, record.as_slice()) {
+    match tell_account(rt, alloc, account, secrets, record.as_slice()) {
         Ok(()) => true,
         Err(complaint) => {
             tell(rt, alloc, &complaint);
@@ -434,7 +447,7 @@ fn run_open<
         }
     };
     let is_told = match account {
-        Some(account) => tell_kept(&rt, alloc, account, kept),
+        Some(account) => tell_kept(&rt, alloc, account, &order.scripts.form.secrets, kept),
         None => true,
     };
     match outcome {
@@ -463,8 +476,13 @@ pub fn run_files<
     E: Write + IsTerminal + Copy + Send + Drop + 'static,
     O: Write + Copy + Send + Drop + 'static,
 >(rt: R, alloc: Global, order: &mut Run<'a>, errors: E, out: O) -> Result<Outcome, Complaint<'a>> {
-    let Cast { scripts, names } = cast_of(&System { rt: &rt }, alloc, &order.scripts)?;
+    let Cast {
+        scripts,
+        names,
+        secrets,
+    } = cast_of(&System { rt: &rt }, alloc, &order.scripts)?;
     order.scripts.form.files = names;
+    order.scripts.form.secrets = secrets;
     judge_run(&rt, alloc, order)?;
     let stop = Arc::new(alloc, Stop::new(&rt))?;
     let account = match order.explain {

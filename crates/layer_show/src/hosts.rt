@@ -94,7 +94,7 @@ pub fn digit(code: Code) -> u8 {
     match code {
         Code::Ok => b'0',
         Code::Error => b'1',
-        Code::Return => b'2',
+        Code::Return(_) => b'2',
         Code::Break => b'3',
         Code::Continue => b'4',
         Code::Again => b'5',

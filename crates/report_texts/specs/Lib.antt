@@ -7,3 +7,4 @@ pub mod Json
 pub mod Form
 pub mod Devices
 pub mod Written
+pub mod Masked

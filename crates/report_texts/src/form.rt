@@ -9,6 +9,7 @@ use crate::json::{item_text, line_text};
 use crate::line::summary_text;
 use crate::tap::{plan_text, test_text};
 use crate::texts::{Shown, bare_text, escaped_text, report_text};
+use secret_words::Secrets;
 use session::{Ending, Report};
 use std::alloc::{AllocError, Global};
 use tcl_words::{Text, Texts};
@@ -40,6 +41,8 @@ pub struct Form {
     pub shown: Shown,
     /// The names of the scripts' files, beginning with that of script 1.
     pub files: Texts,
+    /// The secrets of the scripts. Reports show their names.
+    pub secrets: Secrets,
 }
 
 impl Form {
@@ -51,6 +54,7 @@ impl Form {
             format: self.format,
             shown: self.shown,
             files: self.files.copied(alloc)?,
+            secrets: self.secrets.copied(alloc)?,
         })
     }
 

@@ -10,7 +10,7 @@ use Rattle.command_table.specs.declared.commands.ExpectCommand.{ExpectCommand}
 use Rattle.command_table.specs.declared.commands.TclCommand.{TclCommand}
 use Rattle.command_table.specs.declared.commands.TclCommand.TheVariants.{Value, If, Foreach, Expr, Eval as EvalCommand, Exit, While, For, Proc, Catch, Switch as SwitchCommand}
 use Rattle.command_table.specs.declared.commands.ValueCommand.{ValueCommand}
-use Rattle.command_table.specs.declared.commands.ValueCommand.TheVariants.{String, Info, Array, Lsearch, Lsort, Regexp, Regsub, Package, ExpVersion}
+use Rattle.command_table.specs.declared.commands.ValueCommand.TheVariants.{String, Info, Array, Lsearch, Lsort, Subst, Regexp, Regsub, Package, ExpVersion}
 use Rattle.command_table.specs.declared.counts.Count.{Count}
 use Rattle.command_table.specs.declared.options.StringOption.{StringOption}
 use Rattle.command_table.specs.declared.options.StringOption.TheVariants as string
@@ -424,6 +424,9 @@ value_foretold Lsearch name args words are =
 value_foretold Lsort name args words are =
     flagged_told (at_least 1) name switches.Sort 1 args words are (length args) (length words) (λ text. ValueEnds text name words Lsort) (lengths args words are) (unfit_row Lsort name words)
     (λ fit text is vars. fit_row Lsort name words fit vars ∙ ap (λ (s : Said (List ℕ)). told s vars) (bind_ends (flags_of switches.Sort 1 name words) text _ is))
+value_foretold Subst name args words are =
+    flagged_told (at_least 2) name switches.Substitute 1 args words are (length args) (length words) (λ text. ValueEnds text name words Subst) (lengths args words are) (unfit_row Subst name words)
+    (λ fit text is vars. fit_row Subst name words fit vars ∙ ap (λ (s : Said (List ℕ)). told s vars) (bind_ends (flags_of switches.Substitute 1 name words) text _ is))
 value_foretold Regexp name args words are =
     weaker (fronted name switches.Match (words_behind switches.Match) false args) (FrontEnds name switches.Match false words) (λ text. ValueEnds text name words Regexp)
     (λ text is vars. fit_row Regexp name words (no_fewer (length words)) vars ∙ ap (λ (f : Said Front). on_value f vars (λ p. matched p.0 p.1 vars)) is)

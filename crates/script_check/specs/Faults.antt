@@ -17,7 +17,7 @@ use Rattle.command_table.specs.Flags.{begins_with_minus, flag_role}
 use Rattle.command_table.specs.Options.{option_count, option_switches}
 use Rattle.command_table.specs.Reading.{step, is_short}
 use Rattle.command_table.specs.Rows.{row_of}
-use Rattle.command_table.specs.Switches.{switch_of, takes_value, is_end, words_before, words_behind}
+use Rattle.command_table.specs.Switches.{switch_of, takes_value, is_end, words_before, words_behind, flags_needed}
 use Rattle.script_check.specs.declared.placed.Placed.{Placed}
 use Rattle.script_check.specs.declared.problem.Problem.{Problem}
 use Rattle.script_check.specs.declared.problem.Problem.TheVariants.{WrongArgs, BadOption, BadFlag}
@@ -51,7 +51,7 @@ switched name s n false (w ∷ ws) =
 -- Words whose number may be counted, with flags before the last of them, if the command has any.
 abbrev pub if_switched : List ℕ → Count → List Placed → Option Switches → Option Problem
 if_switched name c args None = counted name c (length args)
-if_switched name c args (Some s) = if fits c (length args) then switched name s (c.least - words_before s) false (drop (words_before s) args) else wrong name
+if_switched name c args (Some s) = if fits c (length args) then switched name s (c.least - words_before s - flags_needed s) false (drop (words_before s) args) else wrong name
 
 -- An option, and the words after it.
 abbrev pub if_counted : List ℕ → List Placed → List ℕ → Option Count → Option Switches → Option Problem

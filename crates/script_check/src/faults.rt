@@ -9,9 +9,9 @@ use crate::placed::Placed;
 use crate::problem::Problem;
 use crate::stretch::{begins_with, behind};
 use command_table::{
-    Command, Count, Flags, Role, Stage, Switches, begins_with_minus, fits, flag_role, is, is_end,
-    is_short, option_count, option_switches, row_of, step, switch_of, takes_value, words_before,
-    words_behind,
+    Command, Count, Flags, Role, Stage, Switches, begins_with_minus, fits, flag_role, flags_needed,
+    is, is_end, is_short, option_count, option_switches, row_of, step, switch_of, takes_value,
+    words_before, words_behind,
 };
 use std::alloc::{AllocError, Global};
 use tcl_words::Text;
@@ -93,7 +93,8 @@ fn if_switched(
         return wrong(alloc, name);
     }
     let before = words_before(switches);
-    let n = count.least.saturating_sub(before);
+    let least = count.least.saturating_sub(before);
+    let n = least.saturating_sub(flags_needed(switches));
     switched(alloc, name, switches, n, behind(args, before))
 }
 

@@ -21,7 +21,9 @@ use Rattle.child_desk.specs.Line.{Keeping}
 use Rattle.child_serve.specs.declared.served.Served.{Served}
 use Rattle.child_serve.proofs.Again.{serving_is_run}
 use Rattle.report_texts.specs.declared.form.Form.{Form}
+use Rattle.secret_words.specs.declared.secrets.Secret.{Secret}
 use Rattle.report_texts.specs.Written.{StandsFor, AllStandFor}
+use Rattle.report_texts.specs.Masked.{masked_report, IsMasked, AllMasked}
 use Rattle.script_runs.specs.declared.fault.ReplayFault.{ReplayFault}
 use Rattle.script_runs.specs.declared.fault.ReplayFault.TheVariants.{Read, Log, Run, Write, Memory}
 use Rattle.child_serve.specs.Whole.{WasServed}
@@ -88,9 +90,34 @@ all_same [] (x ∷ rs') a spared spared' = absurd a
 all_same (r ∷ rs) [] a spared spared' = absurd a
 all_same (r ∷ rs) (x ∷ rs') a spared spared' = two_conses x r rs' rs (one_same r x a.0 spared.0 spared'.0) (all_same rs rs' a.1 spared.1 spared'.1)
 
-same_reports : (rs ts rs' ts' : List Report) → AllAgree rs rs' → AllStandFor rs ts → AllStandFor rs' ts' → SameReports rs ts rs' ts'
-same_reports rs ts rs' ts' agree stand stand' =
-    let printed = seconds_stand ts rs' ts' (firsts_stand rs rs' ts agree stand) stand' in
+-- reports that agree do so with names in place of secrets
+
+memory_masked : (ss : List Secret) → masked_report ss memory_report ≡ memory_report
+memory_masked [] = refl
+memory_masked (s ∷ ss) = refl
+
+one_masked : (ss : List Secret) (r r' : Report) → AgreesWith r r' → AgreesWith (masked_report ss r) (masked_report ss r')
+one_masked ss r r' (inl e) = inl (ap (masked_report ss) e)
+one_masked ss r r' (inr (inl spent)) = inr (inl (ap (masked_report ss) spent ∙ memory_masked ss))
+one_masked ss r r' (inr (inr spent)) = inr (inr (ap (masked_report ss) spent ∙ memory_masked ss))
+
+-- the same for what stands for them then
+both_masked : (ss : List Secret) (r r' t t' : Report) → AgreesWith r r' → IsMasked ss r t → IsMasked ss r' t' → AgreesWith t t'
+both_masked ss r r' t t' a m m' = second_stands t (masked_report ss r') t' (first_stands (masked_report ss r) (masked_report ss r') t (one_masked ss r r' a) m) m'
+
+masked_agree : (ss : List Secret) (rs ts rs' ts' : List Report) → AllAgree rs rs' → AllMasked ss rs ts → AllMasked ss rs' ts' → AllAgree ts ts'
+masked_agree ss [] [] [] [] a m m' = tt
+masked_agree ss [] [] [] (t' ∷ ts') a m m' = absurd m'
+masked_agree ss [] [] (x ∷ rs') ts' a m m' = absurd a
+masked_agree ss [] (t ∷ ts) rs' ts' a m m' = absurd m
+masked_agree ss (r ∷ rs) [] rs' ts' a m m' = absurd m
+masked_agree ss (r ∷ rs) (t ∷ ts) [] ts' a m m' = absurd a
+masked_agree ss (r ∷ rs) (t ∷ ts) (x ∷ rs') [] a m m' = absurd m'
+masked_agree ss (r ∷ rs) (t ∷ ts) (x ∷ rs') (t' ∷ ts') a m m' = (both_masked ss r x t t' a.0 m.0 m'.0, masked_agree ss rs ts rs' ts' a.1 m.1 m'.1)
+
+same_reports : (ss : List Secret) (rs shown ts rs' shown' ts' : List Report) → AllAgree rs rs' → AllMasked ss rs shown → AllStandFor shown ts → AllMasked ss rs' shown' → AllStandFor shown' ts' → SameReports rs ts rs' ts'
+same_reports ss rs shown ts rs' shown' ts' agree masks stand masks' stand' =
+    let printed = seconds_stand ts shown' ts' (firsts_stand shown shown' ts (masked_agree ss rs shown rs' shown' agree masks masks') stand) stand' in
     record { reports = agree; printed = printed; same = all_same ts ts' printed }
 
 module _ (told : ℕ → ℕ → Request → Answer → Type 0) (gives : ℕ → ℕ → Option (List ℕ) → Type 0) (workers : ℕ) (keepers : List Keeping) (scripts : List Script) (size : length keepers ≡ length scripts) (served : Served) (es : List HallEvent) (was : WasServed told gives workers keepers scripts es served) where
@@ -132,14 +159,16 @@ is_log bytes es is log = (is, log.1)
 
 module _ (told : ℕ → ℕ → Request → Answer → Type 0) (gives : ℕ → ℕ → Option (List ℕ) → Type 0) where
   pub replays_same : ReplaysSame told gives
-  replays_same workers keepers scripts form form' written well' kept kept' shelf shelf' bytes log log' log_failures log_calls out out' out_failures out_calls old new size ran whole running is again =
-      same_reports ran.served.reports ran.reported.told again.reports again.printed
-      (runs_again told gives workers keepers scripts size ran.served ran.logged.es ran.logged.serves bytes again.reports running (is_log bytes ran.logged.es is (ran.logged.means refl whole)) again.run) ran.reported.stand again.stand
+  replays_same workers keepers scripts form form' written well' kept kept' shelf shelf' bytes log log' log_failures log_calls out out' out_failures out_calls old new secrets size ran whole running is again =
+      same_reports form.secrets ran.served.reports ran.shown ran.reported.told again.reports again.shown again.printed
+      (runs_again told gives workers keepers scripts size ran.served ran.logged.es ran.logged.serves bytes again.reports running (is_log bytes ran.logged.es is (ran.logged.means refl whole)) again.run)
+      ran.masks ran.reported.stand (subst (λ (ss : List Secret). AllMasked ss again.reports again.shown) secrets again.masks) again.stand
 
   pub replays_part : ReplaysPart told gives
-  replays_part workers keepers scripts form form' written kept kept' shelf shelf' bytes log log' log_failures log_calls out out' out_failures out_calls old new size ran whole running is again =
-      same_reports ran.served.reports ran.reported.told again.reports again.printed
-      (runs_again told gives workers keepers scripts size ran.served ran.logged.es ran.logged.serves bytes again.reports running (is_log bytes ran.logged.es is (ran.logged.means refl whole)) again.run) ran.reported.stand again.stand
+  replays_part workers keepers scripts form form' written kept kept' shelf shelf' bytes log log' log_failures log_calls out out' out_failures out_calls old new secrets size ran whole running is again =
+      same_reports form.secrets ran.served.reports ran.shown ran.reported.told again.reports again.shown again.printed
+      (runs_again told gives workers keepers scripts size ran.served ran.logged.es ran.logged.serves bytes again.reports running (is_log bytes ran.logged.es is (ran.logged.means refl whole)) again.run)
+      ran.masks ran.reported.stand (subst (λ (ss : List Secret). AllMasked ss again.reports again.shown) secrets again.masks) again.stand
 
   pub replays_unrefused : ReplaysUnrefused told gives
   replays_unrefused workers keepers scripts form form' written kept kept' shelf shelf' bytes log log' log_failures log_calls out out' out_failures out_calls old new fault size ran whole is sound says =

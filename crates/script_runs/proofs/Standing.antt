@@ -9,6 +9,7 @@ use Rattle.report_texts.specs.declared.devices.Unwritten.{Unwritten}
 use Rattle.script_runs.specs.declared.fault.ReplayFault.TheVariants.{Write}
 use Rattle.script_runs.specs.Replay.{RunOver, Replays}
 use Rattle.script_runs.specs.Shelf.{Keeps, transcripts_of}
+use Rattle.report_texts.specs.Masked.{AllMasked}
 use Rattle.report_texts.specs.Written.{AllStandFor, WritesAll}
 use Rattle.report_texts.specs.declared.form.Form.{Form}
 
@@ -22,8 +23,8 @@ as_many n es (s ∷ ss) (r ∷ rs) mean = ap suc (as_many (n + 1) es ss rs mean.
 pub keeps_as : (slice rs : List Report) (kept kept' : Option (List (List ℕ))) → slice ≡ rs → Keeps kept kept' (transcripts_of slice) → Keeps kept kept' (transcripts_of rs)
 keeps_as slice rs kept kept' is keeps = subst (λ (z : List Report). Keeps kept kept' (transcripts_of z)) is keeps
 
-module _ (scripts : List Script) (form : Form) (known : Option (List ℕ)) (slice rs : List Report) (kept kept' : Option (List (List ℕ))) (old new : Option (List ℕ)) (failures calls : ℕ) (is : slice ≡ rs) (keeps : Keeps kept kept' (transcripts_of rs)) where
-  stand_as : (told : List Report) → AllStandFor slice told → AllStandFor rs told
+module _ (scripts : List Script) (form : Form) (known : Option (List ℕ)) (slice shown rs : List Report) (kept kept' : Option (List (List ℕ))) (old new : Option (List ℕ)) (failures calls : ℕ) (is : slice ≡ shown) (masks : AllMasked form.secrets rs shown) (keeps : Keeps kept kept' (transcripts_of shown)) where
+  stand_as : (told : List Report) → AllStandFor slice told → AllStandFor shown told
   stand_as told stand = subst (λ (z : List Report). AllStandFor z told) is stand
 
   -- what is written where the reports of a log's events are
@@ -36,6 +37,8 @@ module _ (scripts : List Script) (form : Form) (known : Option (List ℕ)) (slic
         reports = rs;
         printed = w.told;
         run = over;
+        shown = shown;
+        masks = masks;
         keeps = keeps;
         stand = stand_as w.told w.stand;
         done = w.done;
@@ -51,6 +54,8 @@ module _ (scripts : List Script) (form : Form) (known : Option (List ℕ)) (slic
         reports = rs;
         printed = w.told;
         run = over;
+        shown = shown;
+        masks = masks;
         keeps = keeps;
         stand = stand_as w.told w.stand;
         written = w.writes.0;

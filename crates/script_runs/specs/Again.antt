@@ -49,17 +49,17 @@ module _ (told : ℕ → ℕ → Request → Answer → Type 0) (gives : ℕ →
   Ran workers keepers scripts = Driven told gives true workers keepers scripts
 
   -- A run gives the same reports as its replay, if its record was written whole and the run was not stopped. Here all
-  -- reports of the replay were written. The run's own reports, `form` and `form'` may be any. `bytes` is the text that
-  -- the run appended to its log.
+  -- reports of the replay were written. The run's own reports may be any. `form` and `form'` have the same secrets.
+  -- `bytes` is the text that the run appended to its log.
   abbrev pub ReplaysSame : Type 0
   ReplaysSame = (workers : ℕ) (keepers : List Keeping) (scripts : List Script) (form form' : Form) (written : Written) (well' : Bool) (kept kept' shelf shelf' : Option (List (List ℕ))) (bytes : List ℕ) (log log' : Option (List ℕ)) (log_failures log_calls : ℕ) (out out' : Option (List ℕ)) (out_failures out_calls : ℕ) (old new : Option (List ℕ)) →
-      length keepers ≡ length scripts → (ran : Ran workers keepers scripts form written kept kept' log log' log_failures log_calls out out' out_failures out_calls) → written.log ≡ None → ran.served.stopped ≡ false → bytes ≡ counted_text To16 ran.logged.es →
+      form'.secrets ≡ form.secrets → length keepers ≡ length scripts → (ran : Ran workers keepers scripts form written kept kept' log log' log_failures log_calls out out' out_failures out_calls) → written.log ≡ None → ran.served.stopped ≡ false → bytes ≡ counted_text To16 ran.logged.es →
       (again : Replayed scripts form' bytes well' shelf shelf' old new) → SameReports ran.served.reports ran.reported.told again.reports again.printed
 
   -- The same for a replay that wrote a front of its reports.
   abbrev pub ReplaysPart : Type 0
   ReplaysPart = (workers : ℕ) (keepers : List Keeping) (scripts : List Script) (form form' : Form) (written : Written) (kept kept' shelf shelf' : Option (List (List ℕ))) (bytes : List ℕ) (log log' : Option (List ℕ)) (log_failures log_calls : ℕ) (out out' : Option (List ℕ)) (out_failures out_calls : ℕ) (old new : Option (List ℕ)) →
-      length keepers ≡ length scripts → (ran : Ran workers keepers scripts form written kept kept' log log' log_failures log_calls out out' out_failures out_calls) → written.log ≡ None → ran.served.stopped ≡ false → bytes ≡ counted_text To16 ran.logged.es →
+      form'.secrets ≡ form.secrets → length keepers ≡ length scripts → (ran : Ran workers keepers scripts form written kept kept' log log' log_failures log_calls out out' out_failures out_calls) → written.log ≡ None → ran.served.stopped ≡ false → bytes ≡ counted_text To16 ran.logged.es →
       (again : PartReplayed scripts form' bytes shelf shelf' old new) → SameReports ran.served.reports ran.reported.told again.reports again.printed
 
   -- A replay finds no error in the record, unless the record is too long. The run over the record refuses no entry.

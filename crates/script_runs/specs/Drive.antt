@@ -20,6 +20,8 @@ use Rattle.script_runs.specs.declared.driving.Written.{Written}
 use Rattle.script_runs.specs.Logging.{PutUpTo, if_kept}
 use Rattle.report_texts.specs.Devices.{WasPut}
 use Rattle.report_texts.specs.Written.{WritesAll}
+use Rattle.report_texts.specs.Masked.{AllMasked}
+use Rattle.session.specs.declared.report.Report.{Report}
 use Rattle.script_runs.specs.Shelf.{Keeps, transcripts_of}
 use Rattle.report_texts.specs.declared.form.Form.{Form}
 
@@ -57,13 +59,16 @@ module _ (told : ℕ → ℕ → Request → Answer → Type 0) (gives : ℕ →
   Records log log' failures calls (Ok fault) = (served : Served) × Recorded served fault log log' failures calls
   Records log log' failures calls (Err fault) = Unserved log log' fault
 
-  -- The record is written, the transcripts are kept, and the reports are printed. After an error in writing the record,
-  -- a front of it is written. After an error in writing the reports, a front of their text is written.
+  -- The record is written, the transcripts are kept, and the reports are printed, both with names in place of secrets.
+  -- After an error in writing the record, a front of it is written. After an error in writing the reports, a front of
+  -- their text is written.
   pub record Driven (form : Form) (written : Written) (kept kept' : Option (List (List ℕ))) (log log' : Option (List ℕ)) (log_failures log_calls : ℕ) (out out' : Option (List ℕ)) (out_failures out_calls : ℕ) : Type 0 where
     pub served : Served
     pub logged : Recorded served written.log log log' log_failures log_calls
-    pub keeps : Keeps kept kept' (transcripts_of served.reports)
-    pub reported : WritesAll form served.reports out out' out_failures out_calls written.reports
+    pub shown : List Report
+    pub masks : AllMasked form.secrets served.reports shown
+    pub keeps : Keeps kept kept' (transcripts_of shown)
+    pub reported : WritesAll form shown out out' out_failures out_calls written.reports
 
   -- What a run returns, what it keeps, and what it appends to its outputs.
   abbrev pub Drives : Form → Option (List (List ℕ)) → Option (List (List ℕ)) → Option (List ℕ) → Option (List ℕ) → ℕ → ℕ → Option (List ℕ) → Option (List ℕ) → ℕ → ℕ → Result Written DriveFault → Type 0

@@ -20,6 +20,7 @@ use Rattle.report_texts.specs.Report.{all_done}
 use Rattle.report_texts.specs.Form.{told_bytes}
 use Rattle.report_texts.specs.Devices.{WasPut, GaveUp}
 use Rattle.report_texts.specs.Written.{AllStandFor}
+use Rattle.report_texts.specs.Masked.{AllMasked}
 use Rattle.script_runs.specs.Shelf.{Keeps, transcripts_of}
 use Rattle.report_texts.specs.declared.form.Form.{Form}
 
@@ -34,14 +35,16 @@ pub record RunOver (scripts : List Script) (bytes : List ℕ) (answer : Result (
   pub log : LogText bytes events
   pub runs : Runs scripts events answer
 
--- The transcripts of the run's reports are kept. The text of the printed reports is appended to the output, and nothing
--- else.
+-- The transcripts of the run's reports are kept, with names in place of secrets. The text of the printed reports is
+-- appended to the output, and nothing else.
 pub record Replayed (scripts : List Script) (form : Form) (bytes : List ℕ) (well : Bool) (kept kept' : Option (List (List ℕ))) (old new : Option (List ℕ)) : Type 0 where
   pub reports : List Report
   pub printed : List Report
   pub run : RunOver scripts bytes (Ok reports)
-  pub keeps : Keeps kept kept' (transcripts_of reports)
-  pub stand : AllStandFor reports printed
+  pub shown : List Report
+  pub masks : AllMasked form.secrets reports shown
+  pub keeps : Keeps kept kept' (transcripts_of shown)
+  pub stand : AllStandFor shown printed
   pub done : well ≡ all_done printed
   pub written : Appends old new (told_bytes form printed)
 
@@ -50,8 +53,10 @@ pub record PartReplayed (scripts : List Script) (form : Form) (bytes : List ℕ)
   pub reports : List Report
   pub printed : List Report
   pub run : RunOver scripts bytes (Ok reports)
-  pub keeps : Keeps kept kept' (transcripts_of reports)
-  pub stand : AllStandFor reports printed
+  pub shown : List Report
+  pub masks : AllMasked form.secrets reports shown
+  pub keeps : Keeps kept kept' (transcripts_of shown)
+  pub stand : AllStandFor shown printed
   pub written : WasPut old new (told_bytes form printed)
 
 -- What a replay of bytes returns, what it keeps, and what it appends to the output.

@@ -10,7 +10,7 @@ use child_events::Counted;
 use child_hands::{Clock, Gate, Keeper};
 use child_serve::{Audience, ServeFault, Served, Stopping, serve};
 use dialogue_sched::Script;
-use report_texts::{Form, Unwritten, made_spares, write_reports};
+use report_texts::{Form, Unwritten, made_spares, masked_reports, write_reports};
 use std::alloc::{AllocError, Global};
 use std::io::Write;
 use std::sync::Wait;
@@ -145,8 +145,8 @@ pub fn drive_early<
 
 /// Serves scripts, each with its keeper, with one worker per clock. Writes the log of their record
 /// to `log` as it arises, if `recorded`. Then passes the transcripts to a shelf and writes the
-/// reports to `out`, even if not all of the record was written. Returns the outcome of both, and
-/// the log's device.
+/// reports to `out`, even if not all of the record was written. In both, names stand in place of the
+/// secrets of `form`. Returns the outcome of both, and the log's device.
 ///
 /// Reports are written one by one. If memory is refused for one report or its text, that script's
 /// report says `memory`, and the others are whole. After a failed write of the record, or if memory
@@ -194,10 +194,10 @@ pub fn drive<
         Ok(served) => served,
         Err(fault) => return (Err(fault), log),
     };
-    let reports = served.reports.as_slice();
-    keep_all(reports, shelf);
+    let shown = masked_reports(alloc, form.secrets.as_slice(), served.reports);
+    keep_all(shown.as_slice(), shelf);
     let written = Written {
-        reports: write_reports(alloc, form, reports, spares, out),
+        reports: write_reports(alloc, form, shown.as_slice(), spares, out),
         log: fault,
     };
     (Ok(written), log)

@@ -5,7 +5,8 @@ use crate::driving::DriveFault;
 use crate::shelf::Shelf;
 use crate::teller::{Post, Teller, Tells};
 use child_events::Counted;
-use report_texts::{Form, Spares, Unwritten, is_done, made_spares, write_all};
+use report_texts::{Form, Spares, Unwritten, is_done, made_spares, masked_report, write_all};
+use secret_words::Secrets;
 use session::Report;
 use std::alloc::{AllocError, Global};
 use std::io::Write;
@@ -83,18 +84,23 @@ impl<O: Write + Copy + Drop> Lines<O> {
 #[derive(Drop)]
 struct Writer<O: Drop, S: Drop> {
     alloc: Global,
+    secrets: Secrets,
     lines: Option<Lines<O>>,
     shelf: Option<S>,
 }
 
 impl<O: Write + Copy + Drop, S: Shelf + Drop> Writer<O, S> {
-    /// Writes the report and keeps the transcript of a script that has ended.
-    fn tell(&mut self, ended: &Ended) {
+    /// Writes the report and keeps the transcript of a script that has ended, with names in place of
+    /// secrets.
+    fn tell(&mut self, ended: Ended) {
+        let Ended { number, report } = ended;
+        let report = masked_report(self.alloc, self.secrets.as_slice(), report);
+        let ended = Ended { number, report };
         if let Some(shelf) = &mut self.shelf {
             shelf.keep(ended.number, ended.report.transcript.as_slice());
         }
         if let Some(lines) = &mut self.lines {
-            lines.write(self.alloc, ended);
+            lines.write(self.alloc, &ended);
         }
     }
 }
@@ -103,7 +109,7 @@ impl<O: Write + Copy + Drop, S: Shelf + Drop> Tells<Vec<Ended>> for Writer<O, S>
     fn tell_next<R: Wait + Clock>(&mut self, rt: &R, post: &Post<Vec<Ended>>) -> bool {
         match next(post, rt) {
             Some(ended) => {
-                self.tell(&ended);
+                self.tell(ended);
                 true
             }
             None => false,
@@ -160,11 +166,13 @@ pub struct Early<O: Drop, S: Drop> {
 
 impl<O: Write + Copy + Send + Drop + 'static, S: Shelf + Send + Drop + 'static> Early<O, S> {
     /// Starts a thread that takes up to `count` scripts as they end. With a form, it writes their
-    /// reports to `out`. With a shelf, it passes their transcripts to the shelf.
+    /// reports to `out`. With a shelf, it passes their transcripts to the shelf. In both, names stand
+    /// in place of secrets.
     pub fn start<R: Threads + Wait + Clock + Copy + Send + Drop + 'static>(
         rt: R,
         alloc: Global,
         count: usize,
+        secrets: &Secrets,
         form: Option<&Form>,
         out: O,
         shelf: Option<S>,
@@ -176,6 +184,7 @@ impl<O: Write + Copy + Send + Drop + 'static, S: Shelf + Send + Drop + 'static> 
         };
         let writer = Writer {
             alloc,
+            secrets: secrets.copied(alloc)?,
             lines,
             shelf,
         };

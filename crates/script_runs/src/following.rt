@@ -11,6 +11,7 @@ use child_pipes::{Cancellation, Stop, Wall};
 use child_serve::{Audience, Stopping};
 use dialogue_sched::Hall;
 use report_texts::{Escaping, push_labelled, push_text};
+use secret_words::Masker;
 use session::Ending;
 use std::alloc::{AllocError, Global};
 use std::sync::{Arc, Wait};
@@ -160,6 +161,8 @@ fn end_line(text: &mut Text) -> Result<(), AllocError> {
 #[derive(Drop)]
 pub struct Tale {
     manner: Manner,
+    /// Puts names in place of secrets, if there are any.
+    masker: Option<Masker>,
     held: Text,
     /// The moment of the script's last output.
     since: u64,
@@ -167,9 +170,10 @@ pub struct Tale {
 
 impl Tale {
     /// Creates the state of a script that has shown nothing.
-    pub fn new(alloc: Global, manner: Manner) -> Tale {
+    pub fn new(alloc: Global, manner: Manner, masker: Option<Masker>) -> Tale {
         Tale {
             manner,
+            masker,
             held: Text::new(alloc),
             since: 0,
         }
@@ -198,6 +202,27 @@ impl Tale {
         }
     }
 
+    /// Appends bytes to the held ones, with names in place of secrets.
+    fn hold(&mut self, alloc: Global, bytes: &[u8]) -> Result<(), AllocError> {
+        match &mut self.masker {
+            Some(masker) => {
+                let shown = masker.take(alloc, bytes)?;
+                self.held.extend(shown.as_slice())
+            }
+            None => self.held.extend(bytes),
+        }
+    }
+
+    /// Appends what was held back of secrets to the held bytes, since nothing comes after it.
+    fn hold_rest(&mut self, alloc: Global) {
+        let Some(masker) = &mut self.masker else {
+            return;
+        };
+        if let Ok(rest) = masker.rest(alloc) {
+            let _ = self.held.extend(rest.as_slice());
+        }
+    }
+
     /// Takes bytes that a script shows at a moment.
     pub fn hear<R: Wait + Copy + Drop>(
         &mut self,
@@ -207,7 +232,7 @@ impl Tale {
         moment: u64,
     ) {
         self.since = moment;
-        if self.held.extend(bytes).is_ok() {
+        if self.hold(alloc, bytes).is_ok() {
             let count = told_len(self.manner, self.held.as_slice());
             self.tell(alloc, voice, count);
         }
@@ -219,6 +244,12 @@ impl Tale {
         if count > 0 {
             self.tell(alloc, voice, count);
         }
+    }
+
+    /// Prints all bytes that are left, since no more come.
+    pub fn end<R: Wait + Copy + Drop>(&mut self, alloc: Global, voice: &Voice<R>) {
+        self.hold_rest(alloc);
+        self.tell_held(alloc, voice);
     }
 
     /// Prints all held bytes if the script has been quiet at this moment.
@@ -270,9 +301,16 @@ impl<R: Wait + Copy + Drop> Live<R> {
         }
     }
 
+    /// Takes what was held back of secrets, since the script at a place has ended.
+    fn part(&mut self, place: usize) {
+        if let Some(tale) = self.tales.get_mut(place) {
+            tale.hold_rest(self.alloc);
+        }
+    }
+
     fn leave(&mut self) {
         for tale in &mut self.tales {
-            tale.tell_held(self.alloc, &self.voice);
+            tale.end(self.alloc, &self.voice);
         }
     }
 }
@@ -380,11 +418,13 @@ impl<R: SystemClock + Wait + Copy + Drop> Audience for Follower<R> {
         if let Some(cancellation) = self.cancellations.get_mut(place).and_then(Option::take) {
             cancellation.cancel();
         }
-        if let Told::Far(progress) = &mut self.told {
-            progress.part(
+        match &mut self.told {
+            Told::Shown(live) => live.part(place),
+            Told::Far(progress) => progress.part(
                 place,
                 hall.ending(place.saturating_add(1)) == Some(Ending::Exit(0)),
-            );
+            ),
+            Told::Nothing => {}
         }
     }
 

@@ -8,6 +8,7 @@ use child_hands::Clock;
 use child_pipes::{ErrorPipe, ErrorPipes, Wall};
 use libc::net::{POLLIN, poll};
 use libc::types::pollfd;
+use secret_words::{Secrets, masker_of};
 use std::alloc::{AllocError, Global};
 use std::io::{ErrorKind, Read};
 use std::os::fd::AsRawFd;
@@ -43,7 +44,7 @@ impl Source {
         let mut piece = [0u8; PIECE];
         match self.out.read(&mut piece) {
             Ok(0) => {
-                self.tale.tell_held(alloc, voice);
+                self.tale.end(alloc, voice);
                 false
             }
             Ok(count) => {
@@ -64,6 +65,7 @@ pub struct Listener<R: SystemClock + Drop> {
     alloc: Global,
     wall: Wall<R>,
     voice: Voice<R>,
+    secrets: Secrets,
     pipes: ErrorPipes,
     sources: Vec<Source>,
     /// The moment at which reading stops, once all scripts have ended.
@@ -72,12 +74,19 @@ pub struct Listener<R: SystemClock + Drop> {
 
 impl<R: Wait + SystemClock + Copy + Drop> Listener<R> {
     /// Creates a listener for children that are started later.
-    pub fn new(rt: R, alloc: Global, voice: Voice<R>, pipes: ErrorPipes) -> Listener<R> {
+    pub fn new(
+        rt: R,
+        alloc: Global,
+        voice: Voice<R>,
+        secrets: Secrets,
+        pipes: ErrorPipes,
+    ) -> Listener<R> {
         Listener {
             rt,
             alloc,
             wall: Wall::new(rt),
             voice,
+            secrets,
             pipes,
             sources: Vec::new(alloc),
             end: None,
@@ -89,8 +98,10 @@ impl<R: Wait + SystemClock + Copy + Drop> Listener<R> {
         for pipe in self.pipes.take(&self.rt) {
             let ErrorPipe { script, out } = pipe;
             let number = u8::try_from(script).unwrap_or(u8::MAX);
-            let tale = Tale::new(self.alloc, Manner::Numbered(number));
-            let _ = self.sources.push(Source { out, tale });
+            if let Ok(masker) = masker_of(self.alloc, &self.secrets) {
+                let tale = Tale::new(self.alloc, Manner::Numbered(number), masker);
+                let _ = self.sources.push(Source { out, tale });
+            }
         }
     }
 
@@ -159,7 +170,7 @@ impl<R: Wait + SystemClock + Copy + Drop> Listener<R> {
     /// Prints all held bytes.
     fn tell_held(&mut self) {
         for source in &mut self.sources {
-            source.tale.tell_held(self.alloc, &self.voice);
+            source.tale.end(self.alloc, &self.voice);
         }
     }
 }

@@ -9,7 +9,7 @@ use crate::shelf::{Shelf, keep_all};
 use child_events::{Counted, LogFault, LogLines};
 use cut_logs::mend;
 use dialogue_sched::{HallFault, LogRunFault, Reports, RunFault, Script, run_log};
-use report_texts::{Form, ReadFault, made_spares, read_all, write_reports};
+use report_texts::{Form, ReadFault, made_spares, masked_reports, read_all, write_reports};
 use std::alloc::Global;
 use std::io::{Read, Write};
 use tcl_words::Text;
@@ -91,8 +91,9 @@ pub fn reports_read<R: Read>(
 }
 
 /// Reads a log, runs the scripts over its events while it is checked, passes their transcripts to a
-/// shelf, and writes their reports. Returns whether each script ended with status 0. If `cut`, the
-/// log may be cut off, and is read up to its last whole line.
+/// shelf, and writes their reports, both with names in place of the secrets of `form`. Returns
+/// whether each script ended with status 0. If `cut`, the log may be cut off, and is read up to its
+/// last whole line.
 ///
 /// Reports are written one by one. If memory is refused for one report or its text, that script's
 /// report says `memory`, and the others are whole.
@@ -125,8 +126,9 @@ pub fn replay<R: Read, S: Shelf, W: Write>(
 {
     let spares = made_spares(alloc, form, scripts.len())?;
     let reports = reports_read(alloc, log, cut, scripts)?;
-    keep_all(reports.as_slice(), shelf);
-    match write_reports(alloc, form, reports.as_slice(), spares, out) {
+    let shown = masked_reports(alloc, form.secrets.as_slice(), reports);
+    keep_all(shown.as_slice(), shelf);
+    match write_reports(alloc, form, shown.as_slice(), spares, out) {
         Ok(well) => Ok(well),
         Err(_) => Err(ReplayFault::Write),
     }

@@ -11,6 +11,7 @@ use crate::shelf::Shelf;
 use crate::teller::Teller;
 use crate::voice::Speaking;
 use child_pipes::{Cancellation, ErrorPipes, Stop, Wall};
+use secret_words::{Secrets, masker_of};
 use std::alloc::{AllocError, Global};
 use std::io::{IsTerminal, Write};
 use std::sync::{Arc, Wait};
@@ -52,10 +53,12 @@ fn tales_of(
     numbers: &[u8],
     is_alone: bool,
     is_terminal: bool,
+    secrets: &Secrets,
 ) -> Result<Vec<Tale>, AllocError> {
     let mut tales = Vec::new(alloc);
     for number in numbers {
-        let tale = Tale::new(alloc, manner_of(is_alone, is_terminal, *number));
+        let manner = manner_of(is_alone, is_terminal, *number);
+        let tale = Tale::new(alloc, manner, masker_of(alloc, secrets)?);
         let Ok(()) = tales.push(tale) else {
             return Err(AllocError);
         };
@@ -76,6 +79,8 @@ enum Matter<R: Drop> {
 /// Prints while scripts run, in a separate thread, if anything is to be printed.
 #[derive(Drop)]
 pub struct Telling<R: Clock + Drop, E: Drop> {
+    /// Names stand in place of these secrets.
+    secrets: Secrets,
     told: Option<(Matter<R>, Speaking<R, E>)>,
     /// Prints the lines that children write to their own standard errors.
     listening: Option<Teller<(), Listener<R>>>,
@@ -86,19 +91,22 @@ impl<
     E: Write + IsTerminal + Copy + Send + Drop + 'static,
 > Telling<R, E> {
     /// Starts to print on `to`. If `follow`, prints what scripts show. Otherwise, on a terminal,
-    /// prints their progress. Also prints the lines of these standard errors, if there are any.
+    /// prints their progress. Also prints the lines of these standard errors, if there are any. Names
+    /// stand in place of secrets.
     pub fn new(
         rt: R,
         alloc: Global,
         to: E,
         follow: bool,
         errors: Option<ErrorPipes>,
+        secrets: &Secrets,
         scripts: usize,
         workers: u8,
     ) -> Result<Telling<R, E>, DriveFault> {
         let is_terminal = to.is_terminal();
         if !follow && !is_terminal && errors.is_none() {
             return Ok(Telling {
+                secrets: Secrets::new(alloc),
                 told: None,
                 listening: None,
             });
@@ -113,12 +121,14 @@ impl<
         };
         let listening = match errors {
             Some(pipes) => {
-                let listener = Listener::new(rt, alloc, speaking.voice.shared()?, pipes);
+                let own = secrets.copied(alloc)?;
+                let listener = Listener::new(rt, alloc, speaking.voice.shared()?, own, pipes);
                 Some(Teller::start(rt, alloc, (), listener)?)
             }
             None => None,
         };
         Ok(Telling {
+            secrets: secrets.copied(alloc)?,
             told: Some((matter, speaking)),
             listening,
         })
@@ -135,7 +145,7 @@ impl<
     ) -> Result<Told<R>, AllocError> {
         match &self.told {
             Some((Matter::Shown(is_terminal), speaking)) => {
-                let tales = tales_of(alloc, numbers, scripts == 1, *is_terminal)?;
+                let tales = tales_of(alloc, numbers, scripts == 1, *is_terminal, &self.secrets)?;
                 Ok(Told::Shown(Live::new(alloc, speaking.voice.shared()?, tales)))
             }
             Some((Matter::Far(line), _)) => {
@@ -149,7 +159,11 @@ impl<
     /// Ends the printing. Waits until everything is printed, but not for a reader that reads
     /// nothing for a second.
     pub fn end(self, rt: &R) {
-        let Telling { told, listening } = self;
+        let Telling {
+            told,
+            listening,
+            ..
+        } = self;
         if let Some(teller) = listening {
             drop(teller.end(rt));
         }

@@ -14,6 +14,7 @@ use Rattle.tcl_subst.specs.Filling.{Fill, Full, Asks, Failed, fill}
 use Rattle.tcl_subst.specs.Variables.{with_value}
 use Rattle.tcl_subst.specs.Writes.{set_to}
 use Rattle.tcl_results.specs.declared.code.Code.{Code}
+use Rattle.tcl_results.specs.declared.code.Carried.TheVariants as carried
 use Rattle.tcl_results.specs.declared.code.Code.TheVariants.{Ok, Error, Return, Break, Continue, Again, AgainLater}
 use Rattle.tcl_control.specs.declared.verbs.Verb.{Verb}
 use Rattle.tcl_control.specs.declared.verbs.Verb.TheVariants.{Plain, If, While, For, Foreach, Proc, Expr, Eval as EvalCommand, Catch, Exit, Switch}
@@ -113,7 +114,7 @@ spared_if false x y p q = q
 on_ok-spared : (go : List ℕ → State → Tree) (k : Next) → SparedOn go → SparedNext k → SparedNext (on_ok go k)
 on_ok-spared go k g h Ok v st = g v st
 on_ok-spared go k g h Error v st = h Error v st
-on_ok-spared go k g h Return v st = h Return v st
+on_ok-spared go k g h (Return c) v st = h (Return c) v st
 on_ok-spared go k g h Break v st = h Break v st
 on_ok-spared go k g h Continue v st = h Continue v st
 on_ok-spared go k g h Again v st = h Again v st
@@ -136,7 +137,7 @@ turn_end-spared more k g h Ok v st = g st
 turn_end-spared more k g h Continue v st = g st
 turn_end-spared more k g h Break v st = h Ok [] st
 turn_end-spared more k g h Error v st = h Error v st
-turn_end-spared more k g h Return v st = h Return v st
+turn_end-spared more k g h (Return c) v st = h (Return c) v st
 turn_end-spared more k g h Again v st = h Again v st
 turn_end-spared more k g h AgainLater v st = h AgainLater v st
 
@@ -151,7 +152,7 @@ decided-spared true k turn st h g = stepped-spared st.left st turn g
 noting-spared : (o : Origin) (k : Next) → SparedNext k → SparedNext (noting o k)
 noting-spared o k h Ok v st = h Ok v st
 noting-spared o k h Error v st = h Error v (passed o st)
-noting-spared o k h Return v st = h Return v st
+noting-spared o k h (Return c) v st = h (Return c) v st
 noting-spared o k h Break v st = h Break v st
 noting-spared o k h Continue v st = h Continue v st
 noting-spared o k h Again v st = h Again v st
@@ -160,7 +161,11 @@ noting-spared o k h AgainLater v st = h AgainLater v st
 scope_end-spared : (words : List (List ℕ)) (k : Next) → SparedNext k → SparedNext (scope_end words k)
 scope_end-spared words k h Ok v st = h Ok v (left_scope st)
 scope_end-spared words k h Error v st = h Error v (left_by_error words st)
-scope_end-spared words k h Return v st = h Ok v (left_scope st)
+scope_end-spared words k h (Return carried.Ok) v st = h Ok v (left_scope st)
+scope_end-spared words k h (Return carried.Error) v st = h Error v (left_by_error words st)
+scope_end-spared words k h (Return carried.Return) v st = h (Return carried.Ok) v (left_scope st)
+scope_end-spared words k h (Return carried.Break) v st = h Break v (left_scope st)
+scope_end-spared words k h (Return carried.Continue) v st = h Continue v (left_scope st)
 scope_end-spared words k h Break v st = h Error _ (left_by_error words st)
 scope_end-spared words k h Continue v st = h Error _ (left_by_error words st)
 scope_end-spared words k h Again v st = h Again v (left_scope st)
@@ -193,7 +198,7 @@ once_more-spared Again k more h g = g
 once_more-spared AgainLater k more h g = g
 once_more-spared Ok k more h g = h Error
 once_more-spared Error k more h g = h Error
-once_more-spared Return k more h g = h Error
+once_more-spared (Return c) k more h g = h Error
 once_more-spared Break k more h g = h Error
 once_more-spared Continue k more h g = h Error
 
@@ -414,7 +419,11 @@ eval-spared (suc depth) script k st h = sequence-spared (eval depth) (eval-spare
 end-spared : SparedNext at_the_end
 end-spared Ok v st = tt
 end-spared Error v st = tt
-end-spared Return v st = tt
+end-spared (Return carried.Ok) v st = tt
+end-spared (Return carried.Error) v st = tt
+end-spared (Return carried.Return) v st = tt
+end-spared (Return carried.Break) v st = tt
+end-spared (Return carried.Continue) v st = tt
 end-spared Break v st = tt
 end-spared Continue v st = tt
 end-spared Again v st = tt

@@ -3,6 +3,8 @@ use Rattle.std.specs.Prelude.{ℕ, ◌-◌, Bool, List, [], ◌∷◌, map, code
 use Rattle.tcl_subst.specs.Report.{values_of}
 use Rattle.tcl_subst.specs.Variables.{Variables}
 use Rattle.tcl_results.specs.declared.code.Code.{Code}
+use Rattle.tcl_results.specs.declared.code.Carried.{Carried}
+use Rattle.tcl_results.specs.declared.code.Carried.TheVariants as carried
 use Rattle.tcl_results.specs.declared.code.Code.TheVariants.{Ok, Error, Return, Break, Continue, Again, AgainLater}
 use Rattle.tcl_host.specs.declared.ending.Ending.{Ending}
 use Rattle.tcl_host.specs.declared.ending.Ending.TheVariants as ending
@@ -43,19 +45,34 @@ said e fault trail steps vars st = said_with e fault trail steps (values_of vars
 abbrev pub told : Bool → Report → Report
 told tells r = record r { vars = if tells then r.vars else [] }
 
--- The ending of a script with this code. Code 2 (return) is a normal end; any other code than 0 and 2 is an error.
+-- The ending of a script whose `return` carries this code. Codes 0 and 2 are normal ends.
+abbrev pub ending_by : Carried → Ending
+ending_by carried.Ok = ending.Exit 0
+ending_by carried.Return = ending.Exit 0
+ending_by carried.Error = ending.Error
+ending_by carried.Break = ending.Error
+ending_by carried.Continue = ending.Error
+
+-- The ending of a script with this code. Any other code than 0 and 2 is an error.
 abbrev pub ending_at : Code → Ending
 ending_at Ok = ending.Exit 0
-ending_at Return = ending.Exit 0
+ending_at (Return c) = ending_by c
 ending_at Error = ending.Error
 ending_at Break = ending.Error
 ending_at Continue = ending.Error
 ending_at Again = ending.Error
 ending_at AgainLater = ending.Error
 
+abbrev pub fault_by : Carried → List ℕ → List ℕ
+fault_by carried.Ok value = []
+fault_by carried.Return value = []
+fault_by carried.Error value = value
+fault_by carried.Break value = outside_loop (codes "break")
+fault_by carried.Continue value = outside_loop (codes "continue")
+
 abbrev pub fault_at : Code → List ℕ → List ℕ
 fault_at Ok value = []
-fault_at Return value = []
+fault_at (Return c) value = fault_by c value
 fault_at Error value = value
 fault_at Break value = outside_loop (codes "break")
 fault_at Continue value = outside_loop (codes "continue")
@@ -75,7 +92,7 @@ place_of (origin.Procedure words) = Procedure (name_of words)
 -- The places that the error passed which ended a script.
 abbrev pub trail_at : Code → List Origin → List ErrorPlace
 trail_at Ok trail = []
-trail_at Return trail = []
+trail_at (Return c) trail = []
 trail_at Error trail = map place_of trail
 trail_at Break trail = []
 trail_at Continue trail = []

@@ -2,25 +2,34 @@
 
 ghost use Rattle.std.specs.Prelude.{◌≡◌, ◌-◌, [], map, IfOk, if◌then◌else◌};
 ghost use Rattle.tcl_subst.specs.Report.{values_of};
-ghost use Rattle.session.specs.Play.{ending_at as ending_told, ending_of as ending_meant, fault_at as fault_told, fault_of as fault_meant, trail_at as trail_told, trail_of as trail_meant, said_with, told};
+ghost use Rattle.session.specs.Play.{ending_by, fault_by, ending_at as ending_told, ending_of as ending_meant, fault_at as fault_told, fault_of as fault_meant, trail_at as trail_told, trail_of as trail_meant, said_with, told};
 ghost use Rattle.session.specs.Shown.{shown as shown_of};
 
 use crate::place::ErrorPlaces;
 use crate::report::{Counts, Report};
 use expect_core::{DialogueHost, Pairs};
 use std::alloc::{AllocError, Global};
-use tcl_eval::{Code, End, Machine, Origin};
+use tcl_eval::{Carried, Code, End, Machine, Origin};
 use tcl_host::Ending;
 use tcl_subst::Vars;
 use tcl_values::Value;
 use tcl_words::Text;
+
+fn ending_by(carried: Carried) -> Ending
+    ensures { result ≡ ending_by carried }
+{
+    match carried {
+        Carried::Ok | Carried::Return => Ending::Exit(0),
+        Carried::Error | Carried::Break | Carried::Continue => Ending::Error,
+    }
+}
 
 fn ending_at(code: Code) -> Ending
     ensures { result ≡ ending_told code }
 {
     match code {
         Code::Ok => Ending::Exit(0),
-        Code::Return => Ending::Exit(0),
+        Code::Return(carried) => ending_by(carried),
         Code::Error => Ending::Error,
         Code::Break => Ending::Error,
         Code::Continue => Ending::Error,
@@ -29,12 +38,23 @@ fn ending_at(code: Code) -> Ending
     }
 }
 
+fn fault_by(alloc: Global, carried: Carried, value: &Value) -> Result<Text, AllocError>
+    ensures { IfOk result (λ t. t ≡ fault_by carried value.now) }
+{
+    match carried {
+        Carried::Ok | Carried::Return => Ok(Text::new(alloc)),
+        Carried::Error => Text::from_slice(alloc, value.as_slice()),
+        Carried::Break => Text::from_slice(alloc, b"invoked \"break\" outside of a loop"),
+        Carried::Continue => Text::from_slice(alloc, b"invoked \"continue\" outside of a loop"),
+    }
+}
+
 fn fault_at(alloc: Global, code: Code, value: &Value) -> Result<Text, AllocError>
     ensures { IfOk result (λ t. t ≡ fault_told code value.now) }
 {
     match code {
         Code::Ok => Ok(Text::new(alloc)),
-        Code::Return => Ok(Text::new(alloc)),
+        Code::Return(carried) => fault_by(alloc, carried, value),
         Code::Error => Text::from_slice(alloc, value.as_slice()),
         Code::Break => Text::from_slice(alloc, b"invoked \"break\" outside of a loop"),
         Code::Continue => Text::from_slice(alloc, b"invoked \"continue\" outside of a loop"),

@@ -1,5 +1,5 @@
 -- Names that are linked pair by pair.
-use Rattle.std.proofs.Common.{◌≡◌, ℕ, ◌+◌, ◌*◌, ◌<◌, ◌≤◌, List, [], ◌∷◌, length, drop, get_or, Result, Ok, Err, refl, sym, ap, ◌∙◌, arith, length-drop}
+use Rattle.std.proofs.Common.{◌≡◌, ℕ, ◌+◌, ◌*◌, ◌<◌, ◌≤◌, List, [], ◌∷◌, length, drop, get_or, Ok, Err, refl, sym, ap, ◌∙◌, arith, length-drop}
 use Rattle.tcl_subst.specs.Variables.{Variables}
 use Rattle.tcl_results.specs.Said.{Said, Outcome, told, on_said}
 use Rattle.tcl_commands.specs.Upvars.{link_pair, link_pairs}

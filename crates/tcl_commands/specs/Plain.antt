@@ -15,14 +15,15 @@ use Rattle.command_table.specs.declared.options.InfoOption.TheVariants.{Exists}
 use Rattle.command_table.specs.Counts.{fits}
 use Rattle.command_table.specs.Options.{info_option, info_count}
 use Rattle.command_table.specs.Rows.{value_row}
-use Rattle.command_table.specs.declared.commands.ValueCommand.TheVariants.{Set, Array, Format, Unset, Incr, Append, Lappend, List as ListOf, Llength, Lindex, Lrange, Break, Continue, Return, Global, Upvar, Error, String, Info, Split, Join, Concat, Linsert, Lreplace, Lset, Lreverse, Lrepeat, Lassign, Lsearch, Lsort, Scan, Regexp, Regsub, Package, ExpVersion, Ignored}
+use Rattle.command_table.specs.declared.commands.ValueCommand.TheVariants.{Set, Array, Format, Unset, Incr, Append, Lappend, List as ListOf, Llength, Lindex, Lrange, Break, Continue, Return, Global, Upvar, Subst, Error, String, Info, Split, Join, Concat, Linsert, Lreplace, Lset, Lreverse, Lrepeat, Lassign, Lsearch, Lsort, Scan, Regexp, Regsub, Package, ExpVersion, Ignored}
 use Rattle.tcl_results.specs.Texts.{is_missing, wrong_args, bad_option, not_read, not_set, not_unset}
-use Rattle.tcl_results.specs.Said.{Said, ◌>>=◌, Outcome, told, on_changed, limited, as_number}
+use Rattle.tcl_results.specs.Said.{Said, ◌>>=◌, Outcome, told, on_said, on_changed, limited, as_number}
 use Rattle.tcl_results.specs.Given.{arg, if_fits}
 use Rattle.tcl_results.specs.Setting.{read, written_to, set_if_said, unset_quietly}
 use Rattle.tcl_results.specs.Values.{bit_text}
 use Rattle.tcl_strings.specs.Strings.{string}
 use Rattle.tcl_commands.specs.Arrays.{array}
+use Rattle.tcl_commands.specs.Returns.{returned}
 use Rattle.tcl_formats.specs.Formats.{format}
 use Rattle.tcl_formats.specs.Scanning.{scan}
 use Rattle.tcl_lists.specs.Joining.{concat}
@@ -31,6 +32,7 @@ use Rattle.tcl_lists.specs.Searching.{lsearch}
 use Rattle.tcl_lists.specs.Sorting.{lsort}
 use Rattle.tcl_patterns.specs.Regexps.{regexp}
 use Rattle.tcl_patterns.specs.Replacing.{regsub}
+use Rattle.tcl_commands.specs.Substituted.{substituted}
 use Rattle.tcl_commands.specs.Upvars.{upvar}
 use Rattle.tcl_commands.specs.Versions.{package_command, exp_version}
 use Rattle.tcl_lists.specs.Editing.{linsert, lreplace, lset, lreverse, lrepeat, lassign}
@@ -113,9 +115,10 @@ allowed Lindex command args vars = told (lindex args) vars
 allowed Lrange command args vars = told (lrange args) vars
 allowed Break command args vars = (code.Break, [], vars)
 allowed Continue command args vars = (code.Continue, [], vars)
-allowed Return command args vars = (code.Return, arg 0 args, vars)
+allowed Return command args vars = on_said (returned command args None) vars (λ c. (code.Return c.0, c.1, vars))
 allowed Global command args vars = global args vars
 allowed Upvar command args vars = upvar args vars
+allowed Subst command args vars = told (substituted command args vars) vars
 allowed Error command args vars = told (Err (arg 0 args)) vars
 allowed String command args vars = told (string command args) vars
 allowed Info command args vars = told (info command args vars) vars

@@ -5,6 +5,7 @@ ghost use Rattle.tcl_commands.specs.Plain.{allowed, plain};
 
 use crate::arrays::array;
 use crate::ends::returns;
+use crate::substituting::subst;
 use crate::upvars::upvar;
 use crate::variables::{append, global, incr, info, lappend, set, unset_names};
 use crate::versions::{exp_version, package_command};
@@ -47,9 +48,10 @@ fn allowed(
         ValueCommand::Lrange => told(alloc, lrange(alloc, args)),
         ValueCommand::Break => Ok((Code::Break, Value::new(alloc))),
         ValueCommand::Continue => Ok((Code::Continue, Value::new(alloc))),
-        ValueCommand::Return => returns(alloc, args),
+        ValueCommand::Return => returns(alloc, command, args, vars),
         ValueCommand::Global => global(alloc, args, vars),
         ValueCommand::Upvar => upvar(alloc, args, vars),
+        ValueCommand::Subst => subst(alloc, command, args, vars),
         ValueCommand::Error => error(alloc, Text::from_slice(alloc, arg(args, 0))?),
         ValueCommand::String => told(alloc, string(alloc, command, args)),
         ValueCommand::Info => told(alloc, info(alloc, command, args, vars)),

@@ -4,6 +4,7 @@
 mod arrays;
 mod commands;
 mod ends;
+mod substituting;
 mod upvars;
 mod variables;
 mod versions;

@@ -14,6 +14,7 @@ use Rattle.tcl_subst.specs.Filling.{Fill, Full, Asks, Failed, fill}
 use Rattle.tcl_subst.specs.Variables.{Variables, with_value}
 use Rattle.tcl_subst.specs.Writes.{set_to}
 use Rattle.tcl_results.specs.declared.code.Code.{Code}
+use Rattle.tcl_results.specs.declared.code.Carried.TheVariants as carried
 use Rattle.tcl_results.specs.declared.code.Code.TheVariants.{Ok, Error, Return, Break, Continue, Again, AgainLater}
 use Rattle.tcl_control.specs.declared.verbs.Verb.{Verb}
 use Rattle.tcl_control.specs.declared.verbs.Verb.TheVariants.{Plain, If, While, For, Foreach, Proc, Expr, Eval as EvalCommand, Catch, Exit, Switch}
@@ -79,7 +80,7 @@ fewer_all b c k k' l h code v st m = h code v st (omega arith)
 cost_one : (c : Code) → cost c ≤ 1
 cost_one Ok = omega arith
 cost_one Error = omega arith
-cost_one Return = omega arith
+cost_one (Return c) = omega arith
 cost_one Break = omega arith
 cost_one Continue = omega arith
 cost_one Again = omega arith
@@ -99,7 +100,7 @@ same_if false x x' y y' p q = q
 on_ok-agree : (b : ℕ) (go go' : List ℕ → State → Tree) (k k' : Next) → AgreeOn b go go' → Agree b k k' → Agree b (on_ok go k) (on_ok go' k')
 on_ok-agree b go go' k k' g h Ok v st l = g v st (omega arith)
 on_ok-agree b go go' k k' g h Error v st l = h Error v st l
-on_ok-agree b go go' k k' g h Return v st l = h Return v st l
+on_ok-agree b go go' k k' g h (Return c) v st l = h (Return c) v st l
 on_ok-agree b go go' k k' g h Break v st l = h Break v st l
 on_ok-agree b go go' k k' g h Continue v st l = h Continue v st l
 on_ok-agree b go go' k k' g h Again v st l = h Again v st l
@@ -108,7 +109,7 @@ on_ok-agree b go go' k k' g h AgainLater v st l = h AgainLater v st l
 noting-agree : (o : Origin) (b : ℕ) (k k' : Next) → Agree b k k' → Agree b (noting o k) (noting o k')
 noting-agree o b k k' h Ok v st l = h Ok v st l
 noting-agree o b k k' h Error v st l = h Error v (passed o st) l
-noting-agree o b k k' h Return v st l = h Return v st l
+noting-agree o b k k' h (Return c) v st l = h (Return c) v st l
 noting-agree o b k k' h Break v st l = h Break v st l
 noting-agree o b k k' h Continue v st l = h Continue v st l
 noting-agree o b k k' h Again v st l = h Again v st l
@@ -117,7 +118,7 @@ noting-agree o b k k' h AgainLater v st l = h AgainLater v st l
 on_ok-agree_all : (b : ℕ) (go go' : List ℕ → State → Tree) (k k' : Next) → AgreeOn b go go' → AgreeAll b k k' → AgreeAll b (on_ok go k) (on_ok go' k')
 on_ok-agree_all b go go' k k' g h Ok v st l = g v st l
 on_ok-agree_all b go go' k k' g h Error v st l = h Error v st l
-on_ok-agree_all b go go' k k' g h Return v st l = h Return v st l
+on_ok-agree_all b go go' k k' g h (Return c) v st l = h (Return c) v st l
 on_ok-agree_all b go go' k k' g h Break v st l = h Break v st l
 on_ok-agree_all b go go' k k' g h Continue v st l = h Continue v st l
 on_ok-agree_all b go go' k k' g h Again v st l = h Again v st l
@@ -140,7 +141,7 @@ turn_end-agree b more more' k k' g h Ok v st l = g st (omega arith)
 turn_end-agree b more more' k k' g h Continue v st l = g st (omega arith)
 turn_end-agree b more more' k k' g h Break v st l = h Ok [] st l
 turn_end-agree b more more' k k' g h Error v st l = h Error v st l
-turn_end-agree b more more' k k' g h Return v st l = h Return v st l
+turn_end-agree b more more' k k' g h (Return c) v st l = h (Return c) v st l
 turn_end-agree b more more' k k' g h Again v st l = h Again v st l
 turn_end-agree b more more' k k' g h AgainLater v st l = h AgainLater v st l
 
@@ -155,7 +156,11 @@ decided-agree true k k' turn turn' st h g = stepped-agree st.left st turn turn' 
 scope_end-agree : (words : List (List ℕ)) (b : ℕ) (k k' : Next) → AgreeAll b k k' → AgreeAll b (scope_end words k) (scope_end words k')
 scope_end-agree words b k k' h Ok v st l = h Ok v (left_scope st) l
 scope_end-agree words b k k' h Error v st l = h Error v (left_by_error words st) l
-scope_end-agree words b k k' h Return v st l = h Ok v (left_scope st) l
+scope_end-agree words b k k' h (Return carried.Ok) v st l = h Ok v (left_scope st) l
+scope_end-agree words b k k' h (Return carried.Error) v st l = h Error v (left_by_error words st) l
+scope_end-agree words b k k' h (Return carried.Return) v st l = h (Return carried.Ok) v (left_scope st) l
+scope_end-agree words b k k' h (Return carried.Break) v st l = h Break v (left_scope st) l
+scope_end-agree words b k k' h (Return carried.Continue) v st l = h Continue v (left_scope st) l
 scope_end-agree words b k k' h Break v st l = h Error _ (left_by_error words st) l
 scope_end-agree words b k k' h Continue v st l = h Error _ (left_by_error words st) l
 scope_end-agree words b k k' h Again v st l = h Again v (left_scope st) l
@@ -191,7 +196,7 @@ once_more-agree Again k k' more more' t st h g = g (omega arith)
 once_more-agree AgainLater k k' more more' t st h g = g (omega arith)
 once_more-agree Ok k k' more more' t st h g = h Error t st (omega arith)
 once_more-agree Error k k' more more' t st h g = h Error t st (omega arith)
-once_more-agree Return k k' more more' t st h g = h Error t st (omega arith)
+once_more-agree (Return c) k k' more more' t st h g = h Error t st (omega arith)
 once_more-agree Break k k' more more' t st h g = h Error t st (omega arith)
 once_more-agree Continue k k' more more' t st h g = h Error t st (omega arith)
 

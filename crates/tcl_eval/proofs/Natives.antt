@@ -49,7 +49,7 @@ lay_even l m s r f n e h i =
 -- an exception passes what goes on at `Ok`
 pub code_passes : (x : Exception) (go : List ℕ → State → Tree) (k : Next) (v : List ℕ) (st : State) → on_ok go k (code_of x) v st ≡ k (code_of x) v st
 code_passes x.Error go k v st = refl
-code_passes x.Return go k v st = refl
+code_passes (x.Return c) go k v st = refl
 code_passes x.Break go k v st = refl
 code_passes x.Continue go k v st = refl
 code_passes x.Again go k v st = refl
@@ -59,7 +59,7 @@ code_passes x.AgainLater go k v st = refl
 passes : (f g on : List ℕ → State → Tree) (k : Next) (c : Code) (v : List ℕ) (st : State) → ((v : List ℕ) (st : State) → f v st ≡ g v st) → on_ok f (on_ok on k) c v st ≡ on_ok g k c v st
 passes f g on k Ok v st same = same v st
 passes f g on k Error v st same = refl
-passes f g on k Return v st same = refl
+passes f g on k (Return c) v st same = refl
 passes f g on k Break v st same = refl
 passes f g on k Continue v st same = refl
 passes f g on k Again v st same = refl
@@ -71,7 +71,7 @@ passed_on f g on k same = fun_ext (λ c. fun_ext (λ v. fun_ext (λ st. passes f
 each_code : (k : Next) (c : Code) (v : List ℕ) (st : State) → on_ok (at_ok k) k c v st ≡ k c v st
 each_code k Ok v st = refl
 each_code k Error v st = refl
-each_code k Return v st = refl
+each_code k (Return c) v st = refl
 each_code k Break v st = refl
 each_code k Continue v st = refl
 each_code k Again v st = refl

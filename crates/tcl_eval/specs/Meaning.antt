@@ -15,6 +15,8 @@ use Rattle.tcl_subst.specs.Filling.{Fill, Full, Asks, Failed, fill}
 use Rattle.tcl_subst.specs.Variables.{with_value}
 use Rattle.tcl_subst.specs.Writes.{set_to}
 use Rattle.tcl_results.specs.declared.code.Code.{Code}
+use Rattle.tcl_results.specs.declared.code.Carried.{Carried}
+use Rattle.tcl_results.specs.declared.code.Carried.TheVariants as carried
 use Rattle.tcl_results.specs.declared.code.Code.TheVariants.{Ok, Error, Return, Break, Continue, Again, AgainLater}
 use Rattle.tcl_control.specs.declared.verbs.Verb.{Verb}
 use Rattle.tcl_control.specs.declared.verbs.Verb.TheVariants.{Plain, If, While, For, Foreach, Proc, Expr, Eval as EvalCommand, Catch, Exit, Switch}
@@ -68,7 +70,7 @@ module _ {A : Type 0} where
   abbrev pub noting : Origin → To A → To A
   noting o k Ok v st = k Ok v st
   noting o k Error v st = k Error v (passed o st)
-  noting o k Return v st = k Return v st
+  noting o k (Return c) v st = k (Return c) v st
   noting o k Break v st = k Break v st
   noting o k Continue v st = k Continue v st
   noting o k Again v st = k Again v st
@@ -78,7 +80,7 @@ module _ {A : Type 0} where
   abbrev pub on_ok : (List ℕ → State → A) → To A → To A
   on_ok go k Ok v st = go v st
   on_ok go k Error v st = k Error v st
-  on_ok go k Return v st = k Return v st
+  on_ok go k (Return c) v st = k (Return c) v st
   on_ok go k Break v st = k Break v st
   on_ok go k Continue v st = k Continue v st
   on_ok go k Again v st = k Again v st
@@ -112,7 +114,7 @@ module _ {A : Type 0} where
   turn_end k more Continue v st = more st
   turn_end k more Break v st = k Ok [] st
   turn_end k more Error v st = k Error v st
-  turn_end k more Return v st = k Return v st
+  turn_end k more (Return c) v st = k (Return c) v st
   turn_end k more Again v st = k Again v st
   turn_end k more AgainLater v st = k AgainLater v st
 
@@ -248,7 +250,7 @@ each ev names (es ∷ left) body k st =
 abbrev pub digit : Code → List ℕ
 digit Ok = ascii.digit_0 ∷ []
 digit Error = ascii.digit_1 ∷ []
-digit Return = ascii.digit_2 ∷ []
+digit (Return c) = ascii.digit_2 ∷ []
 digit Break = ascii.digit_3 ∷ []
 digit Continue = ascii.digit_4 ∷ []
 digit Again = ascii.digit_5 ∷ []
@@ -275,11 +277,19 @@ abbrev pub left_by_error : List (List ℕ) → State → State
 left_by_error words st = passed (origin.Procedure words) (left_scope st)
 
 module _ {A : Type 0} where
-  -- The end of a procedure. `return` gives its value. `break` and `continue` are errors outside a loop.
+  -- What a procedure comes to after `return`, whose code decides (return(n)). Its scope has ended.
+  abbrev pub returned : List (List ℕ) → To A → Carried → List ℕ → State → A
+  returned words k carried.Ok v st = k Ok v st
+  returned words k carried.Error v st = k Error v (passed (origin.Procedure words) st)
+  returned words k carried.Return v st = k (Return carried.Ok) v st
+  returned words k carried.Break v st = k Break v st
+  returned words k carried.Continue v st = k Continue v st
+
+  -- The end of a procedure. `break` and `continue` are errors outside a loop.
   abbrev pub scope_end : List (List ℕ) → To A → To A
   scope_end words k Ok v st = k Ok v (left_scope st)
   scope_end words k Error v st = k Error v (left_by_error words st)
-  scope_end words k Return v st = k Ok v (left_scope st)
+  scope_end words k (Return c) v st = returned words k c v (left_scope st)
   scope_end words k Break v st = k Error (outside_loop (codes "break")) (left_by_error words st)
   scope_end words k Continue v st = k Error (outside_loop (codes "continue")) (left_by_error words st)
   scope_end words k Again v st = k Again v (left_scope st)

@@ -33,7 +33,7 @@ stop_rest s k st = mode_rest s.at (laid_rest s.laid k) st
 
 abbrev pub code_of : Exception → Code
 code_of Error = code.Error
-code_of Return = code.Return
+code_of (Return c) = code.Return c
 code_of Break = code.Break
 code_of Continue = code.Continue
 code_of Again = code.Again

@@ -18,7 +18,7 @@ use Rattle.tcl_eval.specs.declared.frame.Mode.TheVariants.{Give, Run, Call as Ca
 abbrev pub again : Code → ℕ
 again Ok = 0
 again Error = 0
-again Return = 0
+again (Return c) = 0
 again Break = 0
 again Continue = 0
 again Again = 2

@@ -40,5 +40,5 @@ pub use frame::End;
 pub use laws::loops_unroll;
 pub use machine::{Machine, Pause};
 pub use meter::Meter;
-pub use tcl_results::Code;
+pub use tcl_results::{Carried, Code};
 pub use trail::{Origin, Trail};

@@ -10,14 +10,14 @@ ghost use Rattle.tcl_eval.specs.Tree.{State, Tree};
 
 use crate::stop::Stop;
 use std::alloc::{AllocError, AllocFailed, Global};
-use tcl_results::{Code, Complaint};
+use tcl_results::{Carried, Code, Complaint};
 use tcl_values::Value;
 
 /// A return code other than `Ok` (Tcl(n): an exceptional return).
 #[derive(Clone, Copy)]
 pub enum Exception {
     Error,
-    Return,
+    Return(Carried),
     Break,
     Continue,
     Again,
@@ -31,7 +31,7 @@ impl Exception {
     {
         match self {
             Exception::Error => Code::Error,
-            Exception::Return => Code::Return,
+            Exception::Return(carried) => Code::Return(carried),
             Exception::Break => Code::Break,
             Exception::Continue => Code::Continue,
             Exception::Again => Code::Again,
@@ -83,7 +83,7 @@ pub(crate) fn came(code: Code, value: Value) -> Result<Value, Leave>
     let exception = match code {
         Code::Ok => return Ok(value),
         Code::Error => Exception::Error,
-        Code::Return => Exception::Return,
+        Code::Return(carried) => Exception::Return(carried),
         Code::Break => Exception::Break,
         Code::Continue => Exception::Continue,
         Code::Again => Exception::Again,

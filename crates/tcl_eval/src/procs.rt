@@ -2,7 +2,7 @@
 
 ghost use Rattle.std.specs.Prelude.{◌≡◌, ◌+◌, ◌≤◌, [], drop, IfOk, ◌≢◌, ℕ};
 ghost use Rattle.tcl_results.specs.Texts.{quoted, not_set};
-ghost use Rattle.tcl_eval.specs.Meaning.{eval, caught, digit, Next, no_command, passed, scope_end, outside_loop, reserved, defined};
+ghost use Rattle.tcl_eval.specs.Meaning.{returned, eval, caught, digit, Next, no_command, passed, scope_end, outside_loop, reserved, defined};
 ghost use Rattle.tcl_eval.specs.Rest.{frame_rest, now_of, RestIs};
 ghost use Rattle.tcl_eval.specs.Native.{ended, entered_rest, other_command, owed, CameIs, Comes, Known, Spent};
 ghost use Rattle.tcl_eval.specs.Potential.{bodies, credit, again};
@@ -16,7 +16,7 @@ use crate::trail::Origin;
 use std::alloc::{AllocError, Global};
 use tcl_control::{enter, formals_of};
 use tcl_host::Values;
-use tcl_results::{Code, Complaint, not_set, quoted, said};
+use tcl_results::{Carried, Code, Complaint, not_set, quoted, said};
 use tcl_scripts::Script;
 use tcl_subst::SubstFault;
 use tcl_values::Value;
@@ -28,7 +28,7 @@ fn digit(code: Code) -> &'static [u8]
     match code {
         Code::Ok => b"0",
         Code::Error => b"1",
-        Code::Return => b"2",
+        Code::Return(_) => b"2",
         Code::Break => b"3",
         Code::Continue => b"4",
         Code::Again => b"5",
@@ -91,6 +91,21 @@ impl Engine {
         }
     }
 
+    /// Continues after a `return` in a procedure that was called with these words. Its scope has
+    /// ended.
+    fn returned(&mut self, words: Values, carried: Carried, value: Value) -> Result<Value, Leave>
+        ensures measures { Spent self.old self.new 0 (owed 0 result) }
+        ensures rest { CameIs self.old result self.new (λ k st. returned words k carried value st) }
+    {
+        match carried {
+            Carried::Ok => Ok(value),
+            Carried::Error => self.error_out(words, value),
+            Carried::Return => Err(Leave::Gone(Exception::Return(Carried::Ok), value)),
+            Carried::Break => Err(Leave::Gone(Exception::Break, value)),
+            Carried::Continue => Err(Leave::Gone(Exception::Continue, value)),
+        }
+    }
+
     /// Continues after the body of a procedure that was called with these words.
     #[tactic(auto, unfolding(crate::specs::Rest::frame_rest))]
     pub(crate) fn leave_scope(
@@ -103,9 +118,13 @@ impl Engine {
         ensures rest { CameIs self.old result self.new (λ k st. ended out st (frame_rest (Frame.Scope words) k)) }
     {
         match out {
-            Ok(value) | Err(Leave::Gone(Exception::Return, value)) => {
+            Ok(value) => {
                 self.leave();
                 Ok(value)
+            }
+            Err(Leave::Gone(Exception::Return(carried), value)) => {
+                self.leave();
+                self.returned(words, carried, value)
             }
             Err(Leave::Gone(Exception::Error, text)) => {
                 self.leave();

@@ -10,7 +10,7 @@ use Rattle.tcl_words.specs.declared.faults.WordFault.{WordFault}
 use Rattle.tcl_words.specs.declared.faults.WordFault.TheVariants.{MissingBracket, ExtraAfterQuote, ExtraAfterBrace, TooDeep}
 use Rattle.tcl_words.specs.Lists.{begins_with, closing}
 use Rattle.tcl_words.specs.Pieces.{Pieces, no_pieces, piece, literal, variable, member, script, Spelled}
-use Rattle.tcl_words.specs.Commands.{Read, behind, Inside, is_name_byte, is_blank, is_gap, ends_command, gap_at, comment_len, Token, text_token, substitution, put_token, token_at, dollar, braced_variable, array_member, script_token, name_len, brace_at, inside_of, nested_script, script_step, more_bytes, parts, part_step, at_end, stops, join, plain_word, in_quotes, in_braces, closed, is_expansion, spelled, word, joined, count_of, after_word, words, words_step, words_at, after_nested_word, script_at}
+use Rattle.tcl_words.specs.Commands.{Read, behind, Inside, is_name_byte, is_blank, is_gap, ends_command, gap_at, comment_len, Token, text_token, substitution, put_token, token_at, dollar, braced_variable, array_member, script_token, name_len, brace_at, inside_of, reader, nested, nested_script, script_step, more_bytes, parts, part_step, at_end, stops, join, plain_word, in_quotes, in_braces, closed, is_expansion, spelled, word, joined, count_of, after_word, words, words_step, words_at, after_nested_word, script_at}
 use Rattle.tcl_words.specs.Commands as commands
 use Rattle.tcl_words.proofs.Runs.{gap-dark}
 use Rattle.tcl_words.proofs.ListGraph.{course_induction}
@@ -132,7 +132,7 @@ script_found s p (Err e) is = absurd (cc)
 script_found s p (Ok k) is = (k, refl)
 
 no_bracket : (s : List ℕ) → token_at (inside_of 0) 91 s ≡ Err TooDeep
-unfolding token_at inside_of
+unfolding token_at reader nested
 no_bracket s = refl
 
 bracket_gives : (d : ℕ) → Inner d → (s : List ℕ) → Gives d 91 s (token_at (inside_of d) 91 s)
@@ -166,7 +166,7 @@ index_found n s p (Err e) is = absurd (cc)
 index_found n s p (Ok q) is = (q, refl)
 
 no_index : (s : List ℕ) → (inside_of 0).index s ≡ Err TooDeep
-unfolding inside_of
+unfolding reader nested
 no_index s = refl
 
 element_gives : (d : ℕ) → Inner d → (s : List ℕ) → begins_with 40 (drop (name_len s) s) ≡ true → Gives d 36 s (array_member (name_len s) s ((inside_of d).index (drop (1 + name_len s) s)))

@@ -8,7 +8,7 @@ use Rattle.std.proofs.lemmas.List.{drop-drop, take-append-le, take_all}
 use Rattle.tcl_words.specs.declared.faults.WordFault.{WordFault}
 use Rattle.tcl_words.specs.Lists.{begins_with, closing, plus}
 use Rattle.tcl_words.specs.Pieces.{Pieces, no_pieces, piece, literal, variable, member, script, Spelled}
-use Rattle.tcl_words.specs.Commands.{Read, behind, Inside, is_name_byte, is_blank, is_gap, is_continued, ends_command, gap_at, Token, text_token, substitution, put_token, token_at, dollar, braced_variable, array_member, script_token, name_len, brace_at, inside_of, nested_script, more_bytes, parts, part_step, at_end, stop_len, join, plain_word, in_quotes, in_braces, closed, is_expansion, spelled, word, joined, count_of, after_word, words, words_step, words_at, after_nested_word, script_at, start}
+use Rattle.tcl_words.specs.Commands.{Read, behind, Inside, is_name_byte, is_blank, is_gap, is_continued, ends_command, gap_at, Token, text_token, substitution, put_token, token_at, dollar, braced_variable, array_member, script_token, name_len, brace_at, inside_of, reader, nested, nested_script, more_bytes, parts, part_step, at_end, stop_len, join, plain_word, in_quotes, in_braces, closed, is_expansion, spelled, word, joined, count_of, after_word, words, words_step, words_at, after_nested_word, script_at, start}
 use Rattle.tcl_words.specs.Commands as commands
 use Rattle.tcl_words.proofs.Readings.{reading_step, reading_end}
 use Rattle.tcl_words.proofs.Runs.{more-more, more-none, word-takes}
@@ -144,7 +144,7 @@ lone_part d s h no_index dark =
     record { n = 0; is = dollar_is (inside_of d) s dark ∙ rw (len, no_index) refl; rest = refl; within = omega arith }
 
 pub bracket_is : (d : ℕ) (s : List ℕ) → token_at (inside_of (suc d)) 91 s ≡ script_token s (nested_script (inside_of d) s true)
-unfolding token_at inside_of
+unfolding token_at reader nested
 bracket_is d s = refl
 
 bracketed_part : (d : ℕ) (text r : List ℕ) → TookScript d (text ++ 93 ∷ r) r → TookPart (suc d) (91 ∷ (text ++ 93 ∷ r)) (substitution (script text)) r

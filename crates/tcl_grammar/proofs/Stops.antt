@@ -3,7 +3,7 @@ use Rattle.std.proofs.Common.{◌≡◌, ℕ, suc, Bool, true, false, List, [], 
 use Rattle.tcl_words.specs.declared.faults.WordFault.{WordFault}
 use Rattle.tcl_words.specs.declared.faults.WordFault.TheVariants.{MissingQuote, MissingParen}
 use Rattle.tcl_words.specs.Pieces.{no_pieces, Spelled}
-use Rattle.tcl_words.specs.Commands.{Read, Inside, stops, stop_len, at_end, parts, plain_word, in_quotes, inside_of, words_at, after_word, word, script_at, after_nested_word, count_of}
+use Rattle.tcl_words.specs.Commands.{Read, Inside, stops, stop_len, at_end, parts, plain_word, in_quotes, inside_of, reader, nested, words_at, after_word, word, script_at, after_nested_word, count_of}
 use Rattle.tcl_words.specs.Commands as commands
 use Rattle.tcl_grammar.specs.CommandRules.{Place, top, brackets, quotes, index, ends, left_at, ends_with_text, may_end}
 
@@ -26,14 +26,14 @@ nested_of : (q : Stop) → ((inside : Inside) (on : ℕ → Bool → Result ℕ 
 nested_of q h = q
 
 pub stop_of : Place → Stop
-unfolding inside_of plain_word paren_of quote_of gap_of nested_of
+unfolding reader nested plain_word paren_of quote_of gap_of nested_of
 stop_of top = gap_of _ (λ inside on s. refl)
 stop_of brackets = nested_of _ (λ inside on s. refl)
 stop_of quotes = quote_of _ (λ inside stop s. refl)
 stop_of index = paren_of _ (λ d. refl)
 
 pub index_is : (d : ℕ) → (inside_of (suc d)).index ≡ parts (inside_of d) (stop_of index)
-unfolding inside_of stop_of paren_of
+unfolding reader nested stop_of paren_of
 index_is d = refl
 
 pub quoted_is : (inside : Inside) (stop : Stop) (s : List ℕ) → plain_word inside stop (34 ∷ s) ≡ in_quotes stop s (parts inside (stop_of quotes) s)

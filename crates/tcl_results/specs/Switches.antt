@@ -1,7 +1,7 @@
 -- Flags before the last `tail` arguments of a command. An argument is a flag only if at least `tail` others follow.
 use Rattle.std.specs.Prelude.{ℕ, ◌+◌, nat_lt, Bool, true, false, ◌&&◌, List, [], ◌∷◌, length, drop, Option, Some, None, Ok, Err, if◌then◌else◌}
 use Rattle.command_table.specs.declared.switches.Switch.{Switch}
-use Rattle.command_table.specs.declared.switches.Switch.TheVariants.{All, Decreasing, End, Exact, Glob, Index, Indices, Inline, Integer, LineAnchor, Nocase, Not, Regexp, Start, Strict, Unique}
+use Rattle.command_table.specs.declared.switches.Switch.TheVariants.{All, Decreasing, End, Exact, Glob, Index, Indices, Inline, Integer, LineAnchor, Nocase, Nocommands, Not, Regexp, Start, Strict, Unique}
 use Rattle.command_table.specs.declared.switches.Switches.{Switches}
 use Rattle.command_table.specs.Counts.{exactly}
 use Rattle.command_table.specs.Flags.{begins_with_minus}
@@ -42,6 +42,7 @@ with_switch Inline n g = record g { inline = true }
 with_switch Integer n g = record g { integer = true }
 with_switch LineAnchor n g = g
 with_switch Nocase n g = record g { nocase = true }
+with_switch Nocommands n g = g
 with_switch Not n g = record g { not = true }
 with_switch Regexp n g = record g { way = ways.Regular }
 with_switch Start n g = record g { start = Some n; due = true }

@@ -19,14 +19,14 @@ mod ways;
 mod white;
 
 pub use cases::{are_same, lower, order};
-pub use code::Code;
+pub use code::{Carried, Code};
 pub use complaint::Complaint;
 pub use outcomes::{error, said, told, wrong_call};
 pub use sets::ByteSet;
 pub use texts::{
-    bad_format, bad_index, bad_list, bad_option, bad_regular, expected_number, expr_fault,
-    is_missing, no_list, no_package, not_read, not_set, not_unset, over_limit, quoted, too_deep,
-    too_long, version_conflict, word_fault, wrong, wrong_args,
+    bad_flag, bad_format, bad_index, bad_list, bad_option, bad_regular, expected_number,
+    expr_fault, is_missing, no_list, no_package, not_read, not_set, not_unset, over_limit, quoted,
+    too_deep, too_long, version_conflict, word_fault, wrong, wrong_args,
 };
 pub use values::{
     as_number, bit_text, count_text, extend_limited, is_too_long, limited, list_of, list_text,

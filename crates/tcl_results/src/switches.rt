@@ -73,6 +73,7 @@ fn with_switch(switch: Switch, next: usize, given: Given) -> Given
         Switch::Integer => given.integer = true,
         Switch::LineAnchor => {}
         Switch::Nocase => given.nocase = true,
+        Switch::Nocommands => {}
         Switch::Not => given.not = true,
         Switch::Regexp => given.way = Way::Regular,
         Switch::Start => {

@@ -65,7 +65,7 @@ pub fn wrong_args(alloc: Global, command: &[u8]) -> Result<Text, AllocError>
 }
 
 /// Returns the text of the error that a command has no such flag.
-pub(crate) fn bad_flag(alloc: Global, flag: &[u8]) -> Result<Text, AllocError>
+pub fn bad_flag(alloc: Global, flag: &[u8]) -> Result<Text, AllocError>
     ensures { IfOk result (λ t. t ≡ bad_flag flag.now) }
 {
     quoted(alloc, b"bad flag ", flag)

@@ -8,3 +8,5 @@ pub mod OnePart
 pub mod Padded
 pub mod Spelt
 pub mod Sorted
+pub mod Begun
+pub mod Unasked

@@ -1,6 +1,7 @@
 pub mod Both
 pub mod Entries
 pub mod Faults
+pub mod Filled
 pub mod Filling
 pub mod Lending
 pub mod ByteLending

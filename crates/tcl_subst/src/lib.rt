@@ -2,7 +2,7 @@
 //!
 //! `Vars` is a list of scopes. A scope maps names to values, arrays and links. A `Filler` joins the
 //! values of a word's parts, and asks for the value of each script when it is reached.
-//! `filling_is_fill` states its meaning.
+//! `filling_is_fill` states its meaning. `fill_word` substitutes a word without scripts.
 #![tactic(auto)]
 
 mod arrays;
@@ -26,6 +26,7 @@ mod short;
 mod short_names;
 mod unsets;
 mod vars;
+mod whole;
 mod write;
 mod writes;
 
@@ -34,9 +35,10 @@ pub use faults::SubstFault;
 pub use fill_step::FillStep;
 pub use filler::Filler;
 pub use joined::element_name;
-pub use laws::filling_is_fill;
+pub use laws::{filling_is_fill, no_script_is_asked_for};
 pub use limits::VALUE_LIMIT;
 pub use names::Names;
 pub use plain::plain_value;
 pub use recipe::Recipe;
 pub use vars::Vars;
+pub use whole::{Filled, fill_word};

@@ -1,5 +1,5 @@
 -- The parts of a word, as a loop collects them.
-use Rattle.std.proofs.Common.{◌≡◌, ℕ, ◌+◌, ◌-◌, ◌<◌, ◌≤◌, Bool, true, false, List, [], ◌∷◌, ◌++◌, map, take, drop, length, get_or, Option, Some, None, Result, Ok, Err, eqb, refl, sym, ap, ◌∙◌, append_assoc, arith}
+use Rattle.std.proofs.Common.{◌≡◌, ℕ, ◌+◌, ◌-◌, ◌<◌, ◌≤◌, Bool, true, false, ◌&&◌, List, [], ◌∷◌, ◌++◌, map, take, drop, length, get_or, Option, Some, None, Result, Ok, Err, eqb, refl, sym, ap, ◌∙◌, append_assoc, arith}
 use Rattle.std.proofs.lemmas.List.{append-nil, map_push}
 use Rattle.std.proofs.lemmas.Bool.Decides.{nat_tests}
 use Rattle.tcl_words.specs.declared.faults.WordFault.{WordFault}
@@ -129,7 +129,7 @@ unfolding token_at
 token-no_literal inside b s =
     let n = name_len s in
     of_choice NoLiteral (eqb b 92) _ _ (only_text (backslash s).0 (backslash s).1)
-    (of_choice NoLiteral (eqb b 91) _ _ (bracket-no_literal s (inside.bracket s))
+    (of_choice NoLiteral (eqb b 91 && inside.scripts) _ _ (bracket-no_literal s (inside.bracket s))
     (of_choice NoLiteral (eqb b 36) _ _
     (of_choice NoLiteral (begins_with 123 s) _ _ (braced-no_literal s (brace_at (drop 1 s)))
     (of_choice NoLiteral (begins_with 40 (drop n s)) _ _ (member-no_literal n s (inside.index (drop (1 + n) s)))

@@ -7,7 +7,7 @@ use Rattle.tcl_words.specs.Bytes as ascii
 use Rattle.tcl_words.specs.declared.faults.WordFault.{WordFault}
 use Rattle.tcl_words.specs.declared.faults.WordFault.TheVariants.{MissingBrace, MissingBracket, MissingQuote, ExtraAfterQuote, ExtraAfterBrace, TooDeep, Memory, MissingParen}
 use Rattle.tcl_words.specs.declared.stop.Stop.{Stop}
-use Rattle.tcl_words.specs.declared.stop.Stop.TheVariants.{Gap, NestedGap, Quote, Paren}
+use Rattle.tcl_words.specs.declared.stop.Stop.TheVariants.{Gap, NestedGap, Quote, Paren, End}
 use Rattle.tcl_words.specs.Course.{reading}
 use Rattle.tcl_words.specs.Backslash.{backslash, blanks}
 use Rattle.tcl_words.specs.Lists.{begins_with, plus, closing, is_empty}
@@ -59,6 +59,7 @@ stops Gap b bytes = is_gap b bytes
 stops NestedGap b bytes = is_gap b bytes || b == ascii.close_bracket
 stops Quote b bytes = b == ascii.quote
 stops Paren b bytes = b == ascii.close_paren
+stops End b bytes = false
 
 -- The number of bytes that close the run.
 abbrev pub stop_len : Stop → ℕ
@@ -66,6 +67,7 @@ stop_len Gap = 0
 stop_len NestedGap = 0
 stop_len Quote = 1
 stop_len Paren = 1
+stop_len End = 0
 
 -- The error if the text ends inside a run that needs a closing byte.
 abbrev pub unclosed : Stop → Option WordFault
@@ -73,6 +75,7 @@ unclosed Gap = None
 unclosed NestedGap = None
 unclosed Quote = Some MissingQuote
 unclosed Paren = Some MissingParen
+unclosed End = None
 
 abbrev pub ended : Option WordFault → Read Pieces
 ended None = Ok (no_pieces, 0)
@@ -87,8 +90,10 @@ abbrev pub put_text : List ℕ → Pieces → Pieces
 put_text text (piece (literal more) ps) = piece (literal (text ++ more)) ps
 put_text text ps = append (literal_of text) ps
 
--- Readers for the inside of brackets and of an index. A bracket is read as its length, including the `]`.
+-- Readers for the inside of brackets and of an index. A bracket is read as its length, including the `]`. It is a script
+-- only if `scripts` is true. Otherwise `[` stands for itself.
 pub record Inside : Type 0 where
+  pub scripts : Bool
   pub bracket : List ℕ → Result ℕ WordFault
   pub index : List ℕ → Read Pieces
 
@@ -141,7 +146,7 @@ script_token bytes (Ok k) = Ok (substitution (script (take (k - 1) bytes)), k)
 unfoldable pub token_at : Inside → ℕ → List ℕ → Read Token
 token_at inside b bytes =
     if b == ascii.backslash then Ok (text_token (backslash bytes).0, (backslash bytes).1)
-    else (if b == ascii.open_bracket then script_token bytes (inside.bracket bytes)
+    else (if b == ascii.open_bracket && inside.scripts then script_token bytes (inside.bracket bytes)
     else (if b == ascii.dollar then dollar inside (name_len bytes) bytes
     else Ok (text_token (b ∷ []), 0)))
 
@@ -259,9 +264,21 @@ unfoldable pub nested_script : Inside → List ℕ → Bool → Result ℕ WordF
 nested_script inside = reading (λ first. Err MissingBracket) (script_step inside)
 
 -- The readers for a depth: how many more brackets and indexes may nest.
-unfoldable pub inside_of : ℕ → Inside
-inside_of zero = record { bracket = λ bytes. Err TooDeep; index = λ bytes. Err TooDeep }
-inside_of (suc depth) = record { bracket = λ bytes. nested_script (inside_of depth) bytes true; index = parts (inside_of depth) Paren }
+unfoldable pub nested : Bool → ℕ → Inside
+nested scripts zero = record { scripts = scripts; bracket = λ bytes. Err TooDeep; index = λ bytes. Err TooDeep }
+nested scripts (suc depth) = record {
+  scripts = scripts;
+  bracket = λ bytes. nested_script (record (nested scripts depth) { scripts = scripts }) bytes true;
+  index = parts (record (nested scripts depth) { scripts = scripts }) Paren;
+}
+
+-- The same. Whether brackets are scripts computes at any depth.
+unfoldable pub reader : Bool → ℕ → Inside
+reader scripts depth = record (nested scripts depth) { scripts = scripts }
+
+-- The readers of a command.
+abbrev pub inside_of : ℕ → Inside
+inside_of = reader true
 
 -- A word, followed by the later words.
 abbrev pub after_word : (ℕ → Read (List Spelled)) → Read Spelled → Read (List Spelled)
@@ -304,3 +321,7 @@ command_at at text (Some n) = words (inside_of deepest) (drop (at + n) text) >>=
 -- The words of the next command and the index after it. `None` if there is no command. Otherwise the error.
 unfoldable pub next_command : List ℕ → ℕ → Result (Option (List Spelled × ℕ)) WordFault
 next_command text at = command_at at text (start (drop at text))
+
+-- The parts of a whole text in which only backslashes and variables are replaced (Tcl(n): subst -nocommands).
+unfoldable pub text_parts : List ℕ → Result Pieces WordFault
+text_parts text = parts (reader false deepest) End text >>= λ p. Ok p.0

@@ -9,3 +9,4 @@ pub mod Tokens
 pub mod ListRules
 pub mod ListCommand
 pub mod Packed
+pub mod Scripts

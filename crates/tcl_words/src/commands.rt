@@ -8,7 +8,7 @@ ghost use Rattle.tcl_words.specs.declared.stop.Stop.TheVariants.{Gap};
 use crate::faults::WordFault;
 use crate::lists::closing;
 use crate::places::{after, before};
-use crate::reading::{DEEPEST, braced, parts};
+use crate::reading::{Room, braced, parts};
 use crate::scan::{ends_command, gap_at, is_expansion, may_end};
 use crate::shapes::{Command, Part, Word};
 use crate::stop::Stop;
@@ -23,7 +23,7 @@ fn plain_word(alloc: Global, bytes: &[u8]) -> Result<(Vec<Part>, usize), WordFau
     match bytes {
         [] => Ok((Vec::new(alloc), 0)),
         [b'"', rest @ ..] => {
-            let (list, n) = parts(alloc, rest, Stop::Quote, DEEPEST)?;
+            let (list, n) = parts(alloc, rest, Stop::Quote, Room::whole(true))?;
             if !may_end(Stop::Gap, after(rest, n)) {
                 return Err(WordFault::ExtraAfterQuote);
             }
@@ -38,7 +38,7 @@ fn plain_word(alloc: Global, bytes: &[u8]) -> Result<(Vec<Part>, usize), WordFau
             }
             Ok((braced(alloc, before(rest, n))?, 1 + (1 + n)))
         }
-        [_, ..] => parts(alloc, bytes, Stop::Gap, DEEPEST),
+        [_, ..] => parts(alloc, bytes, Stop::Gap, Room::whole(true)),
     }
 }
 

@@ -28,6 +28,7 @@ pub use faults::{ListFault, WordFault};
 pub use lists::{is_white, read_list};
 pub use operands::operand;
 pub use packed::Packed;
+pub use reading::{text_parts, texts_have_no_script};
 pub use scan::{ends_command, is_blank, is_continued};
 pub use shapes::{Command, Part, Word, copied_part, copied_parts};
 pub use writing::{list_is_command, list_rules, one_list, stands_bare, write_behind, write_list};

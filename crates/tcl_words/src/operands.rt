@@ -8,7 +8,7 @@ ghost use Rattle.tcl_words.specs.Pieces.{part_view, piece, no_pieces, word_view}
 use crate::faults::WordFault;
 use crate::lists::closing;
 use crate::places::before;
-use crate::reading::{DEEPEST, braced, parts, token_at};
+use crate::reading::{Room, braced, parts, token_at};
 use crate::shapes::{Part, Word};
 use crate::stop::Stop;
 use crate::token::Token;
@@ -38,7 +38,7 @@ pub fn operand(alloc: Global, bytes: &[u8]) -> Result<Option<(Word, usize)>, Wor
 {
     match bytes {
         [b'"', rest @ ..] => {
-            let (parts, n) = parts(alloc, rest, Stop::Quote, DEEPEST)?;
+            let (parts, n) = parts(alloc, rest, Stop::Quote, Room::whole(true))?;
             let word = Word {
                 expand: false,
                 parts,
@@ -56,7 +56,7 @@ pub fn operand(alloc: Global, bytes: &[u8]) -> Result<Option<(Word, usize)>, Wor
             Ok(Some((word, 2 + n)))
         }
         [b @ (b'$' | b'['), rest @ ..] => {
-            let (token, n) = token_at(alloc, *b, rest, DEEPEST)?;
+            let (token, n) = token_at(alloc, *b, rest, Room::whole(true))?;
             match token {
                 Token::Byte(_) => Ok(None),
                 Token::Escape(_) => Ok(None),

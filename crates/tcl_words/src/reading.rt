@@ -1,11 +1,10 @@
 //! Reads the parts of a word.
-//!
-//! `depth` is how many more brackets and indexes may nest.
 
-ghost use Rattle.std.specs.Prelude.{◌≡◌, ◌≤◌, IfOk, OnOk, length};
+ghost use Rattle.std.specs.Prelude.{◌≡◌, ◌≤◌, ℕ, List, false, Ok, IfOk, OnOk, length};
 ghost use Rattle.tcl_words.specs.Tokens.{token_view};
-ghost use Rattle.tcl_words.specs.Pieces.{parts_view, append, literal_of, literal, piece, no_pieces};
-ghost use Rattle.tcl_words.specs.Commands.{Gives, token_at, dollar, name_len, parts, inside_of, joined};
+ghost use Rattle.tcl_words.specs.Pieces.{Pieces, parts_view, append, literal_of, literal, piece, no_pieces};
+ghost use Rattle.tcl_words.specs.Commands.{Gives, token_at, dollar, name_len, parts, reader, joined, text_parts};
+ghost use Rattle.tcl_words.specs.Scripts.{has_script};
 
 use crate::bytes::Text;
 use crate::escapes::{backslash, blanks};
@@ -19,18 +18,39 @@ use crate::token::Token;
 use std::alloc::{AllocError, Global};
 
 /// The greatest nesting of brackets and indexes.
-pub(crate) const DEEPEST: u8 = 200;
+const DEEPEST: u8 = 200;
+
+/// What may stand in a text.
+#[derive(Clone, Copy)]
+pub(crate) struct Room {
+    /// How many more brackets and indexes may nest.
+    depth: u8,
+    /// Whether a bracket is a script.
+    scripts: bool,
+}
+
+impl Room {
+    /// Returns the room of a whole text.
+    pub(crate) fn whole(scripts: bool) -> Room
+        ensures { result ≡ record { depth = 200; scripts = scripts } }
+    {
+        Room {
+            depth: DEEPEST,
+            scripts,
+        }
+    }
+}
 
 /// Reads the token at a byte. Returns it and the number of later bytes that belong to it.
 #[cycle(read)]
-#[tactic(auto, unfolding(crate::specs::Commands::token_at))]
+#[tactic(auto, unfolding(crate::specs::Commands::token_at, crate::specs::Commands::reader))]
 pub(crate) fn token_at(
     alloc: Global,
     b: u8,
     rest: &[u8],
-    depth: u8,
+    room: Room,
 ) -> Result<(Token, usize), WordFault>
-    ensures value { Gives (λ x. (token_view x.0, x.1)) result (token_at (inside_of depth) b rest.now) }
+    ensures value { Gives (λ x. (token_view x.0, x.1)) result (token_at (reader room.scripts room.depth) b rest.now) }
     ensures within { IfOk result (λ x. x.1 ≤ length rest.now) }
 {
     match b {
@@ -39,19 +59,22 @@ pub(crate) fn token_at(
             Ok((Token::Escape(value), n))
         }
         b'[' => {
-            let n = bracket(rest, depth)?;
+            if !room.scripts {
+                return Ok((Token::Byte(b), 0));
+            }
+            let n = bracket(rest, room.depth)?;
             let text = Text::from_slice(alloc, before(rest, n - 1))?;
             Ok((Token::Substitution(Part::Script(text)), n))
         }
-        b'$' => variable(alloc, rest, depth),
+        b'$' => variable(alloc, rest, room),
         _ => Ok((Token::Byte(b), 0)),
     }
 }
 
 /// Reads what follows a `$`.
 #[cycle(read)]
-fn variable(alloc: Global, rest: &[u8], depth: u8) -> Result<(Token, usize), WordFault>
-    ensures value { Gives (λ x. (token_view x.0, x.1)) result (dollar (inside_of depth) (name_len rest.now) rest.now) }
+fn variable(alloc: Global, rest: &[u8], room: Room) -> Result<(Token, usize), WordFault>
+    ensures value { Gives (λ x. (token_view x.0, x.1)) result (dollar (reader room.scripts room.depth) (name_len rest.now) rest.now) }
     ensures within { IfOk result (λ x. x.1 ≤ length rest.now) }
 {
     if begins_with(b'{', rest) {
@@ -64,7 +87,7 @@ fn variable(alloc: Global, rest: &[u8], depth: u8) -> Result<(Token, usize), Wor
     }
     let n = name_len(rest);
     if begins_with(b'(', after(rest, n)) {
-        let (index, k) = index(alloc, after(rest, 1 + n), depth)?;
+        let (index, k) = index(alloc, after(rest, 1 + n), room)?;
         let name = Text::from_slice(alloc, before(rest, n))?;
         return Ok((Token::Substitution(Part::Var(name, Some(index))), 1 + n + k));
     }
@@ -77,15 +100,20 @@ fn variable(alloc: Global, rest: &[u8], depth: u8) -> Result<(Token, usize), Wor
 
 /// Reads the parts of an index, up to the `)`.
 #[cycle(read)]
-#[tactic(auto, unfolding(crate::specs::Commands::inside_of))]
-fn index(alloc: Global, rest: &[u8], depth: u8) -> Result<(Vec<Part>, usize), WordFault>
-    ensures value { Gives (λ x. (parts_view x.0.items, x.1)) result ((inside_of depth).index rest.now) }
+#[tactic(auto, unfolding(crate::specs::Commands::reader, crate::specs::Commands::nested))]
+fn index(alloc: Global, rest: &[u8], room: Room) -> Result<(Vec<Part>, usize), WordFault>
+    ensures value { Gives (λ x. (parts_view x.0.items, x.1)) result ((reader room.scripts room.depth).index rest.now) }
     ensures within { IfOk result (λ x. x.1 ≤ length rest.now) }
 {
+    let depth = room.depth;
     if depth == 0 {
         return Err(WordFault::TooDeep);
     }
-    parts(alloc, rest, Stop::Paren, depth - 1)
+    let room = Room {
+        depth: depth - 1,
+        scripts: room.scripts,
+    };
+    parts(alloc, rest, Stop::Paren, room)
 }
 
 /// Appends the bytes to the parts, as a literal.
@@ -104,9 +132,9 @@ pub(crate) fn parts(
     alloc: Global,
     bytes: &[u8],
     stop: Stop,
-    depth: u8,
+    room: Room,
 ) -> Result<(Vec<Part>, usize), WordFault>
-    ensures value { Gives (λ x. (parts_view x.0.items, x.1)) result (parts (inside_of depth) stop bytes.now) }
+    ensures value { Gives (λ x. (parts_view x.0.items, x.1)) result (parts (reader room.scripts room.depth) stop bytes.now) }
     ensures within { IfOk result (λ x. x.1 ≤ length bytes.now) }
 {
     let mut list = Vec::new(alloc);
@@ -119,7 +147,7 @@ pub(crate) fn parts(
             flush(&mut list, text)?;
             return Ok((list, at + stop_len(stop)));
         }
-        let (token, n) = token_at(alloc, b, rest, depth)?;
+        let (token, n) = token_at(alloc, b, rest, room)?;
         match token {
             Token::Byte(value) => text.push(value)?,
             Token::Escape(value) => text.extend_from_slice(value.as_slice())?,
@@ -173,3 +201,19 @@ pub(crate) fn braced(alloc: Global, bytes: &[u8]) -> Result<Vec<Part>, AllocErro
     list.push(Part::Lit(Text { bytes: text }))?;
     Ok(list)
 }
+
+/// Reads the parts of a whole text in which only backslashes and variables are replaced: `[` stands
+/// for itself. The errors are `MissingBrace`, `MissingParen` and `TooDeep`. (Tcl(n): subst
+/// -nocommands)
+#[tactic(auto, unfolding(crate::specs::Commands::text_parts))]
+pub fn text_parts(alloc: Global, text: &[u8]) -> Result<Vec<Part>, WordFault>
+    ensures { Gives (λ list. parts_view list.items) result (text_parts text.now) }
+{
+    let (list, _) = parts(alloc, text, Stop::End, Room::whole(false))?;
+    Ok(list)
+}
+
+/// States a law: no part that `text_parts` reads is a script. It does nothing at run time.
+pub fn texts_have_no_script()
+    ensures { (text : List ℕ) (ps : Pieces) → text_parts text ≡ Ok ps → has_script ps ≡ false }
+{}

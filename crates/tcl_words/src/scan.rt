@@ -55,6 +55,7 @@ pub(crate) fn stops(stop: Stop, b: u8, rest: &[u8]) -> bool
         Stop::NestedGap => is_gap(b, rest) || b == b']',
         Stop::Quote => b == b'"',
         Stop::Paren => b == b')',
+        Stop::End => false,
     }
 }
 
@@ -64,7 +65,7 @@ pub(crate) fn stop_len(stop: Stop) -> usize
     ensures small { result ≤ 1 }
 {
     match stop {
-        Stop::Gap | Stop::NestedGap => 0,
+        Stop::Gap | Stop::NestedGap | Stop::End => 0,
         Stop::Quote | Stop::Paren => 1,
     }
 }
@@ -74,7 +75,7 @@ pub(crate) fn unclosed(stop: Stop) -> Option<WordFault>
     ensures { result ≡ unclosed stop }
 {
     match stop {
-        Stop::Gap | Stop::NestedGap => None,
+        Stop::Gap | Stop::NestedGap | Stop::End => None,
         Stop::Quote => Some(WordFault::MissingQuote),
         Stop::Paren => Some(WordFault::MissingParen),
     }

@@ -16,7 +16,7 @@ use crate::stop::Stop;
 
 /// Returns the number of bytes after a byte that belong to its token.
 #[cycle(skip)]
-#[tactic(auto, unfolding(crate::specs::Commands::token_at))]
+#[tactic(auto, unfolding(crate::specs::Commands::token_at, crate::specs::Commands::reader))]
 fn skip_token(b: u8, rest: &[u8], depth: u8) -> Result<usize, WordFault>
     ensures value { result ≡ count_of (token_at (inside_of depth) b rest.now) }
     ensures within { IfOk result (λ n. n ≤ length rest.now) }
@@ -51,7 +51,7 @@ fn skip_dollar(rest: &[u8], depth: u8) -> Result<usize, WordFault>
 
 /// Returns the number of bytes after a `[` that belong to it, with the `]`.
 #[cycle(skip)]
-#[tactic(auto, unfolding(crate::specs::Commands::inside_of))]
+#[tactic(auto, unfolding(crate::specs::Commands::reader, crate::specs::Commands::nested))]
 pub(crate) fn bracket(rest: &[u8], depth: u8) -> Result<usize, WordFault>
     ensures value { result ≡ (inside_of depth).bracket rest.now }
     ensures some { IfOk result (λ n. 0 < n) }
@@ -65,7 +65,7 @@ pub(crate) fn bracket(rest: &[u8], depth: u8) -> Result<usize, WordFault>
 
 /// Returns the length of an index, with the `)`.
 #[cycle(skip)]
-#[tactic(auto, unfolding(crate::specs::Commands::inside_of))]
+#[tactic(auto, unfolding(crate::specs::Commands::reader, crate::specs::Commands::nested))]
 fn skip_index(rest: &[u8], depth: u8) -> Result<usize, WordFault>
     ensures value { result ≡ count_of ((inside_of depth).index rest.now) }
     ensures within { IfOk result (λ n. n ≤ length rest.now) }

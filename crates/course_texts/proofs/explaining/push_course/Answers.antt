@@ -8,5 +8,5 @@ loop-event-init c = ([], at_first, search rules)
 
 pub loop-event-preserved : goal.loop-event-preserved
 loop-event-preserved c =
-    one_more c.args.number c.args.session.now c.loop-event.session c.step.new.session c.args.events.now c.loop-event.event-index _ c.args.text.now c.loop-event.text c.step.new.text
+    one_more c.args.secrets.now c.args.number c.args.session.now c.loop-event.session c.step.new.session c.args.events.now c.loop-event.event-index _ c.args.text.now c.loop-event.text c.step.new.text
     (search rules) (search rules) c.in_ok-step.ensures c.loop-event.invariant

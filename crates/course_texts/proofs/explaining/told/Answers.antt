@@ -1,5 +1,6 @@
 use Rattle.std.proofs.Common.{ℕ, List, ◌++◌, drop, sym, ap, ◌∙◌}
 use Rattle.expect_core.specs.declared.request.Request.{Request}
+use Rattle.secret_words.specs.declared.secrets.Secret.{Secret}
 use Rattle.course_texts.specs.Waits.{request_lines}
 use Rattle.course_texts.proofs.explaining.told.Goals as goal
 
@@ -13,7 +14,8 @@ returns c =
         asked,
         c.requests.ensures,
         c.in_ok-push_requests.ensures
-            ∙ ap (λ (t : List ℕ). t ++ request_lines rest) c.into_text-text.ensures
-            ∙ ap (λ (rs : List Request). c.args.teller.text ++ request_lines rs) (c.rest_of.ensures ∙ ap (λ (n : ℕ). drop n asked) c.told-told.ensures),
+            ∙ ap (λ (ss : List Secret). c.into_text-text.result ++ request_lines ss rest) c.as_slice.ensures
+            ∙ ap (λ (t : List ℕ). t ++ request_lines c.args.secrets.now rest) c.into_text-text.ensures
+            ∙ ap (λ (rs : List Request). c.args.teller.text ++ request_lines c.args.secrets.now rs) (c.rest_of.ensures ∙ ap (λ (n : ℕ). drop n asked) c.told-told.ensures),
       ),
     )

@@ -1,4 +1,4 @@
-use Rattle.std.proofs.Common.{rules, ◌≡◌, ◌+◌, ◌*◌, ◌<◌, ◌≤◌, length, arith}
+use Rattle.std.proofs.Common.{rules, ◌+◌, ◌*◌, ◌<◌, length, arith}
 use Rattle.tcl_commands.specs.Upvars.{link_pairs}
 use Rattle.tcl_commands.proofs.Linked.{linked_on, linked_fails, linked_end}
 use Rattle.tcl_commands.proofs.upvars.link_pairs.Goals as goal
