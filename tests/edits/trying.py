@@ -1,7 +1,10 @@
-"""Tries the edits of a crate: in rounds, then what a round doesn't decide alone."""
+"""Tries the edits of a crate: in rounds, side by side, then what a round doesn't decide alone."""
 
 import pathlib
+import shutil
 import tempfile
+import threading
+from concurrent.futures import ThreadPoolExecutor
 from typing import NamedTuple
 
 from checks import FRONT
@@ -29,18 +32,20 @@ class Tried(NamedTuple):
 
 
 class Trying:
-    """The edits of one crate while they are tried, each check over what those before it proved.
+    """The edits of one crate while they are tried, each check over what the first one proved.
 
-    Of each that a round refused it has the goals to note in it, and of each that is refused the goal for the ledger. What an
-    earlier run on this machine saw refused is not tried again, nor what the ledger says, unless all is anew.
+    Each check takes a lane, where the crate's weight counts. Of each edit that a round refused it has the goals to note in it, and of each
+    that is refused the goal for the ledger. What an earlier run on this machine saw refused is not tried again, nor what the ledger says,
+    unless all is anew.
     """
 
-    def __init__(self, crate, anew, ledger):
-        self.source = source_of(crate)
+    def __init__(self, crate, anew, ledger, lanes, weight):
+        self.source, self.lanes, self.weight = source_of(crate), lanes, weight
         self.keeping, self.ledger = Keeping(crate, anew), ledger
         self.tried, self.controls, self.seconds, self.rounds, self.earlier, self.believed = [], [], 0, 0, 0, 0
         self.goals, self.refusals = {}, {}
-        self.kept = None
+        # what rounds share while they run side by side
+        self.lock, self.kept, self.common, self.left, self.undecided = threading.Lock(), None, None, [], []
 
     def tell(self, edit, is_refused, said):
         """Notes what became of an edit."""
@@ -88,34 +93,69 @@ class Trying:
         return found
 
     def in_rounds(self, trials):
-        """Tries edits in rounds, and returns what they don't decide, with its verdict."""
-        undecided = [(it, Verdict("proved", "")) for it in trials if not it.concerned(self.source)]
-        trials = [it for it in trials if it.concerned(self.source)]
-        common = control_of(self.source, units_of(self.source, trials))
-        while trials:
-            turn, trials = next_round(self.source, trials, common)
-            found = run_round(self.source, turn, self.kept)
-            self.seconds, self.rounds = self.seconds + found.seconds, self.rounds + 1
-            if not found.lines:
-                trials = self.readable(turn.trials, found) + trials
-                continue
-            is_sound = not found.is_refused(f"{self.source.crate.name}::{turn.control.name}")
-            if not is_sound:
-                self.controls.append(turn.control.name)
-            again = []
-            for trial in turn.trials:
-                verdict, goals = self.verdict(trial, found)
-                if verdict.word == "refused":
-                    self.refused(trial.edit.name, "refused at", verdict.goal, is_sound)
-                    self.goals[trial.edit.name] = goals_to_note(self.source, trial, verdict.goal, found)
-                elif trial.edit.goals and not trial.searched:
-                    again.append(trial.bare())
-                elif verdict.word == "open":
-                    again.append(trial._replace(searched=goals))
-                else:
-                    undecided.append((trial, verdict))
-            trials = again + trials
-        return undecided
+        """Tries edits in rounds, and returns what they don't decide, with its verdict.
+
+        The others begin with a copy of what the first one proved.
+        """
+        self.undecided = [(it, Verdict("proved", "")) for it in trials if not it.concerned(self.source)]
+        self.left = [it for it in trials if it.concerned(self.source)]
+        if not self.left:
+            return self.undecided
+        self.common = control_of(self.source, units_of(self.source, self.left))
+        self.take_round(self.kept)
+        kept = [self.kept, *(f"{self.kept}-{number}" for number in range(1, min(self.lanes.count, self.rounds_left())))]
+        for copy in kept[1:]:
+            shutil.copytree(self.kept, copy)
+        with ThreadPoolExecutor(len(kept)) as pool:
+            list(pool.map(self.take_rounds, kept))
+        return self.undecided
+
+    def rounds_left(self):
+        """How many rounds the edits that are left need, at least."""
+        count, left = 0, self.left
+        while left:
+            _, left = next_round(self.source, left, self.common)
+            count += 1
+        return count
+
+    def take_rounds(self, kept):
+        """Tries one round after another over the work that a folder keeps, until no edit is left."""
+        while self.take_round(kept):
+            pass
+
+    def take_round(self, kept):
+        """Tries one round over the work that a folder keeps. Returns whether an edit was left for it."""
+        with self.lanes.one(self.weight):
+            with self.lock:
+                if not self.left:
+                    return False
+                turn, self.left = next_round(self.source, self.left, self.common)
+            found = run_round(self.source, turn, kept)
+            with self.lock:
+                self.left = self.judged(turn, found, kept) + self.left
+        return True
+
+    def judged(self, turn, found, kept):
+        """Notes what a round decides, and returns what is to be tried again."""
+        self.seconds, self.rounds = self.seconds + found.seconds, self.rounds + 1
+        if not found.lines:
+            return self.readable(turn.trials, found, kept)
+        is_sound = not found.is_refused(f"{self.source.crate.name}::{turn.control.name}")
+        if not is_sound:
+            self.controls.append(turn.control.name)
+        again = []
+        for trial in turn.trials:
+            verdict, goals = self.verdict(trial, found)
+            if verdict.word == "refused":
+                self.refused(trial.edit.name, "refused at", verdict.goal, is_sound)
+                self.goals[trial.edit.name] = goals_to_note(self.source, trial, verdict.goal, found)
+            elif trial.edit.goals and not trial.searched:
+                again.append(trial.bare())
+            elif verdict.word == "open":
+                again.append(trial._replace(searched=goals))
+            else:
+                self.undecided.append((trial, verdict))
+        return again
 
     def verdict(self, trial, found):
         """The verdict of a check on an edit, and the goals by function for which a search is to be written out."""
@@ -137,29 +177,30 @@ class Trying:
             verdict = beside if beside.word == "refused" else verdict
         return verdict, goals
 
-    def readable(self, trials, found):
+    def readable(self, trials, found, kept):
         """The trials of a round that no function was checked in, without those that the front end refuses."""
-        files, kept = set(FRONT.findall(found.said)), []
+        files, read = set(FRONT.findall(found.said)), []
         for trial in trials:
             is_near = not files or files & {file for file, _, _ in trial.edit.pairs}
-            alone = run_alone(self.source, trial, self.kept, ["--only", ""]) if is_near else None
+            alone = run_alone(self.source, trial, kept, ["--only", ""]) if is_near else None
             self.seconds += alone.seconds if alone else 0
             why = FRONT.search(alone.said) if alone else None
             if why:
                 line = alone.said[why.start() :].partition("\n")[0]
                 self.tell(trial.edit.name, False, f"BAD EDIT: it isn't read: {line}")
             else:
-                kept.append(trial)
-        if len(kept) == len(trials):
+                read.append(trial)
+        if len(read) == len(trials):
             where = self.source.crate.name
             raise SystemExit(f"{where}: a round isn't read, and each of its edits is: {found.said[-900:]}")
-        return kept
+        return read
 
     def alone(self, trial, verdict):
         """Tries an edit by itself that no round decided."""
         if verdict.word in ("files", "end", "limit"):
             return self.tell(trial.edit.name, False, f"{WHY[verdict.word]}: {verdict.goal}")
-        found = run_alone(self.source, trial, self.kept, [])
+        with self.lanes.one(self.weight):
+            found = run_alone(self.source, trial, self.kept, [])
         self.seconds += found.seconds
         if not found.lines:
             return self.tell(trial.edit.name, False, f"NOT TRIED: its check tells of no function: {found.said.strip()[-300:]}")
@@ -173,7 +214,9 @@ class Trying:
 
     def all(self):
         """Tries all edits of the crate."""
-        with tempfile.TemporaryDirectory(prefix="edits-kept-") as self.kept:
+        with tempfile.TemporaryDirectory(prefix="edits-kept-") as folder:
+            self.kept = f"{folder}/kept"
+            pathlib.Path(self.kept).mkdir()
             for trial, verdict in self.in_rounds(self.trials()):
                 self.alone(trial, verdict)
         return self

@@ -8,15 +8,14 @@ import re
 from typing import NamedTuple, Optional
 
 from events import ITEMS
-from language import AGAIN, AGAIN_IN_TIME, Interpreter, Stopped, Thrown, elements, failed, is_number, number
+from language import AGAIN, AGAIN_IN_TIME, Stopped, Thrown, elements, failed, is_number, number
 from patterns import BadFlag, BadRegular, read_arguments
 from terminal import BadMode, Terminal
+from tools import CHILDREN, FOREVER, Tools
 
-FOREVER = float("inf")
 LONGEST = 9_000_000_000_000
 KEPT = 2000
 LARGEST = 1_000_000
-CHILDREN = 16
 PIECE = 4096
 
 LIST = re.compile(rb"[ \t\v\f\r]*\n")
@@ -43,7 +42,7 @@ class Child:
         return b"exp%d" % self.number
 
 
-class Dialogue(Interpreter):
+class Dialogue(Tools):
     def __init__(self, events, limit=None, steps=1_000_000, has_terminals=False):
         """A script's own events in order; a time limit in milliseconds; a bound on steps; what a spawn without -tty and -notty is."""
         super().__init__(steps)
@@ -56,6 +55,7 @@ class Dialogue(Interpreter):
             self.happens(event)
         self.children, self.sent, self.shows = {}, {}, True
         self.later = Child(0, None, KEPT, True)
+        self.channels, self.errors, self.day = {}, None, None
         self.awaited = None
 
     def happens(self, event):
@@ -221,7 +221,9 @@ class Dialogue(Interpreter):
 
     def do_close(self, words):
         given, words = self.flags(b"close", words, {b"-i": True})
-        self.counted(b"close", words, 0, 0)
+        self.counted(b"close", words, 0, 0 if given else 1)
+        if words:
+            return self.shut(words[0])
         self.closed(self.opened(given.get(b"-i")))
         return b""
 

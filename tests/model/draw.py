@@ -24,6 +24,41 @@ MARKS = [(b"-nocase", 0.3), (b"-indices", 0.2), (b"-notransfer", 0.1)]
 SHOWN = [b"buffer", b"buffer", b"0,string", b"0,string", b"1,string", b"0,start", b"1,end", b"spawn_id"]
 ASKED = [b"match_max", b"match_max -d", b"remove_nulls", b"log_user -info", b"wait", b"set spawn_id", b"set timeout"]
 FLAGS = [b"-tty", b"-tty", b"-notty", b"-nottycopy", b"-nottyinit", b"-ignore SIGHUP", b"-noecho"]
+TOOLS = [
+    b"exec p",
+    b"exec -keepnewline -- p a",
+    b"system p {a b}",
+    b"source a",
+    b"pwd",
+    b"getpid",
+    b"clock seconds",
+    b"timestamp",
+    b"timestamp -gmt -format a -seconds 7",
+    b"file exists a",
+    b"file size a",
+    b"file stat a s",
+    b"file delete -force a b",
+    b"puts stderr a",
+    b"puts -nonewline stderr {}",
+]
+CHANNELS = [
+    b"set c [open a]",
+    b"set c [open a r]",
+    b"set c [open |p]",
+    b"set c [open a w]",
+    b"set c [open a a]",
+    b"gets $c",
+    b"gets $c line",
+    b"gets $c line",
+    b"read $c",
+    b"read -nonewline $c",
+    b"read $c 2",
+    b"eof $c",
+    b"puts $c a",
+    b"puts -nonewline $c b",
+    b"flush $c",
+    b"close $c",
+]
 ENDS = [b"break", b"continue", b"{return r}", b"{return -code break}", b"{return -code return r}", b"{return -code error r}", b"{set n got}", b"{error no}", b"{exit 3}", b"{}"]
 
 # What a procedure begins with.
@@ -65,6 +100,30 @@ REFUSED = [
     b"spawn -tty",
     b"spawn -ignore",
     b"spawn -nottycopy -ignore SIGHUP",
+    b"exec",
+    b"exec a >b",
+    b"exec -x p",
+    b"clock",
+    b"clock a",
+    b"clock seconds a",
+    b"timestamp -x",
+    b"timestamp -format",
+    b"timestamp -seconds x",
+    b"timestamp -seconds 7",
+    b"open a r+",
+    b"open |p w",
+    b"file a",
+    b"file exists",
+    b"file exists ~/a",
+    b"file copy a",
+    b"file delete -x",
+    b"gets stdin",
+    b"read file9 x",
+    b"eof file9",
+    b"flush stdout",
+    b"puts -x a",
+    b"puts file9 a",
+    b"source a b",
     b"exp_continue now",
     b"exp_continue",
     b"expect -x",
@@ -268,6 +327,12 @@ class Script:
     def wait(self, _depth):
         return b"wait" + self.id()
 
+    def tool(self, _depth):
+        return self.rng.choice(TOOLS)
+
+    def channel(self, _depth):
+        return self.rng.choice(CHANNELS)
+
     def refused(self, _depth):
         return self.rng.choice(REFUSED)
 
@@ -302,6 +367,8 @@ class Script:
         (spawn, 1),
         (close, 1),
         (wait, 2),
+        (tool, 1),
+        (channel, 1),
         (refused, 1),
         (loop, 1),
         (choice, 1),

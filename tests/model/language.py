@@ -28,7 +28,7 @@ NESTED = 200
 LEFT_OUT = b"unset append lrange for eval string info concat join lassign linsert lrepeat lreplace lreverse lsearch lset lsort split subst array format scan regexp regsub package exp_version expect_version exp_internal debug exp_debug strace exp_strace trap exp_trap exp_spawn exp_send_user exp_close exp_wait exp_match_max exp_remove_nulls exp_log_user exp_exit".split()
 
 # The simulated commands that a procedure may replace.
-REDEFINABLE = b"sleep exp_sleep after upvar".split()
+REDEFINABLE = b"sleep exp_sleep after upvar exec system exp_system source file pwd pid getpid exp_getpid open gets read eof flush clock timestamp exp_timestamp".split()
 
 
 class NotSimulated(Exception):
@@ -269,12 +269,6 @@ class Interpreter:
         found, at = elements(words[0]), number(words[1])
         return found[at] if 0 <= at < len(found) else b""
 
-    def do_puts(self, words):
-        if len(words) != 1:
-            raise NotSimulated(b"puts with flags")
-        self.transcript += words[0] + b"\n"
-        return b""
-
     def do_catch(self, words):
         try:
             code, value = 0, self.evaluate(words[0])
@@ -306,7 +300,11 @@ class Interpreter:
         raise Thrown(CONTINUE)
 
     def do_exit(self, words):
-        raise Stopped("exit:%d" % number(*words or [b"0"]))
+        self.counted(b"exit", words, 0, 1)
+        (status,) = words or [b"0"]
+        if not is_number(status) or not 0 <= int(status) <= 255:
+            raise failed(b"bad exit status", status)
+        raise Stopped("exit:%d" % int(status))
 
     def do_if(self, words):
         condition, body, *rest = words

@@ -5,7 +5,6 @@ use Rattle.std.specs.Prelude.{ℕ, ◌||◌, List, [], ◌∷◌, codes, bytes_e
 abbrev pub waiting : List ℕ → List ℕ
 waiting word =
     if bytes_eq word (codes "update") || bytes_eq word (codes "vwait") then codes "expect waits"
-    else if bytes_eq word (codes "clock") || bytes_eq word (codes "timestamp") || bytes_eq word (codes "exp_timestamp") then codes "spawn date"
     else if bytes_eq word (codes "time") then codes "a record has the time of each event"
     else []
 
@@ -17,7 +16,6 @@ choosing word =
     else if bytes_eq word (codes "throw") then codes "use error"
     else if bytes_eq word (codes "uplevel") then codes "use global, or return the value"
     else if bytes_eq word (codes "namespace") || bytes_eq word (codes "variable") then codes "use a prefix of the names"
-    else if bytes_eq word (codes "source") then codes "concatenate the files first"
     else []
 
 abbrev pub lists : List ℕ → List ℕ
@@ -33,13 +31,9 @@ texts word =
 
 abbrev pub files : List ℕ → List ℕ
 files word =
-    if bytes_eq word (codes "open") || bytes_eq word (codes "read") || bytes_eq word (codes "gets") || bytes_eq word (codes "seek") || bytes_eq word (codes "tell") || bytes_eq word (codes "flush") then codes "use a child that reads or writes: spawn cat FILE"
-    else if bytes_eq word (codes "file") || bytes_eq word (codes "fconfigure") || bytes_eq word (codes "fcopy") || bytes_eq word (codes "fileevent") || bytes_eq word (codes "fblocked") || bytes_eq word (codes "socket") then codes "use a child that reads or writes: spawn cat FILE"
-    else if bytes_eq word (codes "exec") then codes "spawn the program, and expect its output"
-    else if bytes_eq word (codes "system") || bytes_eq word (codes "exp_system") then codes "use spawn sh -c {..}"
+    if bytes_eq word (codes "seek") || bytes_eq word (codes "tell") || bytes_eq word (codes "fconfigure") || bytes_eq word (codes "fcopy") || bytes_eq word (codes "fileevent") || bytes_eq word (codes "fblocked") || bytes_eq word (codes "socket") then codes "use a child that reads or writes: spawn cat FILE"
     else if bytes_eq word (codes "cd") then codes "use spawn sh -c {cd folder && exec program}"
-    else if bytes_eq word (codes "pwd") then codes "spawn pwd"
-    else if bytes_eq word (codes "glob") then codes "spawn ls"
+    else if bytes_eq word (codes "glob") then codes "use exec ls"
     else []
 
 abbrev pub telling : List ℕ → List ℕ
@@ -56,7 +50,6 @@ expecting word =
     else if bytes_eq word (codes "expect_user") || bytes_eq word (codes "expect_tty") then codes "set the answer at the top of the script"
     else if bytes_eq word (codes "expect_background") then codes "use several -i in one expect"
     else if bytes_eq word (codes "expect_after") || bytes_eq word (codes "expect_before") then codes "repeat the patterns in each expect"
-    else if bytes_eq word (codes "eof") then codes "use the pattern eof"
     else []
 
 abbrev pub starting : List ℕ → List ℕ

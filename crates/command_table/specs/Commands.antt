@@ -143,12 +143,42 @@ prefixed_expect word =
     else if bytes_eq word (codes "exp_log_user") then Some expect.LogUser
     else None
 
+-- The command that a word names, if it runs a program to its end.
+abbrev pub tool_command : List ℕ → Option ExpectCommand
+tool_command word =
+    if bytes_eq word (codes "exec") then Some expect.Exec
+    else if bytes_eq word (codes "system") || bytes_eq word (codes "exp_system") then Some expect.System
+    else if bytes_eq word (codes "source") then Some expect.Source
+    else if bytes_eq word (codes "file") then Some expect.File
+    else if bytes_eq word (codes "pwd") then Some expect.Pwd
+    else if bytes_eq word (codes "pid") || bytes_eq word (codes "getpid") || bytes_eq word (codes "exp_getpid") then Some expect.Pid
+    else if bytes_eq word (codes "clock") then Some expect.Clock
+    else if bytes_eq word (codes "timestamp") || bytes_eq word (codes "exp_timestamp") then Some expect.Timestamp
+    else None
+
+-- The command that a word names, if it is about a channel and a procedure can have its name.
+abbrev pub channel_command : List ℕ → Option ExpectCommand
+channel_command word =
+    if bytes_eq word (codes "open") then Some expect.Open
+    else if bytes_eq word (codes "gets") then Some expect.Gets
+    else if bytes_eq word (codes "read") then Some expect.Read
+    else if bytes_eq word (codes "eof") then Some expect.Eof
+    else if bytes_eq word (codes "flush") then Some expect.Flush
+    else prefixed_expect word
+
+abbrev pub or_channel : Option ExpectCommand → List ℕ → Option ExpectCommand
+or_channel (Some c) word = Some c
+or_channel None word = channel_command word
+
+abbrev pub tool_or_channel : List ℕ → Option ExpectCommand
+tool_or_channel word = or_channel (tool_command word) word
+
 -- The command of Expect that a word names, if a procedure can have its name. Such a procedure is called instead.
 abbrev pub redefinable_expect : List ℕ → Option ExpectCommand
 redefinable_expect word =
     if bytes_eq word (codes "sleep") || bytes_eq word (codes "exp_sleep") then Some expect.Sleep
     else if bytes_eq word (codes "after") then Some expect.After
-    else prefixed_expect word
+    else tool_or_channel word
 
 abbrev pub or_redefinable_expect : Option ExpectCommand → List ℕ → Option ExpectCommand
 or_redefinable_expect (Some c) word = Some c

@@ -11,6 +11,7 @@ use Rattle.command_table.specs.declared.flags.Role.TheVariants as role
 abbrev pub is_own : Own → List ℕ → Bool
 is_own own.None word = false
 is_own own.Spawn word = bytes_eq word (codes "-noecho")
+is_own own.Exec word = bytes_eq word (codes "-keepnewline")
 is_own own.Default word = bytes_eq word (codes "-d")
 is_own own.Timer word = bytes_eq word (codes "-continue_timer")
 
@@ -27,8 +28,13 @@ spawn_role word =
     else if bytes_eq word (codes "-ignore") then role.ShownWithValue
     else role.Bad
 
+-- The flag of exec other than -keepnewline. Standard error is never part of what exec returns, so it changes nothing.
+abbrev pub exec_role : List ℕ → Role
+exec_role word = if bytes_eq word (codes "-ignorestderr") then role.Shown else role.Bad
+
 abbrev pub other_role : Own → List ℕ → Role
 other_role own.Spawn word = spawn_role word
+other_role own.Exec word = exec_role word
 other_role own word = role.Bad
 
 -- The role of an argument that may be a flag.

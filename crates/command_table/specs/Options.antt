@@ -1,4 +1,5 @@
--- The options of commands, their first arguments: string(n), info(n), array(n), package(n), and log_user of expect(1).
+-- The options of commands, their first arguments: string(n), info(n), array(n), package(n), file(n), and
+-- log_user of expect(1).
 use Rattle.std.specs.Prelude.{ℕ, ◌||◌, List, codes, Option, Some, None, option_map, bytes_eq, if◌then◌else◌, option_and_then}
 use Rattle.command_table.specs.declared.commands.Command.{Command}
 use Rattle.command_table.specs.declared.commands.Command.TheVariants.{Tcl, Expect}
@@ -14,6 +15,10 @@ use Rattle.command_table.specs.declared.options.ArrayOption.{ArrayOption}
 use Rattle.command_table.specs.declared.options.ArrayOption.TheVariants as array
 use Rattle.command_table.specs.declared.options.PackageOption.{PackageOption}
 use Rattle.command_table.specs.declared.options.PackageOption.TheVariants.{Require}
+use Rattle.command_table.specs.declared.options.ClockOption.{ClockOption}
+use Rattle.command_table.specs.declared.options.ClockOption.TheVariants as clock
+use Rattle.command_table.specs.declared.options.FileOption.{FileOption}
+use Rattle.command_table.specs.declared.options.FileOption.TheVariants as file
 use Rattle.command_table.specs.declared.switches.Switches.{Switches}
 use Rattle.command_table.specs.declared.switches.Switches.TheVariants.{Case, Strict}
 use Rattle.command_table.specs.Counts.{exactly, at_least, between}
@@ -122,12 +127,65 @@ abbrev pub package_count : PackageOption → Count
 -- package require package ?requirement?
 package_count Require = at_least 1
 
+abbrev pub clock_option : List ℕ → Option ClockOption
+clock_option word =
+    if bytes_eq word (codes "seconds") then Some clock.Seconds
+    else if bytes_eq word (codes "milliseconds") then Some clock.Milliseconds
+    else None
+
+abbrev pub clock_count : ClockOption → Count
+-- clock seconds
+clock_count clock.Seconds = exactly 0
+-- clock milliseconds
+clock_count clock.Milliseconds = exactly 0
+
+abbrev pub file_option : List ℕ → Option FileOption
+file_option word =
+    if bytes_eq word (codes "exists") then Some file.Exists
+    else if bytes_eq word (codes "readable") then Some file.Readable
+    else if bytes_eq word (codes "writable") then Some file.Writable
+    else if bytes_eq word (codes "executable") then Some file.Executable
+    else if bytes_eq word (codes "isfile") then Some file.IsFile
+    else if bytes_eq word (codes "isdirectory") then Some file.IsDirectory
+    else if bytes_eq word (codes "size") then Some file.Size
+    else if bytes_eq word (codes "mtime") then Some file.Mtime
+    else if bytes_eq word (codes "stat") then Some file.Stat
+    else if bytes_eq word (codes "delete") then Some file.Delete
+    else if bytes_eq word (codes "copy") then Some file.Copy
+    else None
+
+abbrev pub file_count : FileOption → Count
+-- file exists name
+file_count file.Exists = exactly 1
+-- file readable name
+file_count file.Readable = exactly 1
+-- file writable name
+file_count file.Writable = exactly 1
+-- file executable name
+file_count file.Executable = exactly 1
+-- file isfile name
+file_count file.IsFile = exactly 1
+-- file isdirectory name
+file_count file.IsDirectory = exactly 1
+-- file size name
+file_count file.Size = exactly 1
+-- file mtime name
+file_count file.Mtime = exactly 1
+-- file stat name varName
+file_count file.Stat = exactly 2
+-- file delete ?-force? ?--? pathname ?pathname ...?
+file_count file.Delete = at_least 1
+-- file copy ?-force? ?--? source target
+file_count file.Copy = between 2 4
+
 -- How many arguments an option takes, if the command has it.
 abbrev pub option_count : Command → List ℕ → Option Count
 option_count (Tcl (Value value.String)) word = option_map string_count (string_option word)
 option_count (Tcl (Value value.Info)) word = option_map info_count (info_option word)
 option_count (Tcl (Value value.Array)) word = option_map array_count (array_option word)
 option_count (Tcl (Value value.Package)) word = option_map package_count (package_option word)
+option_count (Expect expect.Clock) word = option_map clock_count (clock_option word)
+option_count (Expect expect.File) word = option_map file_count (file_option word)
 -- log_user -info|0|1
 option_count (Expect expect.LogUser) word = if bytes_eq word (codes "0") || bytes_eq word (codes "1") || bytes_eq word (codes "-info") then Some (exactly 0) else None
 option_count other word = None

@@ -134,18 +134,38 @@ tcl_row tcl.While = plain (exactly 2) (Each Expression Script Text Text)
 abbrev pub expect_row : ExpectCommand → Row
 -- after ms
 expect_row expect.After = plain (exactly 1) texts
--- close ?-i spawn_id?
-expect_row expect.Close = flagged own.None true false (exactly 0)
+-- clock option
+expect_row expect.Clock = plain (at_least 1) Choice
+-- close ?-i spawn_id?, close channelId
+expect_row expect.Close = flagged own.None true false (between 0 1)
+-- eof channelId
+expect_row expect.Eof = plain (exactly 1) texts
+-- exec ?-ignorestderr? ?-keepnewline? ?--? arg ?arg ...?
+expect_row expect.Exec = flagged own.Exec false true (at_least 1)
 -- exp_continue ?-continue_timer?
 expect_row expect.ExpContinue = flagged own.Timer false false (exactly 0)
 -- expect ?-opts pat1 body1 ...? ?-opts patn bodyn?
 expect_row expect.Expect = plain (at_least 0) Pattern
+-- file option name ?arg ...?
+expect_row expect.File = plain (at_least 1) Choice
+-- flush channelId
+expect_row expect.Flush = plain (exactly 1) texts
+-- gets channelId ?varName?
+expect_row expect.Gets = plain (between 1 2) (Each Text Name Text Text)
 -- log_user -info|0|1
 expect_row expect.LogUser = plain (exactly 1) Choice
 -- match_max ?-d? ?-i spawn_id? ?size?
 expect_row expect.MatchMax = flagged own.Default true false (between 0 1)
+-- open fileName ?access?
+expect_row expect.Open = plain (between 1 2) texts
+-- pid
+expect_row expect.Pid = plain (exactly 0) texts
 -- puts ?-nonewline? ?channelId? string
 expect_row expect.Puts = plain (between 1 3) Output
+-- pwd
+expect_row expect.Pwd = plain (exactly 0) texts
+-- read ?-nonewline? channelId, read channelId numChars
+expect_row expect.Read = plain (between 1 2) texts
 -- remove_nulls ?-d? ?-i spawn_id? ?value?
 expect_row expect.RemoveNulls = flagged own.Default true false (between 0 1)
 -- send ?-i spawn_id? ?--? string
@@ -154,8 +174,14 @@ expect_row expect.Send = flagged own.None true true (exactly 1)
 expect_row expect.SendUser = flagged own.None false true (exactly 1)
 -- sleep seconds
 expect_row expect.Sleep = plain (exactly 1) texts
+-- source fileName
+expect_row expect.Source = plain (exactly 1) texts
 -- spawn ?-noecho? ?-tty? ?-notty? ?-nottycopy? ?-nottyinit? ?-ignore signal? ?--? program ?args?
 expect_row expect.Spawn = flagged own.Spawn false true (at_least 1)
+-- system arg ?arg ...?
+expect_row expect.System = plain (at_least 1) texts
+-- timestamp ?-format format? ?-seconds n? ?-gmt?
+expect_row expect.Timestamp = plain (at_least 0) texts
 -- wait ?-i spawn_id?
 expect_row expect.Wait = flagged own.None true false (exactly 0)
 

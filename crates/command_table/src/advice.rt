@@ -11,8 +11,6 @@ fn waiting(word: &[u8]) -> &'static [u8]
 {
     if is(word, b"update") || is(word, b"vwait") {
         b"expect waits"
-    } else if is(word, b"clock") || is(word, b"timestamp") || is(word, b"exp_timestamp") {
-        b"spawn date"
     } else if is(word, b"time") {
         b"a record has the time of each event"
     } else {
@@ -20,7 +18,7 @@ fn waiting(word: &[u8]) -> &'static [u8]
     }
 }
 
-/// Returns advice on choices, procedures, errors and sourcing.
+/// Returns advice on choices, procedures and errors.
 fn choosing(word: &[u8]) -> &'static [u8]
     ensures { result.now ≡ choosing word.now }
 {
@@ -36,8 +34,6 @@ fn choosing(word: &[u8]) -> &'static [u8]
         b"use global, or return the value"
     } else if is(word, b"namespace") || is(word, b"variable") {
         b"use a prefix of the names"
-    } else if is(word, b"source") {
-        b"concatenate the files first"
     } else {
         b""
     }
@@ -71,15 +67,8 @@ fn texts(word: &[u8]) -> &'static [u8]
 fn files(word: &[u8]) -> &'static [u8]
     ensures { result.now ≡ files word.now }
 {
-    if is(word, b"open")
-        || is(word, b"read")
-        || is(word, b"gets")
-        || is(word, b"seek")
+    if is(word, b"seek")
         || is(word, b"tell")
-        || is(word, b"flush")
-    {
-        b"use a child that reads or writes: spawn cat FILE"
-    } else if is(word, b"file")
         || is(word, b"fconfigure")
         || is(word, b"fcopy")
         || is(word, b"fileevent")
@@ -87,16 +76,10 @@ fn files(word: &[u8]) -> &'static [u8]
         || is(word, b"socket")
     {
         b"use a child that reads or writes: spawn cat FILE"
-    } else if is(word, b"exec") {
-        b"spawn the program, and expect its output"
-    } else if is(word, b"system") || is(word, b"exp_system") {
-        b"use spawn sh -c {..}"
     } else if is(word, b"cd") {
         b"use spawn sh -c {cd folder && exec program}"
-    } else if is(word, b"pwd") {
-        b"spawn pwd"
     } else if is(word, b"glob") {
-        b"spawn ls"
+        b"use exec ls"
     } else {
         b""
     }
@@ -134,8 +117,6 @@ fn expecting(word: &[u8]) -> &'static [u8]
         b"use several -i in one expect"
     } else if is(word, b"expect_after") || is(word, b"expect_before") {
         b"repeat the patterns in each expect"
-    } else if is(word, b"eof") {
-        b"use the pattern eof"
     } else {
         b""
     }

@@ -2,7 +2,7 @@
 
 ghost use Rattle.std.specs.Prelude.{◌≡◌};
 ghost use Rattle.std.specs.Str.{bytes_eq};
-ghost use Rattle.command_table.specs.Commands.{value_command, control_command, tcl_command, is_ignored, interpreter_value, redefinable_value, redefinable_control, redefinable_command, fixed_expect, prefixed_expect, redefinable_expect, expect_command, is_redefinable, language_command, command_of};
+ghost use Rattle.command_table.specs.Commands.{value_command, control_command, tcl_command, is_ignored, interpreter_value, redefinable_value, redefinable_control, redefinable_command, fixed_expect, prefixed_expect, tool_command, channel_command, tool_or_channel, redefinable_expect, expect_command, is_redefinable, language_command, command_of};
 
 /// A value command: it evaluates no script.
 #[derive(Clone, Copy, PartialEq, Eq)]
@@ -69,17 +69,32 @@ pub enum TclCommand {
 #[derive(Clone, Copy, PartialEq, Eq)]
 pub enum ExpectCommand {
     After,
+    Clock,
     Close,
+    /// `eof` of a channel.
+    Eof,
+    Exec,
     ExpContinue,
     Expect,
+    File,
+    Flush,
+    Gets,
     LogUser,
     MatchMax,
+    Open,
+    /// `pid`, `getpid` and `exp_getpid`.
+    Pid,
     Puts,
+    Pwd,
+    Read,
     RemoveNulls,
     Send,
     SendUser,
     Sleep,
+    Source,
     Spawn,
+    System,
+    Timestamp,
     Wait,
 }
 
@@ -343,6 +358,61 @@ fn prefixed_expect(word: &[u8]) -> Option<ExpectCommand>
     }
 }
 
+/// Returns the command that a word names, if it runs a program to its end.
+fn tool_command(word: &[u8]) -> Option<ExpectCommand>
+    ensures { result ≡ tool_command word.now }
+{
+    if is(word, b"exec") {
+        Some(ExpectCommand::Exec)
+    } else if is(word, b"system") || is(word, b"exp_system") {
+        Some(ExpectCommand::System)
+    } else if is(word, b"source") {
+        Some(ExpectCommand::Source)
+    } else if is(word, b"file") {
+        Some(ExpectCommand::File)
+    } else if is(word, b"pwd") {
+        Some(ExpectCommand::Pwd)
+    } else if is(word, b"pid") || is(word, b"getpid") || is(word, b"exp_getpid") {
+        Some(ExpectCommand::Pid)
+    } else if is(word, b"clock") {
+        Some(ExpectCommand::Clock)
+    } else if is(word, b"timestamp") || is(word, b"exp_timestamp") {
+        Some(ExpectCommand::Timestamp)
+    } else {
+        None
+    }
+}
+
+/// Returns the command that a word names, if it is about a channel and a procedure can have its
+/// name.
+fn channel_command(word: &[u8]) -> Option<ExpectCommand>
+    ensures { result ≡ channel_command word.now }
+{
+    if is(word, b"open") {
+        Some(ExpectCommand::Open)
+    } else if is(word, b"gets") {
+        Some(ExpectCommand::Gets)
+    } else if is(word, b"read") {
+        Some(ExpectCommand::Read)
+    } else if is(word, b"eof") {
+        Some(ExpectCommand::Eof)
+    } else if is(word, b"flush") {
+        Some(ExpectCommand::Flush)
+    } else {
+        prefixed_expect(word)
+    }
+}
+
+/// Returns the command that a word names, if it runs a program to its end or is about a channel.
+fn tool_or_channel(word: &[u8]) -> Option<ExpectCommand>
+    ensures { result ≡ tool_or_channel word.now }
+{
+    match tool_command(word) {
+        Some(command) => Some(command),
+        None => channel_command(word),
+    }
+}
+
 /// Returns the command of Expect that a word names, if a procedure can have its name. Such a
 /// procedure is called instead.
 fn redefinable_expect(word: &[u8]) -> Option<ExpectCommand>
@@ -353,7 +423,7 @@ fn redefinable_expect(word: &[u8]) -> Option<ExpectCommand>
     } else if is(word, b"after") {
         Some(ExpectCommand::After)
     } else {
-        prefixed_expect(word)
+        tool_or_channel(word)
     }
 }
 

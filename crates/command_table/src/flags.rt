@@ -1,7 +1,7 @@
 //! The flags of commands.
 
 ghost use Rattle.std.specs.Prelude.{◌≡◌};
-ghost use Rattle.command_table.specs.Flags.{is_own, begins_with_minus, flag_role, other_role, spawn_role};
+ghost use Rattle.command_table.specs.Flags.{is_own, begins_with_minus, flag_role, other_role, spawn_role, exec_role};
 
 use crate::commands::is;
 
@@ -11,6 +11,8 @@ pub enum Own {
     None,
     /// `-noecho` of `spawn`, and its flags about terminals and signals.
     Spawn,
+    /// `-keepnewline` of `exec`, and `-ignorestderr`.
+    Exec,
     /// `-d` of `match_max` and `remove_nulls`.
     Default,
     /// `-continue_timer` of `exp_continue`.
@@ -41,9 +43,10 @@ pub enum Role {
     Id,
     /// `-tty` (`true`) or `-notty` (`false`) of `spawn`.
     Tty(bool),
-    /// A flag without a value that changes nothing, but is shown: `-nottycopy` or `-nottyinit` of `spawn`.
+    /// A flag without a value that changes nothing: `-nottycopy` or `-nottyinit` of `spawn`, whose
+    /// line shows them, or `-ignorestderr` of `exec`.
     Shown,
-    /// Such a flag with a value: `-ignore` of `spawn`.
+    /// Such a flag with a value, which is shown: `-ignore` of `spawn`.
     ShownWithValue,
     /// A flag that the command doesn't have.
     Bad,
@@ -56,6 +59,7 @@ fn is_own(own: Own, word: &[u8]) -> bool
     match own {
         Own::None => false,
         Own::Spawn => is(word, b"-noecho"),
+        Own::Exec => is(word, b"-keepnewline"),
         Own::Default => is(word, b"-d"),
         Own::Timer => is(word, b"-continue_timer"),
     }
@@ -88,12 +92,24 @@ fn spawn_role(word: &[u8]) -> Role
     }
 }
 
+/// Returns the role of a word that begins with `-` as a flag of `exec`, other than `-keepnewline`.
+fn exec_role(word: &[u8]) -> Role
+    ensures { result ≡ exec_role word.now }
+{
+    if is(word, b"-ignorestderr") {
+        Role::Shown
+    } else {
+        Role::Bad
+    }
+}
+
 /// Returns the role of a word that begins with `-` and is no flag of most commands.
 fn other_role(own: Own, word: &[u8]) -> Role
     ensures { result ≡ other_role own word.now }
 {
     match own {
         Own::Spawn => spawn_role(word),
+        Own::Exec => exec_role(word),
         Own::None | Own::Default | Own::Timer => Role::Bad,
     }
 }

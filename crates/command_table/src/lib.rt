@@ -22,9 +22,9 @@ pub use commands::{
 pub use counts::{Count, fits};
 pub use flags::{Flags, Own, Role, begins_with_minus, flag_role};
 pub use options::{
-    ArrayOption, InfoOption, PackageOption, StringOption, array_count, array_option, info_count,
-    info_option, option_count, option_switches, package_count, package_option, string_count,
-    string_option,
+    ArrayOption, ClockOption, FileOption, InfoOption, PackageOption, StringOption, array_count,
+    array_option, clock_count, clock_option, file_count, file_option, info_count, info_option,
+    option_count, option_switches, package_count, package_option, string_count, string_option,
 };
 pub use reading::{Kind, Stage, begin, is_short, step, texts};
 pub use rows::{Row, expect_row, row_of, tcl_row, value_row};

@@ -1,7 +1,7 @@
 //! The options of commands: their first arguments.
 
 ghost use Rattle.std.specs.Prelude.{◌≡◌};
-ghost use Rattle.command_table.specs.Options.{string_option, string_count, string_switches, option_switches, info_option, info_count, array_option, array_count, package_option, package_count, option_count};
+ghost use Rattle.command_table.specs.Options.{string_option, string_count, string_switches, option_switches, info_option, info_count, array_option, array_count, file_option, file_count, package_option, package_count, clock_option, clock_count, option_count};
 
 use crate::commands::{Command, ExpectCommand, TclCommand, ValueCommand, is};
 use crate::counts::{Count, at_least, between, exactly};
@@ -50,6 +50,29 @@ pub enum InfoOption {
 #[derive(Clone, Copy, PartialEq, Eq)]
 pub enum PackageOption {
     Require,
+}
+
+/// An option of `clock`.
+#[derive(Clone, Copy, PartialEq, Eq)]
+pub enum ClockOption {
+    Milliseconds,
+    Seconds,
+}
+
+/// An option of `file`.
+#[derive(Clone, Copy, PartialEq, Eq)]
+pub enum FileOption {
+    Copy,
+    Delete,
+    Executable,
+    Exists,
+    IsDirectory,
+    IsFile,
+    Mtime,
+    Readable,
+    Size,
+    Stat,
+    Writable,
 }
 
 /// Returns the option of `string` that a word names, or `None`.
@@ -195,6 +218,79 @@ pub fn package_count(option: PackageOption) -> Count
     }
 }
 
+/// Returns the option of `clock` that a word names, or `None`.
+pub fn clock_option(word: &[u8]) -> Option<ClockOption>
+    ensures { result ≡ clock_option word.now }
+{
+    if is(word, b"seconds") {
+        Some(ClockOption::Seconds)
+    } else if is(word, b"milliseconds") {
+        Some(ClockOption::Milliseconds)
+    } else {
+        None
+    }
+}
+
+/// Returns how many arguments an option of `clock` takes.
+pub fn clock_count(option: ClockOption) -> Count
+    ensures { result ≡ clock_count option }
+{
+    match option {
+        ClockOption::Milliseconds => exactly(0),
+        ClockOption::Seconds => exactly(0),
+    }
+}
+
+/// Returns the option of `file` that a word names, or `None`.
+pub fn file_option(word: &[u8]) -> Option<FileOption>
+    ensures { result ≡ file_option word.now }
+{
+    if is(word, b"exists") {
+        Some(FileOption::Exists)
+    } else if is(word, b"readable") {
+        Some(FileOption::Readable)
+    } else if is(word, b"writable") {
+        Some(FileOption::Writable)
+    } else if is(word, b"executable") {
+        Some(FileOption::Executable)
+    } else if is(word, b"isfile") {
+        Some(FileOption::IsFile)
+    } else if is(word, b"isdirectory") {
+        Some(FileOption::IsDirectory)
+    } else if is(word, b"size") {
+        Some(FileOption::Size)
+    } else if is(word, b"mtime") {
+        Some(FileOption::Mtime)
+    } else if is(word, b"stat") {
+        Some(FileOption::Stat)
+    } else if is(word, b"delete") {
+        Some(FileOption::Delete)
+    } else if is(word, b"copy") {
+        Some(FileOption::Copy)
+    } else {
+        None
+    }
+}
+
+/// Returns how many arguments an option of `file` takes.
+pub fn file_count(option: FileOption) -> Count
+    ensures { result ≡ file_count option }
+{
+    match option {
+        FileOption::Copy => between(2, 4),
+        FileOption::Delete => at_least(1),
+        FileOption::Executable => exactly(1),
+        FileOption::Exists => exactly(1),
+        FileOption::IsDirectory => exactly(1),
+        FileOption::IsFile => exactly(1),
+        FileOption::Mtime => exactly(1),
+        FileOption::Readable => exactly(1),
+        FileOption::Size => exactly(1),
+        FileOption::Stat => exactly(2),
+        FileOption::Writable => exactly(1),
+    }
+}
+
 /// Returns how many arguments an option of a command takes. `None` if the command has no such
 /// option.
 pub fn option_count(command: Command, word: &[u8]) -> Option<Count>
@@ -216,6 +312,14 @@ pub fn option_count(command: Command, word: &[u8]) -> Option<Count>
         Command::Tcl(TclCommand::Value(ValueCommand::Package)) => match package_option(word) {
             None => None,
             Some(option) => Some(package_count(option)),
+        },
+        Command::Expect(ExpectCommand::Clock) => match clock_option(word) {
+            None => None,
+            Some(option) => Some(clock_count(option)),
+        },
+        Command::Expect(ExpectCommand::File) => match file_option(word) {
+            None => None,
+            Some(option) => Some(file_count(option)),
         },
         Command::Expect(ExpectCommand::LogUser) => {
             if is(word, b"0") || is(word, b"1") || is(word, b"-info") {

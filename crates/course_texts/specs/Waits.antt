@@ -10,7 +10,7 @@ use Rattle.expect_core.specs.declared.request.Request.{Request}
 use Rattle.expect_core.specs.Awaited.{buffer_of}
 use Rattle.expect_core.specs.Deadlines.{as_moment}
 use Rattle.session.specs.Left.{Kept}
-use Rattle.session.specs.Awaited.{answering, starting, expecting}
+use Rattle.session.specs.Awaited.{answering, starting, hearing, expecting}
 use Rattle.report_texts.specs.declared.acts.Spelling.TheVariants.{Quoted}
 use Rattle.report_texts.specs.Acts.{act_text}
 use Rattle.report_texts.specs.Report.{labelled}
@@ -45,6 +45,11 @@ answer_line (Some c) = margin ++ labelled (codes "waits for the answer of child 
 unfoldable pub start_line : Option ℕ → List ℕ
 start_line None = []
 start_line (Some c) = margin ++ labelled (codes "waits for the start of child ") c ++ codes "\n"
+
+-- The line of the output that a command awaits of the program that it runs.
+unfoldable pub output_line : Option ℕ → List ℕ
+output_line None = []
+output_line (Some c) = margin ++ labelled (codes "waits for the end of child ") c ++ codes "\n"
 
 -- The verdict for a pattern of which only a front matches in the bytes.
 unfoldable pub only_line : List ℕ → List ℕ
@@ -119,4 +124,4 @@ expect_lines ss children (Some p) = until_line (as_moment p.deadline) ++ side_li
 
 -- The lines of what a session waits for.
 unfoldable pub wait_lines : List Secret → Kept → List ℕ
-wait_lines ss k = answer_line (answering k) ++ start_line (starting k) ++ expect_lines ss k.dialogue.own.children (expecting k)
+wait_lines ss k = answer_line (answering k) ++ start_line (starting k) ++ output_line (hearing k) ++ expect_lines ss k.dialogue.own.children (expecting k)

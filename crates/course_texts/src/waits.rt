@@ -2,8 +2,8 @@
 
 ghost use Rattle.std.specs.Prelude.{◌≡◌, ◌++◌, IfOk, OnOk, Some, None, MatchOption};
 ghost use Rattle.exp_match.specs.Choice.{in_groups};
-ghost use Rattle.session.specs.Awaited.{answering, starting, expecting};
-ghost use Rattle.course_texts.specs.Waits.{margin, request_line, plain_lines, request_lines, answer_line, start_line, only_line, verdict_by, verdict_in, verdict as verdict_of, entry_line, own_line, own_lines, tail_of, plain_buffer, buffer_line, side_lines, deadline_line, endless_line, until_line, expect_lines, wait_lines};
+ghost use Rattle.session.specs.Awaited.{answering, starting, hearing, expecting};
+ghost use Rattle.course_texts.specs.Waits.{margin, request_line, plain_lines, request_lines, answer_line, start_line, output_line, only_line, verdict_by, verdict_in, verdict as verdict_of, entry_line, own_line, own_lines, tail_of, plain_buffer, buffer_line, side_lines, deadline_line, endless_line, until_line, expect_lines, wait_lines};
 
 use crate::nearest::front_of;
 use crate::patterns::{is_hidden, push_want};
@@ -102,6 +102,24 @@ fn push_start(alloc: Global, text: &mut Text, child: Option<u8>) -> Result<(), A
         alloc,
         text,
         b"waits for the start of child ",
+        u128::from(child),
+    )?;
+    text.extend(b"\n")
+}
+
+/// Appends the line of the child whose output a command awaits, if there is one.
+#[tactic(auto, unfolding(crate::specs::Waits::output_line))]
+fn push_output(alloc: Global, text: &mut Text, child: Option<u8>) -> Result<(), AllocError>
+    ensures { OnOk result (text.new ≡ text.old ++ output_line child) }
+{
+    let Some(child) = child else {
+        return Ok(());
+    };
+    push_margin(text)?;
+    push_labelled(
+        alloc,
+        text,
+        b"waits for the end of child ",
         u128::from(child),
     )?;
     text.extend(b"\n")
@@ -361,6 +379,7 @@ pub fn push_waits(
 {
     push_answer(alloc, text, session.answering())?;
     push_start(alloc, text, session.starting())?;
+    push_output(alloc, text, session.hearing())?;
     match session.expecting() {
         Some(plan) => push_expect(alloc, text, secrets, session, plan),
         None => Ok(()),

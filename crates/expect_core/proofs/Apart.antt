@@ -8,16 +8,18 @@ use Rattle.std.proofs.Math.Seq.{lt-length-set}
 use Rattle.child_events.specs.declared.event.Event.TheVariants as event
 use Rattle.tty.specs.declared.modes.Modes.{Modes}
 use Rattle.tcl_host.specs.Calls.{Call, Begin, Resume, AfterWords, AfterBody, Knows}
+use Rattle.expect_core.specs.declared.body.Body.{Body}
+use Rattle.expect_core.specs.declared.body.Body.TheVariants.{Action, Source}
 use Rattle.expect_core.specs.declared.request.Act.{Act}
 use Rattle.expect_core.specs.declared.request.Request.{Request}
 use Rattle.expect_core.specs.declared.child.Child.{Child}
 use Rattle.expect_core.specs.declared.effect.Effect.{Effect}
-use Rattle.expect_core.specs.declared.effect.Effect.TheVariants.{Tell, Log, LogUser, Add, Store, Ask, Receive}
+use Rattle.expect_core.specs.declared.effect.Effect.TheVariants.{Tell, Log, LogUser, Add, Store, Set, Ask, Receive, Reader, Writer, Move, Shut, Errors, Day}
 use Rattle.expect_core.specs.declared.plan.Plan.{Plan}
 use Rattle.expect_core.specs.declared.phase.Phase.{Phase}
 use Rattle.expect_core.specs.declared.phase.Phase.TheVariants.{Idle, At}
 use Rattle.expect_core.specs.declared.turn.Want.{Want}
-use Rattle.expect_core.specs.declared.turn.Want.TheVariants.{Answer, First, Output, End}
+use Rattle.expect_core.specs.declared.turn.Want.TheVariants.{Answer, Item, Output, End}
 use Rattle.expect_core.specs.declared.dialogue.Dialogue.{Dialogue}
 use Rattle.expect_core.specs.Lanes.{no_lane, lane_of, place}
 use Rattle.expect_core.specs.Owned.{nobody, child_as, child_of, with_child, asked, told, logged, seen, received}
@@ -48,7 +50,7 @@ module _ (j : ℕ) where
     pub child : child_of j st.own ≡ child_of j a.own
     pub asked : asked_of j st.own.requests ≡ asked_of j a.own.requests
     pub there : j < length st.own.children
-    pub plans : IsAside j a → NoneIsOf j st.own.plans
+    pub bodies : IsAside j a → NoneIsOf j st.own.bodies
 
   module _ (a : Dialogue) where
     child_spared : (i : ℕ) (x : Child) (st : Dialogue) → j ≢ i → Spared a st → Spared a (record st { own = with_child i x st.own })
@@ -57,17 +59,17 @@ module _ (j : ℕ) where
       child = get_or-set_other st.own.children i j x nobody other ∙ k.child;
       asked = k.asked;
       there = lt-length-set st.own.children i x k.there;
-      plans = k.plans;
+      bodies = k.bodies;
     }
 
     asked_spared : (i : ℕ) (x : Act) (st : Dialogue) → j ≢ i → Spared a st → Spared a (record st { own = asked i x st.own })
-    asked_spared i x st other k = record { lane = k.lane; child = k.child; asked = not_asked (λ r. r.child == j + 1) _ st.own.requests (apart i other) ∙ k.asked; there = k.there; plans = k.plans }
+    asked_spared i x st other k = record { lane = k.lane; child = k.child; asked = not_asked (λ r. r.child == j + 1) _ st.own.requests (apart i other) ∙ k.asked; there = k.there; bodies = k.bodies }
       where
         apart : (i : ℕ) → j ≢ i → (i + 1 == j + 1) ≡ false
         apart i differ = grind (arith, nat_tests)
 
     logged_spared : (text : List ℕ) (st : Dialogue) (b : Bool) → Spared a st → Spared a (record st { own = if b then told text st.own else st.own })
-    logged_spared text st true k = record { lane = k.lane; child = k.child; asked = k.asked; there = k.there; plans = k.plans }
+    logged_spared text st true k = record { lane = k.lane; child = k.child; asked = k.asked; there = k.there; bodies = k.bodies }
     logged_spared text st false k = k
 
     received_spared : (i : ℕ) (piece : List ℕ) (st : Dialogue) → j ≢ i → Spared a st → Spared a (record st { own = received i piece st.own })
@@ -80,7 +82,7 @@ module _ (j : ℕ) where
       child = get_or_append_left st.own.children _ nobody j k.there ∙ k.child;
       asked = k.asked;
       there = longer st.own.children _ j k.there;
-      plans = k.plans;
+      bodies = k.bodies;
     }
       where
         longer : (xs : List Child) (x : Child) (j : ℕ) → j < length xs → j < length (xs ++ x ∷ [])
@@ -91,41 +93,50 @@ module _ (j : ℕ) where
     does_spared at (Tell text) st other k = logged_spared text st true k
     does_spared at (Log text) st other k = logged_spared text st st.own.log_user k
     does_spared at (Add modes) st other k = added_spared modes st (nat_lt (length st.own.children) 16) k
-    does_spared at (LogUser on) st other k = record { lane = k.lane; child = k.child; asked = k.asked; there = k.there; plans = k.plans }
+    does_spared at (LogUser on) st other k = record { lane = k.lane; child = k.child; asked = k.asked; there = k.there; bodies = k.bodies }
     does_spared at (Store pairs) st other k = k
+    does_spared at (Set name value) st other k = k
+    does_spared (Some i) (Reader bytes ended) st other k = record { lane = k.lane; child = k.child; asked = k.asked; there = k.there; bodies = k.bodies }
+    does_spared (Some i) Writer st other k = record { lane = k.lane; child = k.child; asked = k.asked; there = k.there; bodies = k.bodies }
+    does_spared at (Move n count met) st other k = record { lane = k.lane; child = k.child; asked = k.asked; there = k.there; bodies = k.bodies }
+    does_spared at (Shut n) st other k = record { lane = k.lane; child = k.child; asked = k.asked; there = k.there; bodies = k.bodies }
+    does_spared at (Day time) st other k = record { lane = k.lane; child = k.child; asked = k.asked; there = k.there; bodies = k.bodies }
+    does_spared (Some i) Errors st other k = record { lane = k.lane; child = k.child; asked = k.asked; there = k.there; bodies = k.bodies }
     does_spared (Some i) (Ask act) st other k = asked_spared i act st other k
     does_spared (Some i) (Receive piece) st other k = received_spared i piece st other k
-    does_spared None _ st other k = record { lane = k.lane; child = k.child; asked = k.asked; there = k.there; plans = k.plans }
+    does_spared None _ st other k = record { lane = k.lane; child = k.child; asked = k.asked; there = k.there; bodies = k.bodies }
     does_spared (Some i) _ st other k = child_spared i _ st other k
 
-    none_around : (ps : List Plan) → NoneIsOf j ps → NoneIsOf j (outer ps)
+    none_around : (bodies : List Body) → NoneIsOf j bodies → NoneIsOf j (outer bodies)
     none_around [] none = tt
-    none_around (p ∷ ps) none = none.1
+    none_around (Action p ∷ bodies) none = none.1
+    none_around (Source ∷ bodies) none = none
 
     spared : Kept Other (Spared a)
     spared = record {
       does = λ at x st other k. does_spared at x st other k;
-      holds = λ p st sees k. record { lane = k.lane; child = k.child; asked = k.asked; there = k.there; plans = λ aside. ((λ part. sees j part refl), k.plans aside) };
-      pops = λ st k. record { lane = k.lane; child = k.child; asked = k.asked; there = k.there; plans = λ aside. none_around st.own.plans (k.plans aside) };
-      types = λ i text st other k. let new = child_spared i _ st other k in record { lane = get_or-set_other st.lanes i j _ no_lane other ∙ k.lane; child = new.child; asked = new.asked; there = new.there; plans = new.plans };
+      holds = λ p st sees k. record { lane = k.lane; child = k.child; asked = k.asked; there = k.there; bodies = λ aside. ((λ part. sees j part refl), k.bodies aside) };
+      reads = λ st k. record { lane = k.lane; child = k.child; asked = k.asked; there = k.there; bodies = λ aside. k.bodies aside };
+      pops = λ st k. record { lane = k.lane; child = k.child; asked = k.asked; there = k.there; bodies = λ aside. none_around st.own.bodies (k.bodies aside) };
+      types = λ i text st other k. let new = child_spared i _ st other k in record { lane = get_or-set_other st.lanes i j _ no_lane other ∙ k.lane; child = new.child; asked = new.asked; there = new.there; bodies = new.bodies };
       trims = λ i st other k. child_spared i _ st other k;
       receives = λ i piece st other k. received_spared i piece st other k;
-      takes = λ i q qs st other is k. record { lane = get_or-set_other st.lanes i j _ no_lane other ∙ k.lane; child = k.child; asked = k.asked; there = k.there; plans = k.plans };
-      answers = λ i x l st other is k. record { lane = get_or-set_other st.lanes i j _ no_lane other ∙ k.lane; child = k.child; asked = k.asked; there = k.there; plans = k.plans };
-      times = λ d st le k. record { lane = k.lane; child = k.child; asked = k.asked; there = k.there; plans = k.plans };
+      takes = λ i q qs st other is k. record { lane = get_or-set_other st.lanes i j _ no_lane other ∙ k.lane; child = k.child; asked = k.asked; there = k.there; bodies = k.bodies };
+      answers = λ i x l st other is k. record { lane = get_or-set_other st.lanes i j _ no_lane other ∙ k.lane; child = k.child; asked = k.asked; there = k.there; bodies = k.bodies };
+      times = λ d st le k. record { lane = k.lane; child = k.child; asked = k.asked; there = k.there; bodies = k.bodies };
     }
 
   -- what is under way is about others just where j is not among those
 
   others_wanted : (w : Want) → ¬ IsAmong j (wanted_of w) → WantOf Other AnyEnd w
   others_wanted (Answer i why) out = λ same. out (inl (sym same))
-  others_wanted (First i words) out = λ same. out (inl (sym same))
+  others_wanted (Item i why) out = λ same. out (inl (sym same))
   others_wanted (Output p) out = λ i part same. out (subst (λ (i : ℕ). IsWatched i p.sides) (sym same) part)
   others_wanted (End i p) out = ((λ same. out (inl (sym same))), (λ i part same. out (inr (subst (λ (i : ℕ). IsWatched i p.sides) (sym same) part))), tt)
 
   wanted_others : (w : Want) → WantOf Other AnyEnd w → ¬ IsAmong j (wanted_of w)
   wanted_others (Answer i why) other among = elim among [ inl same ↦ other (sym same) | inr none ↦ none ]
-  wanted_others (First i words) other among = elim among [ inl same ↦ other (sym same) | inr none ↦ none ]
+  wanted_others (Item i why) other among = elim among [ inl same ↦ other (sym same) | inr none ↦ none ]
   wanted_others (Output p) other among = other j among refl
   wanted_others (End i p) other among = elim among [ inl same ↦ other.0 (sym same) | inr part ↦ other.1 j part refl ]
 
@@ -144,9 +155,9 @@ module _ (j : ℕ) where
   call_spared call st out lt under =
       let k = outcome_keeps Other AnyEnd (λ i p w. tt) (Spared st) (spared st) call st
       (opens Other AnyEnd call st (λ i among same. out (subst (λ (i : ℕ). IsAmong i (speaks_to call st)) (sym same) among)) (λ room same. absurd (omega (arith, lt, same))) under)
-      (record { lane = refl; child = refl; asked = refl; there = lt; plans = λ aside. aside.1 }) in
+      (record { lane = refl; child = refl; asked = refl; there = lt; bodies = λ aside. aside.1 }) in
       let new = k.0 in
-      ((new.lane, new.child, new.asked), new.there, λ aside. (under_others (outcome call st).2.phase k.1, new.plans aside))
+      ((new.lane, new.child, new.asked), new.there, λ aside. (under_others (outcome call st).2.phase k.1, new.bodies aside))
 
 pub calls_own : CallsOwn
 calls_own (Knows word) st own j out lt = ((refl, refl, refl), lt, λ aside. aside)
@@ -163,7 +174,7 @@ Mine i p = IsWatched i p.sides
 own_phase : (f : Phase) → IsOfOwn f → PhaseOf Any Mine f
 own_phase Idle own = tt
 own_phase (At n (Answer i why)) own = tt
-own_phase (At n (First i words)) own = tt
+own_phase (At n (Item i why)) own = tt
 own_phase (At n (Output p)) own = λ i part. tt
 own_phase (At n (End i p)) own = (tt, (λ i part. tt), own)
 

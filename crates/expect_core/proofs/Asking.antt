@@ -9,16 +9,18 @@ use Rattle.tcl_host.specs.declared.host.HostStep.TheVariants.{Done, Body, Words,
 use Rattle.tcl_host.specs.Calls.{Call, Begin, AfterBody}
 use Rattle.command_table.specs.declared.commands.ExpectCommand.{ExpectCommand}
 use Rattle.command_table.specs.Commands.{expect_command}
-use Rattle.expect_core.specs.declared.plan.Plan.{Plan}
+use Rattle.expect_core.specs.declared.body.Body.{Body as Evaluated}
+use Rattle.expect_core.specs.declared.body.Body.TheVariants.{Action, Source}
 use Rattle.expect_core.specs.declared.turn.Reply.TheVariants.{Done as DoneReply}
 use Rattle.expect_core.specs.declared.own.Own.{Own}
 use Rattle.expect_core.specs.declared.dialogue.Dialogue.{Dialogue}
 use Rattle.expect_core.specs.Answered.{Outcome, idle, owning}
 use Rattle.expect_core.specs.Turns.{over}
+use Rattle.tcl_results.specs.Codes.{script_code}
 use Rattle.expect_core.specs.Expecting.{behind}
 use Rattle.expect_core.specs.Running.{run, turns}
 use Rattle.expect_core.specs.Calls.{is_named, began, outer, outcome}
-use Rattle.expect_core.specs.Laws.{behind_call, step_to, goes_back, IsBegin, AsksForScripts, IsAnswer, AnswersAsked}
+use Rattle.expect_core.specs.Laws.{behind_call, step_to, goes_back, IsBegin, AsksForScripts, IsAnswer, ends_as, AnswersAsked}
 use Rattle.expect_core.proofs.Calling.{IsUnknown, MayAnswer}
 use Rattle.expect_core.proofs.Steady.{steady_outcome}
 
@@ -46,14 +48,23 @@ run_over : (c : Code) (value : List ℕ) (vars : Variables) (st : Dialogue) → 
 unfolding turns
 run_over c value vars st = refl
 
-behind_ends : (c : Code) (value : List ℕ) (ps : List Plan) (vars : Variables) (o : Own) (st : Dialogue) → goes_back c ≡ false → step_to (run turns (behind c value ps o) vars st) ≡ Done c value
+behind_ends : (c : Code) (value : List ℕ) (bodies : List Evaluated) (vars : Variables) (o : Own) (st : Dialogue) → goes_back c ≡ false → step_to (run turns (behind c value bodies o) vars st) ≡ Done (ends_as bodies c) value
 behind_ends c value [] vars o st ends = ap step_to (run_over c value vars st)
-behind_ends code.Again value (p ∷ ps) vars o st ends = absurd (cc)
-behind_ends code.AgainLater value (p ∷ ps) vars o st ends = absurd (cc)
-behind_ends c value (p ∷ ps) vars o st ends = ap step_to (run_over c value vars st)
+behind_ends c value (Source ∷ bodies) vars o st ends = ap step_to (run_over (script_code c) value vars st)
+behind_ends code.Again value (Action p ∷ bodies) vars o st ends = absurd (cc)
+behind_ends code.AgainLater value (Action p ∷ bodies) vars o st ends = absurd (cc)
+behind_ends c value (Action p ∷ bodies) vars o st ends = ap step_to (run_over c value vars st)
 
-ended : (c : Code) (value : List ℕ) (vars : Variables) (st : Dialogue) → goes_back c ≡ false → step_to (outcome (AfterBody c value vars) st) ≡ Done c value
-ended c value vars st ends = let o = record st.own { plans = outer st.own.plans } in behind_ends c value st.own.plans vars o (owning o (idle st)) ends
+-- a file that `source` read
+
+sourced_ends : (c : Code) (value : List ℕ) (vars : Variables) (st : Dialogue) (all bodies : List Evaluated) (o : Own) → all ≡ Source ∷ bodies → step_to (run turns (behind c value all o) vars st) ≡ Done (script_code c) value
+sourced_ends c value vars st all bodies o is = subst (λ (all : List Evaluated). step_to (run turns (behind c value all o) vars st) ≡ Done (script_code c) value) (sym is) (ap step_to (run_over (script_code c) value vars st))
+
+sourced : (c : Code) (value : List ℕ) (vars : Variables) (st : Dialogue) (bodies : List Evaluated) → st.own.bodies ≡ Source ∷ bodies → step_to (outcome (AfterBody c value vars) st) ≡ Done (script_code c) value
+sourced c value vars st bodies is = let o = record st.own { bodies = outer st.own.bodies } in sourced_ends c value vars (owning o (idle st)) st.own.bodies bodies o is
+
+ended : (c : Code) (value : List ℕ) (vars : Variables) (st : Dialogue) → goes_back c ≡ false → step_to (outcome (AfterBody c value vars) st) ≡ Done (ends_as st.own.bodies c) value
+ended c value vars st ends = let o = record st.own { bodies = outer st.own.bodies } in behind_ends c value st.own.bodies vars o (owning o (idle st)) ends
 
 body_answer : (c : Code) (value : List ℕ) (vars : Variables) (st : Dialogue) (b : Bool) → goes_back c ≡ b → IsAnswer (AfterBody c value vars) (step_to (outcome (AfterBody c value vars) st))
 body_answer c value vars st true back = answer_of (AfterBody c value vars) st back
@@ -84,5 +95,6 @@ answers_asked = record {
   wordless = λ vars st. refl;
   each = each_answer;
   ended = ended;
+  sourced = sourced;
   living = each_living;
 }

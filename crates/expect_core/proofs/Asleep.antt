@@ -26,8 +26,7 @@ use Rattle.expect_core.specs.Heard.{watched, place_in, at_most, lapse, Listened,
 use Rattle.expect_core.specs.Answered.{Outcome, idle, failure}
 use Rattle.expect_core.specs.Turns.{at}
 use Rattle.expect_core.specs.Expecting.{ended}
-use Rattle.expect_core.specs.Spawning.{heard_first}
-use Rattle.expect_core.specs.Running.{over_limit, waits, answered, concluded, on_come, awaited, waited_for, run, resuming}
+use Rattle.expect_core.specs.Running.{over_limit, waits, answered, heard_as, concluded, on_come, awaited, waited_for, run, resuming}
 use Rattle.expect_core.specs.Deadlines.{IsWithin, sooner, as_moment, soonest, deadline_under}
 use Rattle.expect_core.specs.Laws.{WaitsOn}
 use Rattle.expect_core.proofs.Times.{lapse_by}
@@ -146,7 +145,7 @@ module _ {X Y : Type 0} (b : Inbox X Y) (is_box : IsInbox b) (n : ℕ) (w : Want
 
 goes_on : (n : ℕ) (w : Want) (st : Dialogue) (vars : Variables) (m : ℕ) → WantRests w st → IsWithin m (sooner (deadline_under (At n w) st.lanes) st.limit) → waited_for (run n) n w vars (idle (offered (Tick m) st)) ≡ (Wait, vars, record (offered (Tick m) st) { phase = At n w })
 goes_on n (want.Answer i why) st vars m rests le = still_awaited answer_box of_answers n (want.Answer i why) i (λ a o. at i (answered why i a o)) vars st m rests le
-goes_on n (want.First i words) st vars m rests le = still_awaited item_box of_items n (want.First i words) i (λ it o. at i (heard_first words i it)) vars st m rests le
+goes_on n (want.Item i why) st vars m rests le = still_awaited item_box of_items n (want.Item i why) i (λ it o. at i (heard_as why i it)) vars st m rests le
 goes_on n (want.End i p) st vars m rests le = still_awaited answer_box of_answers n (want.End i p) i (λ a o. ended p i (failure a) o) vars st m rests le
 goes_on n (want.Output p) st vars m rests le =
     let later : Dialogue = idle (offered (Tick m) st) in

@@ -70,7 +70,7 @@ module _ (A : ℕ → Type 0) (B : ℕ → Plan → Type 0) where
   Opens (Begin (word ∷ args) vars) st = NamedOf (expect_command word) word args vars st.own
   Opens (Resume vars) st = PhaseOf A B st.phase
   Opens (AfterWords words vars) st = SaidOf (expecting words vars st.own)
-  Opens (AfterBody c value vars) st = TurnOf A B (behind c value st.own.plans (record st.own { plans = outer st.own.plans }))
+  Opens (AfterBody c value vars) st = TurnOf A B (behind c value st.own.bodies (record st.own { bodies = outer st.own.bodies }))
   Opens (Knows word) st = PhaseOf A B st.phase
 
 module _ (A : ℕ → Type 0) (B : ℕ → Plan → Type 0) (mine : (i : ℕ) (p : Plan) → IsWatched i p.sides → B i p) (P : Dialogue → Type 0) (k : Kept A P) where
@@ -95,6 +95,6 @@ module _ (A : ℕ → Type 0) (B : ℕ → Plan → Type 0) (mine : (i : ℕ) (p
   outcome_keeps (AfterWords words vars) st of held =
       called (AfterWords words vars) (run turns (doing (expecting words vars st.own)) vars (idle st)) (run_keeps A B mine P k turns (doing (expecting words vars st.own)) vars st (doing_of A B (expecting words vars st.own) of) held)
   outcome_keeps (AfterBody c value vars) st of held =
-      let o = record st.own { plans = outer st.own.plans } in
-      called (AfterBody c value vars) (run turns (behind c value st.own.plans o) vars (owning o (idle st))) (run_keeps A B mine P k turns (behind c value st.own.plans o) vars (owning o st) of (k.pops (idle st) held))
+      let o = record st.own { bodies = outer st.own.bodies } in
+      called (AfterBody c value vars) (run turns (behind c value st.own.bodies o) vars (owning o (idle st))) (run_keeps A B mine P k turns (behind c value st.own.bodies o) vars (owning o st) of (k.pops (idle st) held))
   outcome_keeps (Knows word) st of held = (held, of, tt)

@@ -24,7 +24,7 @@ use Rattle.expect_core.specs.declared.turn.Reply.TheVariants.{Done, Fail}
 use Rattle.expect_core.specs.declared.turn.Want.{Want}
 use Rattle.expect_core.specs.declared.turn.Want.TheVariants as want
 use Rattle.expect_core.specs.declared.turn.Stage.{Stage}
-use Rattle.expect_core.specs.declared.turn.Stage.TheVariants.{Over, Act, Look, Send as SendText, Wait}
+use Rattle.expect_core.specs.declared.turn.Stage.TheVariants.{Over, Act, Look, Read, Send as SendText, Wait}
 use Rattle.expect_core.specs.declared.turn.Turn.{Turn}
 use Rattle.expect_core.specs.declared.own.Own.{Own}
 use Rattle.expect_core.specs.declared.dialogue.Dialogue.{Dialogue}
@@ -37,8 +37,7 @@ use Rattle.expect_core.specs.Effects.{Performed, performed}
 use Rattle.expect_core.specs.Turns.{at, doing}
 use Rattle.expect_core.specs.Sending.{typed, handing}
 use Rattle.expect_core.specs.Expecting.{expecting, behind, ended}
-use Rattle.expect_core.specs.Spawning.{heard_first}
-use Rattle.expect_core.specs.Running.{To, step_of, answered, concluded, on_come, awaited, waited_for, staged, turned, run, turns, resuming}
+use Rattle.expect_core.specs.Running.{To, step_of, answered, heard_as, concluded, on_come, awaited, waited_for, staged, turned, run, turns, resuming}
 use Rattle.expect_core.specs.Calls.{named, filling, filled, began, begun, outer, outcome, onward, resumed}
 use Rattle.expect_core.proofs.Times.{past}
 use Rattle.expect_core.proofs.LaneFacts.{IsBeyond, within, IsInbox, of_answers, of_items, left_twice}
@@ -176,7 +175,7 @@ module _ (e : Event) where
 
   waited_onward : (n : ℕ) → Goes (run n) → (w : Want) (vars : Variables) (st : Dialogue) → Good (idle st) → waited_for (run n) n w vars (offered e (idle st)) ≡ onward e (waited_for (run n) n w vars (idle st))
   waited_onward n goes (want.Answer i why) vars st g = answer_onward n goes (want.Answer i why) i (λ a o. at i (answered why i a o)) vars st g (λ st. refl)
-  waited_onward n goes (want.First i words) vars st g = item_onward n goes (want.First i words) i (λ it o. at i (heard_first words i it)) vars st g (λ st. refl)
+  waited_onward n goes (want.Item i why) vars st g = item_onward n goes (want.Item i why) i (λ it o. at i (heard_as why i it)) vars st g (λ st. refl)
   waited_onward n goes (want.End i p) vars st g = answer_onward n goes (want.End i p) i (λ a o. ended p i (failure a) o) vars st g (λ st. refl)
   waited_onward n goes (want.Output p) vars st g = listening_onward n goes p vars st g
 
@@ -189,6 +188,7 @@ module _ (e : Event) where
   staged_onward : (n : ℕ) → Goes (run n) → (s : Stage) (vars : Variables) (st : Dialogue) → Good (idle st) → staged (run n) n s vars (offered e (idle st)) ≡ onward e (staged (run n) n s vars (idle st))
   staged_onward n goes (Over reply) vars st g = over_onward reply vars (idle st)
   staged_onward n goes (Act p m) vars st g = refl
+  staged_onward n goes (Read script) vars st g = refl
   staged_onward n goes (Look p) vars st g = looking_onward n goes p vars st g
   staged_onward n goes (SendText i text) vars st g =
       let line = (child_of i st.own).line in
@@ -227,5 +227,5 @@ module _ (e : Event) where
   outcome_onward (Resume vars) st g = resuming_onward st.phase vars st (record { clock = g.clock; lanes = g.lanes })
   outcome_onward (AfterWords words vars) st g = run_onward turns (doing (expecting words vars st.own)) vars st (record { clock = g.clock; lanes = g.lanes })
   outcome_onward (AfterBody c value vars) st g =
-      let o = record st.own { plans = outer st.own.plans } in run_onward turns (behind c value st.own.plans o) vars (owning o st) (record { clock = g.clock; lanes = g.lanes })
+      let o = record st.own { bodies = outer st.own.bodies } in run_onward turns (behind c value st.own.bodies o) vars (owning o st) (record { clock = g.clock; lanes = g.lanes })
   outcome_onward (Knows word) st g = refl

@@ -53,6 +53,7 @@ module _ (o : Own) where
   fronts = record {
     does = λ at x st a k. does_kept at x st.own k;
     holds = λ p st a k. k;
+    reads = λ st k. k;
     pops = λ st k. k;
     types = λ i text st a k. k;
     trims = λ i st a k. k;

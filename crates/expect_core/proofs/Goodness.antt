@@ -75,6 +75,7 @@ goodness : Kept Any Good
 goodness = record {
   does = λ at x st a g. record { clock = same_clock at x st.own st.horizon g.clock; lanes = g.lanes };
   holds = λ p st a g. record { clock = g.clock; lanes = g.lanes };
+  reads = λ st g. record { clock = g.clock; lanes = g.lanes };
   pops = λ st g. record { clock = g.clock; lanes = g.lanes };
   types = λ i text st a g. typed_good i text st g;
   trims = λ i st a g. record { clock = g.clock; lanes = g.lanes };

@@ -1,3 +1,4 @@
+pub mod Dates
 pub mod Times
 pub mod LaneFacts
 pub mod Resting
@@ -32,3 +33,5 @@ pub mod Asking
 pub mod Worlds
 pub mod Receiving
 pub mod Firsts
+pub mod Passing
+pub mod Tooling

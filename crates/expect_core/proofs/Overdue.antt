@@ -35,7 +35,7 @@ lasts limit h (Some d) e = (both_true (nat_le h d) (at_most h limit) (at_most d 
 
 in_time : (w : Want) (st : Dialogue) → WantRests w st → at_most st.horizon st.limit ≡ true
 in_time (want.Answer i why) st rests = rests.1
-in_time (want.First i words) st rests = rests.1
+in_time (want.Item i why) st rests = rests.1
 in_time (want.End i p) st rests = rests.1
 in_time (want.Output p) st rests = lasts st.limit st.horizon p.deadline rests.1
 

@@ -22,7 +22,7 @@ module _ (n : ℕ) (k : Known) (quiet : k.quiet ≡ unmarked n) (sought : k.soug
   pub nothing_of : (w : Want) (o : Own) → KnowsOf w k o
   nothing_of (want.Output p) o = knows_nothing p o
   nothing_of (want.Answer i why) o = tt
-  nothing_of (want.First i words) o = tt
+  nothing_of (want.Item i why) o = tt
   nothing_of (want.End i p) o = tt
 
   nothing_at : (f : Phase) (o : Own) → KnowsAt f k o
@@ -37,7 +37,7 @@ pub told_away : (f : Phase) (k : Known) (o : Own) → KnowsAt f k o → KnowsAt 
 told_away Idle k o knows = tt
 told_away (At left (want.Output p)) k o knows = knows
 told_away (At left (want.Answer i why)) k o knows = tt
-told_away (At left (want.First i words)) k o knows = tt
+told_away (At left (want.Item i why)) k o knows = tt
 told_away (At left (want.End i p)) k o knows = tt
 
 pub knows_still : (k : Known) (old new : Dialogue) → new.phase ≡ old.phase → new.own ≡ old.own → KnowsIn k old → KnowsIn k new

@@ -8,7 +8,7 @@ use Rattle.expect_core.specs.declared.phase.Phase.{Phase}
 use Rattle.expect_core.specs.declared.phase.Phase.TheVariants.{Idle, At}
 use Rattle.expect_core.specs.declared.phase.Heard.TheVariants.{NotYet}
 use Rattle.expect_core.specs.declared.turn.Want.{Want}
-use Rattle.expect_core.specs.declared.turn.Want.TheVariants.{Answer, First, Output, End}
+use Rattle.expect_core.specs.declared.turn.Want.TheVariants.{Answer, Item, Output, End}
 use Rattle.expect_core.specs.declared.dialogue.Dialogue.{Dialogue}
 use Rattle.expect_core.specs.Lanes.{lane_of, Inbox, answer_box, item_box}
 use Rattle.expect_core.specs.Heard.{watched, place_in, at_most, lapse, in_time, Listened, heads}
@@ -39,7 +39,7 @@ Rests limit h p lanes = NoNext limit p (next_of (heads (watched p) lanes) h) lan
 
 abbrev pub WantRests : Want → Dialogue → Type 0
 WantRests (Answer i why) st = RestsAt answer_box i st
-WantRests (First i words) st = RestsAt item_box i st
+WantRests (Item i why) st = RestsAt item_box i st
 WantRests (End i p) st = RestsAt answer_box i st
 WantRests (Output p) st = Rests st.limit st.horizon p st.lanes × (lapse st.limit st.horizon p.deadline ≡ NotYet)
 

@@ -9,6 +9,7 @@ use Rattle.tcl_subst.specs.Variables.{Variables}
 use Rattle.tcl_results.specs.declared.complaint.Complaint.{Complaint}
 use Rattle.tcl_results.specs.Said.{Said, ◌>>=◌}
 use Rattle.tcl_results.specs.Says.{Says}
+use Rattle.expect_core.specs.declared.body.Body.{Body}
 use Rattle.expect_core.specs.declared.plan.Plan.{Plan}
 use Rattle.expect_core.specs.declared.own.Own.{Own}
 use Rattle.expect_core.specs.Heard.{Watch}
@@ -104,7 +105,7 @@ group_more first at i g places ws new all is lt there e before =
     ∙ before
 
 -- the patterns that were compiled are no part of what a plan says
-pub plan_said : (r : Result Plan Complaint) (args : List (List ℕ)) (vars : Variables) (o : Own) (plans : List Plan) (list : PatternList) → plans ≡ o.plans → patterns_by args (patterns_of args) ≡ Ok list → Says r (plan_by list vars (record o { plans = plans })) → Says r (plan_of args vars o)
-plan_said r args vars o plans list same said says =
+pub plan_said : (r : Result Plan Complaint) (args : List (List ℕ)) (vars : Variables) (o : Own) (bodies : List Body) (list : PatternList) → bodies ≡ o.bodies → patterns_by args (patterns_of args) ≡ Ok list → Says r (plan_by list vars (record o { bodies = bodies })) → Says r (plan_of args vars o)
+plan_said r args vars o bodies list same said says =
     subst (λ (m : Said PatternList). Says r (m >>= λ list. plan_by list vars o)) (sym said)
-    (subst (λ (ps : List Plan). Says r (plan_by list vars (record o { plans = ps }))) same says)
+    (subst (λ (bs : List Body). Says r (plan_by list vars (record o { bodies = bs }))) same says)

@@ -1,6 +1,7 @@
 -- The first turn of a call is about the children that the call speaks to.
 use Rattle.std.proofs.Common.{◌≡◌, ℕ, ◌+◌, List, [], ◌∷◌, ◌++◌, length, Bool, true, false, Option, Some, None, Ok, Err, ◌⊎◌, inl, inr, refl, sym, ap, subst, ◌∙◌}
-use Rattle.std.specs.Prelude.{◌==◌, nat_lt, slice_get, if◌then◌else◌}
+use Rattle.std.specs.Prelude.{◌==◌, nat_lt, slice_get, codes, if◌then◌else◌}
+use Rattle.std.specs.Str.{bytes_eq}
 use Rattle.exp_match.specs.declared.list.PatternList.{PatternList}
 use Rattle.exp_match.specs.Arguments.{patterns_of}
 use Rattle.tcl_subst.specs.Variables.{Variables}
@@ -12,6 +13,24 @@ use Rattle.tcl_host.specs.Calls.{Call, Begin, Resume, AfterWords, AfterBody, Kno
 use Rattle.command_table.specs.declared.commands.ExpectCommand.{ExpectCommand}
 use Rattle.command_table.specs.declared.commands.ExpectCommand.TheVariants as command
 use Rattle.command_table.specs.Commands.{expect_command}
+use Rattle.command_table.specs.Flags.{begins_with_minus}
+use Rattle.expect_core.specs.declared.tool.Tool.{Tool}
+use Rattle.expect_core.specs.declared.tool.Stride.TheVariants as stride
+use Rattle.expect_core.specs.declared.channels.Channel.{Channel}
+use Rattle.expect_core.specs.declared.effect.Effect.TheVariants.{Shut}
+use Rattle.expect_core.specs.Opened.{channel_of}
+use Rattle.expect_core.specs.Channels.{Read, channel_named, read_from, written_to, line_in, second, gets_by, count_of, reads_all, reads_some, reads_by, end_reply, ends_writing, is_standard, putting_to, putting}
+use Rattle.expect_core.specs.Tools.{run_of, starting}
+use Rattle.command_table.specs.declared.options.ClockOption.{ClockOption}
+use Rattle.command_table.specs.declared.options.ClockOption.TheVariants as unit
+use Rattle.command_table.specs.Counts.{fits}
+use Rattle.command_table.specs.Options.{clock_option, clock_count}
+use Rattle.expect_core.specs.declared.day.Stamp.{Stamp}
+use Rattle.expect_core.specs.TimeOfDay.{Known}
+use Rattle.expect_core.specs.Times.{telling_by, clock_by, plain_stamp, stamp_of, stamped}
+use Rattle.expect_core.specs.Programs.{behind_option, running, complaining, executing, by_system, by_source, by_file, by_pwd, by_pid, by_open}
+use Rattle.expect_core.specs.declared.body.Body.{Body}
+use Rattle.expect_core.specs.declared.body.Body.TheVariants.{Action, Source}
 use Rattle.expect_core.specs.declared.plan.Plan.{Plan}
 use Rattle.expect_core.specs.declared.order.SpawnOrder.{SpawnOrder}
 use Rattle.expect_core.specs.declared.turn.Purpose.TheVariants as purpose
@@ -20,7 +39,7 @@ use Rattle.expect_core.specs.declared.turn.Deed.{Deed}
 use Rattle.expect_core.specs.declared.turn.Deed.TheVariants.{Alone, To, Expect}
 use Rattle.expect_core.specs.declared.own.Own.{Own}
 use Rattle.expect_core.specs.declared.dialogue.Dialogue.{Dialogue}
-use Rattle.expect_core.specs.Flags.{arguments}
+use Rattle.expect_core.specs.Flags.{bad_flag, arguments}
 use Rattle.expect_core.specs.Ids.{is_open, spoken_to, open_to, if_open}
 use Rattle.expect_core.specs.Owned.{child_of}
 use Rattle.expect_core.specs.Heard.{Watch, IsWatched, deadline_from}
@@ -33,13 +52,13 @@ use Rattle.expect_core.specs.Sending.{send_of}
 use Rattle.expect_core.specs.Sleeping.{digits, signed, or_expected, until, nothing_until, sleeping_by}
 use Rattle.expect_core.specs.Expecting.{patterns_by, span_in, plan_at, plan_by, plan_of, expecting, again, behind}
 use Rattle.expect_core.specs.Again.{continued}
-use Rattle.expect_core.specs.Ends.{close_of, if_unwaited, wait_of}
-use Rattle.expect_core.specs.Transcript.{put_of, to_user, log_word}
+use Rattle.expect_core.specs.Ends.{closing_by, closed_child, if_unwaited, wait_of}
+use Rattle.expect_core.specs.Transcript.{put_of, complain, complained_to, to_user, log_word}
 use Rattle.expect_core.specs.Options.{whose, option_of, size_of, sizing_at, removal_of, removing_at}
 use Rattle.expect_core.specs.Calls.{named, outer}
 use Rattle.expect_core.specs.Apart.{by_id, by_option, by_patterns, one as single, each, named_by, on_top, speaks_to}
 use Rattle.expect_core.proofs.Stepping.{Sees, TurnOf, PhaseOf}
-use Rattle.expect_core.proofs.Calling.{SaidOf, NamedOf, Opens, doing_of}
+use Rattle.expect_core.proofs.Calling.{DeedOf, SaidOf, NamedOf, Opens, doing_of, pick}
 
 -- what a command reads names the child that it speaks to
 
@@ -76,8 +95,9 @@ send_speaks word args vars o s e =
     along (arguments command.Send word args) _ _ s s.0
     (λ f e. open_speaks f.0.id vars o s.0 (first (open_to f.0.id vars o) _ s s.0 (λ i e. ap (λ (r : Said (ℕ × List ℕ)). (inside (i, arg 0 f.1) r).0) e) e)) e
 
-close_speaks : (word : List ℕ) (args : List (List ℕ)) (vars : Variables) (o : Own) (i : ℕ) → close_of word args vars o ≡ Ok i → by_id command.Close word args vars o ≡ Ok i
-close_speaks word args vars o i e = along (arguments command.Close word args) _ _ i i (λ f e. open_speaks f.0.id vars o i e) e
+-- what follows what was read
+behind_ok : {X Y : Type 0} (r : Said X) (f : X → Said Y) (x : X) (y : Y) → r ≡ Ok x → f x ≡ Ok y → (r >>= f) ≡ Ok y
+behind_ok r f x y e at = ap (λ r. r >>= f) e ∙ at
 
 wait_speaks : (word : List ℕ) (args : List (List ℕ)) (vars : Variables) (o : Own) (i : ℕ) → wait_of word args vars o ≡ Ok i → by_id command.Wait word args vars o ≡ Ok i
 wait_speaks word args vars o i e =
@@ -173,6 +193,71 @@ module _ (A : ℕ → Type 0) (B : ℕ → Plan → Type 0) where
   spawn_speaks order o true room new = new room
   spawn_speaks order o false room new = tt
 
+  -- so is one that a command runs
+  tool_speaks : (t : Tool) (o : Own) (b : Bool) → nat_lt (length o.children) 16 ≡ b → (nat_lt (length o.children) 16 ≡ true → A (length o.children)) →
+      SaidOf A B (if b then Ok (To (length o.children) (react (starting t.words) (Await (purpose.Tool stride.Start (run_of t))))) else Err too_many)
+  tool_speaks t o true room new = new room
+  tool_speaks t o false room new = tt
+
+  running_speaks : (said : Said Tool) (o : Own) → (nat_lt (length o.children) 16 ≡ true → A (length o.children)) → SaidOf A B (running said o)
+  running_speaks said o new = each_said said _ (λ t e. tool_speaks t o (nat_lt (length o.children) 16) refl new)
+
+  -- what reads a channel is for no child
+  read_all_speaks : (whole : Bool) (name : List ℕ) (o : Own) → SaidOf A B (reads_all whole name o)
+  read_all_speaks whole name o = each_said (read_from name o) _ (λ n e. tt)
+
+  read_some_speaks : (name text : List ℕ) (o : Own) → SaidOf A B (reads_some name text o)
+  read_some_speaks name text o = each_said (count_of text) _ (λ count e. each_said (read_from name o) _ (λ n e. tt))
+
+  either_read : (b : Bool) (first other : List ℕ) (o : Own) → SaidOf A B (if b then reads_all false other o else reads_some first other o)
+  either_read true first other o = read_all_speaks false other o
+  either_read false first other o = read_some_speaks first other o
+
+  read_speaks : (args : List (List ℕ)) (o : Own) → SaidOf A B (reads_by args o)
+  read_speaks [] o = read_all_speaks true [] o
+  read_speaks (channel ∷ []) o = read_all_speaks true channel o
+  read_speaks (first ∷ other ∷ more) o = either_read (bytes_eq first (codes "-nonewline")) first other o
+
+  gets_speaks : (n : ℕ) (rest : List ℕ) (r : Read) (name : Option (List ℕ)) → DeedOf A B (gets_by n rest r name)
+  gets_speaks n rest r None = tt
+  gets_speaks n rest r (Some name) = tt
+
+  -- what writes to a channel is for its child
+  text_speaks : (i : ℕ) (text : List ℕ) → A i → DeedOf A B (putting_to i text)
+  text_speaks i text a = pick (DeedOf A B) (length text == 0) _ _ tt a
+
+  putting_speaks : (channel text : List ℕ) (o : Own) → ((i : ℕ) → (written_to channel o >>= λ n. Ok (channel_of n o).child) ≡ Ok i → A i) → SaidOf A B (putting channel text o)
+  putting_speaks channel text o of =
+      each_said (written_to channel o) _ (λ n e. text_speaks (channel_of n o).child text (of (channel_of n o).child (behind_ok (written_to channel o) _ n _ e refl)))
+
+  -- that of standard error is there, or is one more
+  complain_speaks : (errors : Option ℕ) (text : List ℕ) (o : Own) → ((i : ℕ) → errors ≡ Some i → A i) → (nat_lt (length o.children) 16 ≡ true → A (length o.children)) → SaidOf A B (complain errors text o)
+  complain_speaks None text o of new = pick (SaidOf A B) (length text == 0) _ _ tt (tool_speaks (complaining text) o (nat_lt (length o.children) 16) refl new)
+  complain_speaks (Some i) text o of new = text_speaks i text (of i refl)
+
+  put_speaks : (b : Bool) (channel text : List ℕ) (o : Own)
+      → ((i : ℕ) → (let r : Said ℕ = (if b then complained_to o.errors else (written_to channel o >>= λ n. Ok (channel_of n o).child)) in r ≡ Ok i) → A i)
+      → (nat_lt (length o.children) 16 ≡ true → A (length o.children))
+      → (let d : Said Deed = (if b then complain o.errors text o else if begins_with_minus channel then Err (bad_flag channel) else putting channel text o) in SaidOf A B d)
+  put_speaks true channel text o of new = complain_speaks o.errors text o (λ i e. of i (ap complained_to e)) new
+  put_speaks false channel text o of new = pick (SaidOf A B) (begins_with_minus channel) (Err (bad_flag channel)) (putting channel text o) tt (putting_speaks channel text o of)
+
+  -- a channel that was written is closed by its child
+  shut_speaks : (b : Bool) (n : ℕ) (c : Channel) → A c.child → (let d : Deed = (if b then Alone (Shut n ∷ []) (end_reply c.ended) else To c.child (ends_writing n)) in DeedOf A B d)
+  shut_speaks true n c a = tt
+  shut_speaks false n c a = a
+
+  close_speaks : (word : List ℕ) (id : Option (List ℕ)) (args : List (List ℕ)) (vars : Variables) (o : Own) → ((i : ℕ) → closed_child id args vars o ≡ Ok i → A i) → SaidOf A B (closing_by word id args vars o)
+  close_speaks word id [] vars o of = each_said (open_to id vars o) _ (λ i e. of i (open_speaks id vars o i e))
+  close_speaks word None (channel ∷ more) vars o of =
+      each_said (channel_named channel o) _
+      (λ n e. let c = channel_of n o in shut_speaks c.reads n c (of c.child (behind_ok (channel_named channel o) _ n _ e refl)))
+  close_speaks word (Some id) (channel ∷ more) vars o of = tt
+
+  flush_speaks : (b : Bool) (name : List ℕ) (o : Own) → (let d : Said Deed = (if b then Ok (Alone [] (done [])) else (written_to name o >>= λ n. Ok (Alone [] (done [])))) in SaidOf A B d)
+  flush_speaks true name o = tt
+  flush_speaks false name o = each_said (written_to name o) _ (λ n e. tt)
+
   sizing_speaks : (at : Option ℕ) (text : Option (List ℕ)) (o : Own) → ((i : ℕ) → at ≡ Some i → A i) → SaidOf A B (sizing_at at text o)
   sizing_speaks None None o of = tt
   sizing_speaks None (Some text) o of = each_said (size_of text) _ (λ n e. tt)
@@ -196,20 +281,55 @@ module _ (A : ℕ → Type 0) (B : ℕ → Plan → Type 0) where
   slept_speaks : (c : ExpectCommand) (time : List ℕ → Option ℕ) (word : List ℕ) (args : List (List ℕ)) (o : Own) → SaidOf A B (sleeping_by c time word args o)
   slept_speaks c time word args o = each_said (arguments c word args) _ (λ f e. each_said (or_expected (arg 0 f.1) (time (arg 0 f.1))) _ (λ ms e. time_speaks (ms == 0) (until o.clock ms)))
 
+  -- the time of day is known, or a program is asked for it
+  telling_speaks : (u : ClockOption) (d : Option Known) (o : Own) → (nat_lt (length o.children) 16 ≡ true → A (length o.children)) → SaidOf A B (telling_by u d o)
+  telling_speaks u None o new = tool_speaks _ o (nat_lt (length o.children) 16) refl new
+  telling_speaks u (Some d) o new = tt
+
+  clock_speaks : (name word : List ℕ) (u : Option ClockOption) (args : List (List ℕ)) (o : Own) → (nat_lt (length o.children) 16 ≡ true → A (length o.children)) → SaidOf A B (clock_by name word u args o)
+  clock_speaks name word None args o new = tt
+  clock_speaks name word (Some u) args o new = pick (SaidOf A B) (fits (clock_count u) (length args)) _ _ (telling_speaks u o.day o new) tt
+
+  plain_speaks : (seconds : Option (List ℕ)) (o : Own) → (nat_lt (length o.children) 16 ≡ true → A (length o.children)) → SaidOf A B (plain_stamp seconds o)
+  plain_speaks None o new = telling_speaks unit.Seconds o.day o new
+  plain_speaks (Some n) o new = tt
+
+  stamp_speaks : (format : Option (List ℕ)) (s : Stamp) (o : Own) → (nat_lt (length o.children) 16 ≡ true → A (length o.children)) → SaidOf A B (stamped format s o)
+  stamp_speaks None s o new = plain_speaks s.seconds o new
+  stamp_speaks (Some f) s o new = tool_speaks _ o (nat_lt (length o.children) 16) refl new
+
   named_speaks : (c : ExpectCommand) (word : List ℕ) (args : List (List ℕ)) (vars : Variables) (o : Own) → ((i : ℕ) → IsAmong i (named_by (Some c) word args vars o) → A i) → (nat_lt (length o.children) 16 ≡ true → A (length o.children)) → SaidOf A B (named c word args vars o)
   named_speaks command.Spawn word args vars o all new = each_said (order_of word args vars o.host) _ (λ order e. spawn_speaks order o (nat_lt (length o.children) 16) refl new)
   named_speaks command.Send word args vars o all new = each_said (send_of word args vars o) _ (λ s e. all s.0 (alone _ s.0 (send_speaks word args vars o s e)))
   named_speaks command.SendUser word args vars o all new = each_said (to_user word args) _ (λ text e. tt)
   named_speaks command.Expect word args vars o all new = expect_speaks args vars o all
   named_speaks command.ExpContinue word args vars o all new = each_said (continued word args) _ (λ c e. tt)
-  named_speaks command.Close word args vars o all new = each_said (close_of word args vars o) _ (λ i e. all i (alone _ i (close_speaks word args vars o i e)))
+  named_speaks command.Close word args vars o all new =
+      each_said (arguments command.Close word args) _
+      (λ f e. close_speaks word f.0.id f.1 vars o (λ i at. all i (alone _ i (behind_ok (arguments command.Close word args) _ f i e at))))
   named_speaks command.Wait word args vars o all new = each_said (wait_of word args vars o) _ (λ i e. all i (alone _ i (wait_speaks word args vars o i e)))
   named_speaks command.MatchMax word args vars o all new = each_said (option_of command.MatchMax word args vars o) _ (λ s e. sizing_speaks s.0 s.1 o (λ i at. all i (alone _ i (option_speaks command.MatchMax word args vars o s i e at))))
   named_speaks command.RemoveNulls word args vars o all new = each_said (option_of command.RemoveNulls word args vars o) _ (λ s e. removing_speaks s.0 s.1 o (λ i at. all i (alone _ i (option_speaks command.RemoveNulls word args vars o s i e at))))
   named_speaks command.LogUser word args vars o all new = each_said (arguments command.LogUser word args) _ (λ f e. each_said (log_word (arg 0 f.1)) _ (λ on e. tt))
-  named_speaks command.Puts word args vars o all new = each_said (put_of word args) _ (λ text e. tt)
+  named_speaks command.Puts word args vars o all new =
+      each_said (put_of word args) _
+      (λ p e. pick (SaidOf A B) (bytes_eq p.0 (codes "stdout")) _ _ tt
+      (put_speaks (bytes_eq p.0 (codes "stderr")) p.0 p.1 o (λ i at. all i (alone _ i (behind_ok (put_of word args) _ p i e at))) new))
+  named_speaks command.Exec word args vars o all new = running_speaks (executing word args) o new
+  named_speaks command.System word args vars o all new = running_speaks (by_system word args) o new
+  named_speaks command.Source word args vars o all new = running_speaks (by_source word args vars) o new
+  named_speaks command.File word args vars o all new = running_speaks (by_file word args vars) o new
+  named_speaks command.Pwd word args vars o all new = running_speaks (by_pwd word args) o new
+  named_speaks command.Pid word args vars o all new = running_speaks (by_pid word args) o new
+  named_speaks command.Open word args vars o all new = running_speaks (by_open word args vars) o new
+  named_speaks command.Gets word args vars o all new = each_said (arguments command.Gets word args) _ (λ f e. each_said (read_from (arg 0 f.1) o) _ (λ n e. gets_speaks n (channel_of n o).rest (line_in (channel_of n o).rest) (second f.1)))
+  named_speaks command.Read word args vars o all new = each_said (arguments command.Read word args) _ (λ f e. read_speaks f.1 o)
+  named_speaks command.Eof word args vars o all new = each_said (arguments command.Eof word args) _ (λ f e. each_said (read_from (arg 0 f.1) o) _ (λ n e. tt))
+  named_speaks command.Flush word args vars o all new = each_said (arguments command.Flush word args) _ (λ f e. flush_speaks (is_standard (arg 0 f.1)) (arg 0 f.1) o)
   named_speaks command.Sleep word args vars o all new = slept_speaks command.Sleep signed word args o
   named_speaks command.After word args vars o all new = slept_speaks command.After digits word args o
+  named_speaks command.Clock word args vars o all new = each_said (arguments command.Clock word args) _ (λ f e. clock_speaks word (arg 0 f.1) (clock_option (arg 0 f.1)) (behind_option f.1) o new)
+  named_speaks command.Timestamp word args vars o all new = each_said (stamp_of word args) _ (λ s e. stamp_speaks s.format s o new)
 
   begun_speaks : (n : Option ExpectCommand) (word : List ℕ) (args : List (List ℕ)) (vars : Variables) (o : Own) → ((i : ℕ) → IsAmong i (named_by n word args vars o) → A i) → (nat_lt (length o.children) 16 ≡ true → A (length o.children)) → NamedOf A B n word args vars o
   begun_speaks None word args vars o all new = tt
@@ -218,11 +338,12 @@ module _ (A : ℕ → Type 0) (B : ℕ → Plan → Type 0) where
   again_speaks : (p : Plan) (deadline : Option ℕ) (o : Own) → Sees A B p → TurnOf A B (again p deadline o)
   again_speaks p deadline o sees = doing_of A B _ (each_said (still_open p.order o) (λ all. Ok (Expect (record p { deadline = deadline }))) (λ all e. sees))
 
-  behind_speaks : (c : Code) (value : List ℕ) (ps : List Plan) (o : Own) → ((i : ℕ) → IsAmong i (on_top c ps) → A i) → TurnOf A B (behind c value ps o)
+  behind_speaks : (c : Code) (value : List ℕ) (bodies : List Body) (o : Own) → ((i : ℕ) → IsAmong i (on_top c bodies) → A i) → TurnOf A B (behind c value bodies o)
   behind_speaks c value [] o all = (tt, tt)
-  behind_speaks code.Again value (p ∷ ps) o all = again_speaks p (deadline_from o.clock p.span) o all
-  behind_speaks code.AgainLater value (p ∷ ps) o all = again_speaks p p.deadline o all
-  behind_speaks _ value (p ∷ ps) o all = (tt, tt)
+  behind_speaks c value (Source ∷ bodies) o all = (tt, tt)
+  behind_speaks code.Again value (Action p ∷ bodies) o all = again_speaks p (deadline_from o.clock p.span) o all
+  behind_speaks code.AgainLater value (Action p ∷ bodies) o all = again_speaks p p.deadline o all
+  behind_speaks _ value (Action p ∷ bodies) o all = (tt, tt)
 
   -- what is under way counts where a call goes on with it, or leaves it
   abbrev pub LeavesPhase : Call → Type 0
@@ -235,5 +356,5 @@ module _ (A : ℕ → Type 0) (B : ℕ → Plan → Type 0) where
   opens (Begin (word ∷ args) vars) st all new under = begun_speaks (expect_command word) word args vars st.own all new
   opens (Resume vars) st all new under = under tt
   opens (AfterWords words vars) st all new under = expect_speaks words vars st.own all
-  opens (AfterBody c value vars) st all new under = behind_speaks c value st.own.plans (record st.own { plans = outer st.own.plans }) all
+  opens (AfterBody c value vars) st all new under = behind_speaks c value st.own.bodies (record st.own { bodies = outer st.own.bodies }) all
   opens (Knows word) st all new under = under tt

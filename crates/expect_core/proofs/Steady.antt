@@ -6,7 +6,7 @@ use Rattle.expect_core.specs.declared.plan.Plan.{Plan}
 use Rattle.expect_core.specs.declared.phase.Phase.{Phase}
 use Rattle.expect_core.specs.declared.phase.Phase.TheVariants.{Idle, At}
 use Rattle.expect_core.specs.declared.effect.Effect.{Effect}
-use Rattle.expect_core.specs.declared.turn.Want.TheVariants.{Answer, First, Output, End}
+use Rattle.expect_core.specs.declared.turn.Want.TheVariants.{Answer, Item, Output, End}
 use Rattle.expect_core.specs.declared.dialogue.Dialogue.{Dialogue}
 use Rattle.expect_core.specs.Answered.{idle, owning}
 use Rattle.expect_core.specs.Effects.{performed}
@@ -24,7 +24,7 @@ AnyEnd i p = Unit {0}
 any_phase : (f : Phase) → PhaseOf Any AnyEnd f
 any_phase Idle = tt
 any_phase (At n (Answer i why)) = tt
-any_phase (At n (First i words)) = tt
+any_phase (At n (Item i why)) = tt
 any_phase (At n (Output p)) = λ i part. tt
 any_phase (At n (End i p)) = (tt, (λ i part. tt), tt)
 
@@ -48,6 +48,7 @@ pub steady : (old : Dialogue) → Kept Any (Steady old)
 steady old = record {
   does = λ at x st a k. k;
   holds = λ p st a k. k;
+  reads = λ st k. k;
   pops = λ st k. k;
   types = λ i text st a k. k;
   trims = λ i st a k. k;

@@ -11,6 +11,7 @@ use Rattle.tcl_host.specs.declared.host.HostStep.{HostStep}
 use Rattle.tcl_host.specs.declared.host.HostStep.TheVariants as step
 use Rattle.tcl_host.specs.declared.ending.Ending.TheVariants.{TimeLimit}
 use Rattle.expect_core.specs.declared.lanes.Lane.{Lane}
+use Rattle.expect_core.specs.declared.body.Body.TheVariants.{Action, Source}
 use Rattle.expect_core.specs.declared.plan.Plan.{Plan}
 use Rattle.expect_core.specs.declared.phase.Phase.{Phase}
 use Rattle.expect_core.specs.declared.phase.Phase.TheVariants.{Idle, At}
@@ -24,7 +25,7 @@ use Rattle.expect_core.specs.declared.turn.Reaction.{Reaction}
 use Rattle.expect_core.specs.declared.turn.Want.{Want}
 use Rattle.expect_core.specs.declared.turn.Want.TheVariants as want
 use Rattle.expect_core.specs.declared.turn.Stage.{Stage}
-use Rattle.expect_core.specs.declared.turn.Stage.TheVariants.{Over, Act, Look, Send as SendText, Wait}
+use Rattle.expect_core.specs.declared.turn.Stage.TheVariants.{Over, Act, Look, Read, Send as SendText, Wait}
 use Rattle.expect_core.specs.declared.turn.Turn.{Turn}
 use Rattle.expect_core.specs.declared.own.Own.{Own}
 use Rattle.expect_core.specs.declared.dialogue.Dialogue.{Dialogue}
@@ -37,8 +38,7 @@ use Rattle.expect_core.specs.Effects.{Performed, changed, stored, unless, perfor
 use Rattle.expect_core.specs.Turns.{stage_of, at}
 use Rattle.expect_core.specs.Sending.{typed, handing}
 use Rattle.expect_core.specs.Expecting.{all_met, ended, late_at}
-use Rattle.expect_core.specs.Spawning.{heard_first}
-use Rattle.expect_core.specs.Running.{To, step_of, answered, concluded, on_come, awaited, waited_for, staged, turned, run, resuming}
+use Rattle.expect_core.specs.Running.{To, step_of, answered, heard_as, concluded, on_come, awaited, waited_for, staged, turned, run, resuming}
 use Rattle.expect_core.specs.Calls.{outer}
 use Rattle.expect_core.proofs.Keeping.{Kept as WaitKept, wait_keeps}
 use Rattle.expect_core.proofs.LaneFacts.{IsInbox, of_answers, of_items, left_back}
@@ -60,7 +60,7 @@ module _ (A : ℕ → Type 0) (B : ℕ → Plan → Type 0) where
 
   abbrev pub WantOf : Want → Type 0
   WantOf (want.Answer i why) = A i
-  WantOf (want.First i words) = A i
+  WantOf (want.Item i why) = A i
   WantOf (want.Output p) = Sees p
   WantOf (want.End i p) = A i × Sees p × B i p
 
@@ -68,6 +68,7 @@ module _ (A : ℕ → Type 0) (B : ℕ → Plan → Type 0) where
   StageOf (Over reply) = Unit {0}
   StageOf (Act p m) = Sees p
   StageOf (Look p) = Sees p
+  StageOf (Read script) = Unit {0}
   StageOf (SendText i text) = A i
   StageOf (Wait w) = WantOf w
 
@@ -85,7 +86,8 @@ module _ (A : ℕ → Type 0) (B : ℕ → Plan → Type 0) where
   stage_of_a : (i : ℕ) (n : Next) → A i → StageOf (stage_of i n)
   stage_of_a i (next.Finish reply) a = tt
   stage_of_a i (next.Await why) a = a
-  stage_of_a i (next.Hear words) a = a
+  stage_of_a i (next.Hear aim) a = a
+  stage_of_a i (next.Evaluate script) a = tt
   stage_of_a i (next.Send text) a = a
 
   pub at_of : (i : ℕ) (r : Reaction) → A i → TurnOf (at i r)
@@ -94,8 +96,9 @@ module _ (A : ℕ → Type 0) (B : ℕ → Plan → Type 0) where
 -- what each step keeps
 pub record Kept (A : ℕ → Type 0) (P : Dialogue → Type 0) : Type 0 where
   pub does : (at : Option ℕ) (x : Effect) (st : Dialogue) → ChildOf A (λ i p. Unit {0}) at → P st → P (owning (changed at x st.own) st)
-  pub holds : (p : Plan) (st : Dialogue) → Sees A (λ i p. Unit {0}) p → P st → P (owning (record st.own { plans = p ∷ st.own.plans }) st)
-  pub pops : (st : Dialogue) → P st → P (owning (record st.own { plans = outer st.own.plans }) st)
+  pub holds : (p : Plan) (st : Dialogue) → Sees A (λ i p. Unit {0}) p → P st → P (owning (record st.own { bodies = Action p ∷ st.own.bodies }) st)
+  pub reads : (st : Dialogue) → P st → P (owning (record st.own { bodies = Source ∷ st.own.bodies }) st)
+  pub pops : (st : Dialogue) → P st → P (owning (record st.own { bodies = outer st.own.bodies }) st)
   pub types : (i : ℕ) (text : List ℕ) (st : Dialogue) → A i → P st → P (typed i text st)
   pub trims : (i : ℕ) (st : Dialogue) → A i → P st → P (owning (trimmed i st.own) st)
   pub receives : (i : ℕ) (piece : List ℕ) (st : Dialogue) → A i → P st → P (owning (received i piece st.own) st)
@@ -203,8 +206,8 @@ module _ (A : ℕ → Type 0) (B : ℕ → Plan → Type 0) (mine : (i : ℕ) (p
   waited_keeps : (to : To) → Runs to → (n : ℕ) (w : Want) (vars : Variables) (st : Dialogue) → WantOf A B w → P (idle st) → After (waited_for to n w vars (idle st))
   waited_keeps to runs n (want.Answer i why) vars st of held =
       awaited_keeps answer_box of_answers k.answers to runs n (want.Answer i why) i (λ x o. at i (answered why i x o)) vars of of (λ x o. at_of A B i (answered why i x o) of) (λ st rests. rests) st held
-  waited_keeps to runs n (want.First i words) vars st of held =
-      awaited_keeps item_box of_items k.takes to runs n (want.First i words) i (λ x o. at i (heard_first words i x)) vars of of (λ x o. at_of A B i (heard_first words i x) of) (λ st rests. rests) st held
+  waited_keeps to runs n (want.Item i why) vars st of held =
+      awaited_keeps item_box of_items k.takes to runs n (want.Item i why) i (λ x o. at i (heard_as why i x)) vars of of (λ x o. at_of A B i (heard_as why i x) of) (λ st rests. rests) st held
   waited_keeps to runs n (want.End i p) vars st of held =
       awaited_keeps answer_box of_answers k.answers to runs n (want.End i p) i (λ x o. ended p i (failure x) o) vars of.0 of (λ x o. ended_of p i (failure x) o of.0 of.1) (λ st rests. rests) st held
   waited_keeps to runs n (want.Output p) vars st of held = concluded_keeps to runs n p of vars st (listen st.limit st.horizon p st.lanes st.own) (waits_keep to runs n p of vars st held).1
@@ -216,6 +219,7 @@ module _ (A : ℕ → Type 0) (B : ℕ → Plan → Type 0) (mine : (i : ℕ) (p
   staged_keeps : (to : To) → Runs to → (n : ℕ) (s : Stage) (vars : Variables) (st : Dialogue) → StageOf A B s → P (idle st) → After (staged to n s vars (idle st))
   staged_keeps to runs n (Over reply) vars st of held = (held, tt, over_may reply (idle st))
   staged_keeps to runs n (Act p m) vars st of held = (k.holds (record p { met = Some m }) (idle st) of held, tt, tt)
+  staged_keeps to runs n (Read script) vars st of held = (k.reads (idle st) held, tt, tt)
   staged_keeps to runs n (Look p) vars st of held = concluded_keeps to runs n p of vars st (look st.limit st.horizon p st.lanes st.own) (waits_keep to runs n p of vars st held).0
   staged_keeps to runs n (SendText i text) vars st of held =
       runs _ vars (typed i text st) (at_of A B i (handing (handed_by (child_of i st.own).line text).actions) of) (k.types i text (idle st) of held)

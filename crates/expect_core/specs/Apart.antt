@@ -13,11 +13,12 @@ use Rattle.tcl_results.specs.declared.code.Code.TheVariants as code
 use Rattle.tcl_results.specs.Said.{Said, ◌>>=◌}
 use Rattle.tcl_host.specs.Calls.{Call, Begin, Resume, AfterWords, AfterBody, Knows}
 use Rattle.expect_core.specs.declared.request.Request.{Request}
-use Rattle.expect_core.specs.declared.plan.Plan.{Plan}
+use Rattle.expect_core.specs.declared.body.Body.{Body}
+use Rattle.expect_core.specs.declared.body.Body.TheVariants.{Action, Source}
 use Rattle.expect_core.specs.declared.phase.Phase.{Phase}
 use Rattle.expect_core.specs.declared.phase.Phase.TheVariants.{Idle, At}
 use Rattle.expect_core.specs.declared.turn.Want.{Want}
-use Rattle.expect_core.specs.declared.turn.Want.TheVariants.{Answer, First, Output, End}
+use Rattle.expect_core.specs.declared.turn.Want.TheVariants.{Answer, Item, Output, End}
 use Rattle.expect_core.specs.declared.own.Own.{Own}
 use Rattle.expect_core.specs.declared.settings.Settings.{Settings}
 use Rattle.expect_core.specs.declared.dialogue.Dialogue.{Dialogue}
@@ -29,6 +30,8 @@ use Rattle.expect_core.specs.Among.{IsAmong}
 use Rattle.expect_core.specs.Heard.{places_of, IsWatched}
 use Rattle.expect_core.specs.Sides.{spoken_by}
 use Rattle.expect_core.specs.Expecting.{patterns_by}
+use Rattle.expect_core.specs.Ends.{close_of}
+use Rattle.expect_core.specs.Transcript.{put_of, put_child}
 use Rattle.expect_core.specs.Calls.{outcome, fresh}
 use Rattle.expect_core.specs.Laws.{behind_call}
 
@@ -42,7 +45,8 @@ Untouched j old new =
     (lane_of j new.lanes ≡ lane_of j old.lanes) × (child_of j new.own ≡ child_of j old.own) × (asked_of j new.own.requests ≡ asked_of j old.own.requests)
 
 -- The places of the children that a call is for. On an error there are none. A command is for the child whose spawn id
--- follows `-i`, or else for that of the variable `spawn_id`. An `expect` is for each child that takes part in it.
+-- follows `-i`, or else for that of the variable `spawn_id`. What is about a channel that is written is for the child that
+-- writes. An `expect` is for each child that takes part in it.
 
 abbrev pub by_id : ExpectCommand → List ℕ → List (List ℕ) → Variables → Own → Said ℕ
 by_id c word args vars o = arguments c word args >>= λ f. spoken_to f.0.id vars o
@@ -65,7 +69,8 @@ each (Err text) = []
 abbrev pub named_by : Option ExpectCommand → List ℕ → List (List ℕ) → Variables → Own → List ℕ
 named_by (Some command.Send) word args vars o = one (by_id command.Send word args vars o)
 named_by (Some command.Expect) word args vars o = each (by_patterns args vars o)
-named_by (Some command.Close) word args vars o = one (by_id command.Close word args vars o)
+named_by (Some command.Close) word args vars o = one (close_of word args vars o)
+named_by (Some command.Puts) word args vars o = one (put_of word args >>= λ p. put_child p.0 o)
 named_by (Some command.Wait) word args vars o = one (by_id command.Wait word args vars o)
 named_by (Some command.MatchMax) word args vars o = one (by_option command.MatchMax word args vars o)
 named_by (Some command.RemoveNulls) word args vars o = one (by_option command.RemoveNulls word args vars o)
@@ -76,7 +81,7 @@ named_by other word args vars o = []
 
 abbrev pub wanted_of : Want → List ℕ
 wanted_of (Answer i why) = i ∷ []
-wanted_of (First i words) = i ∷ []
+wanted_of (Item i why) = i ∷ []
 wanted_of (Output p) = places_of p.sides
 wanted_of (End i p) = i ∷ places_of p.sides
 
@@ -85,17 +90,17 @@ under_way Idle = []
 under_way (At n w) = wanted_of w
 
 -- After an action, `exp_continue` goes back to the children of its `expect`.
-abbrev pub on_top : Code → List Plan → List ℕ
-on_top code.Again (p ∷ ps) = places_of p.sides
-on_top code.AgainLater (p ∷ ps) = places_of p.sides
-on_top c ps = []
+abbrev pub on_top : Code → List Body → List ℕ
+on_top code.Again (Action p ∷ bodies) = places_of p.sides
+on_top code.AgainLater (Action p ∷ bodies) = places_of p.sides
+on_top c bodies = []
 
 abbrev pub speaks_to : Call → Dialogue → List ℕ
 speaks_to (Begin [] vars) st = []
 speaks_to (Begin (word ∷ args) vars) st = named_by (expect_command word) word args vars st.own
 speaks_to (Resume vars) st = under_way st.phase
 speaks_to (AfterWords words vars) st = each (by_patterns words vars st.own)
-speaks_to (AfterBody c value vars) st = on_top c st.own.plans
+speaks_to (AfterBody c value vars) st = on_top c st.own.bodies
 speaks_to (Knows word) st = []
 
 -- The child that an `expect` closes takes part in it.
@@ -104,13 +109,14 @@ IsOfOwn (At n (End i p)) = IsWatched i p.sides
 IsOfOwn other = Unit {0}
 
 -- The child at a place takes part in none of these expects.
-abbrev pub NoneIsOf : ℕ → List Plan → Type 0
+abbrev pub NoneIsOf : ℕ → List Body → Type 0
 NoneIsOf j [] = Unit {0}
-NoneIsOf j (p ∷ ps) = (¬ IsWatched j p.sides) × NoneIsOf j ps
+NoneIsOf j (Action p ∷ bodies) = (¬ IsWatched j p.sides) × NoneIsOf j bodies
+NoneIsOf j (Source ∷ bodies) = NoneIsOf j bodies
 
 -- The child at a place takes part in no waiting call, and in no `expect` whose action is evaluated.
 abbrev pub IsAside : ℕ → Dialogue → Type 0
-IsAside j st = (¬ IsAmong j (under_way st.phase)) × NoneIsOf j st.own.plans
+IsAside j st = (¬ IsAmong j (under_way st.phase)) × NoneIsOf j st.own.bodies
 
 -- A call changes no child that was there before and that it isn't for. No wait and no action comes to be about such a
 -- child.

@@ -10,7 +10,7 @@ use Rattle.tcl_results.specs.Said.{Said}
 use Rattle.tcl_host.specs.declared.host.HostStep.{HostStep}
 use Rattle.tcl_host.specs.declared.host.HostStep.TheVariants.{Done, Fail, Body, Words, Wait, Stop, Unknown, Memory}
 use Rattle.tcl_host.specs.Calls.{Call, Begin, Resume, AfterWords, AfterBody, Knows, Reply, Stepped, Known}
-use Rattle.expect_core.specs.declared.plan.Plan.{Plan}
+use Rattle.expect_core.specs.declared.body.Body.{Body as Evaluated}
 use Rattle.expect_core.specs.declared.phase.Phase.TheVariants as phase
 use Rattle.expect_core.specs.declared.turn.Deed.{Deed}
 use Rattle.expect_core.specs.declared.own.Own.{Own}
@@ -22,10 +22,13 @@ use Rattle.expect_core.specs.Turns.{doing}
 use Rattle.expect_core.specs.Spawning.{spawning}
 use Rattle.expect_core.specs.Sending.{sending}
 use Rattle.expect_core.specs.Sleeping.{sleeping, waiting_after}
+use Rattle.expect_core.specs.Times.{clocking, stamping}
 use Rattle.expect_core.specs.Expecting.{listed, expecting, behind}
 use Rattle.expect_core.specs.Again.{continuing}
 use Rattle.expect_core.specs.Ends.{closing, waiting}
-use Rattle.expect_core.specs.Transcript.{put_of, to_user, writing, logging}
+use Rattle.expect_core.specs.Channels.{getting, reading_more, meeting_end, flushing}
+use Rattle.expect_core.specs.Programs.{running, executing, by_system, by_source, by_open, by_file, by_pwd, by_pid}
+use Rattle.expect_core.specs.Transcript.{puts, to_user, writing, logging}
 use Rattle.expect_core.specs.Options.{sizing, removing}
 use Rattle.expect_core.specs.Running.{run, turns, resuming}
 
@@ -49,9 +52,22 @@ named command.Wait word args vars o = waiting word args vars o
 named command.MatchMax word args vars o = sizing word args vars o
 named command.RemoveNulls word args vars o = removing word args vars o
 named command.LogUser word args vars o = logging word args o
-named command.Puts word args vars o = writing (put_of word args)
+named command.Puts word args vars o = puts word args o
+named command.Exec word args vars o = running (executing word args) o
+named command.System word args vars o = running (by_system word args) o
+named command.Source word args vars o = running (by_source word args vars) o
+named command.File word args vars o = running (by_file word args vars) o
+named command.Pwd word args vars o = running (by_pwd word args) o
+named command.Pid word args vars o = running (by_pid word args) o
+named command.Open word args vars o = running (by_open word args vars) o
+named command.Gets word args vars o = getting word args o
+named command.Read word args vars o = reading_more word args o
+named command.Eof word args vars o = meeting_end word args o
+named command.Flush word args vars o = flushing word args o
 named command.Sleep word args vars o = sleeping word args o
 named command.After word args vars o = waiting_after word args o
+named command.Clock word args vars o = clocking word args o
+named command.Timestamp word args vars o = stamping word args o
 
 -- If the only argument of `expect` is a list of all arguments, its words are filled first.
 abbrev pub filling : ExpectCommand → List (List ℕ) → Option (List ℕ)
@@ -73,16 +89,16 @@ begun (word ∷ args) vars st = began (expect_command word) word args vars st
 abbrev pub resumed : Variables → Dialogue → Outcome
 resumed vars st = resuming st.phase vars (idle st)
 
--- The expects around the innermost one.
-abbrev pub outer : List Plan → List Plan
+-- The scripts around the innermost one.
+abbrev pub outer : List Evaluated → List Evaluated
 outer [] = []
-outer (p ∷ ps) = ps
+outer (b ∷ bodies) = bodies
 
--- After an action, its `expect` is no longer kept.
+-- After a script, the command that evaluated it is no longer kept.
 abbrev pub ended_body : Code → List ℕ → Variables → Dialogue → Outcome
 ended_body c value vars st =
-    let o = record st.own { plans = outer st.own.plans } in
-    run turns (behind c value st.own.plans o) vars (owning o st)
+    let o = record st.own { bodies = outer st.own.bodies } in
+    run turns (behind c value st.own.bodies o) vars (owning o st)
 
 -- The reply to `Knows` is no step. `IsReply` defines it, and its line here is never read.
 abbrev pub outcome : Call → Dialogue → Outcome
@@ -128,7 +144,7 @@ fresh settings = record {
   limit = settings.limit_ms;
   horizon = 0;
   lanes = no_lanes;
-  own = record { clock = 0; transcript = []; requests = []; children = []; log_user = true; host = settings.host; size = 2000; remove_nulls = true; plans = [] };
+  own = record { clock = 0; transcript = []; requests = []; children = []; log_user = true; host = settings.host; size = 2000; remove_nulls = true; channels = []; errors = None; day = None; bodies = [] };
   phase = phase.Idle;
   lives = true;
 }

@@ -7,8 +7,9 @@ use Rattle.expect_core.specs.declared.child.Change.{Change}
 use Rattle.expect_core.specs.declared.child.Change.TheVariants.{Stand, Waited, Sent, Take, Size, Removal}
 use Rattle.expect_core.specs.declared.child.Child.{Child}
 use Rattle.expect_core.specs.declared.effect.Effect.{Effect}
-use Rattle.expect_core.specs.declared.effect.Effect.TheVariants.{Tell, Log, LogUser, Add, Store, Ask, Receive, Alter}
+use Rattle.expect_core.specs.declared.effect.Effect.TheVariants.{Tell, Log, LogUser, Add, Store, Set, Ask, Receive, Reader, Writer, Move, Shut, Errors, Day, Alter}
 use Rattle.expect_core.specs.declared.own.Own.{Own}
+use Rattle.expect_core.specs.Opened.{reading, writing, opened, moved, let_go}
 use Rattle.expect_core.specs.Owned.{child_as, child_of, with_child, told, logged, asked, received}
 use Rattle.expect_core.specs.Scoped.{Unset, set_all}
 use Rattle.expect_core.specs.Texts.{id_at}
@@ -46,16 +47,27 @@ changed at (Log text) o = logged text o
 changed at (LogUser on) o = record o { log_user = on }
 changed at (Add modes) o = added modes o
 changed at (Store pairs) o = o
+changed at (Set name value) o = o
 changed (Some i) (Ask act) o = asked i act o
 changed None (Ask act) o = o
 changed (Some i) (Receive piece) o = received i piece o
 changed None (Receive piece) o = o
+changed (Some i) (Reader bytes ended) o = opened (reading i bytes ended) o
+changed None (Reader bytes ended) o = o
+changed (Some i) Writer o = opened (writing i) o
+changed None Writer o = o
+changed at (Move n count met) o = moved n count met o
+changed at (Shut n) o = let_go n o
+changed (Some i) Errors o = record o { errors = Some i }
+changed None Errors o = o
+changed at (Day time) o = record o { day = Some (time, o.clock) }
 changed (Some i) (Alter x) o = with_child i (altered x (child_of i o)) o
 changed None (Alter x) o = to_come x o
 
 -- The variables after an effect, or the error for the first that can't be set.
 abbrev pub stored : Effect → Variables → Variables × Unset
 stored (Store pairs) vars = set_all pairs vars
+stored (Set name value) vars = set_all ((name, value) ∷ []) vars
 stored other vars = (vars, None)
 
 abbrev pub Performed : Type 0

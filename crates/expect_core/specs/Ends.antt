@@ -22,16 +22,33 @@ use Rattle.expect_core.specs.declared.own.Own.{Own}
 use Rattle.expect_core.specs.Flags.{arguments}
 use Rattle.expect_core.specs.Owned.{child_of}
 use Rattle.expect_core.specs.Ids.{open_to, spoken_to}
+use Rattle.expect_core.specs.Opened.{channel_of}
+use Rattle.expect_core.specs.Channels.{channel_named, closing_channel}
+use Rattle.tcl_results.specs.Texts.{wrong_args}
 use Rattle.expect_core.specs.Texts.{with_cause, waited_for, number_of_cause}
 use Rattle.expect_core.specs.Turns.{react, done, well, badly}
 
--- close ?-i spawn_id?, wait ?-i spawn_id?
+-- close ?-i spawn_id?, close channelId, wait ?-i spawn_id?
 
-abbrev pub close_of : List ℕ → List (List ℕ) → Variables → Own → Said ℕ
-close_of name args vars o = arguments command.Close name args >>= λ f. open_to f.0.id vars o
+abbrev pub closing_child : Option (List ℕ) → Variables → Own → Said Deed
+closing_child id vars o = open_to id vars o >>= λ i. Ok (To i (react (Ask act.Close ∷ []) (Await purpose.Close)))
+
+-- A word is a channel, beside which there is no spawn id.
+abbrev pub closing_by : List ℕ → Option (List ℕ) → List (List ℕ) → Variables → Own → Said Deed
+closing_by name id [] vars o = closing_child id vars o
+closing_by name None (channel ∷ more) vars o = closing_channel channel o
+closing_by name (Some id) (channel ∷ more) vars o = Err (wrong_args name)
 
 abbrev pub closing : List ℕ → List (List ℕ) → Variables → Own → Said Deed
-closing name args vars o = close_of name args vars o >>= λ i. Ok (To i (react (Ask act.Close ∷ []) (Await purpose.Close)))
+closing name args vars o = arguments command.Close name args >>= λ f. closing_by name f.0.id f.1 vars o
+
+-- The child that is closed.
+abbrev pub closed_child : Option (List ℕ) → List (List ℕ) → Variables → Own → Said ℕ
+closed_child id [] vars o = spoken_to id vars o
+closed_child id (channel ∷ more) vars o = channel_named channel o >>= λ n. Ok (channel_of n o).child
+
+abbrev pub close_of : List ℕ → List (List ℕ) → Variables → Own → Said ℕ
+close_of name args vars o = arguments command.Close name args >>= λ f. closed_child f.0.id f.1 vars o
 
 -- The child is closed even if the request failed.
 abbrev pub closed : Option Cause → Reaction

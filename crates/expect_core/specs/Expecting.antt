@@ -13,6 +13,7 @@ use Rattle.exp_match.specs.Choice.{Found, waits_for_end, waits_for_full, waits_f
 use Rattle.tcl_words.specs.Bytes as ascii
 use Rattle.tcl_words.specs.Lists.{is_white}
 use Rattle.tcl_subst.specs.Variables.{Variables}
+use Rattle.tcl_results.specs.Codes.{script_code}
 use Rattle.tcl_results.specs.declared.code.Code.{Code}
 use Rattle.tcl_results.specs.declared.code.Code.TheVariants as code
 use Rattle.tcl_results.specs.Said.{Said, ◌>>=◌, as_number}
@@ -22,6 +23,8 @@ use Rattle.expect_core.specs.declared.child.Change.TheVariants.{Stand, Take}
 use Rattle.expect_core.specs.declared.plan.Span.{Span}
 use Rattle.expect_core.specs.declared.plan.Span.TheVariants.{Seconds}
 use Rattle.expect_core.specs.declared.plan.Plan.{Plan}
+use Rattle.expect_core.specs.declared.body.Body.{Body}
+use Rattle.expect_core.specs.declared.body.Body.TheVariants.{Action, Source}
 use Rattle.expect_core.specs.declared.effect.Effect.TheVariants.{Ask, Alter, Store}
 use Rattle.expect_core.specs.declared.turn.Reply.TheVariants.{Done, Fail}
 use Rattle.expect_core.specs.declared.turn.Purpose.TheVariants as purpose
@@ -193,8 +196,9 @@ abbrev pub again : Plan → Option ℕ → Own → Turn
 again p deadline o = doing (still_open p.order o >>= λ all. Ok (Expect (record p { deadline = deadline })))
 
 -- After an action, `exp_continue` goes back to the `expect`, with a new deadline or with the old one.
-abbrev pub behind : Code → List ℕ → List Plan → Own → Turn
+abbrev pub behind : Code → List ℕ → List Body → Own → Turn
 behind c value [] o = over (Done c value)
-behind code.Again value (p ∷ ps) o = again p (deadline_from o.clock p.span) o
-behind code.AgainLater value (p ∷ ps) o = again p p.deadline o
-behind c value (p ∷ ps) o = over (Done c value)
+behind c value (Source ∷ bodies) o = over (Done (script_code c) value)
+behind code.Again value (Action p ∷ bodies) o = again p (deadline_from o.clock p.span) o
+behind code.AgainLater value (Action p ∷ bodies) o = again p p.deadline o
+behind c value (Action p ∷ bodies) o = over (Done c value)

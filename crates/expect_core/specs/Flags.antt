@@ -1,5 +1,5 @@
 -- The arguments of a command: its flags, followed by as many words as its row of the table allows.
-use Rattle.std.specs.Prelude.{ℕ, List, [], ◌∷◌, ◌++◌, length, codes, Bool, true, false, if◌then◌else◌, Option, Some, None, Ok, Err}
+use Rattle.std.specs.Prelude.{ℕ, List, [], ◌∷◌, ◌++◌, length, codes, true, false, if◌then◌else◌, Option, Some, None, Ok, Err}
 use Rattle.command_table.specs.declared.commands.ExpectCommand.{ExpectCommand}
 use Rattle.command_table.specs.declared.flags.Flags.{Flags as Takes}
 use Rattle.command_table.specs.declared.flags.Role.{Role}

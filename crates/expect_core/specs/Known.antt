@@ -20,7 +20,7 @@ Knows p k o = AreQuiet p k.quiet o × AreSought p k.sought o
 abbrev pub KnowsOf : Want → Known → Own → Type 0
 KnowsOf (want.Output p) k o = Knows p k o
 KnowsOf (want.Answer i why) k o = Unit {0}
-KnowsOf (want.First i words) k o = Unit {0}
+KnowsOf (want.Item i why) k o = Unit {0}
 KnowsOf (want.End i p) k o = Unit {0}
 
 abbrev pub KnowsAt : Phase → Known → Own → Type 0

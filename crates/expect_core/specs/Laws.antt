@@ -9,11 +9,14 @@ use Rattle.tcl_host.specs.declared.ending.Ending.TheVariants.{TimeLimit}
 use Rattle.tcl_host.specs.declared.host.HostStep.{HostStep}
 use Rattle.tcl_host.specs.declared.host.HostStep.TheVariants.{Done, Body, Words, Wait, Stop, Unknown, Memory}
 use Rattle.tcl_host.specs.Calls.{Call, Begin, AfterBody}
+use Rattle.expect_core.specs.declared.body.Body.{Body as Evaluated}
+use Rattle.expect_core.specs.declared.body.Body.TheVariants.{Action, Source}
 use Rattle.expect_core.specs.declared.own.Own.{Own}
 use Rattle.expect_core.specs.declared.settings.Settings.{Settings}
 use Rattle.expect_core.specs.declared.dialogue.Dialogue.{Dialogue}
 use Rattle.expect_core.specs.Answered.{Outcome, idle}
 use Rattle.expect_core.specs.Lanes.{offered}
+use Rattle.tcl_results.specs.Codes.{script_code}
 use Rattle.expect_core.specs.Calls.{is_named, outcome, resumed, onward, fresh}
 use Rattle.expect_core.specs.Good.{Good}
 use Rattle.expect_core.specs.Numbered.{Numbered}
@@ -85,11 +88,19 @@ IsAnswer call (Stop ending) = ending ≡ TimeLimit
 IsAnswer call Memory = ⊥
 IsAnswer call step = Unit {0}
 
--- A command is unknown if and only if its first word names no command of Expect, or it has no words. An action that
--- ends with another code than 5 and 6 ends its `expect`, with that code and value. No call ends a dialogue.
+-- The code of a command whose script ended with this code. `source` ends well if its file returned.
+abbrev pub ends_as : List Evaluated → Code → Code
+ends_as [] c = c
+ends_as (Action p ∷ bodies) c = c
+ends_as (Source ∷ bodies) c = script_code c
+
+-- A command is unknown if and only if its first word names no command of Expect, or it has no words. A script that
+-- ends with another code than 5 and 6 ends its command, an action with that code and value. A file that `source` reads
+-- ends it with every code. No call ends a dialogue.
 pub record AnswersAsked : Type 0 where
   pub unknown : (word : List ℕ) (args : List (List ℕ)) (vars : Variables) (st : Dialogue) → (step_to (outcome (Begin (word ∷ args) vars) st) ≡ Unknown) ↔ (is_named word ≡ false)
   pub wordless : (vars : Variables) (st : Dialogue) → outcome (Begin [] vars) st ≡ (Unknown, vars, idle st)
   pub each : (call : Call) (st : Dialogue) → IsAnswer call (step_to (outcome call st))
-  pub ended : (c : Code) (value : List ℕ) (vars : Variables) (st : Dialogue) → goes_back c ≡ false → step_to (outcome (AfterBody c value vars) st) ≡ Done c value
+  pub ended : (c : Code) (value : List ℕ) (vars : Variables) (st : Dialogue) → goes_back c ≡ false → step_to (outcome (AfterBody c value vars) st) ≡ Done (ends_as st.own.bodies c) value
+  pub sourced : (c : Code) (value : List ℕ) (vars : Variables) (st : Dialogue) (bodies : List Evaluated) → st.own.bodies ≡ Source ∷ bodies → step_to (outcome (AfterBody c value vars) st) ≡ Done (script_code c) value
   pub living : (call : Call) (st : Dialogue) → (behind_call (outcome call st)).lives ≡ st.lives

@@ -1,7 +1,9 @@
 pub mod Held
+pub mod Bodies
 pub mod Among
 pub mod Lanes
 pub mod Owned
+pub mod Opened
 pub mod Texts
 pub mod Flags
 pub mod FlagViews
@@ -24,6 +26,11 @@ pub mod Expecting
 pub mod Again
 pub mod Ends
 pub mod Transcript
+pub mod Channels
+pub mod TimeOfDay
+pub mod Tools
+pub mod Programs
+pub mod Times
 pub mod Options
 pub mod Running
 pub mod Going

@@ -1,6 +1,7 @@
 -- How a call runs: turn by turn, until it ends or waits.
-use Rattle.std.specs.Prelude.{ℕ, zero, suc, [], ◌∷◌, if◌then◌else◌, Option, Some, None}
+use Rattle.std.specs.Prelude.{ℕ, zero, suc, List, [], ◌∷◌, if◌then◌else◌, Option, Some, None}
 use Rattle.child_events.specs.declared.event.Answer.{Answer}
+use Rattle.child_events.specs.declared.event.Item.{Item}
 use Rattle.tty.specs.Sends.{handed_by}
 use Rattle.tcl_subst.specs.Variables.{Variables}
 use Rattle.tcl_host.specs.declared.host.HostStep.{HostStep}
@@ -8,19 +9,22 @@ use Rattle.tcl_host.specs.declared.host.HostStep.TheVariants as step
 use Rattle.tcl_host.specs.declared.ending.Ending.TheVariants.{TimeLimit}
 use Rattle.expect_core.specs.declared.plan.Met.{Met}
 use Rattle.expect_core.specs.declared.plan.Plan.{Plan}
+use Rattle.expect_core.specs.declared.body.Body.TheVariants.{Action, Source}
 use Rattle.expect_core.specs.declared.phase.Phase.{Phase}
 use Rattle.expect_core.specs.declared.phase.Phase.TheVariants.{Idle, At}
 use Rattle.expect_core.specs.declared.phase.Heard.{Heard}
 use Rattle.expect_core.specs.declared.phase.Heard.TheVariants.{Match, Full, TimedOut, OverLimit, NotYet, Ended, Failed}
 use Rattle.expect_core.specs.declared.turn.Reply.{Reply}
 use Rattle.expect_core.specs.declared.turn.Reply.TheVariants.{Done, Fail}
+use Rattle.expect_core.specs.declared.turn.Aim.{Aim}
+use Rattle.expect_core.specs.declared.turn.Aim.TheVariants as aim
 use Rattle.expect_core.specs.declared.turn.Purpose.{Purpose}
 use Rattle.expect_core.specs.declared.turn.Purpose.TheVariants as purpose
 use Rattle.expect_core.specs.declared.turn.Reaction.{Reaction}
 use Rattle.expect_core.specs.declared.turn.Want.{Want}
 use Rattle.expect_core.specs.declared.turn.Want.TheVariants as want
 use Rattle.expect_core.specs.declared.turn.Stage.{Stage}
-use Rattle.expect_core.specs.declared.turn.Stage.TheVariants.{Over, Act, Look, Send as SendText, Wait}
+use Rattle.expect_core.specs.declared.turn.Stage.TheVariants.{Over, Act, Look, Read, Send as SendText, Wait}
 use Rattle.expect_core.specs.declared.turn.Turn.{Turn}
 use Rattle.expect_core.specs.declared.own.Own.{Own}
 use Rattle.expect_core.specs.declared.dialogue.Dialogue.{Dialogue}
@@ -31,6 +35,7 @@ use Rattle.expect_core.specs.Answered.{Outcome, owning, failure, first_of}
 use Rattle.expect_core.specs.Effects.{Performed, performed}
 use Rattle.expect_core.specs.Turns.{at}
 use Rattle.expect_core.specs.Spawning.{spawned, missed, gone, heard_first}
+use Rattle.expect_core.specs.Tools.{tool_answered, tool_heard}
 use Rattle.expect_core.specs.Sending.{typed, handing, handed}
 use Rattle.expect_core.specs.Ends.{closed, waited, broken}
 use Rattle.expect_core.specs.Expecting.{entry_of, matched, full, late, ending, failing, ended}
@@ -53,17 +58,27 @@ waits n w vars st = (step.Wait, vars, record st { phase = At n w })
 
 -- The action of an entry is evaluated, and the `expect` is kept meanwhile.
 abbrev pub acts : Plan → Met → Variables → Dialogue → Outcome
-acts p m vars st = (step.Body (entry_of m.entry p).action, vars, owning (record st.own { plans = record p { met = Some m } ∷ st.own.plans }) st)
+acts p m vars st = (step.Body (entry_of m.entry p).action, vars, owning (record st.own { bodies = Action (record p { met = Some m }) ∷ st.own.bodies }) st)
+
+-- A script that was read is evaluated, and `source` is kept meanwhile.
+abbrev pub reads : List ℕ → Variables → Dialogue → Outcome
+reads script vars st = (step.Body script, vars, owning (record st.own { bodies = Source ∷ st.own.bodies }) st)
 
 -- What follows the answer to a request.
 abbrev pub answered : Purpose → ℕ → Answer → Own → Reaction
 answered (purpose.Spawn terminal words) i a o = spawned terminal i words (failure a)
+answered (purpose.Tool s run) i a o = tool_answered s run i a (failure a)
 answered (purpose.Missing words) i a o = missed words
 answered (purpose.Gone words) i a o = gone words
 answered (purpose.Send x rest) i a o = handed x rest (failure a)
 answered purpose.Close i a o = closed (failure a)
 answered purpose.Wait i a o = waited i a o
 answered (purpose.Fail c) i a o = broken c
+
+-- What follows an item.
+abbrev pub heard_as : Aim → ℕ → Item → Reaction
+heard_as (aim.Spawn words) i it = heard_first words i it
+heard_as (aim.Tool run) i it = tool_heard run i it
 
 -- A wait for a pattern ends, or goes on.
 abbrev pub by_heard : To → ℕ → Plan → Heard → Variables → Dialogue → Outcome
@@ -95,7 +110,7 @@ awaited b k n w i made vars st =
 
 abbrev pub waited_for : To → ℕ → Want → Variables → Dialogue → Outcome
 waited_for k n (want.Answer i why) vars st = awaited answer_box k n (want.Answer i why) i (λ a o. at i (answered why i a o)) vars st
-waited_for k n (want.First i words) vars st = awaited item_box k n (want.First i words) i (λ it o. at i (heard_first words i it)) vars st
+waited_for k n (want.Item i why) vars st = awaited item_box k n (want.Item i why) i (λ it o. at i (heard_as why i it)) vars st
 waited_for k n (want.End i p) vars st = awaited answer_box k n (want.End i p) i (λ a o. ended p i (failure a) o) vars st
 waited_for k n (want.Output p) vars st = concluded k n p (listen st.limit st.horizon p st.lanes st.own) vars st
 
@@ -103,6 +118,7 @@ waited_for k n (want.Output p) vars st = concluded k n p (listen st.limit st.hor
 abbrev pub staged : To → ℕ → Stage → Variables → Dialogue → Outcome
 staged k n (Over reply) vars st = (step_of reply, vars, st)
 staged k n (Act p m) vars st = acts p m vars st
+staged k n (Read script) vars st = reads script vars st
 staged k n (Look p) vars st = concluded k n p (look st.limit st.horizon p st.lanes st.own) vars st
 staged k n (SendText i text) vars st = k (at i (handing (handed_by (child_of i st.own).line text).actions)) vars (typed i text st)
 staged k n (Wait w) vars st = waited_for k n w vars st

@@ -18,6 +18,7 @@ use Rattle.expect_core.specs.declared.child.Change.TheVariants.{Stand}
 use Rattle.expect_core.specs.declared.effect.Effect.{Effect}
 use Rattle.expect_core.specs.declared.effect.Effect.TheVariants.{Log, Add, Ask, Receive, Alter, Store}
 use Rattle.expect_core.specs.declared.turn.Purpose.TheVariants as purpose
+use Rattle.expect_core.specs.declared.turn.Aim.TheVariants as aim
 use Rattle.expect_core.specs.declared.turn.Next.TheVariants.{Finish, Await, Hear}
 use Rattle.expect_core.specs.declared.turn.Reaction.{Reaction}
 use Rattle.expect_core.specs.declared.turn.Deed.{Deed}
@@ -90,7 +91,7 @@ begun i effects =
 
 -- The child was started. On a terminal of the system its first item says whether the program is there.
 abbrev pub started : Bool → ℕ → List (List ℕ) → Reaction
-started true i words = react [] (Hear words)
+started true i words = react [] (Hear (aim.Spawn words))
 started false i words = begun i []
 
 -- The child was started, or it was not.

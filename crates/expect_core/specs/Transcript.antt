@@ -1,5 +1,5 @@
 -- `puts`, `send_user` and `log_user` (expect(1)).
-use Rattle.std.specs.Prelude.{ℕ, List, [], ◌∷◌, ◌++◌, codes, Bool, true, false, if◌then◌else◌, Option, Some, None, Ok, Err}
+use Rattle.std.specs.Prelude.{ℕ, ◌==◌, List, [], ◌∷◌, ◌++◌, codes, length, Bool, true, false, if◌then◌else◌, Option, Some, None, Ok, Err}
 use Rattle.std.specs.Str.{bytes_eq}
 use Rattle.tcl_words.specs.Bytes as ascii
 use Rattle.command_table.specs.declared.commands.ExpectCommand.TheVariants as command
@@ -14,34 +14,61 @@ use Rattle.expect_core.specs.declared.turn.Deed.TheVariants.{Alone}
 use Rattle.expect_core.specs.declared.own.Own.{Own}
 use Rattle.expect_core.specs.Flags.{bad_flag, arguments}
 use Rattle.expect_core.specs.Texts.{bit}
+use Rattle.expect_core.specs.Opened.{channel_of}
+use Rattle.expect_core.specs.Channels.{written_to, putting_to, putting}
+use Rattle.expect_core.specs.Tools.{tooling}
+use Rattle.expect_core.specs.Programs.{complaining}
 use Rattle.expect_core.specs.Turns.{done}
 
--- puts ?-nonewline? ?stdout? text
+-- puts ?-nonewline? ?channelId? text
 
 -- A text, with a newline if `line`.
 abbrev pub ended : Bool → List ℕ → List ℕ
 ended line text = if line then text ++ ascii.newline ∷ [] else text
 
-abbrev pub no_channel : List ℕ → List ℕ
-no_channel w = if begins_with_minus w then bad_flag w else bad_option w
-
-abbrev pub puts_to : Bool → List ℕ → List ℕ → Said (List ℕ)
-puts_to line w text = if bytes_eq w (codes "stdout") then Ok (ended line text) else Err (no_channel w)
-
--- What is written, given a text, or a channel and a text.
-abbrev pub put_to : List ℕ → Bool → List (List ℕ) → Said (List ℕ)
-put_to name line (text ∷ []) = Ok (ended line text)
-put_to name line (channel ∷ text ∷ []) = puts_to line channel text
+-- The channel and what is written to it, given a text, or a channel and a text.
+abbrev pub put_to : List ℕ → Bool → List (List ℕ) → Said (List ℕ × List ℕ)
+put_to name line (text ∷ []) = Ok (codes "stdout", ended line text)
+put_to name line (channel ∷ text ∷ []) = Ok (channel, ended line text)
 put_to name line other = Err (wrong_args name)
 
 -- The first word may be `-nonewline` if others follow.
-abbrev pub put_words : List ℕ → List (List ℕ) → Said (List ℕ)
+abbrev pub put_words : List ℕ → List (List ℕ) → Said (List ℕ × List ℕ)
 put_words name (w ∷ next ∷ more) = if bytes_eq w (codes "-nonewline") then put_to name false (next ∷ more) else put_to name true (w ∷ next ∷ more)
 put_words name args = put_to name true args
 
--- What is written.
-abbrev pub put_of : List ℕ → List (List ℕ) → Said (List ℕ)
+-- The channel and what is written to it.
+abbrev pub put_of : List ℕ → List (List ℕ) → Said (List ℕ × List ℕ)
 put_of name args = arguments command.Puts name args >>= λ f. put_words name f.1
+
+-- The first text for standard error, which a program writes. An empty one is not written.
+abbrev pub complain_first : List ℕ → Own → Said Deed
+complain_first text o = if length text == 0 then Ok (Alone [] (done [])) else tooling (complaining text) o
+
+abbrev pub complain : Option ℕ → List ℕ → Own → Said Deed
+complain None text o = complain_first text o
+complain (Some i) text o = Ok (putting_to i text)
+
+abbrev pub put_by : List ℕ → List ℕ → Own → Said Deed
+put_by channel text o =
+    if bytes_eq channel (codes "stdout") then Ok (Alone (Tell text ∷ []) (done []))
+    else if bytes_eq channel (codes "stderr") then complain o.errors text o
+    else if begins_with_minus channel then Err (bad_flag channel)
+    else putting channel text o
+
+abbrev pub puts : List ℕ → List (List ℕ) → Own → Said Deed
+puts name args o = put_of name args >>= λ p. put_by p.0 p.1 o
+
+-- The child that takes a text for a channel.
+
+abbrev pub complained_to : Option ℕ → Said ℕ
+complained_to None = Err []
+complained_to (Some i) = Ok i
+
+abbrev pub put_child : List ℕ → Own → Said ℕ
+put_child channel o =
+    if bytes_eq channel (codes "stderr") then complained_to o.errors
+    else written_to channel o >>= λ n. Ok (channel_of n o).child
 
 abbrev pub writing : Said (List ℕ) → Said Deed
 writing said = said >>= λ text. Ok (Alone (Tell text ∷ []) (done []))

@@ -10,7 +10,7 @@ use Rattle.expect_core.specs.declared.turn.Next.TheVariants as next
 use Rattle.expect_core.specs.declared.turn.Reaction.{Reaction}
 use Rattle.expect_core.specs.declared.turn.Deed.{Deed}
 use Rattle.expect_core.specs.declared.turn.Deed.TheVariants.{Alone, To, Expect}
-use Rattle.expect_core.specs.declared.turn.Want.TheVariants.{Answer, First}
+use Rattle.expect_core.specs.declared.turn.Want.TheVariants.{Answer, Item}
 use Rattle.expect_core.specs.declared.turn.Stage.{Stage}
 use Rattle.expect_core.specs.declared.turn.Stage.TheVariants as stage
 use Rattle.expect_core.specs.declared.turn.Turn.{Turn}
@@ -45,7 +45,8 @@ over reply = turn None [] (stage.Over reply)
 abbrev pub stage_of : ℕ → Next → Stage
 stage_of i (next.Finish reply) = stage.Over reply
 stage_of i (next.Await why) = stage.Wait (Answer i why)
-stage_of i (next.Hear words) = stage.Wait (First i words)
+stage_of i (next.Hear aim) = stage.Wait (Item i aim)
+stage_of i (next.Evaluate script) = stage.Read script
 stage_of i (next.Send text) = stage.Send i text
 
 abbrev pub at : ℕ → Reaction → Turn

@@ -1,5 +1,5 @@
 -- Until a dialogue takes something, it holds the world that its events make.
-use Rattle.std.specs.Prelude.{◌≡◌, ℕ, List, map}
+use Rattle.std.specs.Prelude.{◌≡◌, List, map}
 use Rattle.child_events.specs.declared.event.Event.{Event}
 use Rattle.child_events.specs.World.{Lane as Known}
 use Rattle.child_events.specs.World.{World}

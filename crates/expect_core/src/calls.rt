@@ -13,6 +13,7 @@ ghost use Rattle.expect_core.specs.Running.{run, turns};
 ghost use Rattle.expect_core.specs.Turns.{doing as doing_of};
 
 use crate::again::exp_continue;
+use crate::day::{clock, timestamp};
 use crate::dialogue::Dialogue;
 use crate::ends::{close, wait};
 use crate::expect::expect;
@@ -21,6 +22,8 @@ use crate::options::{match_max, remove_nulls};
 use crate::own::Own;
 use crate::phase::Phase;
 use crate::planning::listed;
+use crate::programs::{exec, file, open, pid, pwd, source, system};
+use crate::reading::{eof, flush, gets, read};
 use crate::run::Paused;
 use crate::send::send;
 use crate::sleeping::{after, sleep};
@@ -65,9 +68,22 @@ fn deed(
         ExpectCommand::MatchMax => match_max(alloc, word, args, vars, own),
         ExpectCommand::RemoveNulls => remove_nulls(alloc, word, args, vars, own),
         ExpectCommand::LogUser => log_user(alloc, word, args, own),
-        ExpectCommand::Puts => puts(alloc, word, args),
+        ExpectCommand::Puts => puts(alloc, word, args, own),
+        ExpectCommand::Exec => exec(alloc, word, args, own),
+        ExpectCommand::System => system(alloc, word, args, own),
+        ExpectCommand::Source => source(alloc, word, args, vars, own),
+        ExpectCommand::File => file(alloc, word, args, vars, own),
+        ExpectCommand::Pwd => pwd(alloc, word, args, own),
+        ExpectCommand::Pid => pid(alloc, word, args, own),
+        ExpectCommand::Open => open(alloc, word, args, vars, own),
+        ExpectCommand::Gets => gets(alloc, word, args, own),
+        ExpectCommand::Read => read(alloc, word, args, own),
+        ExpectCommand::Eof => eof(alloc, word, args, own),
+        ExpectCommand::Flush => flush(alloc, word, args, own),
         ExpectCommand::Sleep => sleep(alloc, word, args, own),
         ExpectCommand::After => after(alloc, word, args, own),
+        ExpectCommand::Clock => clock(alloc, word, args, own),
+        ExpectCommand::Timestamp => timestamp(alloc, word, args, own),
     }
 }
 

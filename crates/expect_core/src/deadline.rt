@@ -59,7 +59,7 @@ fn deadline_under(phase: &Phase, lanes: &Lanes) -> Option<u64>
             soonest(as_moment(plan.deadline), plan.sides.list.as_slice(), lanes)
         }
         Phase::At(_, Want::Answer(_, _)) => None,
-        Phase::At(_, Want::First(_, _)) => None,
+        Phase::At(_, Want::Item(_, _)) => None,
         Phase::At(_, Want::End(_, _)) => None,
         Phase::Idle => None,
     }

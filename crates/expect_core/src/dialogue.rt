@@ -6,11 +6,12 @@ ghost use Rattle.expect_core.specs.Lanes.{offered, untaken_of, OutlivesTicks};
 ghost use Rattle.expect_core.specs.Answered.{failure as failure_of};
 ghost use Rattle.expect_core.specs.Calls.{fresh};
 
+use crate::bodies::Bodies;
+use crate::channels::Channels;
 use crate::child::Children;
 use crate::lanes::Lanes;
 use crate::own::Own;
 use crate::phase::Phase;
-use crate::plans::Plans;
 use crate::request::{Request, Requests};
 use crate::settings::Settings;
 use child_events::{Answer, Cause, Event, What};
@@ -66,7 +67,10 @@ impl Dialogue {
                 host: settings.host,
                 size: 2000,
                 remove_nulls: true,
-                plans: Plans::new(alloc),
+                channels: Channels::new(alloc),
+                errors: None,
+                day: None,
+                bodies: Bodies::new(alloc),
             },
             phase: Phase::Idle,
             lives: true,

@@ -3,11 +3,12 @@
 ghost use Rattle.std.specs.Prelude.{◌≡◌, ◌++◌, ◌∷◌, [], IfOk, OnOk};
 ghost use Rattle.expect_core.specs.Effects.{added, changed, performed, stored as stored_of, to_come};
 
+use crate::channels::Channel;
 use crate::child::Change;
 use crate::own::Own;
 use crate::place::Place;
 use crate::request::Act;
-use crate::scoped::set_all;
+use crate::scoped::{set_all, set_one};
 use crate::stored::Stores;
 use crate::texts::id_at;
 use std::alloc::{AllocError, Global};
@@ -30,11 +31,26 @@ pub enum Effect {
     Add(Modes),
     /// Sets variables.
     Store(Stores),
+    /// Sets the variable with this name to this value.
+    Set(Text, Value),
     /// Appends a request to the child.
     Ask(Act),
     /// Appends a piece of the child's output to its match buffer and to the transcript, as any that
     /// is taken.
     Receive(Text),
+    /// Opens a channel of the child with these bytes to read. Closing it is an error with the second
+    /// text, unless that is empty.
+    Reader(Text, Text),
+    /// Opens a channel whose bytes the child takes.
+    Writer,
+    /// Passes over this many bytes of the channel with this index, whose end was met or not.
+    Move(usize, usize, bool),
+    /// Removes the channel with this index.
+    Shut(usize),
+    /// Makes the child that of standard error.
+    Errors,
+    /// Keeps the time of day, in milliseconds.
+    Day(u64),
     /// Changes the child. Without a child it changes the options of later children.
     Alter(Change),
 }
@@ -115,6 +131,131 @@ impl Own {
         }
     }
 
+    /// Opens a channel of a child with these bytes to read.
+    fn open_reader(
+        &mut self,
+        alloc: Global,
+        at: &Option<Place>,
+        bytes: Text,
+        ended: Text,
+    ) -> Result<(), AllocError>
+        ensures { OnOk result (self.new ≡ changed at.now (Effect.Reader bytes ended) self.old) }
+    {
+        match at {
+            Some(i) => {
+                let channel = Channel::reading(alloc, *i, bytes, ended)?;
+                self.channels.open(channel)
+            }
+            None => Ok(()),
+        }
+    }
+
+    /// Opens a channel whose bytes a child takes.
+    fn open_writer(&mut self, alloc: Global, at: &Option<Place>) -> Result<(), AllocError>
+        ensures { OnOk result (self.new ≡ changed at.now Effect.Writer self.old) }
+    {
+        match at {
+            Some(i) => {
+                let channel = Channel::writing(alloc, *i)?;
+                self.channels.open(channel)
+            }
+            None => Ok(()),
+        }
+    }
+
+    /// Makes a child that of standard error.
+    fn take_errors(&mut self, at: &Option<Place>)
+        ensures { self.new ≡ changed at.now Effect.Errors self.old }
+    {
+        if let Some(i) = at {
+            self.errors = Some(*i);
+        }
+    }
+
+    /// Appends a request to a child, if there is one.
+    fn ask_at(&mut self, at: &Option<Place>, act: Act) -> Result<(), AllocError>
+        ensures { OnOk result (self.new ≡ changed at.now (Effect.Ask act) self.old) }
+    {
+        match at {
+            Some(i) => self.ask(*i, act),
+            None => Ok(()),
+        }
+    }
+
+    /// Appends a piece of a child's output, if there is a child.
+    fn receive_at(
+        &mut self,
+        alloc: Global,
+        at: &Option<Place>,
+        piece: &[u8],
+    ) -> Result<(), AllocError>
+        ensures { OnOk result (self.new ≡ changed at.now (Effect.Receive piece.now) self.old) }
+    {
+        match at {
+            Some(i) => self.receive(alloc, *i, piece),
+            None => Ok(()),
+        }
+    }
+
+    /// Changes a child, or without one the options of later children.
+    fn alter_at(&mut self, at: &Option<Place>, change: Change) -> Result<(), AllocError>
+        ensures { OnOk result (self.new ≡ changed at.now (Effect.Alter change) self.old) }
+    {
+        match at {
+            Some(i) => {
+                self.children.alter(*i, change)?;
+                Ok(())
+            }
+            None => {
+                self.alter_new(change);
+                Ok(())
+            }
+        }
+    }
+
+    /// Performs an effect on everything but variables.
+    fn change(
+        &mut self,
+        alloc: Global,
+        at: &Option<Place>,
+        effect: Effect,
+    ) -> Result<(), AllocError>
+        ensures { OnOk result (self.new ≡ changed at.now effect self.old) }
+    {
+        match effect {
+            Effect::Store(_) => Ok(()),
+            Effect::Set(_, _) => Ok(()),
+            Effect::Tell(text) => self.tell(text.as_slice()),
+            Effect::Log(text) => self.log(text.as_slice()),
+            Effect::LogUser(on) => {
+                self.log_user = on;
+                Ok(())
+            }
+            Effect::Add(modes) => self.add(alloc, modes),
+            Effect::Ask(act) => self.ask_at(at, act),
+            Effect::Receive(piece) => self.receive_at(alloc, at, piece.as_slice()),
+            Effect::Reader(bytes, ended) => self.open_reader(alloc, at, bytes, ended),
+            Effect::Writer => self.open_writer(alloc, at),
+            Effect::Move(n, count, met) => {
+                self.channels.pass(n, count, met);
+                Ok(())
+            }
+            Effect::Shut(n) => {
+                self.channels.shut(n);
+                Ok(())
+            }
+            Effect::Errors => {
+                self.take_errors(at);
+                Ok(())
+            }
+            Effect::Day(time) => {
+                self.day = Some((time, self.clock));
+                Ok(())
+            }
+            Effect::Alter(change) => self.alter_at(at, change),
+        }
+    }
+
     /// Performs an effect. Returns the error if a variable can't be set.
     fn perform(
         &mut self,
@@ -128,46 +269,11 @@ impl Own {
     {
         match effect {
             Effect::Store(stores) => set_all(alloc, vars, stores),
-            Effect::Tell(text) => {
-                self.tell(text.as_slice())?;
+            Effect::Set(name, value) => set_one(alloc, vars, name.as_slice(), value),
+            other => {
+                self.change(alloc, at, other)?;
                 Ok(None)
             }
-            Effect::Log(text) => {
-                self.log(text.as_slice())?;
-                Ok(None)
-            }
-            Effect::LogUser(on) => {
-                self.log_user = on;
-                Ok(None)
-            }
-            Effect::Add(modes) => {
-                self.add(alloc, modes)?;
-                Ok(None)
-            }
-            Effect::Ask(act) => match at {
-                Some(i) => {
-                    self.ask(*i, act)?;
-                    Ok(None)
-                }
-                None => Ok(None),
-            },
-            Effect::Receive(piece) => match at {
-                Some(i) => {
-                    self.receive(alloc, *i, piece.as_slice())?;
-                    Ok(None)
-                }
-                None => Ok(None),
-            },
-            Effect::Alter(change) => match at {
-                Some(i) => {
-                    self.children.alter(*i, change)?;
-                    Ok(None)
-                }
-                None => {
-                    self.alter_new(change);
-                    Ok(None)
-                }
-            },
         }
     }
 

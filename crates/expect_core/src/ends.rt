@@ -3,7 +3,7 @@
 ghost use Rattle.std.specs.Prelude.{◌≡◌, ◌+◌, ◌++◌, ◌∷◌, IfOk};
 ghost use Rattle.std.specs.Fmt.{decimal as decimal_of};
 ghost use Rattle.tcl_results.specs.Says.{Says};
-ghost use Rattle.expect_core.specs.Ends.{broken as broken_of, closed as closed_of, closing, end_text as end_text_of, failed_by, if_unwaited, waited as waited_of, waiting};
+ghost use Rattle.expect_core.specs.Ends.{broken as broken_of, closed as closed_of, closing, closing_by, closing_child, end_text as end_text_of, failed_by, if_unwaited, waited as waited_of, waiting};
 ghost use Rattle.expect_core.specs.Owned.{child_of};
 
 use crate::child::{Change, Standing};
@@ -12,13 +12,14 @@ use crate::flags::arguments;
 use crate::ids::{open_to, spoken_to};
 use crate::own::Own;
 use crate::place::Place;
+use crate::reading::close_channel;
 use crate::request::Act;
 use crate::texts::{decimal, number_of_cause, waited_for, with_cause};
 use crate::turn::{Deed, Next, Purpose, Reaction, done};
 use child_events::{Answer, Cause};
 use command_table::ExpectCommand;
 use std::alloc::{AllocError, Global};
-use tcl_results::Complaint;
+use tcl_results::{Complaint, wrong_args};
 use tcl_subst::Vars;
 use tcl_values::Value;
 use tcl_words::Text;
@@ -33,7 +34,35 @@ fn unwaited(alloc: Global, i: Place, own: &Own) -> Result<Place, Complaint>
     Ok(i)
 }
 
-/// Returns what `close ?-i spawn_id?` does.
+/// Returns what the `close` of a child does.
+fn close_child(alloc: Global, id: &Option<Value>, vars: &Vars, own: &Own) -> Result<Deed, Complaint>
+    ensures { Says result (closing_child id.now vars.now own.now) }
+{
+    let i = open_to(alloc, id, vars, own)?;
+    let effects = Effects::one(alloc, Effect::Ask(Act::Close))?;
+    let next = Next::Await(Purpose::Close);
+    Ok(Deed::To(i, Reaction { effects, next }))
+}
+
+/// Returns what the `close` of a child or a channel does.
+fn close_by(
+    alloc: Global,
+    name: &[u8],
+    id: &Option<Value>,
+    args: &[Value],
+    vars: &Vars,
+    own: &Own,
+) -> Result<Deed, Complaint>
+    ensures { Says result (closing_by name.now id.now args.now vars.now own.now) }
+{
+    match (args, id) {
+        ([], _) => close_child(alloc, id, vars, own),
+        ([channel, ..], None) => close_channel(alloc, channel.as_slice(), own),
+        ([_, ..], Some(_)) => Err(Complaint::Said(wrong_args(alloc, name)?)),
+    }
+}
+
+/// Returns what `close ?-i spawn_id?` or `close channelId` does.
 pub(crate) fn close(
     alloc: Global,
     name: &[u8],
@@ -43,11 +72,8 @@ pub(crate) fn close(
 ) -> Result<Deed, Complaint>
     ensures { Says result (closing name.now args.now vars.now own.now) }
 {
-    let (flags, _) = arguments(alloc, ExpectCommand::Close, name, args)?;
-    let i = open_to(alloc, &flags.id, vars, own)?;
-    let effects = Effects::one(alloc, Effect::Ask(Act::Close))?;
-    let next = Next::Await(Purpose::Close);
-    Ok(Deed::To(i, Reaction { effects, next }))
+    let (flags, at) = arguments(alloc, ExpectCommand::Close, name, args)?;
+    close_by(alloc, name, &flags.id, &args[at..], vars, own)
 }
 
 /// Returns what `wait ?-i spawn_id?` does.

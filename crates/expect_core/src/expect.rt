@@ -3,13 +3,14 @@
 ghost use Rattle.std.specs.Prelude.{◌≡◌, ◌<◌, ◌++◌, ◌∷◌, [], List, IfOk, OnOk, take};
 ghost use Rattle.exp_match.specs.Choice.{first_in, waits_for_end, waits_for_full};
 ghost use Rattle.tcl_results.specs.Says.{Says};
-ghost use Rattle.expect_core.specs.declared.plan.Plan.{Plan as PlanOf};
+ghost use Rattle.expect_core.specs.declared.body.Body.{Body as BodyOf};
 ghost use Rattle.expect_core.specs.Calls.{outer};
 ghost use Rattle.expect_core.specs.Heard.{groups_at};
 ghost use Rattle.expect_core.specs.Owned.{bytes_of, child_of};
 ghost use Rattle.expect_core.specs.Turns.{done as done_of, over as over_of};
 ghost use Rattle.expect_core.specs.Expecting.{again as again_of, all_met, before as before_of, behind as behind_of, ended as ended_of, ending as ending_of, end_of as end_told, entry_of, expecting, failing as failing_of, full as full_of, group_pairs as group_pairs_of, groups_from, late as late_of, matched as matched_of, meeting, met_pairs as met_pairs_of, places, shut as shut_of, text_pair};
 
+use crate::body::Body;
 use crate::child::{Change, Standing};
 use crate::effect::{Effect, Effects};
 use crate::ids::all_open;
@@ -24,7 +25,7 @@ use crate::turn::{Deed, Next, Purpose, Reaction, Reply, Stage, Turn, Want, done}
 use child_events::Cause;
 use exp_match::Spans;
 use std::alloc::{AllocError, Global};
-use tcl_results::{Code, Complaint, said};
+use tcl_results::{Code, Complaint, said, script_code};
 use tcl_subst::Vars;
 use tcl_values::Value;
 use tcl_words::Text;
@@ -403,7 +404,7 @@ fn behind(
     plan: PlanBox,
     own: &Own,
 ) -> Result<Turn, AllocError>
-    ensures { (outer : List PlanOf) → IfOk result (λ t. t ≡ behind_of code value.now (plan ∷ outer) own.now) }
+    ensures { (outer : List BodyOf) → IfOk result (λ t. t ≡ behind_of code value.now (Body.Action plan ∷ outer) own.now) }
 {
     match code {
         Code::Again => {
@@ -419,7 +420,7 @@ fn behind(
 }
 
 impl Own {
-    /// Removes the innermost `expect`, whose action ended with this code and value. Returns the
+    /// Removes the innermost script, which ended with this code and value. Returns the
     /// turn that follows.
     pub(crate) fn end_body(
         &mut self,
@@ -427,11 +428,15 @@ impl Own {
         code: Code,
         value: &Value,
     ) -> Result<Turn, AllocError>
-        ensures popped { self.new ≡ record self.old { plans = outer self.old.plans } }
-        ensures turn { IfOk result (λ t. t ≡ behind_of code value.now self.old.plans self.new) }
+        ensures popped { self.new ≡ record self.old { bodies = outer self.old.bodies } }
+        ensures turn { IfOk result (λ t. t ≡ behind_of code value.now self.old.bodies self.new) }
     {
-        match self.plans.pop() {
-            Some(plan) => behind(alloc, code, value, plan, self),
+        match self.bodies.pop() {
+            Some(Body::Action(plan)) => behind(alloc, code, value, plan, self),
+            Some(Body::Source) => {
+                let reply = Reply::Done(script_code(code), value.shared(alloc)?);
+                Ok(Turn::over(alloc, reply))
+            }
             None => Ok(Turn::over(alloc, Reply::Done(code, value.shared(alloc)?))),
         }
     }

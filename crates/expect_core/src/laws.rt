@@ -3,6 +3,7 @@
 ghost use Rattle.expect_core.specs.Apart.{CallsOwn, StaysOfOwn, EventsOne};
 ghost use Rattle.expect_core.specs.Heard.{TakesEach};
 ghost use Rattle.expect_core.specs.Laws.{AnswersAsked, GoesOn, StaysGood, StaysNumbered, StaysTold, WaitsOn};
+ghost use Rattle.expect_core.specs.Tools.{RunsInOrder};
 ghost use Rattle.expect_core.specs.Waits.{FirstIsTaken, TakesInOrder};
 ghost use Rattle.expect_core.specs.Worlds.{HoldsWorlds};
 
@@ -48,4 +49,13 @@ pub fn waits_to_the_end()
     ensures in_order { TakesInOrder }
     ensures each { TakesEach }
     ensures first { FirstIsTaken }
+{}
+
+/// States the order of a command that runs a program. It does nothing at run time.
+///
+/// The command asks for the start, for the end of the input, after the output for the close, and at
+/// last for the program's end. Until that is known it changes no variable, no channel and no
+/// transcript.
+pub fn tools_in_order()
+    ensures { RunsInOrder }
 {}

@@ -4,11 +4,12 @@ ghost use Rattle.std.specs.Prelude.{◌≡◌, ◌++◌, OnOk};
 ghost use Rattle.expect_core.specs.Heard.{deadline_from as deadline_of};
 ghost use Rattle.expect_core.specs.Owned.{at_moment, bytes_of, told, logged, asked, received, seen, with_bytes, size_at, removes_at};
 
+use crate::bodies::Bodies;
+use crate::channels::Channels;
 use crate::child::Children;
 use crate::kept::behind;
 use crate::place::Place;
 use crate::plan::Span;
-use crate::plans::Plans;
 use crate::request::{Act, Request, Requests};
 use std::alloc::{AllocError, Global};
 use std::mem;
@@ -33,8 +34,14 @@ pub struct Own {
     pub size: usize,
     /// Whether NUL bytes are removed from the output of later children.
     pub remove_nulls: bool,
-    /// The expects whose actions are being evaluated, the innermost first.
-    pub plans: Plans,
+    /// The channels that are open.
+    pub channels: Channels,
+    /// The child that writes to standard error, once there is one.
+    pub errors: Option<Place>,
+    /// A time of day, and the clock's moment when it was that. Both are in milliseconds.
+    pub day: Option<(u64, u64)>,
+    /// The scripts that commands evaluate, the innermost first.
+    pub bodies: Bodies,
 }
 
 /// Returns the last moment in time for a wait that begins at `clock`, or `None` if it never times

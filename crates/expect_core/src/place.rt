@@ -37,6 +37,13 @@ impl Place {
         }
     }
 
+    /// Returns the first place.
+    pub(crate) fn first() -> Place
+        ensures { result ≡ 0 }
+    {
+        Place { at: 0 }
+    }
+
     /// Returns the index of the place.
     pub(crate) fn index(self) -> usize
         ensures { result ≡ self }

@@ -7,10 +7,10 @@ ghost use Rattle.expect_core.specs.Expecting.{is_list as is_list_of, listed as l
 ghost use Rattle.expect_core.specs.Heard.{span_of as span_told};
 ghost use Rattle.expect_core.specs.Sides.{takes_current as takes_current_of, opened as opened_of, asked_by as asked_meant, with_groups};
 
+use crate::bodies::Bodies;
 use crate::ids::open_to;
 use crate::own::{Own, deadline_from};
 use crate::plan::{Places, Plan, Sides, Span};
-use crate::plans::Plans;
 use crate::scoped::optional;
 use crate::texts::{bad_expect_flag, bad_regular};
 use exp_match::{PatternFault, PatternList};
@@ -57,11 +57,11 @@ fn arg_at(args: &[Value], at: usize) -> &[u8]
 }
 
 /// Reads the patterns and keywords in arguments.
-fn patterns_of(alloc: Global, plans: &mut Plans, args: &[Value]) -> Result<PatternList, Complaint>
-    ensures same { plans.new ≡ plans.old }
+fn patterns_of(alloc: Global, bodies: &mut Bodies, args: &[Value]) -> Result<PatternList, Complaint>
+    ensures same { bodies.new ≡ bodies.old }
     ensures said { Says result (patterns_by args.now (patterns_meant args.now)) }
 {
-    match plans.patterns(alloc, args) {
+    match bodies.patterns(alloc, args) {
         Ok(list) => Ok(list),
         Err(PatternFault::BadFlag(at)) => Err(Complaint::Said(bad_expect_flag(
             alloc,
@@ -216,6 +216,6 @@ pub(crate) fn plan_of(
     ensures same { own.new ≡ own.old }
     ensures said { Says result (plan_meant args.now vars.now own.old) }
 {
-    let list = patterns_of(alloc, &mut own.plans, args)?;
+    let list = patterns_of(alloc, &mut own.bodies, args)?;
     plan_by(alloc, list, vars, own)
 }

@@ -14,10 +14,11 @@ ghost use Rattle.expect_core.specs.Going.{after, goes};
 ghost use Rattle.expect_core.specs.Known.{Knows, KnowsAt, KnowsIn, KnowsOf, LeavesKnown};
 ghost use Rattle.expect_core.specs.Lanes.{answer_box, item_box};
 ghost use Rattle.expect_core.specs.Owned.{child_of};
-ghost use Rattle.expect_core.specs.Running.{To, acts, answered as answered_of, awaited, by_heard, none_yet, resuming, run as run_of, staged as staged_of, step_of, turned as turned_of, turns, waited_for};
+ghost use Rattle.expect_core.specs.Running.{To, acts, answered as answered_of, awaited, by_heard, heard_as as heard_as_of, none_yet, reads, resuming, run as run_of, staged as staged_of, step_of, turned as turned_of, turns, waited_for};
 ghost use Rattle.expect_core.specs.Sending.{typed};
 
 use crate::answers::is_within;
+use crate::body::Body;
 use crate::dialogue::{Dialogue, failure};
 use crate::ends::{broken, closed, waited};
 use crate::expect::{ended, ending, failing, full, late, matched};
@@ -29,13 +30,14 @@ use crate::place::Place;
 use crate::plan::{Met, PlanBox};
 use crate::send::{hand, handed};
 use crate::spawn::{gone, heard_first, missed, spawned};
-use crate::turn::{Purpose, Reaction, Reply, Stage, Turn, Want};
+use crate::tools::{tool_answered, tool_heard};
+use crate::turn::{Aim, Purpose, Reaction, Reply, Stage, Turn, Want};
 use child_events::{Answer, Item};
 use std::alloc::{AllocError, Global};
 use tcl_host::{Ending, HostStep};
 use tcl_subst::Vars;
 use tcl_values::Value;
-use tcl_words::Texts;
+use tcl_words::Text;
 use tty::Actions;
 
 /// What follows a stage.
@@ -112,12 +114,23 @@ fn answered(
 {
     match why {
         Purpose::Spawn(terminal, words) => spawned(alloc, terminal, i, words, failure(answer)),
+        Purpose::Tool(stride, run) => tool_answered(alloc, stride, run, i, answer),
         Purpose::Missing(words) => missed(alloc, words),
         Purpose::Gone(words) => gone(alloc, &words),
         Purpose::Send(action, rest) => handed(alloc, &action, rest, failure(answer)),
         Purpose::Close => closed(alloc, failure(answer)),
         Purpose::Wait => waited(alloc, i, answer, own),
         Purpose::Fail(cause) => broken(alloc, cause),
+    }
+}
+
+/// Returns what follows an item.
+fn heard_as(alloc: Global, why: Aim, i: Place, item: &Item) -> Result<Reaction, AllocError>
+    ensures { IfOk result (λ r. r ≡ heard_as_of why i item.now) }
+{
+    match why {
+        Aim::Spawn(words) => heard_first(alloc, words, i, item),
+        Aim::Tool(run) => tool_heard(alloc, run, i, item),
     }
 }
 
@@ -139,8 +152,18 @@ impl Dialogue {
     {
         let action = Value::from_slice(alloc, plan.get().action(met.entry))?;
         plan.meet(met);
-        self.own.plans.push(plan)?;
+        self.own.bodies.push(Body::Action(plan))?;
         Ok(Went::Over(HostStep::Body(action)))
+    }
+
+    /// Asks for the evaluation of a script that was read.
+    fn read(&mut self, alloc: Global, script: Text) -> Result<Went, AllocError>
+        ensures goes { IfOk result (λ r. (k : To) (vars : Variables) → reads script vars self.old ≡ goes r k vars self.new) }
+        ensures knows { IfOk result (λ r. LeavesKnown r self.new) }
+    {
+        let script = Value::from_text(alloc, script)?;
+        self.own.bodies.push(Body::Source)?;
+        Ok(Went::Over(HostStep::Body(script)))
     }
 
     /// Returns what follows the result of a wait for patterns.
@@ -279,23 +302,23 @@ impl Dialogue {
         }
     }
 
-    /// Waits for the first item of a child, for a `spawn` of these words.
-    fn await_first(
+    /// Waits for the next item of a child.
+    fn await_item(
         &mut self,
         alloc: Global,
         left: u64,
         i: Place,
-        words: Texts,
+        why: Aim,
     ) -> Result<Went, AllocError>
-        ensures goes { IfOk result (λ r. (k : To) (vars : Variables) → waited_for k left (Want.First i words) vars self.old ≡ goes r k vars self.new) }
+        ensures goes { IfOk result (λ r. (k : To) (vars : Variables) → waited_for k left (Want.Item i why) vars self.old ≡ goes r k vars self.new) }
         ensures knows { IfOk result (λ r. LeavesKnown r self.new) }
     {
         match self.next_item(i) {
             Some(item) => {
-                let reaction = heard_first(alloc, words, i, &item)?;
+                let reaction = heard_as(alloc, why, i, &item)?;
                 Ok(Went::Turn(reaction.at(i)))
             }
-            None => Ok(Went::Over(self.wait_for(left, Want::First(i, words)))),
+            None => Ok(Went::Over(self.wait_for(left, Want::Item(i, why)))),
         }
     }
 
@@ -333,7 +356,7 @@ impl Dialogue {
     {
         match want {
             Want::Answer(i, why) => self.await_answer(alloc, left, i, why),
-            Want::First(i, words) => self.await_first(alloc, left, i, words),
+            Want::Item(i, why) => self.await_item(alloc, left, i, why),
             Want::Output(plan) => self.listening(alloc, left, plan, known),
             Want::End(i, plan) => self.await_end(alloc, left, i, plan),
         }
@@ -358,6 +381,7 @@ impl Dialogue {
         match stage {
             Stage::Over(reply) => Ok(Went::Over(step(reply))),
             Stage::Act(plan, met) => self.act(alloc, plan, met),
+            Stage::Read(script) => self.read(alloc, script),
             Stage::Look(plan) => self.looking(alloc, left, plan),
             Stage::Send(i, text) => {
                 let actions = self.take_text(alloc, i, text.as_slice())?;

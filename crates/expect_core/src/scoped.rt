@@ -1,7 +1,7 @@
 //! Variables as commands of Expect use them (expect(1)). A command reads the current scope, or else
 //! the outermost one. It sets the current scope.
 
-ghost use Rattle.std.specs.Prelude.{◌≡◌, IfOk};
+ghost use Rattle.std.specs.Prelude.{◌≡◌, ◌∷◌, [], IfOk};
 ghost use Rattle.tcl_results.specs.Says.{Says};
 ghost use Rattle.tcl_subst.specs.Faults.{Gives};
 ghost use Rattle.expect_core.specs.Scoped.{scoped as scoped_of, optional as optional_of, needed as needed_of, set_all as set_all_of};
@@ -41,6 +41,22 @@ pub(crate) fn needed(alloc: Global, vars: &Vars, name: &[u8]) -> Result<Value, C
         Ok(value) => Ok(value),
         Err(fault) => Err(Complaint::Said(not_read(alloc, name, fault)?)),
     }
+}
+
+/// Sets a variable. Returns the text of the error if it can't be set, or `None`.
+pub(crate) fn set_one(
+    alloc: Global,
+    vars: &mut Vars,
+    name: &[u8],
+    value: Value,
+) -> Result<Option<Value>, AllocError>
+    ensures { IfOk result (λ r. set_all_of ((name.now, value) ∷ []) vars.old ≡ (vars.new, r)) }
+{
+    if let Err(fault) = vars.set(name, value) {
+        let text = not_set(alloc, name, fault)?;
+        return Ok(Some(Value::from_text(alloc, text)?));
+    }
+    Ok(None)
 }
 
 /// Sets variables in order, up to the first that can't be set. Returns the text of that error, or

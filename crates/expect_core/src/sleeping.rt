@@ -43,7 +43,7 @@ fn is_digit(byte: u8) -> bool
 }
 
 /// Returns what is kept of the number that digits write.
-fn digits(text: &[u8]) -> Option<u64>
+pub(crate) fn digits(text: &[u8]) -> Option<u64>
     ensures number { result ≡ option_map kept (digits_of text.now) }
     ensures most { IfSome result (λ n. n ≤ 9000000000000001) }
 {

@@ -13,7 +13,7 @@ use crate::place::Place;
 use crate::request::Act;
 use crate::stored::Stores;
 use crate::texts::{decimal, id_at, not_executed, spawn_line};
-use crate::turn::{Deed, Next, Purpose, Reaction, done};
+use crate::turn::{Aim, Deed, Next, Purpose, Reaction, done};
 use child_events::{Cause, Item};
 use std::alloc::{AllocError, Global};
 use tcl_results::Complaint;
@@ -97,7 +97,7 @@ fn started(alloc: Global, terminal: bool, i: Place, words: Texts) -> Result<Reac
     if terminal {
         return Ok(Reaction {
             effects: Effects::new(alloc),
-            next: Next::Hear(words),
+            next: Next::Hear(Aim::Spawn(words)),
         });
     }
     begun(alloc, i, Effects::new(alloc))

@@ -36,7 +36,7 @@ pub(crate) fn id_at(alloc: Global, i: Place) -> Result<Text, AllocError>
 }
 
 /// Appends words, each with a space before it.
-fn push_spaced(line: &mut Text, words: &[Text]) -> Result<(), AllocError>
+pub(crate) fn push_spaced(line: &mut Text, words: &[Text]) -> Result<(), AllocError>
     ensures { OnOk result (line.new ≡ line.old ++ spaced words.now) }
 {
     for word in words {
@@ -75,7 +75,7 @@ pub(crate) fn with_cause(alloc: Global, front: &[u8], cause: Cause) -> Result<Te
 }
 
 /// Returns the first word of a `spawn`, or no bytes if there is none.
-fn program_of(words: &[Text]) -> &[u8]
+pub(crate) fn program_of(words: &[Text]) -> &[u8]
     ensures { result.now ≡ program_text words.now }
 {
     match words {

@@ -2,29 +2,22 @@
 
 ghost use Rattle.std.specs.Prelude.{◌≡◌, IfOk, ◌∷◌, []};
 ghost use Rattle.tcl_results.specs.Says.{Says};
-ghost use Rattle.expect_core.specs.Transcript.{ended as ended_of, log_set, log_told, log_word, logging as logging_of, no_channel as no_channel_text, put_of as put_meant, put_to, put_words, puts_to as puts_to_of, to_user as user_text, writing};
+ghost use Rattle.expect_core.specs.Transcript.{ended as ended_of, log_set, log_told, log_word, logging as logging_of, complain as complain_of, complain_first as complain_first_of, put_by as put_by_of, put_of as put_meant, put_to, put_words, puts as puts_of, to_user as user_text, writing};
 ghost use Rattle.expect_core.specs.Turns.{done as done_of};
 
 use crate::effect::{Effect, Effects};
 use crate::flags::{arguments, bad_flag, text};
 use crate::own::Own;
+use crate::programs::complaining;
+use crate::reading::{put, put_to as put_to_child};
 use crate::texts::bit;
+use crate::tools::tool;
 use crate::turn::{Deed, done};
-use command_table::{ExpectCommand, is};
+use command_table::{ExpectCommand, begins_with_minus, is};
 use std::alloc::{AllocError, Global};
 use tcl_results::{Complaint, bad_option, wrong_args};
 use tcl_values::Value;
 use tcl_words::Text;
-
-/// Returns the error for a word that is neither a flag nor a channel of `puts`.
-fn no_channel(alloc: Global, word: &[u8]) -> Result<Text, AllocError>
-    ensures { IfOk result (λ t. t ≡ no_channel_text word.now) }
-{
-    match word {
-        [b'-', ..] => bad_flag(alloc, word),
-        _ => bad_option(alloc, word),
-    }
-}
 
 /// Returns a text, with a newline if `line`.
 fn ended(alloc: Global, line: bool, text: &[u8]) -> Result<Text, AllocError>
@@ -37,29 +30,31 @@ fn ended(alloc: Global, line: bool, text: &[u8]) -> Result<Text, AllocError>
     Ok(text)
 }
 
-/// Returns what `puts` writes to a channel, with a newline if `line`.
-fn puts_to(alloc: Global, line: bool, channel: &[u8], text: &[u8]) -> Result<Text, Complaint>
-    ensures { Says result (puts_to_of line channel.now text.now) }
-{
-    if is(channel, b"stdout") {
-        return Ok(ended(alloc, line, text)?);
-    }
-    Err(Complaint::Said(no_channel(alloc, channel)?))
-}
-
-/// Returns what `puts` writes, given a text, or a channel and a text.
-fn put_to(alloc: Global, name: &[u8], line: bool, words: &[Value]) -> Result<Text, Complaint>
+/// Returns the channel and what `puts` writes to it, given a text, or a channel and a text.
+fn put_to(
+    alloc: Global,
+    name: &[u8],
+    line: bool,
+    words: &[Value],
+) -> Result<(Text, Text), Complaint>
     ensures { Says result (put_to name.now line words.now) }
 {
     match words {
-        [text] => Ok(ended(alloc, line, text.as_slice())?),
-        [channel, text] => puts_to(alloc, line, channel.as_slice(), text.as_slice()),
+        [text] => {
+            let channel = Text::from_slice(alloc, b"stdout")?;
+            Ok((channel, ended(alloc, line, text.as_slice())?))
+        }
+        [channel, text] => {
+            let channel = Text::from_slice(alloc, channel.as_slice())?;
+            Ok((channel, ended(alloc, line, text.as_slice())?))
+        }
         _ => Err(Complaint::Said(wrong_args(alloc, name)?)),
     }
 }
 
-/// Returns what `puts` writes, given its words. The first may be `-nonewline` if others follow.
-fn put_words(alloc: Global, name: &[u8], words: &[Value]) -> Result<Text, Complaint>
+/// Returns the channel and what `puts` writes to it, given its words. The first may be `-nonewline`
+/// if others follow.
+fn put_words(alloc: Global, name: &[u8], words: &[Value]) -> Result<(Text, Text), Complaint>
     ensures { Says result (put_words name.now words.now) }
 {
     match words {
@@ -70,21 +65,12 @@ fn put_words(alloc: Global, name: &[u8], words: &[Value]) -> Result<Text, Compla
     }
 }
 
-/// Returns what `puts` writes.
-fn put_of(alloc: Global, name: &[u8], args: &[Value]) -> Result<Text, Complaint>
+/// Returns the channel and what `puts` writes to it.
+fn put_of(alloc: Global, name: &[u8], args: &[Value]) -> Result<(Text, Text), Complaint>
     ensures { Says result (put_meant name.now args.now) }
 {
     let (_, at) = arguments(alloc, ExpectCommand::Puts, name, args)?;
     put_words(alloc, name, &args[at..])
-}
-
-/// Returns what `send_user` writes.
-fn to_user(alloc: Global, name: &[u8], args: &[Value]) -> Result<Text, Complaint>
-    ensures { Says result (user_text name.now args.now) }
-{
-    let (_, at) = arguments(alloc, ExpectCommand::SendUser, name, args)?;
-    let text = text(alloc, &args[at..])?;
-    Ok(Text::from_slice(alloc, text.as_slice())?)
 }
 
 /// Returns what a command does that writes to the transcript.
@@ -95,12 +81,57 @@ fn write(alloc: Global, text: Text) -> Result<Deed, AllocError>
     Ok(Deed::Alone(effects, done(Value::new(alloc))))
 }
 
-/// Returns what `puts ?-nonewline? ?stdout? text` does.
-pub(crate) fn puts(alloc: Global, name: &[u8], args: &[Value]) -> Result<Deed, Complaint>
-    ensures { Says result (writing (put_meant name.now args.now)) }
+/// Returns what writes the first text to standard error. An empty one is not written.
+fn complain_first(alloc: Global, text: Text, own: &Own) -> Result<Deed, Complaint>
+    ensures { Says result (complain_first_of text own.now) }
 {
-    let text = put_of(alloc, name, args)?;
-    Ok(write(alloc, text)?)
+    if text.len() == 0 {
+        return Ok(Deed::Alone(Effects::new(alloc), done(Value::new(alloc))));
+    }
+    tool(alloc, complaining(alloc, text)?, own)
+}
+
+/// Returns what writes a text to standard error.
+fn complain(alloc: Global, text: Text, own: &Own) -> Result<Deed, Complaint>
+    ensures { Says result (complain_of own.now.errors text own.now) }
+{
+    match own.errors {
+        Some(i) => Ok(put_to_child(alloc, i, text)?),
+        None => complain_first(alloc, text, own),
+    }
+}
+
+/// Returns what a `puts` of a text to a channel does.
+fn put_by(alloc: Global, channel: &[u8], text: Text, own: &Own) -> Result<Deed, Complaint>
+    ensures { Says result (put_by_of channel.now text own.now) }
+{
+    if is(channel, b"stdout") {
+        return Ok(write(alloc, text)?);
+    }
+    if is(channel, b"stderr") {
+        return complain(alloc, text, own);
+    }
+    if begins_with_minus(channel) {
+        return Err(Complaint::Said(bad_flag(alloc, channel)?));
+    }
+    put(alloc, channel, text, own)
+}
+
+/// Returns what `puts ?-nonewline? ?channelId? text` does.
+pub(crate) fn puts(alloc: Global, name: &[u8], args: &[Value], own: &Own) -> Result<Deed, Complaint>
+    ensures { Says result (puts_of name.now args.now own.now) }
+{
+    let (channel, text) = put_of(alloc, name, args)?;
+    put_by(alloc, channel.as_slice(), text, own)
+}
+
+/// Returns what `send_user` writes.
+fn to_user(alloc: Global, name: &[u8], args: &[Value]) -> Result<Text, Complaint>
+    ensures { Says result (user_text name.now args.now) }
+{
+    let (_, at) = arguments(alloc, ExpectCommand::SendUser, name, args)?;
+    let text = text(alloc, &args[at..])?;
+    Ok(Text::from_slice(alloc, text.as_slice())?)
 }
 
 /// Returns what `send_user ?--? text` does.

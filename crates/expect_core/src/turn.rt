@@ -6,6 +6,7 @@ ghost use Rattle.expect_core.specs.Turns.{at as at_of, badly, over as over_of, o
 use crate::effect::Effects;
 use crate::place::Place;
 use crate::plan::{Met, PlanBox};
+use crate::tool::{Stride, ToolRun};
 use child_events::Cause;
 use std::alloc::{AllocError, Global};
 use tcl_host::Pile;
@@ -28,6 +29,8 @@ pub enum Reply {
 pub enum Purpose {
     /// A `spawn` of these words, and whether it is on a terminal of the system.
     Spawn(bool, Texts),
+    /// A request of a tool run.
+    Tool(Stride, ToolRun),
     /// The `close` of a terminal of the system that a `spawn` of these words found no program for.
     Missing(Texts),
     /// The `wait` for it.
@@ -42,6 +45,15 @@ pub enum Purpose {
     Fail(Cause),
 }
 
+/// What an item is awaited for.
+#[derive(Drop)]
+pub enum Aim {
+    /// A `spawn` of these words on a terminal of the system.
+    Spawn(Texts),
+    /// A tool run.
+    Tool(ToolRun),
+}
+
 /// What a call does next with the child of its turn.
 #[derive(Drop)]
 pub enum Next {
@@ -49,8 +61,10 @@ pub enum Next {
     Finish(Reply),
     /// It awaits the child's next answer.
     Await(Purpose),
-    /// It awaits the child's first item, for a `spawn` of these words.
-    Hear(Texts),
+    /// It awaits the child's next item.
+    Hear(Aim),
+    /// It asks for the evaluation of this script.
+    Evaluate(Text),
     /// It sends this text to the child's terminal.
     Send(Value),
 }
@@ -78,9 +92,8 @@ pub enum Deed {
 pub enum Want {
     /// The next answer of the child at this place.
     Answer(Place, Purpose),
-    /// The first item of the child at this place, for a `spawn` of these words on a terminal of the
-    /// system.
-    First(Place, Texts),
+    /// The next item of the child at this place.
+    Item(Place, Aim),
     /// An item of a child of this `expect`.
     Output(PlanBox),
     /// The answer to the request that closes this child at the end of its output, for this
@@ -97,6 +110,8 @@ pub enum Stage {
     Act(PlanBox, Met),
     /// It tests the match buffers of an `expect`, and then waits for output.
     Look(PlanBox),
+    /// It evaluates this script.
+    Read(Text),
     /// It sends this text to the terminal of the child at this place.
     Send(Place, Value),
     /// It waits.
@@ -145,7 +160,8 @@ impl Reaction {
             stage: match self.next {
                 Next::Finish(reply) => Stage::Over(reply),
                 Next::Await(why) => Stage::Wait(Want::Answer(i, why)),
-                Next::Hear(words) => Stage::Wait(Want::First(i, words)),
+                Next::Hear(aim) => Stage::Wait(Want::Item(i, aim)),
+                Next::Evaluate(script) => Stage::Read(script),
                 Next::Send(text) => Stage::Send(i, text),
             },
         }

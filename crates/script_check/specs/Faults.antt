@@ -1,6 +1,6 @@
 -- The error in the arguments of a command, by the command's row, as far as they are literal. `None` stands for a word
 -- that isn't literal and may be any word.
-use Rattle.std.specs.Prelude.{ℕ, suc, ◌-◌, ◌%◌, ◌==◌, ◌&&◌, nat_lt, drop, Bool, true, false, List, [], ◌∷◌, length, codes, Option, Some, None, is_some, option_and_then, bytes_eq, if◌then◌else◌}
+use Rattle.std.specs.Prelude.{ℕ, suc, ◌-◌, ◌%◌, ◌==◌, ◌&&◌, ◌||◌, nat_lt, take, drop, Bool, true, false, List, [], ◌∷◌, length, codes, Option, Some, None, is_some, option_and_then, bytes_eq, if◌then◌else◌}
 use Rattle.tcl_words.specs.Bytes as ascii
 use Rattle.command_table.specs.declared.commands.Command.{Command}
 use Rattle.command_table.specs.declared.counts.Count.{Count}
@@ -113,15 +113,19 @@ if_fault name args = if is_short (last_stage Test args) then wrong name else Non
 abbrev pub lists_fault : List ℕ → Count → ℕ → Option Problem
 lists_fault name c n = if fits c n && (n % 2 == 1) then None else wrong name
 
--- A word in the place of `stdout`.
+-- A word that may name a channel: a standard one, or one that `open` names.
+abbrev pub names_channel : List ℕ → Bool
+names_channel w = bytes_eq w (codes "stdout") || bytes_eq w (codes "stderr") || bytes_eq (take 4 w) (codes "file")
+
+-- A word in the place of a channel.
 abbrev pub channel : Option (List ℕ) → Option Problem
 channel None = None
 channel (Some w) =
-    if bytes_eq w (codes "stdout") then None
+    if names_channel w then None
     else if begins_with ascii.minus w then Some (BadFlag w)
     else Some (BadOption w)
 
--- `puts ?-nonewline? ?stdout? text`.
+-- `puts ?-nonewline? ?channelId? text`.
 abbrev pub output_fault : List ℕ → List Placed → Option Problem
 output_fault name [] = wrong name
 output_fault name (text ∷ []) = None

@@ -1,8 +1,8 @@
 //! Checks the arguments of a command.
 
-ghost use Rattle.std.specs.Prelude.{◌≡◌, false, IfOk};
+ghost use Rattle.std.specs.Prelude.{◌≡◌, take, codes, false, bytes_eq, IfOk};
 ghost use Rattle.command_table.specs.Counts.{exactly};
-ghost use Rattle.script_check.specs.Faults.{wrong, counted, switched, if_switched, chosen, choice_fault, flagged, fronted, last_stage, lists_fault, channel, output_fault, fault_of};
+ghost use Rattle.script_check.specs.Faults.{wrong, counted, switched, if_switched, chosen, choice_fault, flagged, fronted, last_stage, lists_fault, names_channel, channel, output_fault, fault_of};
 
 use crate::expects::expect_fault;
 use crate::placed::Placed;
@@ -216,14 +216,28 @@ fn lists_fault(alloc: Global, name: &[u8], count: Count, n: usize) -> Judged
     }
 }
 
-/// Checks a word in the place of `stdout`.
+/// Returns whether a word may name a channel: a standard one, or one that `open` names.
+fn names_channel(word: &[u8]) -> bool
+    ensures { result ≡ names_channel word.now }
+{
+    is(word, b"stdout") || is(word, b"stderr") || begins_with_file(word)
+}
+
+/// Returns whether a word begins as the names of channels that `open` gives.
+fn begins_with_file(word: &[u8]) -> bool
+    ensures { result ≡ bytes_eq (take 4 word.now) (codes "file") }
+{
+    word.len() >= 4 && is(&word[..4], b"file")
+}
+
+/// Checks a word in the place of a channel.
 fn channel(alloc: Global, word: &Placed) -> Judged
     ensures { IfOk result (λ p. p ≡ channel word.now.value) }
 {
     let Some(text) = &word.value else {
         return Ok(None);
     };
-    if is(text.as_slice(), b"stdout") {
+    if names_channel(text.as_slice()) {
         return Ok(None);
     }
     if begins_with(b'-', text.as_slice()) {
@@ -232,7 +246,7 @@ fn channel(alloc: Global, word: &Placed) -> Judged
     Ok(Some(Problem::BadOption(text.copied(alloc)?)))
 }
 
-/// Checks `puts ?-nonewline? ?stdout? text`.
+/// Checks `puts ?-nonewline? ?channelId? text`.
 fn output_fault(alloc: Global, name: &[u8], args: &[Placed]) -> Judged
     ensures { IfOk result (λ p. p ≡ output_fault name.now args.now) }
 {

@@ -8,7 +8,7 @@ use Rattle.secret_words.specs.Masking.{begins, shown_at, hidden_behind, masked}
 abbrev pub is_front : List ℕ → Secret → Bool
 is_front text s = nat_lt (length text) (length s.bytes) && begins text s.bytes
 
--- A text waits for more if it is such a front of a secret, and none of its first n bytes belongs to a secret before it.
+-- A text may be the front of a secret. Its first n bytes belong to a secret that begins before it.
 abbrev pub waits : List Secret → ℕ → List ℕ → Bool
 waits ss n text = (n == 0) && list_any (is_front text) ss
 

@@ -24,7 +24,8 @@ fn is_front_of_any(text: &[u8], secrets: &[Secret]) -> bool
     secrets.iter().any(|secret| is_front(text, secret))
 }
 
-/// Returns whether a text, of which `left` bytes belong to a secret before it, waits for more.
+/// Returns whether a text may be the front of a secret. `left` of its bytes belong to a secret
+/// that begins before it.
 fn waits(secrets: &[Secret], left: usize, text: &[u8]) -> bool
     ensures { result ≡ waits_of secrets.now left text.now }
 {

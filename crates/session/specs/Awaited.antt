@@ -17,6 +17,10 @@ answering k = if goes_on k then dialogue.answering k.dialogue.phase else None
 abbrev pub starting : Kept → Option ℕ
 starting k = if k.lives then dialogue.starting k.dialogue.phase else None
 
+-- The number, from 1, of the child whose output is awaited by the command that runs it.
+abbrev pub hearing : Kept → Option ℕ
+hearing k = if goes_on k then dialogue.hearing k.dialogue.phase else None
+
 -- The expect that waits for an item of one of its children.
 abbrev pub expecting : Kept → Option Plan
 expecting k = if goes_on k then dialogue.expecting k.dialogue.phase else None

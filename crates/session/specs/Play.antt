@@ -3,8 +3,7 @@ use Rattle.std.specs.Prelude.{ℕ, ◌-◌, Bool, List, [], ◌∷◌, map, code
 use Rattle.tcl_subst.specs.Report.{values_of}
 use Rattle.tcl_subst.specs.Variables.{Variables}
 use Rattle.tcl_results.specs.declared.code.Code.{Code}
-use Rattle.tcl_results.specs.declared.code.Carried.{Carried}
-use Rattle.tcl_results.specs.declared.code.Carried.TheVariants as carried
+use Rattle.tcl_results.specs.Codes.{script_code}
 use Rattle.tcl_results.specs.declared.code.Code.TheVariants.{Ok, Error, Return, Break, Continue, Again, AgainLater}
 use Rattle.tcl_host.specs.declared.ending.Ending.{Ending}
 use Rattle.tcl_host.specs.declared.ending.Ending.TheVariants as ending
@@ -45,39 +44,31 @@ said e fault trail steps vars st = said_with e fault trail steps (values_of vars
 abbrev pub told : Bool → Report → Report
 told tells r = record r { vars = if tells then r.vars else [] }
 
--- The ending of a script whose `return` carries this code. Codes 0 and 2 are normal ends.
-abbrev pub ending_by : Carried → Ending
-ending_by carried.Ok = ending.Exit 0
-ending_by carried.Return = ending.Exit 0
-ending_by carried.Error = ending.Error
-ending_by carried.Break = ending.Error
-ending_by carried.Continue = ending.Error
+-- The ending of a script with this code, when `return` has given what it carries. Any other code than 0 and 2 is an error.
+abbrev pub ending_by : Code → Ending
+ending_by Ok = ending.Exit 0
+ending_by (Return c) = ending.Exit 0
+ending_by Error = ending.Error
+ending_by Break = ending.Error
+ending_by Continue = ending.Error
+ending_by Again = ending.Error
+ending_by AgainLater = ending.Error
 
--- The ending of a script with this code. Any other code than 0 and 2 is an error.
 abbrev pub ending_at : Code → Ending
-ending_at Ok = ending.Exit 0
-ending_at (Return c) = ending_by c
-ending_at Error = ending.Error
-ending_at Break = ending.Error
-ending_at Continue = ending.Error
-ending_at Again = ending.Error
-ending_at AgainLater = ending.Error
+ending_at c = ending_by (script_code c)
 
-abbrev pub fault_by : Carried → List ℕ → List ℕ
-fault_by carried.Ok value = []
-fault_by carried.Return value = []
-fault_by carried.Error value = value
-fault_by carried.Break value = outside_loop (codes "break")
-fault_by carried.Continue value = outside_loop (codes "continue")
+-- The text of the error of a script with such a code.
+abbrev pub fault_by : Code → List ℕ → List ℕ
+fault_by Ok value = []
+fault_by (Return c) value = []
+fault_by Error value = value
+fault_by Break value = outside_loop (codes "break")
+fault_by Continue value = outside_loop (codes "continue")
+fault_by Again value = codes "exp_continue outside of expect"
+fault_by AgainLater value = codes "exp_continue outside of expect"
 
 abbrev pub fault_at : Code → List ℕ → List ℕ
-fault_at Ok value = []
-fault_at (Return c) value = fault_by c value
-fault_at Error value = value
-fault_at Break value = outside_loop (codes "break")
-fault_at Continue value = outside_loop (codes "continue")
-fault_at Again value = codes "exp_continue outside of expect"
-fault_at AgainLater value = codes "exp_continue outside of expect"
+fault_at c value = fault_by (script_code c) value
 
 -- The name of the procedure that these words called.
 abbrev pub name_of : List (List ℕ) → List ℕ

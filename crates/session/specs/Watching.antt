@@ -10,6 +10,7 @@ use Rattle.tcl_eval.specs.Rest.{engine_rest}
 use Rattle.tcl_host.specs.Calls.{Call, Begin, Resume, AfterWords, AfterBody, Knows, Reply, Stepped, Known}
 use Rattle.tcl_eval.specs.Tree.{Tree, Over, Ask}
 use Rattle.expect_core.specs.Answered.{Outcome}
+use Rattle.expect_core.specs.Bodies.{acting_in}
 use Rattle.expect_core.specs.Calls.{outcome, knows, fresh}
 use Rattle.expect_core.specs.Lanes.{extended}
 use Rattle.expect_core.specs.declared.dialogue.Dialogue.{Dialogue}
@@ -26,14 +27,14 @@ pub record Meeting : Type 0 where
   pub vars : Variables
   pub asked : List Request
 
--- The meeting of the innermost expect.
-abbrev pub innermost : List Plan → Variables → List Request → Option Meeting
-innermost [] vars asked = None
-innermost (p ∷ ps) vars asked = Some (record { plan = p; vars = vars; asked = asked })
+-- The meeting of the expect whose action is the innermost script.
+abbrev pub innermost : Option Plan → Variables → List Request → Option Meeting
+innermost None vars asked = None
+innermost (Some p) vars asked = Some (record { plan = p; vars = vars; asked = asked })
 
--- A reply with a script to evaluate is the action of the innermost expect, which met something.
+-- A reply with a script to evaluate is the action of the innermost expect, which met something, or what `source` read.
 abbrev pub met_by : HostStep → Variables → Own → Option Meeting
-met_by (Body text) vars o = innermost o.plans vars o.requests
+met_by (Body text) vars o = innermost (acting_in o.bodies) vars o.requests
 met_by step vars o = None
 
 -- The same for a reply.

@@ -8,7 +8,7 @@ ghost use Rattle.tcl_eval.specs.Suspended.{IsOver};
 ghost use Rattle.expect_core.specs.Awaited.{buffer_of};
 ghost use Rattle.expect_core.specs.Good.{Good};
 ghost use Rattle.expect_core.specs.Lanes.{extended, untaken_of};
-ghost use Rattle.session.specs.Awaited.{goes_on, answering, starting, expecting};
+ghost use Rattle.session.specs.Awaited.{goes_on, answering, starting, hearing, expecting};
 ghost use Rattle.session.specs.Left.{left, Fed, HandsOut, HasShown, HasAsked, HasBegun, HasStarted};
 ghost use Rattle.session.specs.Meaning.{meaning, steps_of, tree_of};
 ghost use Rattle.session.specs.Quiet.{QuietUntil, waits_until};
@@ -522,6 +522,18 @@ impl Session {
     {
         if self.lives {
             self.dialogue.state().starting()
+        } else {
+            None
+        }
+    }
+
+    /// Returns the number, from 1, of the child whose output is awaited by the command that runs it.
+    /// `None` if the script awaits none, or doesn't go on.
+    pub fn hearing(&self) -> Option<u8>
+        ensures { result ≡ hearing self.now }
+    {
+        if self.goes_on() {
+            self.dialogue.state().hearing()
         } else {
             None
         }

@@ -9,27 +9,18 @@ use crate::place::ErrorPlaces;
 use crate::report::{Counts, Report};
 use expect_core::{DialogueHost, Pairs};
 use std::alloc::{AllocError, Global};
-use tcl_eval::{Carried, Code, End, Machine, Origin};
+use tcl_eval::{Code, End, Machine, Origin};
 use tcl_host::Ending;
+use tcl_results::script_code;
 use tcl_subst::Vars;
 use tcl_values::Value;
 use tcl_words::Text;
 
-fn ending_by(carried: Carried) -> Ending
-    ensures { result ≡ ending_by carried }
-{
-    match carried {
-        Carried::Ok | Carried::Return => Ending::Exit(0),
-        Carried::Error | Carried::Break | Carried::Continue => Ending::Error,
-    }
-}
-
-fn ending_at(code: Code) -> Ending
-    ensures { result ≡ ending_told code }
+fn ending_by(code: Code) -> Ending
+    ensures { result ≡ ending_by code }
 {
     match code {
-        Code::Ok => Ending::Exit(0),
-        Code::Return(carried) => ending_by(carried),
+        Code::Ok | Code::Return(_) => Ending::Exit(0),
         Code::Error => Ending::Error,
         Code::Break => Ending::Error,
         Code::Continue => Ending::Error,
@@ -38,29 +29,29 @@ fn ending_at(code: Code) -> Ending
     }
 }
 
-fn fault_by(alloc: Global, carried: Carried, value: &Value) -> Result<Text, AllocError>
-    ensures { IfOk result (λ t. t ≡ fault_by carried value.now) }
+fn ending_at(code: Code) -> Ending
+    ensures { result ≡ ending_told code }
 {
-    match carried {
-        Carried::Ok | Carried::Return => Ok(Text::new(alloc)),
-        Carried::Error => Text::from_slice(alloc, value.as_slice()),
-        Carried::Break => Text::from_slice(alloc, b"invoked \"break\" outside of a loop"),
-        Carried::Continue => Text::from_slice(alloc, b"invoked \"continue\" outside of a loop"),
-    }
+    ending_by(script_code(code))
 }
 
-fn fault_at(alloc: Global, code: Code, value: &Value) -> Result<Text, AllocError>
-    ensures { IfOk result (λ t. t ≡ fault_told code value.now) }
+fn fault_by(alloc: Global, code: Code, value: &Value) -> Result<Text, AllocError>
+    ensures { IfOk result (λ t. t ≡ fault_by code value.now) }
 {
     match code {
-        Code::Ok => Ok(Text::new(alloc)),
-        Code::Return(carried) => fault_by(alloc, carried, value),
+        Code::Ok | Code::Return(_) => Ok(Text::new(alloc)),
         Code::Error => Text::from_slice(alloc, value.as_slice()),
         Code::Break => Text::from_slice(alloc, b"invoked \"break\" outside of a loop"),
         Code::Continue => Text::from_slice(alloc, b"invoked \"continue\" outside of a loop"),
         Code::Again => Text::from_slice(alloc, b"exp_continue outside of expect"),
         Code::AgainLater => Text::from_slice(alloc, b"exp_continue outside of expect"),
     }
+}
+
+fn fault_at(alloc: Global, code: Code, value: &Value) -> Result<Text, AllocError>
+    ensures { IfOk result (λ t. t ≡ fault_told code value.now) }
+{
+    fault_by(alloc, script_code(code), value)
 }
 
 /// Returns the ending of a script.

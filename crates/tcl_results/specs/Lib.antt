@@ -1,4 +1,5 @@
 pub mod Texts
+pub mod Codes
 pub mod Said
 pub mod Given
 pub mod Sets

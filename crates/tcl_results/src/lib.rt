@@ -19,7 +19,7 @@ mod ways;
 mod white;
 
 pub use cases::{are_same, lower, order};
-pub use code::{Carried, Code};
+pub use code::{Carried, Code, script_code};
 pub use complaint::Complaint;
 pub use outcomes::{error, said, told, wrong_call};
 pub use sets::ByteSet;

@@ -272,7 +272,7 @@ nested scripts (suc depth) = record {
   index = parts (record (nested scripts depth) { scripts = scripts }) Paren;
 }
 
--- The same. Whether brackets are scripts computes at any depth.
+-- `nested`, in a form whose field `scripts` computes at any depth.
 unfoldable pub reader : Bool → ℕ → Inside
 reader scripts depth = record (nested scripts depth) { scripts = scripts }
 
