@@ -36,20 +36,22 @@ plain_lines (r ∷ rs) = request_line r ++ plain_lines rs
 abbrev pub request_lines : List Secret → List Request → List ℕ
 request_lines ss rs = plain_lines (shown_requests ss rs)
 
+-- A line about a child, if there is one.
+abbrev pub child_line : List ℕ → Option ℕ → List ℕ
+child_line words None = []
+child_line words (Some c) = margin ++ labelled words c ++ codes "\n"
+
 -- The line of the answer that the script waits for.
 unfoldable pub answer_line : Option ℕ → List ℕ
-answer_line None = []
-answer_line (Some c) = margin ++ labelled (codes "waits for the answer of child ") c ++ codes "\n"
+answer_line child = child_line (codes "waits for the answer of child ") child
 
 -- The line of the start that the script waits for.
 unfoldable pub start_line : Option ℕ → List ℕ
-start_line None = []
-start_line (Some c) = margin ++ labelled (codes "waits for the start of child ") c ++ codes "\n"
+start_line child = child_line (codes "waits for the start of child ") child
 
 -- The line of the output that a command awaits of the program that it runs.
 unfoldable pub output_line : Option ℕ → List ℕ
-output_line None = []
-output_line (Some c) = margin ++ labelled (codes "waits for the end of child ") c ++ codes "\n"
+output_line child = child_line (codes "waits for the end of child ") child
 
 -- The verdict for a pattern of which only a front matches in the bytes.
 unfoldable pub only_line : List ℕ → List ℕ

@@ -3,7 +3,7 @@
 ghost use Rattle.std.specs.Prelude.{◌≡◌, ◌++◌, IfOk, OnOk, Some, None, MatchOption};
 ghost use Rattle.exp_match.specs.Choice.{in_groups};
 ghost use Rattle.session.specs.Awaited.{answering, starting, hearing, expecting};
-ghost use Rattle.course_texts.specs.Waits.{margin, request_line, plain_lines, request_lines, answer_line, start_line, output_line, only_line, verdict_by, verdict_in, verdict as verdict_of, entry_line, own_line, own_lines, tail_of, plain_buffer, buffer_line, side_lines, deadline_line, endless_line, until_line, expect_lines, wait_lines};
+ghost use Rattle.course_texts.specs.Waits.{margin, request_line, plain_lines, request_lines, child_line, answer_line, start_line, output_line, only_line, verdict_by, verdict_in, verdict as verdict_of, entry_line, own_line, own_lines, tail_of, plain_buffer, buffer_line, side_lines, deadline_line, endless_line, until_line, expect_lines, wait_lines};
 
 use crate::nearest::front_of;
 use crate::patterns::{is_hidden, push_want};
@@ -71,22 +71,29 @@ pub fn push_requests(
     push_plain_requests(alloc, text, shown.as_slice())
 }
 
-/// Appends the line of the child whose answer the script waits for, if there is one.
-#[tactic(auto, unfolding(crate::specs::Waits::answer_line))]
-fn push_answer(alloc: Global, text: &mut Text, child: Option<u8>) -> Result<(), AllocError>
-    ensures { OnOk result (text.new ≡ text.old ++ answer_line child) }
+/// Appends a line about a child, if there is one.
+fn push_child(
+    alloc: Global,
+    text: &mut Text,
+    words: &[u8],
+    child: Option<u8>,
+) -> Result<(), AllocError>
+    ensures { OnOk result (text.new ≡ text.old ++ child_line words.now child) }
 {
     let Some(child) = child else {
         return Ok(());
     };
     push_margin(text)?;
-    push_labelled(
-        alloc,
-        text,
-        b"waits for the answer of child ",
-        u128::from(child),
-    )?;
+    push_labelled(alloc, text, words, u128::from(child))?;
     text.extend(b"\n")
+}
+
+/// Appends the line of the child whose answer the script waits for, if there is one.
+#[tactic(auto, unfolding(crate::specs::Waits::answer_line))]
+fn push_answer(alloc: Global, text: &mut Text, child: Option<u8>) -> Result<(), AllocError>
+    ensures { OnOk result (text.new ≡ text.old ++ answer_line child) }
+{
+    push_child(alloc, text, b"waits for the answer of child ", child)
 }
 
 /// Appends the line of the child whose start the script waits for, if there is one.
@@ -94,17 +101,7 @@ fn push_answer(alloc: Global, text: &mut Text, child: Option<u8>) -> Result<(), 
 fn push_start(alloc: Global, text: &mut Text, child: Option<u8>) -> Result<(), AllocError>
     ensures { OnOk result (text.new ≡ text.old ++ start_line child) }
 {
-    let Some(child) = child else {
-        return Ok(());
-    };
-    push_margin(text)?;
-    push_labelled(
-        alloc,
-        text,
-        b"waits for the start of child ",
-        u128::from(child),
-    )?;
-    text.extend(b"\n")
+    push_child(alloc, text, b"waits for the start of child ", child)
 }
 
 /// Appends the line of the child whose output a command awaits, if there is one.
@@ -112,17 +109,7 @@ fn push_start(alloc: Global, text: &mut Text, child: Option<u8>) -> Result<(), A
 fn push_output(alloc: Global, text: &mut Text, child: Option<u8>) -> Result<(), AllocError>
     ensures { OnOk result (text.new ≡ text.old ++ output_line child) }
 {
-    let Some(child) = child else {
-        return Ok(());
-    };
-    push_margin(text)?;
-    push_labelled(
-        alloc,
-        text,
-        b"waits for the end of child ",
-        u128::from(child),
-    )?;
-    text.extend(b"\n")
+    push_child(alloc, text, b"waits for the end of child ", child)
 }
 
 /// Appends the verdict for a pattern of which only a front matches.
