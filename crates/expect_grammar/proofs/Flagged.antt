@@ -25,6 +25,7 @@ minus_is (b ∷ s) = refl
 id_isnt_own : (own : Own) → is_own own (codes "-i") ≡ false
 id_isnt_own switch.None = refl
 id_isnt_own switch.Spawn = refl
+id_isnt_own switch.Exec = refl
 id_isnt_own switch.Default = refl
 id_isnt_own switch.Timer = refl
 
@@ -33,6 +34,7 @@ module _ (P : List ℕ → Own → Type 0) (holds : (word : List ℕ) (s : Own) 
   own_is_switch : (own : Own) (word : List ℕ) → is_own own word ≡ true → P word own
   own_is_switch switch.None word is = absurd (never (sym is))
   own_is_switch switch.Spawn word is = found word (codes "-noecho") (λ w. P w switch.Spawn) (holds (codes "-noecho") switch.Spawn IsSwitch.noecho) is
+  own_is_switch switch.Exec word is = found word (codes "-keepnewline") (λ w. P w switch.Exec) (holds (codes "-keepnewline") switch.Exec IsSwitch.keepnewline) is
   own_is_switch switch.Default word is = found word (codes "-d") (λ w. P w switch.Default) (holds (codes "-d") switch.Default IsSwitch.default) is
   own_is_switch switch.Timer word is = found word (codes "-continue_timer") (λ w. P w switch.Timer) (holds (codes "-continue_timer") switch.Timer IsSwitch.continue_timer) is
 
@@ -41,15 +43,16 @@ module _ (takes : Takes) where
 
   own_test : (word : List ℕ) (s : Own) → takes.own ≡ s → IsSwitch word s → is_own takes.own word ≡ true
   own_test word s e IsSwitch.noecho = ap (λ own. is_own own word) e
+  own_test word s e IsSwitch.keepnewline = ap (λ own. is_own own word) e
   own_test word s e IsSwitch.default = ap (λ own. is_own own word) e
   own_test word s e IsSwitch.continue_timer = ap (λ own. is_own own word) e
 
-  -- a flag of `spawn` other than its own one
-  unlike_own : (word : List ℕ) → is_own switch.Spawn word ≡ false → takes.own ≡ switch.Spawn → is_own takes.own word ≡ false
-  unlike_own word is e = ap (λ own. is_own own word) e ∙ is
+  -- a flag other than the command's own one
+  unlike_own : (word : List ℕ) (s : Own) → is_own s word ≡ false → takes.own ≡ s → is_own takes.own word ≡ false
+  unlike_own word s is e = ap (λ own. is_own own word) e ∙ is
 
-  other_test : (word : List ℕ) (r : Role) → other_role switch.Spawn word ≡ r → takes.own ≡ switch.Spawn → other_role takes.own word ≡ r
-  other_test word r is e = ap (λ own. other_role own word) e ∙ is
+  other_test : (word : List ℕ) (s : Own) (r : Role) → other_role s word ≡ r → takes.own ≡ s → other_role takes.own word ≡ r
+  other_test word s r is e = ap (λ own. other_role own word) e ∙ is
 
   own_flag : (word : List ℕ) → is_own takes.own word ≡ true → IsFlag takes word
   own_flag word is = own_is_switch (λ w s. takes.own ≡ s → IsFlag takes w) (λ w s is e. IsFlag.own w s e is) takes.own word is refl
@@ -61,19 +64,19 @@ module _ (takes : Takes) where
   end_flag word is = let p = and_parts takes.end _ is in found word (codes "--") (λ w. IsFlag takes w) (IsFlag.end p.0) p.1
 
   no_flag : (word : List ℕ) → takes.end && bytes_eq word (codes "--") ≡ false → is_own takes.own word ≡ false → takes.id && bytes_eq word (codes "-i") ≡ false
-      → (takes.own ≡ switch.Spawn → IsNoSpawnFlag word) → ¬ IsFlag takes word
-  no_flag word end own id other (IsFlag.own v s e is) = never (sym (own_test word s e is) ∙ own)
-  no_flag word end own id other (IsFlag.id e) = let is = rw e at id in never is
-  no_flag word end own id other (IsFlag.end e) = let is = rw e at end in never is
-  no_flag word end own id other (IsFlag.terminal v on e is) = (other e).terminal on is
-  no_flag word end own id other (IsFlag.shown v e is) = (other e).shown is
-  no_flag word end own id other (IsFlag.ignore e) = (other e).ignore refl
+      → (takes.own ≡ switch.Spawn → IsNoSpawnFlag word) → ¬ IsShown word takes.own → ¬ IsFlag takes word
+  no_flag word end own id other hidden (IsFlag.own v s e is) = never (sym (own_test word s e is) ∙ own)
+  no_flag word end own id other hidden (IsFlag.id e) = let is = rw e at id in never is
+  no_flag word end own id other hidden (IsFlag.end e) = let is = rw e at end in never is
+  no_flag word end own id other hidden (IsFlag.terminal v on e is) = (other e).terminal on is
+  no_flag word end own id other hidden (IsFlag.shown v s e is) = hidden (subst (λ own. IsShown word own) (sym e) is)
+  no_flag word end own id other hidden (IsFlag.ignore e) = (other e).ignore refl
 
   bad_by : (word : List ℕ) (r : Role) → OtherIs takes.own word r → ¬ IsFlag takes word → r ≡ role.Bad
   bad_by word r (OtherIs.terminal v on e is) other = absurd (other (IsFlag.terminal word on e is))
-  bad_by word r (OtherIs.shown v e is) other = absurd (other (IsFlag.shown word e is))
+  bad_by word r (OtherIs.shown v is) other = absurd (other (IsFlag.shown word takes.own refl is))
   bad_by word r (OtherIs.ignore e) other = absurd (other (IsFlag.ignore e))
-  bad_by word r (OtherIs.none v unlike) other = refl
+  bad_by word r (OtherIs.none v unlike hidden) other = refl
 
   bad_role : (word : List ℕ) → ¬ IsFlag takes word → other_role takes.own word ≡ role.Bad
   bad_role word other = bad_by word (other_role takes.own word) (other_is takes.own word) other
@@ -84,6 +87,7 @@ module _ (takes : Takes) where
     own_is : (f : Flags) (word : List ℕ) (rest : List (List ℕ)) (s : Own) → takes.own ≡ s → IsSwitch word s
         → flags_from name takes due.None f (word ∷ rest) ≡ flags_from name takes due.None (record f { on = true }) rest
     own_is f word rest s e IsSwitch.noecho = rw (and_right takes.end false refl, own_test word s e IsSwitch.noecho) refl
+    own_is f word rest s e IsSwitch.keepnewline = rw (and_right takes.end false refl, own_test word s e IsSwitch.keepnewline) refl
     own_is f word rest s e IsSwitch.default = rw (and_right takes.end false refl, own_test word s e IsSwitch.default) refl
     own_is f word rest s e IsSwitch.continue_timer = rw (and_right takes.end false refl, own_test word s e IsSwitch.continue_timer) refl
 
@@ -92,16 +96,17 @@ module _ (takes : Takes) where
 
     terminal_is : (f : Flags) (word : List ℕ) (rest : List (List ℕ)) (on : Bool) → takes.own ≡ switch.Spawn → IsTerminal word on
         → flags_from name takes due.None f (word ∷ rest) ≡ flags_from name takes due.None (record f { tty = Some on }) rest
-    terminal_is f word rest on e IsTerminal.tty = rw (and_right takes.end false refl, unlike_own (codes "-tty") refl e, and_right takes.id false refl, other_test (codes "-tty") (role.Tty true) refl e) refl
-    terminal_is f word rest on e IsTerminal.notty = rw (and_right takes.end false refl, unlike_own (codes "-notty") refl e, and_right takes.id false refl, other_test (codes "-notty") (role.Tty false) refl e) refl
+    terminal_is f word rest on e IsTerminal.tty = rw (and_right takes.end false refl, unlike_own (codes "-tty") switch.Spawn refl e, and_right takes.id false refl, other_test (codes "-tty") switch.Spawn (role.Tty true) refl e) refl
+    terminal_is f word rest on e IsTerminal.notty = rw (and_right takes.end false refl, unlike_own (codes "-notty") switch.Spawn refl e, and_right takes.id false refl, other_test (codes "-notty") switch.Spawn (role.Tty false) refl e) refl
 
-    shown_is : (f : Flags) (word : List ℕ) (rest : List (List ℕ)) → takes.own ≡ switch.Spawn → IsShown word
+    shown_is : (f : Flags) (word : List ℕ) (rest : List (List ℕ)) (s : Own) → takes.own ≡ s → IsShown word s
         → flags_from name takes due.None f (word ∷ rest) ≡ flags_from name takes due.None (showing word f) rest
-    shown_is f word rest e IsShown.nottycopy = rw (and_right takes.end false refl, unlike_own (codes "-nottycopy") refl e, and_right takes.id false refl, other_test (codes "-nottycopy") role.Shown refl e) refl
-    shown_is f word rest e IsShown.nottyinit = rw (and_right takes.end false refl, unlike_own (codes "-nottyinit") refl e, and_right takes.id false refl, other_test (codes "-nottyinit") role.Shown refl e) refl
+    shown_is f word rest s e IsShown.nottycopy = rw (and_right takes.end false refl, unlike_own (codes "-nottycopy") switch.Spawn refl e, and_right takes.id false refl, other_test (codes "-nottycopy") switch.Spawn role.Shown refl e) refl
+    shown_is f word rest s e IsShown.nottyinit = rw (and_right takes.end false refl, unlike_own (codes "-nottyinit") switch.Spawn refl e, and_right takes.id false refl, other_test (codes "-nottyinit") switch.Spawn role.Shown refl e) refl
+    shown_is f word rest s e IsShown.ignorestderr = rw (and_right takes.end false refl, unlike_own (codes "-ignorestderr") switch.Exec refl e, and_right takes.id false refl, other_test (codes "-ignorestderr") switch.Exec role.Shown refl e) refl
 
     ignore_is : (f : Flags) (rest : List (List ℕ)) → takes.own ≡ switch.Spawn → flags_from name takes due.None f (codes "-ignore" ∷ rest) ≡ flags_from name takes due.Shown (showing (codes "-ignore") f) rest
-    ignore_is f rest e = rw (and_right takes.end false refl, unlike_own (codes "-ignore") refl e, and_right takes.id false refl, other_test (codes "-ignore") role.ShownWithValue refl e) refl
+    ignore_is f rest e = rw (and_right takes.end false refl, unlike_own (codes "-ignore") switch.Spawn refl e, and_right takes.id false refl, other_test (codes "-ignore") switch.Spawn role.ShownWithValue refl e) refl
 
     -- what is read is read behind the flags that stand in front
     stood : (f g : Flags) (words behind : List (List ℕ)) → Stand takes f words g behind → flags_from name takes due.None f words ≡ flags_from name takes due.None g behind
@@ -109,7 +114,7 @@ module _ (takes : Takes) where
     stood f g words behind (Stand.own h i word rest ws s e is on) = own_is f word rest s e is ∙ stood (record f { on = true }) g rest behind on
     stood f g words behind (Stand.id h i word rest ws e on) = id_is f (word ∷ rest) e ∙ stood (record f { id = Some word }) g rest behind on
     stood f g words behind (Stand.terminal h i word rest ws t e is on) = terminal_is f word rest t e is ∙ stood (record f { tty = Some t }) g rest behind on
-    stood f g words behind (Stand.shown h i word rest ws e is on) = shown_is f word rest e is ∙ stood (showing word f) g rest behind on
+    stood f g words behind (Stand.shown h i word rest ws s e is on) = shown_is f word rest s e is ∙ stood (showing word f) g rest behind on
     stood f g words behind (Stand.ignore h i word rest ws e on) = ignore_is f (word ∷ rest) e ∙ stood (showing word (showing (codes "-ignore") f)) g rest behind on
 
     ended : (f : Flags) (behind rest : List (List ℕ)) → End takes behind rest → flags_from name takes due.None f behind ≡ Ok (f, rest)
@@ -159,9 +164,9 @@ module _ (takes : Takes) where
     chosen f word rest on e is (Outcome.good g behind ws h end) = Outcome.good g behind ws (Stand.terminal f g word rest behind on e is h) end
     chosen f word rest on e is (Outcome.wrong g behind text h bad) = Outcome.wrong g behind text (Stand.terminal f g word rest behind on e is h) bad
 
-    showed : (f : Flags) (word : List ℕ) (rest : List (List ℕ)) → takes.own ≡ switch.Spawn → IsShown word → Outcome (showing word f) rest → Outcome f (word ∷ rest)
-    showed f word rest e is (Outcome.good g behind ws h end) = Outcome.good g behind ws (Stand.shown f g word rest behind e is h) end
-    showed f word rest e is (Outcome.wrong g behind text h bad) = Outcome.wrong g behind text (Stand.shown f g word rest behind e is h) bad
+    showed : (f : Flags) (word : List ℕ) (rest : List (List ℕ)) → IsShown word takes.own → Outcome (showing word f) rest → Outcome f (word ∷ rest)
+    showed f word rest is (Outcome.good g behind ws h end) = Outcome.good g behind ws (Stand.shown f g word rest behind takes.own refl is h) end
+    showed f word rest is (Outcome.wrong g behind text h bad) = Outcome.wrong g behind text (Stand.shown f g word rest behind takes.own refl is h) bad
 
     ignored : (f : Flags) (word : List ℕ) (rest : List (List ℕ)) → takes.own ≡ switch.Spawn → Outcome (showing word (showing (codes "-ignore") f)) rest → Outcome f (codes "-ignore" ∷ word ∷ rest)
     ignored f word rest e (Outcome.good g behind ws h end) = Outcome.good g behind ws (Stand.ignore f g word rest behind e h) end
@@ -174,9 +179,9 @@ module _ (takes : Takes) where
     other_first : (f : Flags) (word : List ℕ) (rest : List (List ℕ)) (r : Role) → OtherIs takes.own word r → Each rest
         → begins_with 45 word ≡ true → takes.end && bytes_eq word (codes "--") ≡ false → is_own takes.own word ≡ false → takes.id && bytes_eq word (codes "-i") ≡ false → Outcome f (word ∷ rest)
     other_first f word rest r (OtherIs.terminal v on e is) b minus end own id = chosen f word rest on e is (b.alone (record f { tty = Some on }))
-    other_first f word rest r (OtherIs.shown v e is) b minus end own id = showed f word rest e is (b.alone (showing word f))
+    other_first f word rest r (OtherIs.shown v is) b minus end own id = showed f word rest is (b.alone (showing word f))
     other_first f word rest r (OtherIs.ignore e) b minus end own id = b.ignore f e
-    other_first f word rest r (OtherIs.none v unlike) b minus end own id = Outcome.wrong f (word ∷ rest) _ (Stand.none f (word ∷ rest)) (Wrong.unknown word rest minus (no_flag word end own id unlike))
+    other_first f word rest r (OtherIs.none v unlike hidden) b minus end own id = Outcome.wrong f (word ∷ rest) _ (Stand.none f (word ∷ rest)) (Wrong.unknown word rest minus (no_flag word end own id unlike hidden))
 
     first : (f : Flags) (word : List ℕ) (rest : List (List ℕ)) → Each rest → Outcome f (word ∷ rest)
     first f word rest b = by_minus (begins_with 45 word) refl

@@ -15,6 +15,8 @@ use Rattle.command_table.specs.declared.flags.Flags.{Flags as Takes}
 pub data IsSwitch : List ℕ → Own → Type 0 where
   -- Of `spawn`: the command isn't shown.
   noecho : IsSwitch (codes "-noecho") switch.Spawn
+  -- Of `exec`: the last newline of the output stays.
+  keepnewline : IsSwitch (codes "-keepnewline") switch.Exec
   -- Of `match_max` and `remove_nulls`: the setting applies to processes started later.
   default : IsSwitch (codes "-d") switch.Default
   -- Of `exp_continue`: the time limit of `expect` doesn't start anew.
@@ -25,12 +27,14 @@ pub data IsTerminal : List ℕ → Bool → Type 0 where
   tty : IsTerminal (codes "-tty") true
   notty : IsTerminal (codes "-notty") false
 
--- A flag of `spawn` that changes nothing here. The line of the command shows it.
-pub data IsShown : List ℕ → Type 0 where
-  -- The modes of the terminal aren't copied from that of the user.
-  nottycopy : IsShown (codes "-nottycopy")
-  -- The modes of the terminal aren't set to sane ones.
-  nottyinit : IsShown (codes "-nottyinit")
+-- A flag that changes nothing here. The line of a `spawn` shows it.
+pub data IsShown : List ℕ → Own → Type 0 where
+  -- Of `spawn`: the modes of the terminal aren't copied from that of the user.
+  nottycopy : IsShown (codes "-nottycopy") switch.Spawn
+  -- Of `spawn`: the modes of the terminal aren't set to sane ones.
+  nottyinit : IsShown (codes "-nottyinit") switch.Spawn
+  -- Of `exec`: standard error makes no error.
+  ignorestderr : IsShown (codes "-ignorestderr") switch.Exec
 
 -- A flag that the command accepts.
 pub data IsFlag (takes : Takes) : List ℕ → Type 0 where
@@ -42,7 +46,8 @@ pub data IsFlag (takes : Takes) : List ℕ → Type 0 where
   end : takes.end ≡ true → IsFlag takes (codes "--")
   -- A flag of `spawn` about terminals.
   terminal : (word : List ℕ) (on : Bool) → takes.own ≡ switch.Spawn → IsTerminal word on → IsFlag takes word
-  shown : (word : List ℕ) → takes.own ≡ switch.Spawn → IsShown word → IsFlag takes word
+  -- A flag that changes nothing.
+  shown : (word : List ℕ) (s : Own) → takes.own ≡ s → IsShown word s → IsFlag takes word
   -- The flag of `spawn` for a signal that the process ignores, which must follow.
   ignore : takes.own ≡ switch.Spawn → IsFlag takes (codes "-ignore")
 
@@ -62,8 +67,8 @@ pub data Stand (takes : Takes) : Flags → List (List ℕ) → Flags → List (L
   -- `-tty` or `-notty` of `spawn`, and more flags. The last of them counts.
   terminal : (f g : Flags) (word : List ℕ) (rest behind : List (List ℕ)) (on : Bool) → takes.own ≡ switch.Spawn → IsTerminal word on
       → Stand takes (record f { tty = Some on }) rest g behind → Stand takes f (word ∷ rest) g behind
-  -- A flag of `spawn` that is shown, and more flags.
-  shown : (f g : Flags) (word : List ℕ) (rest behind : List (List ℕ)) → takes.own ≡ switch.Spawn → IsShown word
+  -- A flag that changes nothing, and more flags.
+  shown : (f g : Flags) (word : List ℕ) (rest behind : List (List ℕ)) (s : Own) → takes.own ≡ s → IsShown word s
       → Stand takes (showing word f) rest g behind → Stand takes f (word ∷ rest) g behind
   -- `-ignore` of `spawn` with a signal, whatever word that is, and more flags. Both words are shown.
   ignore : (f g : Flags) (word : List ℕ) (rest behind : List (List ℕ)) → takes.own ≡ switch.Spawn
