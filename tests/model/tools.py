@@ -152,9 +152,9 @@ class Tools(Interpreter):
         if option not in (b"seconds", b"milliseconds"):
             raise failed(b"bad option", option)
         self.counted(b"clock", words, 0, 0)
-        return self.time(1000 if option == b"seconds" else 1)
+        return self.time_of_day(1000 if option == b"seconds" else 1)
 
-    def time(self, unit):
+    def time_of_day(self, unit):
         """The time of day in a unit of so many milliseconds. The first time date(1) tells it."""
         if self.day is None:
             told = self.line([b"date", b"+%s"])
@@ -170,7 +170,7 @@ class Tools(Interpreter):
         if seconds is not None and not seconds.isdigit():
             raise failed(b"expected number but got", seconds)
         if form is None:
-            return self.time(1000) if seconds is None else seconds
+            return self.time_of_day(1000) if seconds is None else seconds
         day = [] if seconds is None else [b"-d", b"@" + seconds]
         return self.line([b"date", *([b"-u"] if b"-gmt" in given else []), *day, b"+" + form])
 
