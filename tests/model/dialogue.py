@@ -23,6 +23,14 @@ SECONDS = re.compile(rb"-?(?:[0-9]+|([0-9]*)\.[0-9]+)")
 WAIT_CODES = {b"notfound": 2, b"denied": 13, b"broken": 32, b"memory": 12, b"other": 5}
 
 
+def milliseconds(text):
+    """A time in seconds, or None if the text is no such."""
+    if not SECONDS.fullmatch(text):
+        return None
+    whole, _, decimals = text.partition(b".")
+    return 0 if text.startswith(b"-") else 1000 * int(whole or b"0") + int((decimals + b"000")[:3])
+
+
 class Item(NamedTuple):
     """What a child's list holds: an event that came from it, or an echo."""
 
@@ -191,17 +199,43 @@ class Dialogue(Tools):
             raise failed(b"bad stty_init word", fault.args[0]) from None
 
     def do_send(self, words, name=b"send"):
-        given, words = self.flags(name, words, {b"-i": True, b"--": False})
+        given, words = self.flags(name, words, {b"-i": True, b"-s": False, b"-h": False, b"--": False})
         self.counted(name, words, 1, 1)
+        last = [flag for flag in given if flag in (b"-s", b"-h")][-1:]
+        pieces = self.pieces(last[0], words[0]) if last else [(0, words[0])]
         child = self.opened(given.get(b"-i"))
-        echo, actions = child.terminal.send(words[0])
+        for pause, piece in pieces:
+            self.sleep(pause)
+            self.type(child, piece)
+        return b""
+
+    def pieces(self, flag, text):
+        """The pieces in which a text goes out, each with the pause before it in milliseconds."""
+        name = b"send_slow" if flag == b"-s" else b"send_human"
+        try:
+            words = elements(self.seen(name))
+        except (TypeError, Thrown):
+            words = []
+        count = words.pop(0) if flag == b"-s" and words else b"1"
+        times = [milliseconds(word) for word in words]
+        if None in times or len(times) != (1 if flag == b"-s" else 5) or not count.isdigit() or int(count) == 0:
+            raise failed(b"bad " + name)
+        if flag == b"-s":
+            size = int(count)
+            return [(times[0] if at else 0, text[at : at + size]) for at in range(0, len(text), size)]
+        inside, ending, _, least, most = times
+        ends = [at > 0 and text[at - 1 : at].isalnum() and not text[at : at + 1].isalnum() for at in range(len(text))]
+        return [(min(most, max(least, ending if is_end else inside)), text[at : at + 1]) for at, is_end in enumerate(ends)]
+
+    def type(self, child, text):
+        """Types a text at a child's terminal."""
+        echo, actions = child.terminal.send(text)
         self.place_echo(self.items[child.number], echo)
         for text in actions:
             cause = self.refusal(child, "end" if text is None else "write")
             if cause is not None:
                 raise failed((b"end" if text is None else b"write") + b" failed: " + cause)
             self.sent[child.number] += len(text or b"")
-        return b""
 
     def do_exp_send(self, words):
         return self.do_send(words, b"exp_send")
@@ -219,6 +253,20 @@ class Dialogue(Tools):
         self.transcript += words[0]
         return b""
 
+    def do_send_error(self, words, name=b"send_error"):
+        _, words = self.flags(name, words, {b"--": False})
+        self.counted(name, words, 1, 1)
+        self.complain(words[0])
+        return b""
+
+    def do_exp_send_error(self, words):
+        return self.do_send_error(words, b"exp_send_error")
+
+    def do_exp_pid(self, words):
+        given, words = self.flags(b"exp_pid", words, {b"-i": True})
+        self.counted(b"exp_pid", words, 0, 0)
+        return b"%d" % self.named(given.get(b"-i")).number
+
     def do_close(self, words):
         given, words = self.flags(b"close", words, {b"-i": True})
         self.counted(b"close", words, 0, 0 if given else 1)
@@ -234,14 +282,16 @@ class Dialogue(Tools):
             raise failed(b"close failed: " + cause)
 
     def do_wait(self, words):
-        given, words = self.flags(b"wait", words, {b"-i": True})
+        given, words = self.flags(b"wait", words, {b"-nowait": False, b"-i": True})
         self.counted(b"wait", words, 0, 0)
         child = self.named(given.get(b"-i"))
         if child.is_waited_for:
             raise failed(b"spawn id %s already waited for" % child.id)
         child.is_waited_for = True
-        answer = self.request(child, "wait")
         front = b"%d %s " % (child.number, child.id)
+        if b"-nowait" in given:
+            return front + b"0 0"
+        answer = self.request(child, "wait")
         if answer.kind == "exit":
             return front + b"0 " + answer.what
         if answer.kind == "killed":
@@ -297,12 +347,10 @@ class Dialogue(Tools):
 
     def do_sleep(self, words, name=b"sleep"):
         self.counted(name, words, 1, 1)
-        if not SECONDS.fullmatch(words[0]):
+        time = milliseconds(words[0])
+        if time is None:
             raise failed(b"expected number but got", words[0])
-        whole, _, decimals = words[0].partition(b".")
-        if words[0].startswith(b"-"):
-            return b""
-        return self.sleep(1000 * int(whole or b"0") + int((decimals + b"000")[:3]))
+        return self.sleep(time)
 
     def do_exp_sleep(self, words):
         return self.do_sleep(words, b"exp_sleep")

@@ -40,6 +40,8 @@ TOOLS = [
     b"file delete -force a b",
     b"puts stderr a",
     b"puts -nonewline stderr {}",
+    b"send_error -- -a",
+    b"exp_send_error {}",
 ]
 CHANNELS = [
     b"set c [open a]",
@@ -84,7 +86,11 @@ REFUSED = [
     b"exp_send a b",
     b"send -i",
     b"close now",
-    b"wait -nowait",
+    b"wait -nohang",
+    b"send -s a",
+    b"send -h -- a",
+    b"send_error a b",
+    b"exp_pid -x",
     b"match_max 0",
     b"match_max -5",
     b"match_max many",
@@ -237,7 +243,8 @@ class Script:
         if self.chance(0.03):
             text = b"x" * 5000 + text
         name = self.rng.choice([b"send", b"send", b"exp_send"])
-        return name + self.id() + (b" -- " if self.chance(0.2) else b" ") + self.written(text)
+        pace = self.rng.choice([b" -s", b" -h"]) if len(text) < 40 and self.chance(0.15) else b""
+        return name + pace + self.id() + (b" -- " if self.chance(0.2) else b" ") + self.written(text)
 
     def expect(self, depth):
         front = self.id()
@@ -311,6 +318,8 @@ class Script:
                 self.rng.choice([b"sleep 1", b"exp_sleep .25", b"sleep -1", b"after 40"]),
                 b"send_user " + self.written(b"".join(self.some(EXACT, 0, 2))),
                 b"set a $spawn_id",
+                b"exp_pid" + self.id(),
+                self.rng.choice([b"set send_slow {2 .1}", b"set send_slow {3 0}", b"set send_human {.2 .1 1 .15 .3}", b"set send_slow {0 1}"]),
                 b"set spawn_id $a",
                 self.stty_init(),
             ]
@@ -325,7 +334,7 @@ class Script:
         return b"close" + self.id()
 
     def wait(self, _depth):
-        return b"wait" + self.id()
+        return b"wait" + self.rng.choice([b"", b"", b" -nowait"]) + self.id()
 
     def tool(self, _depth):
         return self.rng.choice(TOOLS)

@@ -28,7 +28,7 @@ NESTED = 200
 LEFT_OUT = b"unset append lrange for eval string info concat join lassign linsert lrepeat lreplace lreverse lsearch lset lsort split subst array format scan regexp regsub package exp_version expect_version exp_internal debug exp_debug strace exp_strace trap exp_trap exp_spawn exp_send_user exp_close exp_wait exp_match_max exp_remove_nulls exp_log_user exp_exit".split()
 
 # The simulated commands that a procedure may replace.
-REDEFINABLE = b"sleep exp_sleep after upvar exec system exp_system source file pwd pid getpid exp_getpid open gets read eof flush clock timestamp exp_timestamp".split()
+REDEFINABLE = b"sleep exp_sleep after send_error exp_send_error exp_pid upvar exec system exp_system source file pwd pid getpid exp_getpid open gets read eof flush clock timestamp exp_timestamp".split()
 
 
 class NotSimulated(Exception):

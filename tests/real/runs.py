@@ -205,15 +205,10 @@ BY_CONMAN = ("cyclades-ssh", "cyclades-telnet", "hp-ilo", "hp-lo100", "ibm-bc", 
 MISSING = {
     "expect_after": (
         *((f"rancid/{it}", "a login") for it in CONNECTING),
-        *((f"rancid/{it}", "a refused connection") for it in CONNECTING if it != "nslogin"),
+        *((f"rancid/{it}", "a refused connection") for it in CONNECTING),
         *(("rancid/clogin", it) for it in ("pages", "a file of commands, two routers", "an unknown host key", "a script")),
         *(("rancid/clogin", it) for it in ("a wrong password", "a wrong privileged password")),
         ("rancid/jlogin", "a wrong password"),
-    ),
-    "send_error": (
-        ("rancid/clogin", "which passwords"),
-        ("rancid/nslogin", "a refused connection"),
-        ("conman/examples/shell_cmd_1.exp", "two consoles"),
     ),
     "fork, spawn -pty": (
         ("conman/examples/shell_cmd_n.exp", "a command"),
@@ -232,7 +227,6 @@ MISSING = {
     "expect_user": (("conmux/helpers/autoboot-helper", "a restart"), ("conmux/helpers/tickle-helper", "a restart")),
     "stty": (("expect/expect_cryptdir", "a folder"), ("expect/expect_decryptdir", "a folder")),
     "expect -- pattern": (("conmux/drivers/reboot-numaq", "a restart"), ("conmux/drivers/reboot-numaq", "no such system")),
-    "send -s": (("conmux/drivers/reboot-netfinity", "a restart"),),
     "exp_version -exit": (
         *(("expect/expect_ftp-rfc", it) for it in ("no such file", "usage")),
         *(("expect/expect_passmass", it) for it in ("a host", "usage")),

@@ -38,8 +38,8 @@ files word =
 
 abbrev pub telling : List ℕ → List ℕ
 telling word =
-    if bytes_eq word (codes "send_tty") || bytes_eq word (codes "send_error") || bytes_eq word (codes "send_log") then codes "use send_user"
-    else if bytes_eq word (codes "exp_send_tty") || bytes_eq word (codes "exp_send_error") || bytes_eq word (codes "exp_send_log") then codes "use send_user"
+    if bytes_eq word (codes "send_tty") || bytes_eq word (codes "send_log") then codes "use send_user"
+    else if bytes_eq word (codes "exp_send_tty") || bytes_eq word (codes "exp_send_log") then codes "use send_user"
     else if bytes_eq word (codes "tclLog") then codes "use puts"
     else if bytes_eq word (codes "log_file") || bytes_eq word (codes "exp_log_file") then codes "the report has the transcript; --record writes every event"
     else []

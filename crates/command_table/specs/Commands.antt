@@ -178,6 +178,8 @@ abbrev pub redefinable_expect : List ℕ → Option ExpectCommand
 redefinable_expect word =
     if bytes_eq word (codes "sleep") || bytes_eq word (codes "exp_sleep") then Some expect.Sleep
     else if bytes_eq word (codes "after") then Some expect.After
+    else if bytes_eq word (codes "send_error") || bytes_eq word (codes "exp_send_error") then Some expect.SendError
+    else if bytes_eq word (codes "exp_pid") then Some expect.ExpPid
     else tool_or_channel word
 
 abbrev pub or_redefinable_expect : Option ExpectCommand → List ℕ → Option ExpectCommand

@@ -10,10 +10,12 @@ use Rattle.command_table.specs.declared.flags.Role.TheVariants as role
 -- A word is the command's own flag, which has no value.
 abbrev pub is_own : Own → List ℕ → Bool
 is_own own.None word = false
+is_own own.Send word = false
 is_own own.Spawn word = bytes_eq word (codes "-noecho")
 is_own own.Exec word = bytes_eq word (codes "-keepnewline")
 is_own own.Default word = bytes_eq word (codes "-d")
 is_own own.Timer word = bytes_eq word (codes "-continue_timer")
+is_own own.Wait word = bytes_eq word (codes "-nowait")
 
 abbrev pub begins_with_minus : List ℕ → Bool
 begins_with_minus [] = false
@@ -22,8 +24,8 @@ begins_with_minus (b ∷ bytes) = b == ascii.minus
 -- The flags of spawn other than -noecho: whether the child is on a terminal of the system, and those that its line shows.
 abbrev pub spawn_role : List ℕ → Role
 spawn_role word =
-    if bytes_eq word (codes "-tty") then role.Tty true
-    else if bytes_eq word (codes "-notty") then role.Tty false
+    if bytes_eq word (codes "-tty") then role.Choice true
+    else if bytes_eq word (codes "-notty") then role.Choice false
     else if bytes_eq word (codes "-nottycopy") || bytes_eq word (codes "-nottyinit") then role.Shown
     else if bytes_eq word (codes "-ignore") then role.ShownWithValue
     else role.Bad
@@ -32,9 +34,17 @@ spawn_role word =
 abbrev pub exec_role : List ℕ → Role
 exec_role word = if bytes_eq word (codes "-ignorestderr") then role.Shown else role.Bad
 
+-- The flags of send: byte by byte, as a person types, or in pieces.
+abbrev pub send_role : List ℕ → Role
+send_role word =
+    if bytes_eq word (codes "-h") then role.Choice true
+    else if bytes_eq word (codes "-s") then role.Choice false
+    else role.Bad
+
 abbrev pub other_role : Own → List ℕ → Role
 other_role own.Spawn word = spawn_role word
 other_role own.Exec word = exec_role word
+other_role own.Send word = send_role word
 other_role own word = role.Bad
 
 -- The role of an argument that may be a flag.

@@ -144,6 +144,8 @@ expect_row expect.Eof = plain (exactly 1) texts
 expect_row expect.Exec = flagged own.Exec false true (at_least 1)
 -- exp_continue ?-continue_timer?
 expect_row expect.ExpContinue = flagged own.Timer false false (exactly 0)
+-- exp_pid ?-i spawn_id?
+expect_row expect.ExpPid = flagged own.None true false (exactly 0)
 -- expect ?-opts pat1 body1 ...? ?-opts patn bodyn?
 expect_row expect.Expect = plain (at_least 0) Pattern
 -- file option name ?arg ...?
@@ -168,8 +170,10 @@ expect_row expect.Pwd = plain (exactly 0) texts
 expect_row expect.Read = plain (between 1 2) texts
 -- remove_nulls ?-d? ?-i spawn_id? ?value?
 expect_row expect.RemoveNulls = flagged own.Default true false (between 0 1)
--- send ?-i spawn_id? ?--? string
-expect_row expect.Send = flagged own.None true true (exactly 1)
+-- send ?-s? ?-h? ?-i spawn_id? ?--? string
+expect_row expect.Send = flagged own.Send true true (exactly 1)
+-- send_error ?--? string
+expect_row expect.SendError = flagged own.None false true (exactly 1)
 -- send_user ?--? string
 expect_row expect.SendUser = flagged own.None false true (exactly 1)
 -- sleep seconds
@@ -182,8 +186,8 @@ expect_row expect.Spawn = flagged own.Spawn false true (at_least 1)
 expect_row expect.System = plain (at_least 1) texts
 -- timestamp ?-format format? ?-seconds n? ?-gmt?
 expect_row expect.Timestamp = plain (at_least 0) texts
--- wait ?-i spawn_id?
-expect_row expect.Wait = flagged own.None true false (exactly 0)
+-- wait ?-nowait? ?-i spawn_id?
+expect_row expect.Wait = flagged own.Wait true false (exactly 0)
 
 -- The row of a command.
 abbrev pub row_of : Command → Row

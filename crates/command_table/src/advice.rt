@@ -89,12 +89,9 @@ fn files(word: &[u8]) -> &'static [u8]
 fn telling(word: &[u8]) -> &'static [u8]
     ensures { result.now ≡ telling word.now }
 {
-    if is(word, b"send_tty") || is(word, b"send_error") || is(word, b"send_log") {
+    if is(word, b"send_tty") || is(word, b"send_log") {
         b"use send_user"
-    } else if is(word, b"exp_send_tty")
-        || is(word, b"exp_send_error")
-        || is(word, b"exp_send_log")
-    {
+    } else if is(word, b"exp_send_tty") || is(word, b"exp_send_log") {
         b"use send_user"
     } else if is(word, b"tclLog") {
         b"use puts"

@@ -75,6 +75,7 @@ pub enum ExpectCommand {
     Eof,
     Exec,
     ExpContinue,
+    ExpPid,
     Expect,
     File,
     Flush,
@@ -89,6 +90,7 @@ pub enum ExpectCommand {
     Read,
     RemoveNulls,
     Send,
+    SendError,
     SendUser,
     Sleep,
     Source,
@@ -422,6 +424,10 @@ fn redefinable_expect(word: &[u8]) -> Option<ExpectCommand>
         Some(ExpectCommand::Sleep)
     } else if is(word, b"after") {
         Some(ExpectCommand::After)
+    } else if is(word, b"send_error") || is(word, b"exp_send_error") {
+        Some(ExpectCommand::SendError)
+    } else if is(word, b"exp_pid") {
+        Some(ExpectCommand::ExpPid)
     } else {
         tool_or_channel(word)
     }

@@ -1,7 +1,7 @@
 //! The flags of commands.
 
 ghost use Rattle.std.specs.Prelude.{◌≡◌};
-ghost use Rattle.command_table.specs.Flags.{is_own, begins_with_minus, flag_role, other_role, spawn_role, exec_role};
+ghost use Rattle.command_table.specs.Flags.{is_own, begins_with_minus, flag_role, other_role, spawn_role, exec_role, send_role};
 
 use crate::commands::is;
 
@@ -13,10 +13,14 @@ pub enum Own {
     Spawn,
     /// `-keepnewline` of `exec`, and `-ignorestderr`.
     Exec,
+    /// `-s` and `-h` of `send`.
+    Send,
     /// `-d` of `match_max` and `remove_nulls`.
     Default,
     /// `-continue_timer` of `exp_continue`.
     Timer,
+    /// `-nowait` of `wait`.
+    Wait,
 }
 
 /// The flags of a command.
@@ -41,8 +45,9 @@ pub enum Role {
     Alone,
     /// `-i`
     Id,
-    /// `-tty` (`true`) or `-notty` (`false`) of `spawn`.
-    Tty(bool),
+    /// One of two flags of which the last counts: `-tty` (`true`) or `-notty` (`false`) of `spawn`,
+    /// `-h` (`true`) or `-s` (`false`) of `send`.
+    Choice(bool),
     /// A flag without a value that changes nothing: `-nottycopy` or `-nottyinit` of `spawn`, whose
     /// line shows them, or `-ignorestderr` of `exec`.
     Shown,
@@ -57,11 +62,12 @@ fn is_own(own: Own, word: &[u8]) -> bool
     ensures { result ≡ is_own own word.now }
 {
     match own {
-        Own::None => false,
+        Own::None | Own::Send => false,
         Own::Spawn => is(word, b"-noecho"),
         Own::Exec => is(word, b"-keepnewline"),
         Own::Default => is(word, b"-d"),
         Own::Timer => is(word, b"-continue_timer"),
+        Own::Wait => is(word, b"-nowait"),
     }
 }
 
@@ -80,9 +86,9 @@ fn spawn_role(word: &[u8]) -> Role
     ensures { result ≡ spawn_role word.now }
 {
     if is(word, b"-tty") {
-        Role::Tty(true)
+        Role::Choice(true)
     } else if is(word, b"-notty") {
-        Role::Tty(false)
+        Role::Choice(false)
     } else if is(word, b"-nottycopy") || is(word, b"-nottyinit") {
         Role::Shown
     } else if is(word, b"-ignore") {
@@ -103,6 +109,19 @@ fn exec_role(word: &[u8]) -> Role
     }
 }
 
+/// Returns the role of a word that begins with `-` as a flag of `send` alone.
+fn send_role(word: &[u8]) -> Role
+    ensures { result ≡ send_role word.now }
+{
+    if is(word, b"-h") {
+        Role::Choice(true)
+    } else if is(word, b"-s") {
+        Role::Choice(false)
+    } else {
+        Role::Bad
+    }
+}
+
 /// Returns the role of a word that begins with `-` and is no flag of most commands.
 fn other_role(own: Own, word: &[u8]) -> Role
     ensures { result ≡ other_role own word.now }
@@ -110,7 +129,8 @@ fn other_role(own: Own, word: &[u8]) -> Role
     match own {
         Own::Spawn => spawn_role(word),
         Own::Exec => exec_role(word),
-        Own::None | Own::Default | Own::Timer => Role::Bad,
+        Own::Send => send_role(word),
+        Own::None | Own::Default | Own::Timer | Own::Wait => Role::Bad,
     }
 }
 

@@ -137,6 +137,7 @@ pub fn expect_row(command: ExpectCommand) -> Row
         ExpectCommand::Eof => plain(exactly(1), texts()),
         ExpectCommand::Exec => flagged(Own::Exec, false, true, at_least(1)),
         ExpectCommand::ExpContinue => flagged(Own::Timer, false, false, exactly(0)),
+        ExpectCommand::ExpPid => flagged(Own::None, true, false, exactly(0)),
         ExpectCommand::Expect => plain(at_least(0), Pattern),
         ExpectCommand::File => plain(at_least(1), Choice),
         ExpectCommand::Flush => plain(exactly(1), texts()),
@@ -149,14 +150,15 @@ pub fn expect_row(command: ExpectCommand) -> Row
         ExpectCommand::Pwd => plain(exactly(0), texts()),
         ExpectCommand::Read => plain(between(1, 2), texts()),
         ExpectCommand::RemoveNulls => flagged(Own::Default, true, false, between(0, 1)),
-        ExpectCommand::Send => flagged(Own::None, true, true, exactly(1)),
+        ExpectCommand::Send => flagged(Own::Send, true, true, exactly(1)),
+        ExpectCommand::SendError => flagged(Own::None, false, true, exactly(1)),
         ExpectCommand::SendUser => flagged(Own::None, false, true, exactly(1)),
         ExpectCommand::Sleep => plain(exactly(1), texts()),
         ExpectCommand::Source => plain(exactly(1), texts()),
         ExpectCommand::Spawn => flagged(Own::Spawn, false, true, at_least(1)),
         ExpectCommand::System => plain(at_least(1), texts()),
         ExpectCommand::Timestamp => plain(at_least(0), texts()),
-        ExpectCommand::Wait => flagged(Own::None, true, false, exactly(0)),
+        ExpectCommand::Wait => flagged(Own::Wait, true, false, exactly(0)),
     }
 }
 

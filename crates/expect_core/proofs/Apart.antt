@@ -24,13 +24,13 @@ use Rattle.expect_core.specs.declared.dialogue.Dialogue.{Dialogue}
 use Rattle.expect_core.specs.Lanes.{no_lane, lane_of, place}
 use Rattle.expect_core.specs.Owned.{nobody, child_as, child_of, with_child, asked, told, logged, seen, received}
 use Rattle.expect_core.specs.Texts.{id_at}
-use Rattle.expect_core.specs.Heard.{IsWatched}
+use Rattle.expect_core.specs.Heard.{places_of, IsWatched, about}
 use Rattle.expect_core.specs.Among.{IsAmong}
 use Rattle.expect_core.specs.Effects.{changed}
 use Rattle.expect_core.specs.Calls.{outer, outcome}
 use Rattle.expect_core.specs.Laws.{behind_call}
 use Rattle.expect_core.specs.Apart.{asked_of, Untouched, wanted_of, under_way, speaks_to, IsOfOwn, NoneIsOf, IsAside, CallsOwn, StaysOfOwn, EventsOne}
-use Rattle.expect_core.proofs.Stepping.{ChildOf, WantOf, PhaseOf, Kept}
+use Rattle.expect_core.proofs.Stepping.{ChildOf, WantOf, PhaseOf, Kept, among_too}
 use Rattle.expect_core.proofs.Calling.{outcome_keeps}
 use Rattle.expect_core.proofs.Speaking.{LeavesPhase, opens}
 use Rattle.expect_core.proofs.Steady.{Any, AnyEnd, Steady, steady}
@@ -115,7 +115,7 @@ module _ (j : ℕ) where
     spared : Kept Other (Spared a)
     spared = record {
       does = λ at x st other k. does_spared at x st other k;
-      holds = λ p st sees k. record { lane = k.lane; child = k.child; asked = k.asked; there = k.there; bodies = λ aside. ((λ part. sees j part refl), k.bodies aside) };
+      holds = λ p st sees k. record { lane = k.lane; child = k.child; asked = k.asked; there = k.there; bodies = λ aside. ((λ part. sees j (among_too p.pending (places_of p.sides) j part) refl), k.bodies aside) };
       reads = λ st k. record { lane = k.lane; child = k.child; asked = k.asked; there = k.there; bodies = λ aside. k.bodies aside };
       pops = λ st k. record { lane = k.lane; child = k.child; asked = k.asked; there = k.there; bodies = λ aside. none_around st.own.bodies (k.bodies aside) };
       types = λ i text st other k. let new = child_spared i _ st other k in record { lane = get_or-set_other st.lanes i j _ no_lane other ∙ k.lane; child = new.child; asked = new.asked; there = new.there; bodies = new.bodies };
@@ -131,8 +131,8 @@ module _ (j : ℕ) where
   others_wanted : (w : Want) → ¬ IsAmong j (wanted_of w) → WantOf Other AnyEnd w
   others_wanted (Answer i why) out = λ same. out (inl (sym same))
   others_wanted (Item i why) out = λ same. out (inl (sym same))
-  others_wanted (Output p) out = λ i part same. out (subst (λ (i : ℕ). IsWatched i p.sides) (sym same) part)
-  others_wanted (End i p) out = ((λ same. out (inl (sym same))), (λ i part same. out (inr (subst (λ (i : ℕ). IsWatched i p.sides) (sym same) part))), tt)
+  others_wanted (Output p) out = λ i part same. out (subst (λ (i : ℕ). IsAmong i (about p)) (sym same) part)
+  others_wanted (End i p) out = ((λ same. out (inl (sym same))), (λ i part same. out (inr (subst (λ (i : ℕ). IsAmong i (about p)) (sym same) part))), tt)
 
   wanted_others : (w : Want) → WantOf Other AnyEnd w → ¬ IsAmong j (wanted_of w)
   wanted_others (Answer i why) other among = elim among [ inl same ↦ other (sym same) | inr none ↦ none ]

@@ -190,9 +190,9 @@ module _ (e : Event) where
   staged_onward n goes (Act p m) vars st g = refl
   staged_onward n goes (Read script) vars st g = refl
   staged_onward n goes (Look p) vars st g = looking_onward n goes p vars st g
-  staged_onward n goes (SendText i text) vars st g =
+  staged_onward n goes (SendText i text more) vars st g =
       let line = (child_of i st.own).line in
-      let t : Turn = at i (handing (handed_by line text).actions) in
+      let t : Turn = at i (handing st.own.clock (handed_by line text).actions more) in
       ap (λ (x : Dialogue). run n t vars (owning (with_line i (line_after line text) st.own) x)) (echoed_onward e i (echo_of line text) (idle st) g)
       ∙ goes t vars (typed i text st) (typed_good i text (idle st) g)
   staged_onward n goes (Wait w) vars st g = waited_onward n goes w vars st g

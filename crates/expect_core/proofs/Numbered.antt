@@ -40,7 +40,7 @@ use Rattle.expect_core.specs.Expecting.{patterns_by}
 use Rattle.expect_core.specs.Texts.{id_at}
 use Rattle.expect_core.specs.Channels.{channel_named, written_to}
 use Rattle.expect_core.specs.Ends.{closed_child}
-use Rattle.expect_core.specs.Transcript.{put_of, complained_to, put_child}
+use Rattle.expect_core.specs.Transcript.{put_of, complaint_of, complained_to, put_child}
 use Rattle.expect_core.specs.Answered.{Outcome}
 use Rattle.expect_core.specs.Effects.{changed}
 use Rattle.expect_core.specs.Calls.{outer, outcome, fresh}
@@ -139,6 +139,7 @@ named_places (Some command.Send) word args vars o k = id_place command.Send word
 named_places (Some command.Expect) word args vars o k = patterns_place args vars o k
 named_places (Some command.Close) word args vars o k = one_place _ (past IsPlace (arguments command.Close word args) _ (λ f. closed_place f.0.id f.1 vars o k))
 named_places (Some command.Puts) word args vars o k = one_place _ (past IsPlace (put_of word args) _ (λ p. put_place p.0 o k))
+named_places (Some command.SendError) word args vars o k = one_place _ (past IsPlace (complaint_of word args) _ (λ text. errors_place o.errors k.complains))
 named_places (Some command.Wait) word args vars o k = id_place command.Wait word args vars o k
 named_places (Some command.MatchMax) word args vars o k = option_place command.MatchMax word args vars o k
 named_places (Some command.RemoveNulls) word args vars o k = option_place command.RemoveNulls word args vars o k

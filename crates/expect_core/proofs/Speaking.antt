@@ -42,18 +42,21 @@ use Rattle.expect_core.specs.declared.dialogue.Dialogue.{Dialogue}
 use Rattle.expect_core.specs.Flags.{bad_flag, arguments}
 use Rattle.expect_core.specs.Ids.{is_open, spoken_to, open_to, if_open}
 use Rattle.expect_core.specs.Owned.{child_of}
-use Rattle.expect_core.specs.Heard.{Watch, IsWatched, deadline_from}
+use Rattle.expect_core.specs.Heard.{Watch, places_of, IsWatched, about, deadline_from}
 use Rattle.expect_core.specs.Among.{IsAmong}
 use Rattle.expect_core.specs.Sides.{takes_current, opened, asked_by, with_group, with_groups, sides_of, still_open, spoken, spoken_by}
 use Rattle.expect_core.specs.Turns.{react, done}
 use Rattle.expect_core.specs.Texts.{too_many}
 use Rattle.expect_core.specs.Spawning.{order_of, ordering}
 use Rattle.expect_core.specs.Sending.{send_of}
-use Rattle.expect_core.specs.Sleeping.{digits, signed, or_expected, until, nothing_until, sleeping_by}
+use Rattle.expect_core.specs.declared.spread.Pace.{Pace}
+use Rattle.expect_core.specs.Spread.{pace_if}
+use Rattle.expect_core.specs.Pauses.{nothing_until}
+use Rattle.expect_core.specs.Sleeping.{digits, signed, or_expected, until, sleeping_by}
 use Rattle.expect_core.specs.Expecting.{patterns_by, span_in, plan_at, plan_by, plan_of, expecting, again, behind}
 use Rattle.expect_core.specs.Again.{continued}
-use Rattle.expect_core.specs.Ends.{closing_by, closed_child, if_unwaited, wait_of}
-use Rattle.expect_core.specs.Transcript.{put_of, complain, complained_to, to_user, log_word}
+use Rattle.expect_core.specs.Ends.{closing_by, closed_child, wait_of}
+use Rattle.expect_core.specs.Transcript.{put_of, complain, complained_to, complaint_of, to_user, log_word}
 use Rattle.expect_core.specs.Options.{whose, option_of, size_of, sizing_at, removal_of, removing_at}
 use Rattle.expect_core.specs.Calls.{named, outer}
 use Rattle.expect_core.specs.Apart.{by_id, by_option, by_patterns, one as single, each, named_by, on_top, speaks_to}
@@ -83,25 +86,26 @@ if_same : (b : Bool) (k i : ℕ) (text : List ℕ) → (let r : Said ℕ = (if b
 if_same true k i text e = ap (inside k) e
 if_same false k i text e = absurd (cc)
 
-else_same : (b : Bool) (k i : ℕ) (text : List ℕ) → (let r : Said ℕ = (if b then Err text else Ok k) in r ≡ Ok i) → k ≡ i
-else_same true k i text e = absurd (cc)
-else_same false k i text e = ap (inside k) e
-
 open_speaks : (id : Option (List ℕ)) (vars : Variables) (o : Own) (i : ℕ) → open_to id vars o ≡ Ok i → spoken_to id vars o ≡ Ok i
 open_speaks id vars o i e = first (spoken_to id vars o) (λ k. if_open k o) i i (λ k e. if_same (is_open (child_of k o).standing) k i _ e) e
 
-send_speaks : (word : List ℕ) (args : List (List ℕ)) (vars : Variables) (o : Own) (s : ℕ × List ℕ) → send_of word args vars o ≡ Ok s → by_id command.Send word args vars o ≡ Ok s.0
+send_speaks : (word : List ℕ) (args : List (List ℕ)) (vars : Variables) (o : Own) (s : ℕ × List ℕ × Option Pace) → send_of word args vars o ≡ Ok s → by_id command.Send word args vars o ≡ Ok s.0
 send_speaks word args vars o s e =
     along (arguments command.Send word args) _ _ s s.0
-    (λ f e. open_speaks f.0.id vars o s.0 (first (open_to f.0.id vars o) _ s s.0 (λ i e. ap (λ (r : Said (ℕ × List ℕ)). (inside (i, arg 0 f.1) r).0) e) e)) e
+    (λ f e. past (pace_if f.0.choice vars) _ s
+    (λ pace e. open_speaks f.0.id vars o s.0 (first (open_to f.0.id vars o) _ s s.0 (λ i e. ap (λ (r : Said (ℕ × List ℕ × Option Pace)). (inside (i, arg 0 f.1, pace) r).0) e) e)) e) e
 
 -- what follows what was read
 behind_ok : {X Y : Type 0} (r : Said X) (f : X → Said Y) (x : X) (y : Y) → r ≡ Ok x → f x ≡ Ok y → (r >>= f) ≡ Ok y
 behind_ok r f x y e at = ap (λ r. r >>= f) e ∙ at
 
-wait_speaks : (word : List ℕ) (args : List (List ℕ)) (vars : Variables) (o : Own) (i : ℕ) → wait_of word args vars o ≡ Ok i → by_id command.Wait word args vars o ≡ Ok i
-wait_speaks word args vars o i e =
-    along (arguments command.Wait word args) _ _ i i (λ f e. first (spoken_to f.0.id vars o) (λ k. if_unwaited k o) i i (λ k e. else_same (child_of k o).waited k i _ e) e) e
+once_same : (b : Bool) (k : ℕ) (text : List ℕ) (on : Bool) (w : Bool × ℕ) → (let r : Said ℕ = (if b then Err text else Ok k) in (r >>= λ i. Ok (on, i)) ≡ Ok w) → k ≡ w.1
+once_same true k text on w e = absurd (cc)
+once_same false k text on w e = ap (λ (r : Said (Bool × ℕ)). (inside (on, k) r).1) e
+
+wait_speaks : (word : List ℕ) (args : List (List ℕ)) (vars : Variables) (o : Own) (w : Bool × ℕ) → wait_of word args vars o ≡ Ok w → by_id command.Wait word args vars o ≡ Ok w.1
+wait_speaks word args vars o w e =
+    along (arguments command.Wait word args) _ _ w w.1 (λ f e. first (spoken_to f.0.id vars o) _ w w.1 (λ k e. once_same (child_of k o).waited k _ f.0.on w e) e) e
 
 abbrev inside_some : ℕ → Option ℕ → ℕ
 inside_some d (Some i) = i
@@ -166,12 +170,12 @@ groups_among g (i ∷ is) ws j part =
 sides_among : (list : PatternList) (is : List ℕ) (j : ℕ) → IsWatched j (sides_of list is) → IsAmong j is
 sides_among list is j part = elim (groups_among (if takes_current list then 0 else 1) is [] j part) [ inl among ↦ among | inr none ↦ absurd none ]
 
-module _ (vars : Variables) (o : Own) (p : Plan) (j : ℕ) (part : IsWatched j p.sides) where
+module _ (vars : Variables) (o : Own) (p : Plan) (j : ℕ) (part : IsAmong j (about p)) where
   by_asked : (list : PatternList) (r : Said (List ℕ)) → asked_by list vars o ≡ r → (r >>= λ is. span_in list.timeout vars >>= λ span. Ok (plan_at is list span o.clock)) ≡ Ok p → IsAmong j (each (spoken_by list vars o))
   by_asked list (Ok is) asked e =
-      let same : sides_of list is ≡ p.sides =
-      past (span_in list.timeout vars) (λ span. Ok (plan_at is list span o.clock)) p (λ span e. ap (λ (r : Said Plan). (inside (plan_at is list span o.clock) r).sides) e) e in
-      let among : IsAmong j is = sides_among list is j (subst (IsWatched j) (sym same) part) in
+      let same : places_of (sides_of list is) ≡ about p =
+      past (span_in list.timeout vars) (λ span. Ok (plan_at is list span o.clock)) p (λ span e. ap (λ (r : Said Plan). about (inside (plan_at is list span o.clock) r)) e) e in
+      let among : IsAmong j is = sides_among list is j (subst (IsAmong j) (sym same) part) in
       subst (λ (r : Said (List ℕ)). IsAmong j (each r)) (sym (asked_speak list.ids vars o is (takes_current list) asked)) among
   by_asked list (Err text) asked e = absurd (cc)
 
@@ -179,7 +183,7 @@ module _ (vars : Variables) (o : Own) (p : Plan) (j : ℕ) (part : IsWatched j p
   by_list (Ok list) e = by_asked list (asked_by list vars o) refl e
   by_list (Err text) e = absurd (cc)
 
-plan_speaks : (args : List (List ℕ)) (vars : Variables) (o : Own) (p : Plan) → plan_of args vars o ≡ Ok p → (j : ℕ) → IsWatched j p.sides → IsAmong j (each (by_patterns args vars o))
+plan_speaks : (args : List (List ℕ)) (vars : Variables) (o : Own) (p : Plan) → plan_of args vars o ≡ Ok p → (j : ℕ) → IsAmong j (about p) → IsAmong j (each (by_patterns args vars o))
 plan_speaks args vars o p e j part = by_list vars o p j part (patterns_by args (patterns_of args)) e
 
 module _ (A : ℕ → Type 0) (B : ℕ → Plan → Type 0) where
@@ -274,7 +278,7 @@ module _ (A : ℕ → Type 0) (B : ℕ → Plan → Type 0) where
   expect_speaks args vars o all = each_said (plan_of args vars o) _ (λ p e i part. all i (plan_speaks args vars o p e i part))
 
   -- no child takes part in a wait for time
-  time_speaks : (b : Bool) (last : Option ℕ) → SaidOf A B (Ok (if b then Alone [] (done []) else Expect (nothing_until last)))
+  time_speaks : (b : Bool) (last : Option ℕ) → SaidOf A B (Ok (if b then Alone [] (done []) else Expect (nothing_until last None)))
   time_speaks true last = tt
   time_speaks false last = λ i none. absurd none
 
@@ -307,7 +311,10 @@ module _ (A : ℕ → Type 0) (B : ℕ → Plan → Type 0) where
   named_speaks command.Close word args vars o all new =
       each_said (arguments command.Close word args) _
       (λ f e. close_speaks word f.0.id f.1 vars o (λ i at. all i (alone _ i (behind_ok (arguments command.Close word args) _ f i e at))))
-  named_speaks command.Wait word args vars o all new = each_said (wait_of word args vars o) _ (λ i e. all i (alone _ i (wait_speaks word args vars o i e)))
+  named_speaks command.SendError word args vars o all new =
+      each_said (complaint_of word args) _ (λ text e. complain_speaks o.errors text o (λ i at. all i (alone _ i (behind_ok (complaint_of word args) _ text i e (ap complained_to at)))) new)
+  named_speaks command.Wait word args vars o all new = each_said (wait_of word args vars o) _ (λ w e. all w.1 (alone _ w.1 (wait_speaks word args vars o w e)))
+  named_speaks command.ExpPid word args vars o all new = each_said (arguments command.ExpPid word args) _ (λ f e. each_said (spoken_to f.0.id vars o) _ (λ i e. tt))
   named_speaks command.MatchMax word args vars o all new = each_said (option_of command.MatchMax word args vars o) _ (λ s e. sizing_speaks s.0 s.1 o (λ i at. all i (alone _ i (option_speaks command.MatchMax word args vars o s i e at))))
   named_speaks command.RemoveNulls word args vars o all new = each_said (option_of command.RemoveNulls word args vars o) _ (λ s e. removing_speaks s.0 s.1 o (λ i at. all i (alone _ i (option_speaks command.RemoveNulls word args vars o s i e at))))
   named_speaks command.LogUser word args vars o all new = each_said (arguments command.LogUser word args) _ (λ f e. each_said (log_word (arg 0 f.1)) _ (λ on e. tt))

@@ -1,5 +1,5 @@
 -- What each step of a call keeps, the call keeps; it is then about the children that its first turn was about; and it comes to a step that it may come to.
-use Rattle.std.proofs.Common.{◌≡◌, ℕ, zero, suc, ◌≤◌, List, [], ◌∷◌, Bool, true, false, Option, Some, None, refl, sym, ap, subst}
+use Rattle.std.proofs.Common.{◌≡◌, ℕ, zero, suc, ◌≤◌, List, [], ◌∷◌, Bool, true, false, Option, Some, None, inl, inr, refl, sym, ap, subst}
 use Rattle.std.specs.Prelude.{position, if◌then◌else◌}
 use Rattle.child_events.specs.declared.event.Answer.{Answer}
 use Rattle.child_events.specs.declared.event.Cause.{Cause}
@@ -13,6 +13,7 @@ use Rattle.tcl_host.specs.declared.ending.Ending.TheVariants.{TimeLimit}
 use Rattle.expect_core.specs.declared.lanes.Lane.{Lane}
 use Rattle.expect_core.specs.declared.body.Body.TheVariants.{Action, Source}
 use Rattle.expect_core.specs.declared.plan.Plan.{Plan}
+use Rattle.expect_core.specs.declared.spread.Spread.{Spread}
 use Rattle.expect_core.specs.declared.phase.Phase.{Phase}
 use Rattle.expect_core.specs.declared.phase.Phase.TheVariants.{Idle, At}
 use Rattle.expect_core.specs.declared.phase.Heard.TheVariants.{Match, Full, TimedOut, OverLimit, NotYet, Ended, Failed}
@@ -32,12 +33,14 @@ use Rattle.expect_core.specs.declared.dialogue.Dialogue.{Dialogue}
 use Rattle.expect_core.specs.Lanes.{lane_of, Inbox, answer_box, item_box, with_left, with_items, with_answers}
 use Rattle.expect_core.specs.Owned.{child_of, received, at_moment, trimmed}
 use Rattle.expect_core.specs.Scoped.{Unset}
-use Rattle.expect_core.specs.Heard.{at_most, groups_at, IsWatched, Listened, listen, look}
+use Rattle.expect_core.specs.Heard.{at_most, places_of, groups_at, IsWatched, sent_too, about, Listened, listen, look}
 use Rattle.expect_core.specs.Answered.{Outcome, idle, owning, failure, first_of}
 use Rattle.expect_core.specs.Effects.{Performed, changed, stored, unless, performed}
-use Rattle.expect_core.specs.Turns.{stage_of, at}
+use Rattle.expect_core.specs.Turns.{react, stage_of, at}
 use Rattle.expect_core.specs.Sending.{typed, handing}
-use Rattle.expect_core.specs.Expecting.{all_met, ended, late_at}
+use Rattle.expect_core.specs.Spread.{sent_on}
+use Rattle.expect_core.specs.Among.{IsAmong}
+use Rattle.expect_core.specs.Expecting.{all_met, ended, late_at, late_by}
 use Rattle.expect_core.specs.Running.{To, step_of, answered, heard_as, concluded, on_come, awaited, waited_for, staged, turned, run, resuming}
 use Rattle.expect_core.specs.Calls.{outer}
 use Rattle.expect_core.proofs.Keeping.{Kept as WaitKept, wait_keeps}
@@ -53,10 +56,15 @@ MayCome (step.Words text) st = ⊥
 MayCome step.Memory st = ⊥
 MayCome other st = Unit {0}
 
+-- a child that takes part is one that the wait is about
+pub among_too : (s : Option (ℕ × Spread)) (is : List ℕ) (i : ℕ) → IsAmong i is → IsAmong i (sent_too s is)
+among_too None is i among = among
+among_too (Some s) is i among = inr among
+
 -- what is about children of A alone, and, where an expect awaits that one of its children is let go, about such a child
 module _ (A : ℕ → Type 0) (B : ℕ → Plan → Type 0) where
   abbrev pub Sees : Plan → Type 0
-  Sees p = (i : ℕ) → IsWatched i p.sides → A i
+  Sees p = (i : ℕ) → IsAmong i (about p) → A i
 
   abbrev pub WantOf : Want → Type 0
   WantOf (want.Answer i why) = A i
@@ -69,7 +77,7 @@ module _ (A : ℕ → Type 0) (B : ℕ → Plan → Type 0) where
   StageOf (Act p m) = Sees p
   StageOf (Look p) = Sees p
   StageOf (Read script) = Unit {0}
-  StageOf (SendText i text) = A i
+  StageOf (SendText i text more) = A i
   StageOf (Wait w) = WantOf w
 
   abbrev pub ChildOf : Option ℕ → Type 0
@@ -88,7 +96,8 @@ module _ (A : ℕ → Type 0) (B : ℕ → Plan → Type 0) where
   stage_of_a i (next.Await why) a = a
   stage_of_a i (next.Hear aim) a = a
   stage_of_a i (next.Evaluate script) a = tt
-  stage_of_a i (next.Send text) a = a
+  stage_of_a i (next.Send text more) a = a
+  stage_of_a i (next.Pause last more) a = λ j among. elim among [ inl same ↦ subst A same a | inr none ↦ absurd none ]
 
   pub at_of : (i : ℕ) (r : Reaction) → A i → TurnOf (at i r)
   at_of i r a = (a, stage_of_a i r.next a)
@@ -131,9 +140,15 @@ module _ (A : ℕ → Type 0) (B : ℕ → Plan → Type 0) (mine : (i : ℕ) (p
 
   -- turns
 
-  late_of : (p : Plan) (n : Option ℕ) → Sees A B p → TurnOf A B (late_at p n)
-  late_of p None sees = (tt, tt)
-  late_of p (Some n) sees = (tt, sees)
+  late_at_of : (p : Plan) (n : Option ℕ) → Sees A B p → TurnOf A B (late_at p n)
+  late_at_of p None sees = (tt, tt)
+  late_at_of p (Some n) sees = (tt, sees)
+
+  late_of : (p : Plan) (s : Option (ℕ × Spread)) → p.pending ≡ s → Sees A B p → TurnOf A B (late_by p s)
+  late_of p None e sees = late_at_of p (position (λ e. waits_for_time e.want) p.list.entries) sees
+  late_of p (Some s) e sees =
+      let among : IsAmong s.0 (about p) = subst (λ (x : Option (ℕ × Spread)). IsAmong s.0 (sent_too x (places_of p.sides))) (sym e) (inl refl) in
+      at_of A B s.0 (react [] (sent_on s.1)) (sees s.0 among)
 
   all_met_of : (p : Plan) (i : ℕ) (n : Option ℕ) (o : Own) → A i → Sees A B p → TurnOf A B (all_met p i n o)
   all_met_of p i None o a sees = (tt, tt)
@@ -146,6 +161,9 @@ module _ (A : ℕ → Type 0) (B : ℕ → Plan → Type 0) (mine : (i : ℕ) (p
   -- waits for a pattern
 
   module _ (to : To) (runs : Runs to) (n : ℕ) (p : Plan) (sees : Sees A B p) (vars : Variables) (st : Dialogue) where
+    part : (i : ℕ) → IsWatched i p.sides → A i
+    part i w = sees i (among_too p.pending (places_of p.sides) i w)
+
     -- what a wait for a pattern leaves
     abbrev Held : List Lane → Own → Type 0
     Held lanes o = P (record (idle st) { lanes = lanes; own = o })
@@ -154,19 +172,19 @@ module _ (A : ℕ → Type 0) (B : ℕ → Plan → Type 0) (mine : (i : ℕ) (p
     concluded_keeps (NotYet, lanes, o) w = (w.0, sees, w.3)
     concluded_keeps (OverLimit, lanes, o) w = (w.0, tt, refl)
     concluded_keeps (TimedOut d, lanes, o) w =
-        runs _ vars (record st { lanes = lanes; own = record o { clock = d } }) (late_of p (position (λ e. waits_for_time e.want) p.list.entries) sees)
+        runs _ vars (record st { lanes = lanes; own = record o { clock = d } }) (late_of p p.pending refl sees)
         (k.times d (record (idle st) { lanes = lanes; own = o }) w.2 w.0)
-    concluded_keeps (Match i m spans, lanes, o) w = runs _ vars (record st { lanes = lanes; own = o }) (sees i w.1, sees) w.0
+    concluded_keeps (Match i m spans, lanes, o) w = runs _ vars (record st { lanes = lanes; own = o }) (part i w.1, sees) w.0
     concluded_keeps (Full i, lanes, o) w =
-        runs _ vars (record st { lanes = lanes; own = o }) (all_met_of p i (first_in waits_for_full (groups_at i p.sides) p.list.entries) o (sees i w.1) sees) w.0
-    concluded_keeps (Ended i, lanes, o) w = runs _ vars (record st { lanes = lanes; own = o }) (sees i w.1, (sees i w.1, sees, mine i p w.1)) w.0
-    concluded_keeps (Failed i c, lanes, o) w = runs _ vars (record st { lanes = lanes; own = o }) (sees i w.1, sees i w.1) w.0
+        runs _ vars (record st { lanes = lanes; own = o }) (all_met_of p i (first_in waits_for_full (groups_at i p.sides) p.list.entries) o (part i w.1) sees) w.0
+    concluded_keeps (Ended i, lanes, o) w = runs _ vars (record st { lanes = lanes; own = o }) (part i w.1, (part i w.1, sees, mine i p w.1)) w.0
+    concluded_keeps (Failed i c, lanes, o) w = runs _ vars (record st { lanes = lanes; own = o }) (part i w.1, part i w.1) w.0
 
     waits_keep : P (idle st) → WaitKept st.limit st.horizon p Held (look st.limit st.horizon p st.lanes st.own) × WaitKept st.limit st.horizon p Held (listen st.limit st.horizon p st.lanes st.own)
     waits_keep held =
-        wait_keeps st.limit st.horizon p Held (λ i w lanes o h. k.trims i (record (idle st) { lanes = lanes; own = o }) (sees i w) h)
-        (λ i w piece lanes o h. k.receives i piece (record (idle st) { lanes = lanes; own = o }) (sees i w) h)
-        (λ i w q qs lanes o is h. k.takes i q qs (record (idle st) { lanes = lanes; own = o }) (sees i w) is h) st.lanes st.own held
+        wait_keeps st.limit st.horizon p Held (λ i w lanes o h. k.trims i (record (idle st) { lanes = lanes; own = o }) (part i w) h)
+        (λ i w piece lanes o h. k.receives i piece (record (idle st) { lanes = lanes; own = o }) (part i w) h)
+        (λ i w q qs lanes o is h. k.takes i q qs (record (idle st) { lanes = lanes; own = o }) (part i w) is h) st.lanes st.own held
 
   -- waits for what comes next from a child
 
@@ -221,8 +239,8 @@ module _ (A : ℕ → Type 0) (B : ℕ → Plan → Type 0) (mine : (i : ℕ) (p
   staged_keeps to runs n (Act p m) vars st of held = (k.holds (record p { met = Some m }) (idle st) of held, tt, tt)
   staged_keeps to runs n (Read script) vars st of held = (k.reads (idle st) held, tt, tt)
   staged_keeps to runs n (Look p) vars st of held = concluded_keeps to runs n p of vars st (look st.limit st.horizon p st.lanes st.own) (waits_keep to runs n p of vars st held).0
-  staged_keeps to runs n (SendText i text) vars st of held =
-      runs _ vars (typed i text st) (at_of A B i (handing (handed_by (child_of i st.own).line text).actions) of) (k.types i text (idle st) of held)
+  staged_keeps to runs n (SendText i text more) vars st of held =
+      runs _ vars (typed i text st) (at_of A B i (handing st.own.clock (handed_by (child_of i st.own).line text).actions more) of) (k.types i text (idle st) of held)
   staged_keeps to runs n (Wait w) vars st of held = waited_keeps to runs n w vars st of held
 
   turned_keeps : (to : To) → Runs to → (n : ℕ) (s : Stage) (r : Performed) (st : Dialogue) → StageOf A B s → P (owning r.2 (idle st)) → After (turned to n s r (idle st))

@@ -27,11 +27,11 @@ use Rattle.expect_core.specs.Owned.{child_of}
 use Rattle.expect_core.specs.Flags.{arguments}
 use Rattle.expect_core.specs.Ids.{spoken_to}
 use Rattle.expect_core.specs.Among.{IsAmong}
-use Rattle.expect_core.specs.Heard.{places_of, IsWatched}
+use Rattle.expect_core.specs.Heard.{IsWatched, about}
 use Rattle.expect_core.specs.Sides.{spoken_by}
 use Rattle.expect_core.specs.Expecting.{patterns_by}
 use Rattle.expect_core.specs.Ends.{close_of}
-use Rattle.expect_core.specs.Transcript.{put_of, put_child}
+use Rattle.expect_core.specs.Transcript.{put_of, put_child, complaint_of, complained_to}
 use Rattle.expect_core.specs.Calls.{outcome, fresh}
 use Rattle.expect_core.specs.Laws.{behind_call}
 
@@ -71,6 +71,7 @@ named_by (Some command.Send) word args vars o = one (by_id command.Send word arg
 named_by (Some command.Expect) word args vars o = each (by_patterns args vars o)
 named_by (Some command.Close) word args vars o = one (close_of word args vars o)
 named_by (Some command.Puts) word args vars o = one (put_of word args >>= λ p. put_child p.0 o)
+named_by (Some command.SendError) word args vars o = one (complaint_of word args >>= λ text. complained_to o.errors)
 named_by (Some command.Wait) word args vars o = one (by_id command.Wait word args vars o)
 named_by (Some command.MatchMax) word args vars o = one (by_option command.MatchMax word args vars o)
 named_by (Some command.RemoveNulls) word args vars o = one (by_option command.RemoveNulls word args vars o)
@@ -82,8 +83,8 @@ named_by other word args vars o = []
 abbrev pub wanted_of : Want → List ℕ
 wanted_of (Answer i why) = i ∷ []
 wanted_of (Item i why) = i ∷ []
-wanted_of (Output p) = places_of p.sides
-wanted_of (End i p) = i ∷ places_of p.sides
+wanted_of (Output p) = about p
+wanted_of (End i p) = i ∷ about p
 
 abbrev pub under_way : Phase → List ℕ
 under_way Idle = []
@@ -91,8 +92,8 @@ under_way (At n w) = wanted_of w
 
 -- After an action, `exp_continue` goes back to the children of its `expect`.
 abbrev pub on_top : Code → List Body → List ℕ
-on_top code.Again (Action p ∷ bodies) = places_of p.sides
-on_top code.AgainLater (Action p ∷ bodies) = places_of p.sides
+on_top code.Again (Action p ∷ bodies) = about p
+on_top code.AgainLater (Action p ∷ bodies) = about p
 on_top c bodies = []
 
 abbrev pub speaks_to : Call → Dialogue → List ℕ

@@ -25,10 +25,10 @@ use Rattle.expect_core.specs.Sleeping.{sleeping, waiting_after}
 use Rattle.expect_core.specs.Times.{clocking, stamping}
 use Rattle.expect_core.specs.Expecting.{listed, expecting, behind}
 use Rattle.expect_core.specs.Again.{continuing}
-use Rattle.expect_core.specs.Ends.{closing, waiting}
+use Rattle.expect_core.specs.Ends.{closing, waiting, numbering}
 use Rattle.expect_core.specs.Channels.{getting, reading_more, meeting_end, flushing}
 use Rattle.expect_core.specs.Programs.{running, executing, by_system, by_source, by_open, by_file, by_pwd, by_pid}
-use Rattle.expect_core.specs.Transcript.{puts, to_user, writing, logging}
+use Rattle.expect_core.specs.Transcript.{puts, to_user, writing, sending_error, logging}
 use Rattle.expect_core.specs.Options.{sizing, removing}
 use Rattle.expect_core.specs.Running.{run, turns, resuming}
 
@@ -45,10 +45,12 @@ abbrev pub named : ExpectCommand → List ℕ → List (List ℕ) → Variables 
 named command.Spawn word args vars o = spawning word args vars o
 named command.Send word args vars o = sending word args vars o
 named command.SendUser word args vars o = writing (to_user word args)
+named command.SendError word args vars o = sending_error word args o
 named command.Expect word args vars o = expecting args vars o
 named command.ExpContinue word args vars o = continuing word args
 named command.Close word args vars o = closing word args vars o
 named command.Wait word args vars o = waiting word args vars o
+named command.ExpPid word args vars o = numbering word args vars o
 named command.MatchMax word args vars o = sizing word args vars o
 named command.RemoveNulls word args vars o = removing word args vars o
 named command.LogUser word args vars o = logging word args o

@@ -25,7 +25,6 @@ use Rattle.expect_core.specs.declared.turn.Deed.TheVariants.{Alone, To}
 use Rattle.expect_core.specs.declared.own.Own.{Own}
 use Rattle.expect_core.specs.Flags.{arguments}
 use Rattle.expect_core.specs.Opened.{channel_of}
-use Rattle.expect_core.specs.Sending.{handing}
 use Rattle.expect_core.specs.Sleeping.{digits, kept, or_expected}
 use Rattle.expect_core.specs.Texts.{bit}
 use Rattle.expect_core.specs.Turns.{react, done}
@@ -194,7 +193,7 @@ flushing name args o = arguments command.Flush name args >>= λ f. flushing_to (
 abbrev pub putting_to : ℕ → List ℕ → Deed
 putting_to i text =
     if length text == 0 then Alone [] (done [])
-    else To i (react (handing (Write text ∷ [])).effects (handing (Write text ∷ [])).next)
+    else To i (react (Ask (act.Write text) ∷ []) (Await (purpose.Send (Write text) [] None)))
 
 -- puts ?-nonewline? channelId string, given the text with its newline
 abbrev pub putting : List ℕ → List ℕ → Own → Said Deed

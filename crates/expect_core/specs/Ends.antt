@@ -1,5 +1,5 @@
--- `close` and `wait` (expect(1)).
-use Rattle.std.specs.Prelude.{ℕ, ◌+◌, List, [], ◌∷◌, ◌++◌, codes, if◌then◌else◌, Option, Some, None, Ok, Err}
+-- `close`, `wait` and `exp_pid` (expect(1)).
+use Rattle.std.specs.Prelude.{ℕ, ◌+◌, List, [], ◌∷◌, ◌++◌, codes, Bool, true, false, if◌then◌else◌, Option, Some, None, Ok, Err}
 use Rattle.std.specs.Fmt.{decimal}
 use Rattle.tcl_words.specs.Bytes as ascii
 use Rattle.command_table.specs.declared.commands.ExpectCommand.TheVariants as command
@@ -17,7 +17,7 @@ use Rattle.expect_core.specs.declared.turn.Purpose.TheVariants as purpose
 use Rattle.expect_core.specs.declared.turn.Next.TheVariants.{Finish, Await}
 use Rattle.expect_core.specs.declared.turn.Reaction.{Reaction}
 use Rattle.expect_core.specs.declared.turn.Deed.{Deed}
-use Rattle.expect_core.specs.declared.turn.Deed.TheVariants.{To}
+use Rattle.expect_core.specs.declared.turn.Deed.TheVariants.{Alone, To}
 use Rattle.expect_core.specs.declared.own.Own.{Own}
 use Rattle.expect_core.specs.Flags.{arguments}
 use Rattle.expect_core.specs.Owned.{child_of}
@@ -28,7 +28,7 @@ use Rattle.tcl_results.specs.Texts.{wrong_args}
 use Rattle.expect_core.specs.Texts.{with_cause, waited_for, number_of_cause}
 use Rattle.expect_core.specs.Turns.{react, done, well, badly}
 
--- close ?-i spawn_id?, close channelId, wait ?-i spawn_id?
+-- close ?-i spawn_id?, close channelId, wait ?-nowait? ?-i spawn_id?, exp_pid ?-i spawn_id?
 
 abbrev pub closing_child : Option (List ℕ) → Variables → Own → Said Deed
 closing_child id vars o = open_to id vars o >>= λ i. Ok (To i (react (Ask act.Close ∷ []) (Await purpose.Close)))
@@ -63,11 +63,9 @@ broken c = badly (Alter (Stand standing.Closed) ∷ []) (with_cause (codes "read
 abbrev pub if_unwaited : ℕ → Own → Said ℕ
 if_unwaited i o = if (child_of i o).waited then Err (waited_for (child_of i o).id) else Ok i
 
-abbrev pub wait_of : List ℕ → List (List ℕ) → Variables → Own → Said ℕ
-wait_of name args vars o = arguments command.Wait name args >>= λ f. spoken_to f.0.id vars o >>= λ i. if_unwaited i o
-
-abbrev pub waiting : List ℕ → List (List ℕ) → Variables → Own → Said Deed
-waiting name args vars o = wait_of name args vars o >>= λ i. Ok (To i (react (Alter Waited ∷ Ask act.Wait ∷ []) (Await purpose.Wait)))
+-- Whether there is `-nowait`, and the child.
+abbrev pub wait_of : List ℕ → List (List ℕ) → Variables → Own → Said (Bool × ℕ)
+wait_of name args vars o = arguments command.Wait name args >>= λ f. spoken_to f.0.id vars o >>= λ i. if_unwaited i o >>= λ i. Ok (f.0.on, i)
 
 abbrev pub failed_by : Cause → List ℕ
 failed_by c = codes "-1 " ++ decimal (number_of_cause c)
@@ -80,5 +78,20 @@ end_text (answer.Fail c) = failed_by c
 end_text answer.Ok = failed_by cause.Other
 
 -- The child's number, its spawn id and how it ended.
+abbrev pub waited_text : ℕ → Answer → Own → List ℕ
+waited_text i a o = decimal (i + 1) ++ ascii.space ∷ (child_of i o).id ++ ascii.space ∷ end_text a
+
 abbrev pub waited : ℕ → Answer → Own → Reaction
-waited i a o = react [] (Finish (done (decimal (i + 1) ++ ascii.space ∷ (child_of i o).id ++ ascii.space ∷ end_text a)))
+waited i a o = react [] (Finish (done (waited_text i a o)))
+
+-- With -nowait the child's end is not awaited, and its status is 0.
+abbrev pub waiting_on : Bool → ℕ → Own → Reaction
+waiting_on true i o = react (Alter Waited ∷ []) (Finish (done (waited_text i (answer.Exit 0) o)))
+waiting_on false i o = react (Alter Waited ∷ Ask act.Wait ∷ []) (Await purpose.Wait)
+
+abbrev pub waiting : List ℕ → List (List ℕ) → Variables → Own → Said Deed
+waiting name args vars o = wait_of name args vars o >>= λ w. Ok (To w.1 (waiting_on w.0 w.1 o))
+
+-- The child's number.
+abbrev pub numbering : List ℕ → List (List ℕ) → Variables → Own → Said Deed
+numbering name args vars o = arguments command.ExpPid name args >>= λ f. spoken_to f.0.id vars o >>= λ i. Ok (Alone [] (done (decimal (i + 1))))

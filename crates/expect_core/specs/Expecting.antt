@@ -39,6 +39,8 @@ use Rattle.expect_core.specs.declared.own.Own.{Own}
 use Rattle.expect_core.specs.Owned.{child_of, bytes_of}
 use Rattle.expect_core.specs.Texts.{bad_expect_flag, bad_regular, with_cause}
 use Rattle.expect_core.specs.Scoped.{optional}
+use Rattle.expect_core.specs.declared.spread.Spread.{Spread}
+use Rattle.expect_core.specs.Spread.{sent_on}
 use Rattle.expect_core.specs.Heard.{span_of, deadline_from, groups_at}
 use Rattle.expect_core.specs.Sides.{asked_by, sides_of, still_open}
 use Rattle.expect_core.specs.Turns.{react, done, turn, over, at, doing}
@@ -77,7 +79,7 @@ span_in (Some text) vars = span_by text
 span_in None vars = optional (codes "timeout") vars >>= span_or_ten
 
 abbrev pub plan_at : List ℕ → PatternList → Span → ℕ → Plan
-plan_at is list span clock = record { sides = sides_of list is; order = is; list = list; span = span; deadline = deadline_from clock span; met = None }
+plan_at is list span clock = record { sides = sides_of list is; order = is; list = list; span = span; deadline = deadline_from clock span; met = None; pending = None }
 
 abbrev pub plan_by : PatternList → Variables → Own → Said Plan
 plan_by list vars o =
@@ -144,8 +146,13 @@ abbrev pub late_at : Plan → Option ℕ → Turn
 late_at p None = over (done [])
 late_at p (Some n) = turn None [] (acting p n None)
 
+-- What is pending is sent, or the timeout is met.
+abbrev pub late_by : Plan → Option (ℕ × Spread) → Turn
+late_by p None = late_at p (position (λ e. waits_for_time e.want) p.list.entries)
+late_by p (Some s) = at s.0 (react [] (sent_on s.1))
+
 abbrev pub late : Plan → Turn
-late p = late_at p (position (λ e. waits_for_time e.want) p.list.entries)
+late p = late_by p p.pending
 
 -- The variables are set, and this many bytes leave the child's match buffer.
 abbrev pub meeting : Plan → ℕ → ℕ → Pairs → ℕ → Turn

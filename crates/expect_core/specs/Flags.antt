@@ -3,7 +3,7 @@ use Rattle.std.specs.Prelude.{ℕ, List, [], ◌∷◌, ◌++◌, length, codes,
 use Rattle.command_table.specs.declared.commands.ExpectCommand.{ExpectCommand}
 use Rattle.command_table.specs.declared.flags.Flags.{Flags as Takes}
 use Rattle.command_table.specs.declared.flags.Role.{Role}
-use Rattle.command_table.specs.declared.flags.Role.TheVariants.{Word, End, Alone, Id, Tty, Shown, ShownWithValue, Bad}
+use Rattle.command_table.specs.declared.flags.Role.TheVariants.{Word, End, Alone, Id, Choice, Shown, ShownWithValue, Bad}
 use Rattle.command_table.specs.Counts.{fits}
 use Rattle.command_table.specs.Flags.{flag_role}
 use Rattle.command_table.specs.Rows.{expect_row}
@@ -17,7 +17,7 @@ abbrev pub bad_flag : List ℕ → List ℕ
 bad_flag word = quoted (codes "bad flag ") word
 
 abbrev pub no_flags : Flags
-no_flags = record { id = None; on = false; tty = None; shown = [] }
+no_flags = record { id = None; on = false; choice = None; shown = [] }
 
 -- The flags, and the words after them.
 abbrev pub Flagged : Type 0
@@ -33,7 +33,7 @@ by_role Word f w ws more = Ok (f, w ∷ ws)
 by_role End f w ws more = Ok (f, ws)
 by_role Alone f w ws more = more due.None (record f { on = true })
 by_role Id f w ws more = more due.Id f
-by_role (Tty on) f w ws more = more due.None (record f { tty = Some on })
+by_role (Choice on) f w ws more = more due.None (record f { choice = Some on })
 by_role Shown f w ws more = more due.None (showing w f)
 by_role ShownWithValue f w ws more = more due.Shown (showing w f)
 by_role Bad f w ws more = Err (bad_flag w)

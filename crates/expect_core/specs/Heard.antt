@@ -11,6 +11,7 @@ use Rattle.expect_core.specs.declared.lanes.Lane.{Lane}
 use Rattle.expect_core.specs.declared.plan.Span.{Span}
 use Rattle.expect_core.specs.declared.plan.Span.TheVariants.{Never, Seconds}
 use Rattle.expect_core.specs.declared.plan.Plan.{Plan}
+use Rattle.expect_core.specs.declared.spread.Spread.{Spread}
 use Rattle.expect_core.specs.declared.phase.Heard.{Heard}
 use Rattle.expect_core.specs.declared.phase.Heard.TheVariants.{Match, Full, TimedOut, OverLimit, NotYet, Ended, Failed}
 use Rattle.expect_core.specs.declared.own.Own.{Own}
@@ -62,6 +63,15 @@ places_of ws = map (λ w. w.0) ws
 -- The child at a place takes part.
 abbrev pub IsWatched : ℕ → List Watch → Type 0
 IsWatched i ws = IsAmong i (places_of ws)
+
+-- The children that a wait is about: those that take part, and the one that more is sent to after it.
+
+abbrev pub sent_too : Option (ℕ × Spread) → List ℕ → List ℕ
+sent_too None is = is
+sent_too (Some s) is = s.0 ∷ is
+
+abbrev pub about : Plan → List ℕ
+about p = sent_too p.pending (places_of p.sides)
 
 -- The groups of the child at a place.
 abbrev pub groups_at : ℕ → List Watch → List ℕ

@@ -17,11 +17,13 @@ pub mod Sides
 pub mod Waits
 pub mod Answered
 pub mod Effects
+pub mod Pauses
 pub mod Turns
 pub mod Awaited
 pub mod Spawning
 pub mod Sending
 pub mod Sleeping
+pub mod Spread
 pub mod Expecting
 pub mod Again
 pub mod Ends

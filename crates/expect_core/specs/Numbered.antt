@@ -11,7 +11,9 @@ use Rattle.expect_core.specs.declared.turn.Want.TheVariants.{Answer, Item, Outpu
 use Rattle.expect_core.specs.declared.child.Child.{Child}
 use Rattle.expect_core.specs.declared.own.Own.{Own}
 use Rattle.expect_core.specs.declared.dialogue.Dialogue.{Dialogue}
-use Rattle.expect_core.specs.Heard.{Watch, IsWatched}
+use Rattle.expect_core.specs.declared.plan.Plan.{Plan}
+use Rattle.expect_core.specs.Among.{IsAmong}
+use Rattle.expect_core.specs.Heard.{about}
 
 abbrev pub IsPlace : ℕ → Type 0
 IsPlace i = i < 16
@@ -20,14 +22,14 @@ IsPlace i = i < 16
 abbrev pub NamesAChild : Request → Type 0
 NamesAChild r = (1 ≤ r.child) × (r.child ≤ 16)
 
--- Each child that takes part in an `expect` has a place.
-abbrev pub WatchPlaces : List Watch → Type 0
-WatchPlaces ws = (i : ℕ) → IsWatched i ws → IsPlace i
+-- Each child that a wait is about has a place.
+abbrev pub PlanPlaces : Plan → Type 0
+PlanPlaces p = (i : ℕ) → IsAmong i (about p) → IsPlace i
 
 -- The children of each `expect` that is kept have places.
 abbrev pub AreOfPlaces : List Body → Type 0
 AreOfPlaces [] = Unit {0}
-AreOfPlaces (Action p ∷ bodies) = WatchPlaces p.sides × AreOfPlaces bodies
+AreOfPlaces (Action p ∷ bodies) = PlanPlaces p × AreOfPlaces bodies
 AreOfPlaces (Source ∷ bodies) = AreOfPlaces bodies
 
 -- The children of channels have places, and so has that of standard error.
@@ -42,8 +44,8 @@ HasPlaceIf (Some i) = IsPlace i
 abbrev pub WantsPlaces : Want → Type 0
 WantsPlaces (Answer i why) = IsPlace i
 WantsPlaces (Item i why) = IsPlace i
-WantsPlaces (Output p) = WatchPlaces p.sides
-WantsPlaces (End i p) = IsPlace i × WatchPlaces p.sides
+WantsPlaces (Output p) = PlanPlaces p
+WantsPlaces (End i p) = IsPlace i × PlanPlaces p
 
 -- The waiting call is for children with places.
 abbrev pub IsOfPlaces : Phase → Type 0

@@ -70,7 +70,7 @@ answered (purpose.Spawn terminal words) i a o = spawned terminal i words (failur
 answered (purpose.Tool s run) i a o = tool_answered s run i a (failure a)
 answered (purpose.Missing words) i a o = missed words
 answered (purpose.Gone words) i a o = gone words
-answered (purpose.Send x rest) i a o = handed x rest (failure a)
+answered (purpose.Send x rest more) i a o = handed o.clock x rest more (failure a)
 answered purpose.Close i a o = closed (failure a)
 answered purpose.Wait i a o = waited i a o
 answered (purpose.Fail c) i a o = broken c
@@ -120,7 +120,7 @@ staged k n (Over reply) vars st = (step_of reply, vars, st)
 staged k n (Act p m) vars st = acts p m vars st
 staged k n (Read script) vars st = reads script vars st
 staged k n (Look p) vars st = concluded k n p (look st.limit st.horizon p st.lanes st.own) vars st
-staged k n (SendText i text) vars st = k (at i (handing (handed_by (child_of i st.own).line text).actions)) vars (typed i text st)
+staged k n (SendText i text more) vars st = k (at i (handing st.own.clock (handed_by (child_of i st.own).line text).actions more)) vars (typed i text st)
 staged k n (Wait w) vars st = waited_for k n w vars st
 
 -- An effect that fails is an error.

@@ -1,4 +1,4 @@
--- send ?-i spawn_id? ?--? text
+-- send ?-s? ?-h? ?-i spawn_id? ?--? text
 use Rattle.std.specs.Prelude.{ℕ, List, [], ◌∷◌, ◌++◌, length, codes, Option, Some, None, Ok}
 use Rattle.child_events.specs.declared.event.Cause.{Cause}
 use Rattle.child_events.specs.Queue.{with_echo}
@@ -15,7 +15,9 @@ use Rattle.expect_core.specs.declared.child.Change.TheVariants.{Sent}
 use Rattle.expect_core.specs.declared.effect.Effect.{Effect}
 use Rattle.expect_core.specs.declared.effect.Effect.TheVariants.{Ask, Alter}
 use Rattle.expect_core.specs.declared.turn.Purpose.TheVariants as purpose
-use Rattle.expect_core.specs.declared.turn.Next.TheVariants.{Await, Send as SendText}
+use Rattle.expect_core.specs.declared.turn.Next.TheVariants.{Await}
+use Rattle.expect_core.specs.declared.spread.Pace.{Pace}
+use Rattle.expect_core.specs.declared.spread.Spread.{Spread}
 use Rattle.expect_core.specs.declared.turn.Reaction.{Reaction}
 use Rattle.expect_core.specs.declared.turn.Deed.{Deed}
 use Rattle.expect_core.specs.declared.turn.Deed.TheVariants.{To}
@@ -26,15 +28,17 @@ use Rattle.expect_core.specs.Lanes.{lane_of, with_items}
 use Rattle.expect_core.specs.Owned.{child_of, with_line}
 use Rattle.expect_core.specs.Ids.{open_to}
 use Rattle.expect_core.specs.Texts.{with_cause}
-use Rattle.expect_core.specs.Turns.{react, well, badly}
+use Rattle.expect_core.specs.Spread.{pace_if, beginning, going_on}
+use Rattle.expect_core.specs.Turns.{react, badly}
 use Rattle.expect_core.specs.Answered.{owning}
 
--- The child and the text.
-abbrev pub send_of : List ℕ → List (List ℕ) → Variables → Own → Said (ℕ × List ℕ)
-send_of name args vars o = arguments command.Send name args >>= λ f. open_to f.0.id vars o >>= λ i. Ok (i, arg 0 f.1)
+-- The child, the text and its pace.
+abbrev pub send_of : List ℕ → List (List ℕ) → Variables → Own → Said (ℕ × List ℕ × Option Pace)
+send_of name args vars o =
+    arguments command.Send name args >>= λ f. pace_if f.0.choice vars >>= λ pace. open_to f.0.id vars o >>= λ i. Ok (i, arg 0 f.1, pace)
 
 abbrev pub sending : List ℕ → List (List ℕ) → Variables → Own → Said Deed
-sending name args vars o = send_of name args vars o >>= λ s. Ok (To s.0 (react [] (SendText s.1)))
+sending name args vars o = send_of name args vars o >>= λ s. Ok (To s.0 (react [] (beginning o.clock s.1 s.2)))
 
 -- The echo is added to the child's items at the clock's moment.
 abbrev pub echoed : ℕ → List ℕ → Dialogue → Dialogue
@@ -50,10 +54,10 @@ abbrev pub act_of : Action → Act
 act_of (Write text) = act.Write text
 act_of End = act.End
 
--- What a terminal hands over goes out in pieces. Each follows the answer to the one before.
-abbrev pub handing : List Action → Reaction
-handing [] = well []
-handing (a ∷ rest) = react (Ask (act_of a) ∷ []) (Await (purpose.Send a rest))
+-- What a terminal hands over goes out in requests. Each follows the answer to the one before, and then more is sent.
+abbrev pub handing : ℕ → List Action → Option Spread → Reaction
+handing clock [] more = react [] (going_on clock more)
+handing clock (a ∷ rest) more = react (Ask (act_of a) ∷ []) (Await (purpose.Send a rest more))
 
 abbrev pub counting : Action → List Effect
 counting (Write text) = Alter (Sent (length text)) ∷ []
@@ -63,7 +67,7 @@ abbrev pub refused : Action → Cause → List ℕ
 refused (Write text) c = with_cause (codes "write failed") c
 refused End c = with_cause (codes "end failed") c
 
--- After an accepted piece the next goes out. The first failure is an error.
-abbrev pub handed : Action → List Action → Option Cause → Reaction
-handed a rest None = react (counting a ++ (handing rest).effects) (handing rest).next
-handed a rest (Some c) = badly [] (refused a c)
+-- After an accepted request the next goes out. The first failure is an error.
+abbrev pub handed : ℕ → Action → List Action → Option Spread → Option Cause → Reaction
+handed clock a rest more None = react (counting a ++ (handing clock rest more).effects) (handing clock rest more).next
+handed clock a rest more (Some c) = badly [] (refused a c)

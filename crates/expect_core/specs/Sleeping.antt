@@ -6,12 +6,11 @@ use Rattle.tcl_results.specs.Said.{Said, ◌>>=◌}
 use Rattle.tcl_results.specs.Texts.{expected_number}
 use Rattle.command_table.specs.declared.commands.ExpectCommand.{ExpectCommand}
 use Rattle.command_table.specs.declared.commands.ExpectCommand.TheVariants as command
-use Rattle.expect_core.specs.declared.plan.Plan.{Plan}
-use Rattle.expect_core.specs.declared.plan.Span.TheVariants.{Never}
 use Rattle.expect_core.specs.declared.turn.Deed.{Deed}
 use Rattle.expect_core.specs.declared.turn.Deed.TheVariants.{Alone, Expect}
 use Rattle.expect_core.specs.declared.own.Own.{Own}
 use Rattle.expect_core.specs.Flags.{arguments}
+use Rattle.expect_core.specs.Pauses.{nothing_until}
 use Rattle.expect_core.specs.Turns.{done}
 
 abbrev pub digits_behind : ℕ → List ℕ → Option ℕ
@@ -56,12 +55,8 @@ or_expected text (Some n) = Ok n
 abbrev pub until : ℕ → ℕ → Option ℕ
 until clock ms = if nat_lt 9000000000000000 ms then None else Some (clock + ms)
 
--- A wait that no child takes part in.
-abbrev pub nothing_until : Option ℕ → Plan
-nothing_until last = record { sides = []; order = []; list = record { entries = []; ids = []; timeout = None }; span = Never; deadline = last; met = None }
-
 abbrev pub sleeping_for : Own → ℕ → Deed
-sleeping_for o ms = if ms == 0 then Alone [] (done []) else Expect (nothing_until (until o.clock ms))
+sleeping_for o ms = if ms == 0 then Alone [] (done []) else Expect (nothing_until (until o.clock ms) None)
 
 abbrev pub sleeping_if : Own → List ℕ → Option ℕ → Said Deed
 sleeping_if o text time = or_expected text time >>= λ ms. Ok (sleeping_for o ms)

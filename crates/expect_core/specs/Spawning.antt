@@ -53,7 +53,7 @@ settings_of vars = optional (codes "stty_init") vars >>= settings_by
 
 -- Whether a child is on a terminal of the system. The last of -tty and -notty decides, or else the script's setting.
 abbrev pub is_on_terminal : Flags → Bool → Bool
-is_on_terminal flags host = unwrap_or flags.tty host
+is_on_terminal flags host = unwrap_or flags.choice host
 
 -- On a terminal of the system, other words start the program, and what is sent is handed over as it is.
 abbrev pub order_by : Bool → Flags → List (List ℕ) → Variables → Said SpawnOrder

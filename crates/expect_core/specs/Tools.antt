@@ -63,7 +63,7 @@ failed run c = badly [] (with_cause run.failing c)
 
 -- The child becomes that of standard error, and is sent the first text.
 abbrev pub first_complaint : List ℕ → Reaction
-first_complaint text = react (Errors ∷ Ask (act.Write text) ∷ []) (Await (purpose.Send (Write text) []))
+first_complaint text = react (Errors ∷ Ask (act.Write text) ∷ []) (Await (purpose.Send (Write text) [] None))
 
 -- A program that is to read nothing sees the end of its input. A channel that is written stays open, and the first text
 -- for standard error is written at once.

@@ -78,6 +78,14 @@ writing said = said >>= λ text. Ok (Alone (Tell text ∷ []) (done []))
 abbrev pub to_user : List ℕ → List (List ℕ) → Said (List ℕ)
 to_user name args = arguments command.SendUser name args >>= λ f. Ok (arg 0 f.1)
 
+-- send_error ?--? string
+
+abbrev pub complaint_of : List ℕ → List (List ℕ) → Said (List ℕ)
+complaint_of name args = arguments command.SendError name args >>= λ f. Ok (arg 0 f.1)
+
+abbrev pub sending_error : List ℕ → List (List ℕ) → Own → Said Deed
+sending_error name args o = complaint_of name args >>= λ text. complain o.errors text o
+
 -- log_user 0, 1 or -info
 
 -- Whether output goes to the transcript from now on, or `None` for `-info`.

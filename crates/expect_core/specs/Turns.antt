@@ -14,6 +14,7 @@ use Rattle.expect_core.specs.declared.turn.Want.TheVariants.{Answer, Item}
 use Rattle.expect_core.specs.declared.turn.Stage.{Stage}
 use Rattle.expect_core.specs.declared.turn.Stage.TheVariants as stage
 use Rattle.expect_core.specs.declared.turn.Turn.{Turn}
+use Rattle.expect_core.specs.Pauses.{nothing_until}
 
 abbrev pub react : List Effect → Next → Reaction
 react effects next = record { effects = effects; next = next }
@@ -47,7 +48,8 @@ stage_of i (next.Finish reply) = stage.Over reply
 stage_of i (next.Await why) = stage.Wait (Answer i why)
 stage_of i (next.Hear aim) = stage.Wait (Item i aim)
 stage_of i (next.Evaluate script) = stage.Read script
-stage_of i (next.Send text) = stage.Send i text
+stage_of i (next.Send text rest) = stage.Send i text rest
+stage_of i (next.Pause last rest) = stage.Look (nothing_until last (Some (i, rest)))
 
 abbrev pub at : ℕ → Reaction → Turn
 at i r = turn (Some i) r.effects (stage_of i r.next)

@@ -15,7 +15,7 @@ ghost use Rattle.expect_core.specs.Turns.{doing as doing_of};
 use crate::again::exp_continue;
 use crate::day::{clock, timestamp};
 use crate::dialogue::Dialogue;
-use crate::ends::{close, wait};
+use crate::ends::{close, exp_pid, wait};
 use crate::expect::expect;
 use crate::known::Known;
 use crate::options::{match_max, remove_nulls};
@@ -28,7 +28,7 @@ use crate::run::Paused;
 use crate::send::send;
 use crate::sleeping::{after, sleep};
 use crate::spawn::spawn;
-use crate::transcript::{log_user, puts, send_user};
+use crate::transcript::{log_user, puts, send_error, send_user};
 use crate::turn::{Deed, Reply, Turn};
 use command_table::{ExpectCommand, expect_command, fixed_expect};
 use std::alloc::{AllocError, Global};
@@ -61,10 +61,12 @@ fn deed(
         ExpectCommand::Spawn => spawn(alloc, word, args, vars, own),
         ExpectCommand::Send => send(alloc, word, args, vars, own),
         ExpectCommand::SendUser => send_user(alloc, word, args),
+        ExpectCommand::SendError => send_error(alloc, word, args, own),
         ExpectCommand::Expect => expect(alloc, args, vars, own),
         ExpectCommand::ExpContinue => exp_continue(alloc, word, args),
         ExpectCommand::Close => close(alloc, word, args, vars, own),
         ExpectCommand::Wait => wait(alloc, word, args, vars, own),
+        ExpectCommand::ExpPid => exp_pid(alloc, word, args, vars, own),
         ExpectCommand::MatchMax => match_max(alloc, word, args, vars, own),
         ExpectCommand::RemoveNulls => remove_nulls(alloc, word, args, vars, own),
         ExpectCommand::LogUser => log_user(alloc, word, args, own),
@@ -113,7 +115,7 @@ impl Dialogue {
         ensures { (meant : Said DeedOf) → Says said_deed meant → IfOk result (λ p. (run turns (doing_of meant) vars.old self.old ≡ (p.step, vars.new, self.new)) × KnowsIn p.known self.new) }
     {
         let turn = match said(alloc, said_deed)? {
-            Ok(deed) => deed.turn(alloc),
+            Ok(deed) => deed.turn(alloc)?,
             Err(text) => Turn::over(alloc, Reply::Fail(text)),
         };
         self.run(alloc, vars, turn)

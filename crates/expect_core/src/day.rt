@@ -296,7 +296,7 @@ fn stamp_of(alloc: Global, name: &[u8], args: &[Value]) -> Result<Stamp, Complai
     counted(alloc, stamp)
 }
 
-/// Returns a word behind a sign.
+/// Returns the sign, and the word after it.
 fn behind_sign(alloc: Global, sign: u8, word: &[u8]) -> Result<Text, AllocError>
     ensures { IfOk result (λ t. t ≡ sign ∷ word.now) }
 {

@@ -1,9 +1,9 @@
-//! `close` and `wait` (expect(1)).
+//! `close`, `wait` and `exp_pid` (expect(1)).
 
 ghost use Rattle.std.specs.Prelude.{◌≡◌, ◌+◌, ◌++◌, ◌∷◌, IfOk};
 ghost use Rattle.std.specs.Fmt.{decimal as decimal_of};
 ghost use Rattle.tcl_results.specs.Says.{Says};
-ghost use Rattle.expect_core.specs.Ends.{broken as broken_of, closed as closed_of, closing, closing_by, closing_child, end_text as end_text_of, failed_by, if_unwaited, waited as waited_of, waiting};
+ghost use Rattle.expect_core.specs.Ends.{broken as broken_of, closed as closed_of, closing, closing_by, closing_child, end_text as end_text_of, failed_by, if_unwaited, numbering, waited as waited_of, waited_text as waited_text_of, waiting, waiting_on};
 ghost use Rattle.expect_core.specs.Owned.{child_of};
 
 use crate::child::{Change, Standing};
@@ -76,7 +76,7 @@ pub(crate) fn close(
     close_by(alloc, name, &flags.id, &args[at..], vars, own)
 }
 
-/// Returns what `wait ?-i spawn_id?` does.
+/// Returns what `wait ?-nowait? ?-i spawn_id?` does.
 pub(crate) fn wait(
     alloc: Global,
     name: &[u8],
@@ -88,9 +88,38 @@ pub(crate) fn wait(
 {
     let (flags, _) = arguments(alloc, ExpectCommand::Wait, name, args)?;
     let i = unwaited(alloc, spoken_to(alloc, &flags.id, vars, own)?, own)?;
-    let effects = Effects::one(alloc, Effect::Alter(Change::Waited))?.with(Effect::Ask(Act::Wait))?;
+    Ok(Deed::To(i, wait_on(alloc, flags.on, i, own)?))
+}
+
+/// Returns what a `wait` for a child does. With `-nowait` the child's end is not awaited.
+fn wait_on(alloc: Global, nowait: bool, i: Place, own: &Own) -> Result<Reaction, AllocError>
+    ensures { IfOk result (λ r. r ≡ waiting_on nowait i own.now) }
+{
+    let effects = Effects::one(alloc, Effect::Alter(Change::Waited))?;
+    if nowait {
+        let text = waited_text(alloc, i, Answer::Exit(0), own)?;
+        let next = Next::Finish(done(Value::from_text(alloc, text)?));
+        return Ok(Reaction { effects, next });
+    }
+    let effects = effects.with(Effect::Ask(Act::Wait))?;
     let next = Next::Await(Purpose::Wait);
-    Ok(Deed::To(i, Reaction { effects, next }))
+    Ok(Reaction { effects, next })
+}
+
+/// Returns what `exp_pid ?-i spawn_id?` does: it returns the child's number.
+pub(crate) fn exp_pid(
+    alloc: Global,
+    name: &[u8],
+    args: &[Value],
+    vars: &Vars,
+    own: &Own,
+) -> Result<Deed, Complaint>
+    ensures { Says result (numbering name.now args.now vars.now own.now) }
+{
+    let (flags, _) = arguments(alloc, ExpectCommand::ExpPid, name, args)?;
+    let i = spoken_to(alloc, &flags.id, vars, own)?;
+    let number = Value::from_text(alloc, decimal(alloc, usize::from(i.number()))?)?;
+    Ok(Deed::Alone(Effects::new(alloc), done(number)))
 }
 
 /// Returns what follows the answer to a `close`. The child is closed even if the request failed.
@@ -143,7 +172,7 @@ fn end_text(alloc: Global, answer: Answer) -> Result<Text, AllocError>
 
 /// Returns the result of a `wait`: the child's number, its spawn id, and how it ended.
 fn waited_text(alloc: Global, i: Place, answer: Answer, own: &Own) -> Result<Text, AllocError>
-    ensures { IfOk result (λ t. t ≡ decimal_of (i + 1) ++ 32 ∷ (child_of i own.now).id ++ 32 ∷ end_text_of answer) }
+    ensures { IfOk result (λ t. t ≡ waited_text_of i answer own.now) }
 {
     let mut text = decimal(alloc, usize::from(i.number()))?;
     text.push(b' ')?;

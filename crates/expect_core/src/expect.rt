@@ -7,8 +7,9 @@ ghost use Rattle.expect_core.specs.declared.body.Body.{Body as BodyOf};
 ghost use Rattle.expect_core.specs.Calls.{outer};
 ghost use Rattle.expect_core.specs.Heard.{groups_at};
 ghost use Rattle.expect_core.specs.Owned.{bytes_of, child_of};
-ghost use Rattle.expect_core.specs.Turns.{done as done_of, over as over_of};
-ghost use Rattle.expect_core.specs.Expecting.{again as again_of, all_met, before as before_of, behind as behind_of, ended as ended_of, ending as ending_of, end_of as end_told, entry_of, expecting, failing as failing_of, full as full_of, group_pairs as group_pairs_of, groups_from, late as late_of, matched as matched_of, meeting, met_pairs as met_pairs_of, places, shut as shut_of, text_pair};
+ghost use Rattle.expect_core.specs.Spread.{sent_on};
+ghost use Rattle.expect_core.specs.Turns.{at as at_of, done as done_of, over as over_of};
+ghost use Rattle.expect_core.specs.Expecting.{again as again_of, all_met, before as before_of, behind as behind_of, ended as ended_of, ending as ending_of, end_of as end_told, entry_of, expecting, failing as failing_of, full as full_of, group_pairs as group_pairs_of, groups_from, late as late_of, late_by, matched as matched_of, meeting, met_pairs as met_pairs_of, places, shut as shut_of, text_pair};
 
 use crate::body::Body;
 use crate::child::{Change, Standing};
@@ -19,6 +20,7 @@ use crate::place::Place;
 use crate::plan::{Met, Plan, PlanBox};
 use crate::planning::plan_of;
 use crate::request::Act;
+use crate::spread::Spread;
 use crate::stored::{BUFFER, ID, Stores, end_name, start_name, string_name};
 use crate::texts::{decimal, with_cause};
 use crate::turn::{Deed, Next, Purpose, Reaction, Reply, Stage, Turn, Want, done};
@@ -230,8 +232,27 @@ fn nothing(alloc: Global) -> Turn
 }
 
 /// Returns the turn after a timeout.
-pub(crate) fn late(alloc: Global, plan: PlanBox) -> Turn
-    ensures { result ≡ late_of plan }
+pub(crate) fn late(alloc: Global, mut plan: PlanBox) -> Result<Turn, AllocError>
+    ensures { IfOk result (λ t. t ≡ late_of plan) }
+{
+    if let Some((i, rest)) = plan.take_pending() {
+        return sent_at(alloc, i, rest);
+    }
+    Ok(timed_out(alloc, plan))
+}
+
+/// Returns the turn that sends the next piece to the child at a place.
+fn sent_at(alloc: Global, i: Place, rest: Spread) -> Result<Turn, AllocError>
+    ensures { IfOk result (λ t. t ≡ at_of i (record { effects = []; next = sent_on rest })) }
+{
+    let effects = Effects::new(alloc);
+    let next = rest.send(alloc)?;
+    Reaction { effects, next }.at(alloc, i)
+}
+
+/// Returns the turn after the timeout of an `expect`.
+fn timed_out(alloc: Global, plan: PlanBox) -> Turn
+    ensures { result ≡ late_by plan None }
 {
     match plan.get().list.at_timeout() {
         Some(entry) => Turn::only(alloc, Stage::Act(plan, Met { entry, child: None })),
@@ -335,7 +356,7 @@ pub(crate) fn failing(alloc: Global, i: Place, cause: Cause) -> Result<Turn, All
 {
     let effects = Effects::one(alloc, Effect::Ask(Act::Close))?;
     let next = Next::Await(Purpose::Fail(cause));
-    Ok(Reaction { effects, next }.at(i))
+    Reaction { effects, next }.at(alloc, i)
 }
 
 /// Marks a child as closed, as the first effect of a turn.

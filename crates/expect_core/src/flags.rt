@@ -18,8 +18,9 @@ pub struct Flags {
     pub id: Option<Value>,
     /// Whether the command's own flag is among them.
     pub on: bool,
-    /// Whether the last of `-tty` and `-notty` is `-tty`. `None` if there is neither.
-    pub tty: Option<bool>,
+    /// Whether the last of two flags of which one counts is the first of them. `None` if there is
+    /// neither. They are `-tty` and `-notty` of `spawn`, `-h` and `-s` of `send`.
+    pub choice: Option<bool>,
     /// The flags that the line of a `spawn` shows, in order, each with its value.
     pub shown: Texts,
 }
@@ -42,7 +43,7 @@ fn no_flags(alloc: Global) -> Flags
     Flags {
         id: None,
         on: false,
-        tty: None,
+        choice: None,
         shown: Texts::new(alloc),
     }
 }
@@ -55,11 +56,11 @@ pub(crate) fn bad_flag(alloc: Global, word: &[u8]) -> Result<Text, AllocError>
 }
 
 impl Flags {
-    /// Chooses between a terminal of the system and pipes.
+    /// Keeps which of two flags was the last.
     fn choose(&mut self, on: bool)
-        ensures { self.new ≡ record self.old { tty = Some on } }
+        ensures { self.new ≡ record self.old { choice = Some on } }
     {
-        self.tty = Some(on);
+        self.choice = Some(on);
     }
 
     /// Adds a word that is shown.
@@ -102,7 +103,7 @@ fn flags_of(
             Role::End => return Ok((flags, at + 1)),
             Role::Alone => flags.on = true,
             Role::Id => due = Due::Id,
-            Role::Tty(on) => flags.choose(on),
+            Role::Choice(on) => flags.choose(on),
             Role::Shown => flags.show(alloc, word)?,
             Role::ShownWithValue => {
                 flags.show(alloc, word)?;

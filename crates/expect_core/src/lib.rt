@@ -42,6 +42,7 @@ mod settings;
 mod sleeping;
 mod sought;
 mod spawn;
+mod spread;
 mod stat;
 mod stored;
 mod texts;

@@ -101,7 +101,7 @@ fn settings_of(alloc: Global, vars: &Vars) -> Result<Texts, Complaint>
 fn is_on_terminal(flags: &Flags, host: bool) -> bool
     ensures { result ≡ is_on_terminal flags.now host }
 {
-    flags.tty.unwrap_or(host)
+    flags.choice.unwrap_or(host)
 }
 
 /// Returns the words that start a program in a terminal of the system with these settings.

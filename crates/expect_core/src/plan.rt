@@ -1,10 +1,11 @@
 //! What an `expect` waits for.
 
-ghost use Rattle.std.specs.Prelude.{◌≡◌, ◌∷◌, [], ◌++◌, Some, IfOk, OnOk};
+ghost use Rattle.std.specs.Prelude.{◌≡◌, ◌∷◌, [], ◌++◌, Some, None, MatchOption, IfOk, OnOk};
 ghost use Rattle.expect_core.specs.Heard.{groups_at};
 ghost use Rattle.expect_core.specs.Sides.{rank_of, with_group};
 
 use crate::place::Place;
+use crate::spread::Spread;
 use exp_match::PatternList;
 use std::alloc::{AllocError, Global};
 use std::marker::Model;
@@ -184,6 +185,9 @@ pub struct Plan {
     pub deadline: Option<u128>,
     /// What was met last, or `None` if nothing was. Its entry has the action that is evaluated.
     pub met: Option<Met>,
+    /// What is sent after the timeout, and the place of the child: the rest of a `send -s` or
+    /// `send -h`.
+    pub pending: Option<(Place, Spread)>,
 }
 
 /// A `Plan` on the heap, so that a turn that holds one is cheap to move. A contract sees the plan.
@@ -222,6 +226,13 @@ impl PlanBox {
         ensures { self.new ≡ record self.old { met = Some met } }
     {
         self.plan.met = Some(met);
+    }
+
+    /// Takes what is sent after the timeout.
+    pub(crate) fn take_pending(&mut self) -> Option<(Place, Spread)>
+        ensures { MatchOption result ((self.new ≡ self.old) × (self.old.pending ≡ None)) (λ s. self.old.pending ≡ Some s) }
+    {
+        self.plan.pending.take()
     }
 
     /// Sets the deadline.

@@ -193,6 +193,7 @@ fn plan_at(
         span,
         deadline: deadline_from(clock, span),
         met: None,
+        pending: None,
     })
 }
 

@@ -400,7 +400,7 @@ pub(crate) fn put_to(alloc: Global, i: Place, text: Text) -> Result<Deed, AllocE
         return Ok(nothing(alloc));
     }
     let effects = Effects::one(alloc, Effect::Ask(Act::Write(text.copied(alloc)?)))?;
-    let next = Next::Await(Purpose::Send(Action::Write(text), Pile::new(alloc)));
+    let next = Next::Await(Purpose::Send(Action::Write(text), Pile::new(alloc), None));
     Ok(Deed::To(i, Reaction { effects, next }))
 }
 

@@ -117,7 +117,9 @@ fn answered(
         Purpose::Tool(stride, run) => tool_answered(alloc, stride, run, i, answer),
         Purpose::Missing(words) => missed(alloc, words),
         Purpose::Gone(words) => gone(alloc, &words),
-        Purpose::Send(action, rest) => handed(alloc, &action, rest, failure(answer)),
+        Purpose::Send(action, rest, more) => {
+            handed(alloc, own.clock, &action, rest, more, failure(answer))
+        }
         Purpose::Close => closed(alloc, failure(answer)),
         Purpose::Wait => waited(alloc, i, answer, own),
         Purpose::Fail(cause) => broken(alloc, cause),
@@ -187,7 +189,7 @@ impl Dialogue {
             Heard::OverLimit => Ok(Went::Over(HostStep::Stop(Ending::TimeLimit))),
             Heard::TimedOut(deadline) => {
                 self.own.clock = *deadline;
-                Ok(Went::Turn(late(alloc, plan)))
+                Ok(Went::Turn(late(alloc, plan)?))
             }
             Heard::Match(i, entry, spans) => {
                 let turn = matched(alloc, plan, *i, *entry, spans, &mut self.own)?;
@@ -296,7 +298,7 @@ impl Dialogue {
         match self.next_answer(i) {
             Some(answer) => {
                 let reaction = answered(alloc, why, i, answer, &self.own)?;
-                Ok(Went::Turn(reaction.at(i)))
+                Ok(Went::Turn(reaction.at(alloc, i)?))
             }
             None => Ok(Went::Over(self.wait_for(left, Want::Answer(i, why)))),
         }
@@ -316,7 +318,7 @@ impl Dialogue {
         match self.next_item(i) {
             Some(item) => {
                 let reaction = heard_as(alloc, why, i, &item)?;
-                Ok(Went::Turn(reaction.at(i)))
+                Ok(Went::Turn(reaction.at(alloc, i)?))
             }
             None => Ok(Went::Over(self.wait_for(left, Want::Item(i, why)))),
         }
@@ -383,10 +385,10 @@ impl Dialogue {
             Stage::Act(plan, met) => self.act(alloc, plan, met),
             Stage::Read(script) => self.read(alloc, script),
             Stage::Look(plan) => self.looking(alloc, left, plan),
-            Stage::Send(i, text) => {
+            Stage::Send(i, text, more) => {
                 let actions = self.take_text(alloc, i, text.as_slice())?;
-                let reaction = hand(alloc, actions)?;
-                Ok(Went::Turn(reaction.at(i)))
+                let reaction = hand(alloc, self.own.clock, actions, more)?;
+                Ok(Went::Turn(reaction.at(alloc, i)?))
             }
             Stage::Wait(want) => self.wait(alloc, left, want, Known::nothing(alloc)),
         }

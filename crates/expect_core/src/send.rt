@@ -9,8 +9,8 @@ use crate::effect::{Effect, Effects};
 use crate::flags::{arguments, text};
 use crate::ids::open_to;
 use crate::own::Own;
-use crate::place::Place;
 use crate::request::Act;
+use crate::spread::{Spread, begin, going_on, pace_if};
 use crate::texts::with_cause;
 use crate::turn::{Deed, Next, Purpose, Reaction};
 use child_events::Cause;
@@ -23,7 +23,7 @@ use tcl_values::Value;
 use tcl_words::Text;
 use tty::{Action, Actions};
 
-/// Returns what `send ?-i spawn_id? ?--? text` does.
+/// Returns what `send ?-s? ?-h? ?-i spawn_id? ?--? text` does.
 pub(crate) fn send(
     alloc: Global,
     name: &[u8],
@@ -34,10 +34,11 @@ pub(crate) fn send(
     ensures { Says result (sending name.now args.now vars.now own.now) }
 {
     let (flags, at) = arguments(alloc, ExpectCommand::Send, name, args)?;
+    let pace = pace_if(alloc, flags.choice, vars)?;
     let i = open_to(alloc, &flags.id, vars, own)?;
     let text = text(alloc, &args[at..])?;
     let effects = Effects::new(alloc);
-    let next = Next::Send(text);
+    let next = begin(alloc, own.clock, text, pace)?;
     Ok(Deed::To(i, Reaction { effects, next }))
 }
 
@@ -72,29 +73,38 @@ fn piled(alloc: Global, mut actions: Actions) -> Result<Pile<Action>, AllocError
     Ok(pile)
 }
 
-/// Adds the request for the first of the remaining actions to other effects.
+/// Adds the request for the first of the remaining actions to other effects. Without one, more is
+/// sent.
 fn hand_behind(
     alloc: Global,
+    clock: u64,
     effects: Effects,
     mut rest: Pile<Action>,
+    more: Option<Spread>,
 ) -> Result<Reaction, AllocError>
-    ensures { IfOk result (λ r. r ≡ record { effects = effects ++ (handing rest).effects; next = (handing rest).next }) }
+    ensures { IfOk result (λ r. r ≡ record { effects = effects ++ (handing clock rest more).effects; next = (handing clock rest more).next }) }
 {
     let Some(action) = rest.pop() else {
-        return Ok(Reaction::well(alloc, effects));
+        let next = going_on(alloc, clock, more)?;
+        return Ok(Reaction { effects, next });
     };
     let effects = effects.with(Effect::Ask(act_of(alloc, &action)?))?;
-    let next = Next::Await(Purpose::Send(action, rest));
+    let next = Next::Await(Purpose::Send(action, rest, more));
     Ok(Reaction { effects, next })
 }
 
 /// Returns the requests for what the terminal hands over. Each follows the answer to the one
-/// before.
-pub(crate) fn hand(alloc: Global, actions: Actions) -> Result<Reaction, AllocError>
-    ensures { IfOk result (λ r. r ≡ handing actions) }
+/// before. Then more is sent.
+pub(crate) fn hand(
+    alloc: Global,
+    clock: u64,
+    actions: Actions,
+    more: Option<Spread>,
+) -> Result<Reaction, AllocError>
+    ensures { IfOk result (λ r. r ≡ handing clock actions more) }
 {
     let rest = piled(alloc, actions)?;
-    hand_behind(alloc, Effects::new(alloc), rest)
+    hand_behind(alloc, clock, Effects::new(alloc), rest, more)
 }
 
 /// Returns the effect that counts the accepted bytes.
@@ -110,16 +120,18 @@ fn count(alloc: Global, action: &Action) -> Result<Effects, AllocError>
 /// Returns what follows the answer to such a request: the next request, or an error.
 pub(crate) fn handed(
     alloc: Global,
+    clock: u64,
     action: &Action,
     rest: Pile<Action>,
+    more: Option<Spread>,
     cause: Option<Cause>,
 ) -> Result<Reaction, AllocError>
-    ensures { IfOk result (λ r. r ≡ handed_of action.now rest cause) }
+    ensures { IfOk result (λ r. r ≡ handed_of clock action.now rest more cause) }
 {
     match cause {
         None => {
             let effects = count(alloc, action)?;
-            hand_behind(alloc, effects, rest)
+            hand_behind(alloc, clock, effects, rest, more)
         }
         Some(cause) => {
             let text = refused(alloc, action, cause)?;

@@ -3,12 +3,15 @@
 ghost use Rattle.std.specs.Prelude.{◌≡◌, ◌≤◌, ◌<◌, ◌+◌, ◌*◌, ◌-◌, ◌==◌, ◌&&◌, nat_le, ℕ, Option, length, position, option_map, IfOk, IfSome};
 ghost use Rattle.tcl_words.specs.Bytes as ascii;
 ghost use Rattle.tcl_results.specs.Says.{Says};
-ghost use Rattle.expect_core.specs.Sleeping.{digit_at as digit_of, digits as digits_of, kept, nothing_until as nothing_of, seconds as seconds_of, signed as signed_of, sleeping, sleeping_for as sleeping_of, sleeping_if, thousandths as thousandths_of, until as until_of, waiting_after, whole as whole_of};
+ghost use Rattle.expect_core.specs.Pauses.{nothing_until as nothing_of};
+ghost use Rattle.expect_core.specs.Sleeping.{digit_at as digit_of, digits as digits_of, kept, seconds as seconds_of, signed as signed_of, sleeping, sleeping_for as sleeping_of, sleeping_if, thousandths as thousandths_of, until as until_of, waiting_after, whole as whole_of};
 
 use crate::effect::Effects;
 use crate::flags::{arguments, text};
 use crate::own::Own;
+use crate::place::Place;
 use crate::plan::{Places, Plan, PlanBox, Sides, Span};
+use crate::spread::Spread;
 use crate::turn::{Deed, done};
 use command_table::ExpectCommand;
 use exp_match::{Entries, PatternList};
@@ -130,7 +133,7 @@ fn seconds(text: &[u8]) -> Option<u64>
 }
 
 /// Returns what is kept of a time in seconds, in milliseconds. A time below zero is none.
-fn signed(text: &[u8]) -> Option<u64>
+pub(crate) fn signed(text: &[u8]) -> Option<u64>
     ensures { result ≡ option_map kept (signed_of text.now) }
 {
     match text {
@@ -144,8 +147,9 @@ fn signed(text: &[u8]) -> Option<u64>
 }
 
 /// Returns the last moment of a wait, given what is kept of its time.
-fn until(clock: u64, time: u64) -> Option<u128>
-    ensures { (n : ℕ) → kept n ≡ time → result ≡ until_of clock n }
+pub(crate) fn until(clock: u64, time: u64) -> Option<u128>
+    ensures exact { result ≡ until_of clock time }
+    ensures kept { (n : ℕ) → kept n ≡ time → result ≡ until_of clock n }
 {
     if LONGEST < time {
         return None;
@@ -153,9 +157,13 @@ fn until(clock: u64, time: u64) -> Option<u128>
     Some(u128::from(clock) + u128::from(time))
 }
 
-/// Returns a wait that no child takes part in.
-fn nothing_until(alloc: Global, last: Option<u128>) -> Result<PlanBox, AllocError>
-    ensures { IfOk result (λ p. p ≡ nothing_of last) }
+/// Returns a wait that no child takes part in. After it, what is pending is sent.
+pub(crate) fn nothing_until(
+    alloc: Global,
+    last: Option<u128>,
+    pending: Option<(Place, Spread)>,
+) -> Result<PlanBox, AllocError>
+    ensures { IfOk result (λ p. p ≡ nothing_of last pending) }
 {
     PlanBox::new(
         alloc,
@@ -170,6 +178,7 @@ fn nothing_until(alloc: Global, last: Option<u128>) -> Result<PlanBox, AllocErro
             span: Span::Never,
             deadline: last,
             met: None,
+            pending,
         },
     )
 }
@@ -181,7 +190,7 @@ fn sleeping_for(alloc: Global, own: &Own, time: u64) -> Result<Deed, AllocError>
     if time == 0 {
         return Ok(Deed::Alone(Effects::new(alloc), done(Value::new(alloc))));
     }
-    Ok(Deed::Expect(nothing_until(alloc, until(own.clock, time))?))
+    Ok(Deed::Expect(nothing_until(alloc, until(own.clock, time), None)?))
 }
 
 /// Returns what waits for the time that a text writes, given what is kept of it.

@@ -96,7 +96,7 @@ fn complain(alloc: Global, text: &Text) -> Result<Reaction, AllocError>
         alloc,
     )?)))?;
     let action = Action::Write(text.copied(alloc)?);
-    let next = Next::Await(Purpose::Send(action, Pile::new(alloc)));
+    let next = Next::Await(Purpose::Send(action, Pile::new(alloc), None));
     Ok(Reaction { effects, next })
 }
 

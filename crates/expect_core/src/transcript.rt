@@ -2,7 +2,7 @@
 
 ghost use Rattle.std.specs.Prelude.{◌≡◌, IfOk, ◌∷◌, []};
 ghost use Rattle.tcl_results.specs.Says.{Says};
-ghost use Rattle.expect_core.specs.Transcript.{ended as ended_of, log_set, log_told, log_word, logging as logging_of, complain as complain_of, complain_first as complain_first_of, put_by as put_by_of, put_of as put_meant, put_to, put_words, puts as puts_of, to_user as user_text, writing};
+ghost use Rattle.expect_core.specs.Transcript.{ended as ended_of, log_set, log_told, log_word, logging as logging_of, complain as complain_of, complain_first as complain_first_of, put_by as put_by_of, put_of as put_meant, put_to, put_words, puts as puts_of, sending_error, to_user as user_text, writing};
 ghost use Rattle.expect_core.specs.Turns.{done as done_of};
 
 use crate::effect::{Effect, Effects};
@@ -140,6 +140,20 @@ pub(crate) fn send_user(alloc: Global, name: &[u8], args: &[Value]) -> Result<De
 {
     let text = to_user(alloc, name, args)?;
     Ok(write(alloc, text)?)
+}
+
+/// Returns what `send_error ?--? text` does.
+pub(crate) fn send_error(
+    alloc: Global,
+    name: &[u8],
+    args: &[Value],
+    own: &Own,
+) -> Result<Deed, Complaint>
+    ensures { Says result (sending_error name.now args.now own.now) }
+{
+    let (_, at) = arguments(alloc, ExpectCommand::SendError, name, args)?;
+    let text = text(alloc, &args[at..])?;
+    complain(alloc, Text::from_slice(alloc, text.as_slice())?, own)
 }
 
 /// Reads the argument of `log_user`: whether output goes to the transcript, or `None` for `-info`.

@@ -6,6 +6,8 @@ ghost use Rattle.expect_core.specs.Turns.{at as at_of, badly, over as over_of, o
 use crate::effect::Effects;
 use crate::place::Place;
 use crate::plan::{Met, PlanBox};
+use crate::sleeping::nothing_until;
+use crate::spread::Spread;
 use crate::tool::{Stride, ToolRun};
 use child_events::Cause;
 use std::alloc::{AllocError, Global};
@@ -35,8 +37,8 @@ pub enum Purpose {
     Missing(Texts),
     /// The `wait` for it.
     Gone(Texts),
-    /// A `send`: the action that was requested, and the remaining ones.
-    Send(Action, Pile<Action>),
+    /// A `send`: the action that was requested, the remaining ones, and what is sent after them.
+    Send(Action, Pile<Action>, Option<Spread>),
     /// A `close`.
     Close,
     /// A `wait`.
@@ -65,8 +67,10 @@ pub enum Next {
     Hear(Aim),
     /// It asks for the evaluation of this script.
     Evaluate(Text),
-    /// It sends this text to the child's terminal.
-    Send(Value),
+    /// It sends this text to the child's terminal, and then the rest.
+    Send(Value, Option<Spread>),
+    /// It waits up to this moment, and then sends the rest.
+    Pause(Option<u128>, Spread),
 }
 
 /// What a call changes for a child, and what it does next.
@@ -112,8 +116,8 @@ pub enum Stage {
     Look(PlanBox),
     /// It evaluates this script.
     Read(Text),
-    /// It sends this text to the terminal of the child at this place.
-    Send(Place, Value),
+    /// It sends this text to the terminal of the child at this place, and then the rest.
+    Send(Place, Value, Option<Spread>),
     /// It waits.
     Wait(Want),
 }
@@ -151,10 +155,10 @@ impl Reaction {
     }
 
     /// Returns the reaction as a turn of the child at a place.
-    pub(crate) fn at(self, i: Place) -> Turn
-        ensures { result ≡ at_of i self }
+    pub(crate) fn at(self, alloc: Global, i: Place) -> Result<Turn, AllocError>
+        ensures { IfOk result (λ t. t ≡ at_of i self) }
     {
-        Turn {
+        Ok(Turn {
             child: Some(i),
             effects: self.effects,
             stage: match self.next {
@@ -162,9 +166,12 @@ impl Reaction {
                 Next::Await(why) => Stage::Wait(Want::Answer(i, why)),
                 Next::Hear(aim) => Stage::Wait(Want::Item(i, aim)),
                 Next::Evaluate(script) => Stage::Read(script),
-                Next::Send(text) => Stage::Send(i, text),
+                Next::Send(text, rest) => Stage::Send(i, text, rest),
+                Next::Pause(last, rest) => {
+                    Stage::Look(nothing_until(alloc, last, Some((i, rest)))?)
+                }
             },
-        }
+        })
     }
 }
 
@@ -187,17 +194,17 @@ impl Deed {
     }
 
     /// Returns the command as a turn.
-    pub(crate) fn turn(self, alloc: Global) -> Turn
-        ensures { result ≡ turn_of self }
+    pub(crate) fn turn(self, alloc: Global) -> Result<Turn, AllocError>
+        ensures { IfOk result (λ t. t ≡ turn_of self) }
     {
         match self {
-            Deed::Alone(effects, reply) => Turn {
+            Deed::Alone(effects, reply) => Ok(Turn {
                 child: None,
                 effects,
                 stage: Stage::Over(reply),
-            },
-            Deed::To(i, reaction) => reaction.at(i),
-            Deed::Expect(plan) => Turn::only(alloc, Stage::Look(plan)),
+            }),
+            Deed::To(i, reaction) => reaction.at(alloc, i),
+            Deed::Expect(plan) => Ok(Turn::only(alloc, Stage::Look(plan))),
         }
     }
 }

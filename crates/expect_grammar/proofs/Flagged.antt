@@ -1,5 +1,5 @@
 -- The rules of the commands' flags say what the function of `expect_core` says.
-use Rattle.std.proofs.Common.{◌≡◌, ℕ, Bool, true, false, ◌&&◌, List, [], ◌∷◌, Some, Ok, Err, ◌⊎◌, inl, inr, refl, sym, ap, ◌∙◌, subst, codes}
+use Rattle.std.proofs.Common.{◌≡◌, ◌≢◌, ℕ, Bool, true, false, ◌&&◌, List, [], ◌∷◌, Some, Ok, Err, ◌⊎◌, inl, inr, refl, sym, ap, ◌∙◌, subst, codes}
 use Rattle.std.proofs.lemmas.Bool.{and_parts, and_from, and_right, false_from_ne_true}
 use Rattle.std.specs.Str.{bytes_eq}
 use Rattle.tcl_words.specs.Lists.{begins_with}
@@ -12,9 +12,9 @@ use Rattle.command_table.specs.declared.flags.Own.TheVariants as switch
 use Rattle.command_table.specs.declared.flags.Flags.{Flags as Takes}
 use Rattle.command_table.specs.declared.flags.Role.{Role}
 use Rattle.command_table.specs.declared.flags.Role.TheVariants as role
-use Rattle.expect_grammar.specs.FlagRules.{IsSwitch, IsTerminal, IsShown, IsFlag, Stand, End, Wrong, Say, Fail}
+use Rattle.expect_grammar.specs.FlagRules.{IsSwitch, IsChoice, IsShown, IsFlag, Stand, End, Wrong, Say, Fail}
 use Rattle.expect_grammar.proofs.Words.{found, never}
-use Rattle.expect_grammar.proofs.SpawnFlags.{IsNoSpawnFlag, OtherIs, other_is}
+use Rattle.expect_grammar.proofs.SpawnFlags.{OtherIs, other_is}
 
 -- a minus at its front
 minus_is : (word : List ℕ) → begins_with_minus word ≡ begins_with 45 word
@@ -26,17 +26,21 @@ id_isnt_own : (own : Own) → is_own own (codes "-i") ≡ false
 id_isnt_own switch.None = refl
 id_isnt_own switch.Spawn = refl
 id_isnt_own switch.Exec = refl
+id_isnt_own switch.Send = refl
 id_isnt_own switch.Default = refl
 id_isnt_own switch.Timer = refl
+id_isnt_own switch.Wait = refl
 
 -- a word that is one of them
 module _ (P : List ℕ → Own → Type 0) (holds : (word : List ℕ) (s : Own) → IsSwitch word s → P word s) where
   own_is_switch : (own : Own) (word : List ℕ) → is_own own word ≡ true → P word own
   own_is_switch switch.None word is = absurd (never (sym is))
+  own_is_switch switch.Send word is = absurd (never (sym is))
   own_is_switch switch.Spawn word is = found word (codes "-noecho") (λ w. P w switch.Spawn) (holds (codes "-noecho") switch.Spawn IsSwitch.noecho) is
   own_is_switch switch.Exec word is = found word (codes "-keepnewline") (λ w. P w switch.Exec) (holds (codes "-keepnewline") switch.Exec IsSwitch.keepnewline) is
   own_is_switch switch.Default word is = found word (codes "-d") (λ w. P w switch.Default) (holds (codes "-d") switch.Default IsSwitch.default) is
   own_is_switch switch.Timer word is = found word (codes "-continue_timer") (λ w. P w switch.Timer) (holds (codes "-continue_timer") switch.Timer IsSwitch.continue_timer) is
+  own_is_switch switch.Wait word is = found word (codes "-nowait") (λ w. P w switch.Wait) (holds (codes "-nowait") switch.Wait IsSwitch.nowait) is
 
 module _ (takes : Takes) where
   -- ---- What the tests find
@@ -46,6 +50,7 @@ module _ (takes : Takes) where
   own_test word s e IsSwitch.keepnewline = ap (λ own. is_own own word) e
   own_test word s e IsSwitch.default = ap (λ own. is_own own word) e
   own_test word s e IsSwitch.continue_timer = ap (λ own. is_own own word) e
+  own_test word s e IsSwitch.nowait = ap (λ own. is_own own word) e
 
   -- a flag other than the command's own one
   unlike_own : (word : List ℕ) (s : Own) → is_own s word ≡ false → takes.own ≡ s → is_own takes.own word ≡ false
@@ -64,19 +69,19 @@ module _ (takes : Takes) where
   end_flag word is = let p = and_parts takes.end _ is in found word (codes "--") (λ w. IsFlag takes w) (IsFlag.end p.0) p.1
 
   no_flag : (word : List ℕ) → takes.end && bytes_eq word (codes "--") ≡ false → is_own takes.own word ≡ false → takes.id && bytes_eq word (codes "-i") ≡ false
-      → (takes.own ≡ switch.Spawn → IsNoSpawnFlag word) → ¬ IsShown word takes.own → ¬ IsFlag takes word
-  no_flag word end own id other hidden (IsFlag.own v s e is) = never (sym (own_test word s e is) ∙ own)
-  no_flag word end own id other hidden (IsFlag.id e) = let is = rw e at id in never is
-  no_flag word end own id other hidden (IsFlag.end e) = let is = rw e at end in never is
-  no_flag word end own id other hidden (IsFlag.terminal v on e is) = (other e).terminal on is
-  no_flag word end own id other hidden (IsFlag.shown v s e is) = hidden (subst (λ own. IsShown word own) (sym e) is)
-  no_flag word end own id other hidden (IsFlag.ignore e) = (other e).ignore refl
+      → ((on : Bool) → ¬ IsChoice word on takes.own) → (takes.own ≡ switch.Spawn → word ≢ codes "-ignore") → ¬ IsShown word takes.own → ¬ IsFlag takes word
+  no_flag word end own id unchosen other hidden (IsFlag.own v s e is) = never (sym (own_test word s e is) ∙ own)
+  no_flag word end own id unchosen other hidden (IsFlag.id e) = let is = rw e at id in never is
+  no_flag word end own id unchosen other hidden (IsFlag.end e) = let is = rw e at end in never is
+  no_flag word end own id unchosen other hidden (IsFlag.choice v on s e is) = unchosen on (subst (λ own. IsChoice word on own) (sym e) is)
+  no_flag word end own id unchosen other hidden (IsFlag.shown v s e is) = hidden (subst (λ own. IsShown word own) (sym e) is)
+  no_flag word end own id unchosen other hidden (IsFlag.ignore e) = other e refl
 
   bad_by : (word : List ℕ) (r : Role) → OtherIs takes.own word r → ¬ IsFlag takes word → r ≡ role.Bad
-  bad_by word r (OtherIs.terminal v on e is) other = absurd (other (IsFlag.terminal word on e is))
+  bad_by word r (OtherIs.choice v on is) other = absurd (other (IsFlag.choice word on takes.own refl is))
   bad_by word r (OtherIs.shown v is) other = absurd (other (IsFlag.shown word takes.own refl is))
   bad_by word r (OtherIs.ignore e) other = absurd (other (IsFlag.ignore e))
-  bad_by word r (OtherIs.none v unlike hidden) other = refl
+  bad_by word r (OtherIs.none v unchosen unlike hidden) other = refl
 
   bad_role : (word : List ℕ) → ¬ IsFlag takes word → other_role takes.own word ≡ role.Bad
   bad_role word other = bad_by word (other_role takes.own word) (other_is takes.own word) other
@@ -90,14 +95,17 @@ module _ (takes : Takes) where
     own_is f word rest s e IsSwitch.keepnewline = rw (and_right takes.end false refl, own_test word s e IsSwitch.keepnewline) refl
     own_is f word rest s e IsSwitch.default = rw (and_right takes.end false refl, own_test word s e IsSwitch.default) refl
     own_is f word rest s e IsSwitch.continue_timer = rw (and_right takes.end false refl, own_test word s e IsSwitch.continue_timer) refl
+    own_is f word rest s e IsSwitch.nowait = rw (and_right takes.end false refl, own_test word s e IsSwitch.nowait) refl
 
     id_is : (f : Flags) (rest : List (List ℕ)) → takes.id ≡ true → flags_from name takes due.None f (codes "-i" ∷ rest) ≡ flags_from name takes due.Id f rest
     id_is f rest e = rw (and_right takes.end false refl, id_isnt_own takes.own, and_from takes.id true e refl) refl
 
-    terminal_is : (f : Flags) (word : List ℕ) (rest : List (List ℕ)) (on : Bool) → takes.own ≡ switch.Spawn → IsTerminal word on
-        → flags_from name takes due.None f (word ∷ rest) ≡ flags_from name takes due.None (record f { tty = Some on }) rest
-    terminal_is f word rest on e IsTerminal.tty = rw (and_right takes.end false refl, unlike_own (codes "-tty") switch.Spawn refl e, and_right takes.id false refl, other_test (codes "-tty") switch.Spawn (role.Tty true) refl e) refl
-    terminal_is f word rest on e IsTerminal.notty = rw (and_right takes.end false refl, unlike_own (codes "-notty") switch.Spawn refl e, and_right takes.id false refl, other_test (codes "-notty") switch.Spawn (role.Tty false) refl e) refl
+    choice_is : (f : Flags) (word : List ℕ) (rest : List (List ℕ)) (on : Bool) (s : Own) → takes.own ≡ s → IsChoice word on s
+        → flags_from name takes due.None f (word ∷ rest) ≡ flags_from name takes due.None (record f { choice = Some on }) rest
+    choice_is f word rest on s e IsChoice.tty = rw (and_right takes.end false refl, unlike_own (codes "-tty") switch.Spawn refl e, and_right takes.id false refl, other_test (codes "-tty") switch.Spawn (role.Choice true) refl e) refl
+    choice_is f word rest on s e IsChoice.notty = rw (and_right takes.end false refl, unlike_own (codes "-notty") switch.Spawn refl e, and_right takes.id false refl, other_test (codes "-notty") switch.Spawn (role.Choice false) refl e) refl
+    choice_is f word rest on s e IsChoice.human = rw (and_right takes.end false refl, unlike_own (codes "-h") switch.Send refl e, and_right takes.id false refl, other_test (codes "-h") switch.Send (role.Choice true) refl e) refl
+    choice_is f word rest on s e IsChoice.slow = rw (and_right takes.end false refl, unlike_own (codes "-s") switch.Send refl e, and_right takes.id false refl, other_test (codes "-s") switch.Send (role.Choice false) refl e) refl
 
     shown_is : (f : Flags) (word : List ℕ) (rest : List (List ℕ)) (s : Own) → takes.own ≡ s → IsShown word s
         → flags_from name takes due.None f (word ∷ rest) ≡ flags_from name takes due.None (showing word f) rest
@@ -113,7 +121,7 @@ module _ (takes : Takes) where
     stood f g words behind (Stand.none h ws) = refl
     stood f g words behind (Stand.own h i word rest ws s e is on) = own_is f word rest s e is ∙ stood (record f { on = true }) g rest behind on
     stood f g words behind (Stand.id h i word rest ws e on) = id_is f (word ∷ rest) e ∙ stood (record f { id = Some word }) g rest behind on
-    stood f g words behind (Stand.terminal h i word rest ws t e is on) = terminal_is f word rest t e is ∙ stood (record f { tty = Some t }) g rest behind on
+    stood f g words behind (Stand.choice h i word rest ws t s e is on) = choice_is f word rest t s e is ∙ stood (record f { choice = Some t }) g rest behind on
     stood f g words behind (Stand.shown h i word rest ws s e is on) = shown_is f word rest s e is ∙ stood (showing word f) g rest behind on
     stood f g words behind (Stand.ignore h i word rest ws e on) = ignore_is f (word ∷ rest) e ∙ stood (showing word (showing (codes "-ignore") f)) g rest behind on
 
@@ -160,9 +168,9 @@ module _ (takes : Takes) where
     identified f word rest e (Outcome.good g behind ws h end) = Outcome.good g behind ws (Stand.id f g word rest behind e h) end
     identified f word rest e (Outcome.wrong g behind text h bad) = Outcome.wrong g behind text (Stand.id f g word rest behind e h) bad
 
-    chosen : (f : Flags) (word : List ℕ) (rest : List (List ℕ)) (on : Bool) → takes.own ≡ switch.Spawn → IsTerminal word on → Outcome (record f { tty = Some on }) rest → Outcome f (word ∷ rest)
-    chosen f word rest on e is (Outcome.good g behind ws h end) = Outcome.good g behind ws (Stand.terminal f g word rest behind on e is h) end
-    chosen f word rest on e is (Outcome.wrong g behind text h bad) = Outcome.wrong g behind text (Stand.terminal f g word rest behind on e is h) bad
+    chosen : (f : Flags) (word : List ℕ) (rest : List (List ℕ)) (on : Bool) → IsChoice word on takes.own → Outcome (record f { choice = Some on }) rest → Outcome f (word ∷ rest)
+    chosen f word rest on is (Outcome.good g behind ws h end) = Outcome.good g behind ws (Stand.choice f g word rest behind on takes.own refl is h) end
+    chosen f word rest on is (Outcome.wrong g behind text h bad) = Outcome.wrong g behind text (Stand.choice f g word rest behind on takes.own refl is h) bad
 
     showed : (f : Flags) (word : List ℕ) (rest : List (List ℕ)) → IsShown word takes.own → Outcome (showing word f) rest → Outcome f (word ∷ rest)
     showed f word rest is (Outcome.good g behind ws h end) = Outcome.good g behind ws (Stand.shown f g word rest behind takes.own refl is h) end
@@ -178,10 +186,10 @@ module _ (takes : Takes) where
 
     other_first : (f : Flags) (word : List ℕ) (rest : List (List ℕ)) (r : Role) → OtherIs takes.own word r → Each rest
         → begins_with 45 word ≡ true → takes.end && bytes_eq word (codes "--") ≡ false → is_own takes.own word ≡ false → takes.id && bytes_eq word (codes "-i") ≡ false → Outcome f (word ∷ rest)
-    other_first f word rest r (OtherIs.terminal v on e is) b minus end own id = chosen f word rest on e is (b.alone (record f { tty = Some on }))
+    other_first f word rest r (OtherIs.choice v on is) b minus end own id = chosen f word rest on is (b.alone (record f { choice = Some on }))
     other_first f word rest r (OtherIs.shown v is) b minus end own id = showed f word rest is (b.alone (showing word f))
     other_first f word rest r (OtherIs.ignore e) b minus end own id = b.ignore f e
-    other_first f word rest r (OtherIs.none v unlike hidden) b minus end own id = Outcome.wrong f (word ∷ rest) _ (Stand.none f (word ∷ rest)) (Wrong.unknown word rest minus (no_flag word end own id unlike hidden))
+    other_first f word rest r (OtherIs.none v unchosen unlike hidden) b minus end own id = Outcome.wrong f (word ∷ rest) _ (Stand.none f (word ∷ rest)) (Wrong.unknown word rest minus (no_flag word end own id unchosen unlike hidden))
 
     first : (f : Flags) (word : List ℕ) (rest : List (List ℕ)) → Each rest → Outcome f (word ∷ rest)
     first f word rest b = by_minus (begins_with 45 word) refl

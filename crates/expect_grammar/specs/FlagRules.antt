@@ -21,11 +21,17 @@ pub data IsSwitch : List ℕ → Own → Type 0 where
   default : IsSwitch (codes "-d") switch.Default
   -- Of `exp_continue`: the time limit of `expect` doesn't start anew.
   continue_timer : IsSwitch (codes "-continue_timer") switch.Timer
+  -- Of `wait`: it doesn't wait for the end of the process.
+  nowait : IsSwitch (codes "-nowait") switch.Wait
 
--- A flag of `spawn` that says whether the process is on a terminal of the system.
-pub data IsTerminal : List ℕ → Bool → Type 0 where
-  tty : IsTerminal (codes "-tty") true
-  notty : IsTerminal (codes "-notty") false
+-- One of two flags of which the last counts.
+pub data IsChoice : List ℕ → Bool → Own → Type 0 where
+  -- Of `spawn`: the process is on a terminal of the system, or it isn't.
+  tty : IsChoice (codes "-tty") true switch.Spawn
+  notty : IsChoice (codes "-notty") false switch.Spawn
+  -- Of `send`: the text goes out byte by byte, or in pieces.
+  human : IsChoice (codes "-h") true switch.Send
+  slow : IsChoice (codes "-s") false switch.Send
 
 -- A flag that changes nothing here. The line of a `spawn` shows it.
 pub data IsShown : List ℕ → Own → Type 0 where
@@ -44,8 +50,8 @@ pub data IsFlag (takes : Takes) : List ℕ → Type 0 where
   id : takes.id ≡ true → IsFlag takes (codes "-i")
   -- The flag for the end of flags.
   end : takes.end ≡ true → IsFlag takes (codes "--")
-  -- A flag of `spawn` about terminals.
-  terminal : (word : List ℕ) (on : Bool) → takes.own ≡ switch.Spawn → IsTerminal word on → IsFlag takes word
+  -- One of two flags.
+  choice : (word : List ℕ) (on : Bool) (s : Own) → takes.own ≡ s → IsChoice word on s → IsFlag takes word
   -- A flag that changes nothing.
   shown : (word : List ℕ) (s : Own) → takes.own ≡ s → IsShown word s → IsFlag takes word
   -- The flag of `spawn` for a signal that the process ignores, which must follow.
@@ -64,9 +70,9 @@ pub data Stand (takes : Takes) : Flags → List (List ℕ) → Flags → List (L
   -- `-i` with a spawn id, whatever word that is, and more flags. The last spawn id counts.
   id : (f g : Flags) (word : List ℕ) (rest behind : List (List ℕ)) → takes.id ≡ true
       → Stand takes (record f { id = Some word }) rest g behind → Stand takes f (codes "-i" ∷ word ∷ rest) g behind
-  -- `-tty` or `-notty` of `spawn`, and more flags. The last of them counts.
-  terminal : (f g : Flags) (word : List ℕ) (rest behind : List (List ℕ)) (on : Bool) → takes.own ≡ switch.Spawn → IsTerminal word on
-      → Stand takes (record f { tty = Some on }) rest g behind → Stand takes f (word ∷ rest) g behind
+  -- One of two flags, and more flags. The last of the two counts.
+  choice : (f g : Flags) (word : List ℕ) (rest behind : List (List ℕ)) (on : Bool) (s : Own) → takes.own ≡ s → IsChoice word on s
+      → Stand takes (record f { choice = Some on }) rest g behind → Stand takes f (word ∷ rest) g behind
   -- A flag that changes nothing, and more flags.
   shown : (f g : Flags) (word : List ℕ) (rest behind : List (List ℕ)) (s : Own) → takes.own ≡ s → IsShown word s
       → Stand takes (showing word f) rest g behind → Stand takes f (word ∷ rest) g behind

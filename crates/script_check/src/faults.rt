@@ -149,7 +149,7 @@ fn flagged(alloc: Global, name: &[u8], flags: Flags, count: Count, args: &[Place
             Role::End => return counted(alloc, name, count, more.len()),
             Role::Alone => {}
             Role::Id => due = true,
-            Role::Tty(_) => {}
+            Role::Choice(_) => {}
             Role::Shown => {}
             Role::ShownWithValue => due = true,
             Role::Bad => return Ok(Some(Problem::BadFlag(text.copied(alloc)?))),
