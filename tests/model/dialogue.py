@@ -5,18 +5,23 @@ docs/ tell it. `Dialogue.run` gives the ending and the text of an error, `Dialog
 """
 
 import re
+from functools import partialmethod
 from typing import NamedTuple, Optional
 
+from codes import AGAIN, AGAIN_IN_TIME, Stopped, Thrown, failed
 from events import ITEMS
-from language import AGAIN, AGAIN_IN_TIME, Stopped, Thrown, elements, failed, is_number, number
-from patterns import BadFlag, BadRegular, read_arguments
+from patterns import read_arguments
 from terminal import BadMode, Terminal
 from tools import CHILDREN, FOREVER, Tools
+from values import counted, elements, flags, is_number, last_of, number
 
 LONGEST = 9_000_000_000_000
 KEPT = 2000
 LARGEST = 1_000_000
 PIECE = 4096
+
+# In place of a child: each child that takes part.
+ANY = b"any"
 
 LIST = re.compile(rb"[ \t\v\f\r]*\n")
 SECONDS = re.compile(rb"-?(?:[0-9]+|([0-9]*)\.[0-9]+)")
@@ -35,6 +40,7 @@ class Item(NamedTuple):
     """What a child's list holds: an event that came from it, or an echo."""
 
     kind: str
+    child: int
     moment: int
     what: Optional[bytes]
     is_echo: bool = False
@@ -56,6 +62,9 @@ class Dialogue(Tools):
         super().__init__(steps)
         self.limit, self.has_terminals = FOREVER if limit is None else limit, has_terminals
         self.set(b"timeout", b"10")
+        self.array_set(b"env", b"")
+        if has_terminals:
+            self.set(b"any_spawn_id", ANY)
         self.clock, self.horizon = 0, 0
         self.items = {number: [] for number in range(1, CHILDREN + 1)}
         self.answers = {number: [] for number in range(1, CHILDREN + 1)}
@@ -64,6 +73,7 @@ class Dialogue(Tools):
         self.children, self.sent, self.shows = {}, {}, True
         self.later = Child(0, None, KEPT, True)
         self.channels, self.errors, self.day = {}, None, None
+        self.standing = {"before": [], "after": []}
         self.awaited = None
 
     def happens(self, event):
@@ -71,7 +81,7 @@ class Dialogue(Tools):
         if event.kind == "tick":
             return
         items = self.items[event.child]
-        item = Item(event.kind, self.horizon, event.what)
+        item = Item(event.kind, event.child, self.horizon, event.what)
         if event.kind not in ITEMS:
             self.answers[event.child].append(item)
         elif not items or items[-1].kind == "out":
@@ -80,44 +90,41 @@ class Dialogue(Tools):
     # waiting
 
     def wait(self, queue, deadline, awaited):
-        """The next of a queue, or None where the deadline has passed."""
+        """The next item or answer, or None if the deadline has passed. `queue` gives the queue, which may be another one after each event."""
         soonest = min(deadline, self.limit)
-        if queue and queue[0].moment <= soonest:
-            item = queue.pop(0)
-            self.clock = max(self.clock, item.moment)
-            return item
-        if self.horizon <= soonest:
+        while not (queue() and queue()[0].moment <= soonest):
+            if self.horizon > soonest:
+                return self.late(deadline)
             self.awaited = awaited
-            raise Stopped("waiting")
+            self.more()
+        item = queue().pop(0)
+        self.clock = max(self.clock, item.moment)
+        return item
+
+    def more(self):
+        """Ends a script that waits for an event which isn't there."""
+        raise Stopped("waiting")
+
+    def late(self, deadline):
+        """Goes on at the deadline, or ends the script at the time limit if that is earlier."""
         if deadline > self.limit:
             raise Stopped("timelimit")
         self.clock = deadline
-        return None
 
     def request(self, child, act):
         """The answer to what is asked of a child."""
-        return self.wait(self.answers[child.number], FOREVER, (act, child.number, FOREVER))
+        return self.wait(lambda: self.answers[child.number], FOREVER, (act, child.number, FOREVER))
+
+    def next_item(self, child):
+        """The next item of a child alone."""
+        return self.wait(lambda: self.items[child.number], FOREVER, ("item", (child.number,), FOREVER))
 
     def refusal(self, child, act):
         """The cause for which a request failed, or None."""
         answer = self.request(child, act)
         return {"ok": None, "bad": answer.what}.get(answer.kind, b"other")
 
-    # words of commands
-
-    def flags(self, name, words, known):
-        """The flags in front with their words, and the words behind them. A flag of `known` takes a word or none."""
-        given, words = {}, list(words)
-        while words and words[0].startswith(b"-"):
-            flag = words.pop(0)
-            if flag not in known:
-                raise failed(b"bad flag", flag)
-            if flag == b"--":
-                break
-            if known[flag]:
-                self.counted(name, words, 1, FOREVER)
-            given[flag] = words.pop(0) if known[flag] else b""
-        return given, words
+    # children
 
     def named(self, name):
         """The child of an id, or of the current one."""
@@ -139,8 +146,8 @@ class Dialogue(Tools):
 
     # commands
 
-    def do_spawn(self, words):
-        is_on_terminal, is_told, shown, words = self.spawn_flags(words)
+    def do_spawn(self, words, name=b"spawn"):
+        is_on_terminal, is_told, shown, words = self.spawn_flags(words, name)
         terminal = self.bare() if is_on_terminal else self.terminal()
         child = Child(len(self.sent) + 1, terminal, self.later.size, self.later.removes)
         if child.number > CHILDREN:
@@ -155,7 +162,9 @@ class Dialogue(Tools):
         self.set(b"spawn_id", child.id)
         return b"%d" % child.number
 
-    def spawn_flags(self, words):
+    do_exp_spawn = partialmethod(do_spawn, name=b"exp_spawn")
+
+    def spawn_flags(self, words, name):
         """Whether the child is on a terminal of the system, whether it is told, the flags that are told, and the words."""
         is_on_terminal, is_told, shown, words = self.has_terminals, True, [], list(words)
         while words and words[0].startswith(b"-"):
@@ -169,11 +178,11 @@ class Dialogue(Tools):
             elif flag in (b"-nottycopy", b"-nottyinit"):
                 shown.append(flag)
             elif flag == b"-ignore":
-                self.counted(b"spawn", words, 1, FOREVER)
+                counted(name, words, 1)
                 shown += [flag, words.pop(0)]
             else:
                 raise failed(b"bad flag", flag)
-        self.counted(b"spawn", words, 1, FOREVER)
+        counted(name, words, 1)
         return is_on_terminal, is_told, shown, words
 
     def bare(self):
@@ -183,7 +192,7 @@ class Dialogue(Tools):
 
     def missing(self, child):
         """The cause for which a program isn't on its terminal, or None. The first byte is a line that tells of its start."""
-        came = self.wait(self.items[child.number], FOREVER, ("item", (child.number,), FOREVER))
+        came = self.next_item(child)
         if came.kind == "out":
             self.received(child, came.what[1:])
             return None
@@ -199,10 +208,10 @@ class Dialogue(Tools):
             raise failed(b"bad stty_init word", fault.args[0]) from None
 
     def do_send(self, words, name=b"send"):
-        given, words = self.flags(name, words, {b"-i": True, b"-s": False, b"-h": False, b"--": False})
-        self.counted(name, words, 1, 1)
-        last = [flag for flag in given if flag in (b"-s", b"-h")][-1:]
-        pieces = self.pieces(last[0], words[0]) if last else [(0, words[0])]
+        given, words = flags(name, words, {b"-i": True, b"-s": False, b"-h": False, b"--": False})
+        counted(name, words, 1, 1)
+        pace = last_of(given, (b"-s", b"-h"))
+        pieces = self.pieces(pace, words[0]) if pace else [(0, words[0])]
         child = self.opened(given.get(b"-i"))
         for pause, piece in pieces:
             self.sleep(pause)
@@ -230,60 +239,65 @@ class Dialogue(Tools):
     def type(self, child, text):
         """Types a text at a child's terminal."""
         echo, actions = child.terminal.send(text)
-        self.place_echo(self.items[child.number], echo)
+        self.place_echo(child, echo)
         for text in actions:
             cause = self.refusal(child, "end" if text is None else "write")
             if cause is not None:
                 raise failed((b"end" if text is None else b"write") + b" failed: " + cause)
             self.sent[child.number] += len(text or b"")
 
-    def do_exp_send(self, words):
-        return self.do_send(words, b"exp_send")
+    do_exp_send = partialmethod(do_send, name=b"exp_send")
 
-    def place_echo(self, items, echo):
+    def place_echo(self, child, echo):
         """Puts an echo before the first item that came at the clock or later, in pieces."""
+        items = self.items[child.number]
         later = (at for at, item in enumerate(items) if not item.is_echo and item.moment >= self.clock)
         place = next(later, len(items))
         pieces = [echo[at : at + PIECE] for at in range(0, len(echo), PIECE)]
-        items[place:place] = [Item("out", self.clock, piece, is_echo=True) for piece in pieces]
+        items[place:place] = [Item("out", child.number, self.clock, piece, is_echo=True) for piece in pieces]
 
-    def do_send_user(self, words):
-        _, words = self.flags(b"send_user", words, {b"--": False})
-        self.counted(b"send_user", words, 1, 1)
+    def do_send_user(self, words, name=b"send_user"):
+        _, words = flags(name, words, {b"--": False})
+        counted(name, words, 1, 1)
         self.transcript += words[0]
         return b""
 
+    do_exp_send_user = partialmethod(do_send_user, name=b"exp_send_user")
+
     def do_send_error(self, words, name=b"send_error"):
-        _, words = self.flags(name, words, {b"--": False})
-        self.counted(name, words, 1, 1)
+        _, words = flags(name, words, {b"--": False})
+        counted(name, words, 1, 1)
         self.complain(words[0])
         return b""
 
-    def do_exp_send_error(self, words):
-        return self.do_send_error(words, b"exp_send_error")
+    do_exp_send_error = partialmethod(do_send_error, name=b"exp_send_error")
 
     def do_exp_pid(self, words):
-        given, words = self.flags(b"exp_pid", words, {b"-i": True})
-        self.counted(b"exp_pid", words, 0, 0)
+        given, words = flags(b"exp_pid", words, {b"-i": True})
+        counted(b"exp_pid", words, 0, 0)
         return b"%d" % self.named(given.get(b"-i")).number
 
-    def do_close(self, words):
-        given, words = self.flags(b"close", words, {b"-i": True})
-        self.counted(b"close", words, 0, 0 if given else 1)
+    def do_close(self, words, name=b"close"):
+        given, words = flags(name, words, {b"-i": True})
+        counted(name, words, 0, 0 if given else 1)
         if words:
             return self.shut(words[0])
         self.closed(self.opened(given.get(b"-i")))
         return b""
 
+    do_exp_close = partialmethod(do_close, name=b"exp_close")
+
     def closed(self, child):
         cause = self.refusal(child, "close")
         child.is_closed = True
+        for place in self.standing:
+            self.leave(place, [child])
         if cause is not None:
             raise failed(b"close failed: " + cause)
 
-    def do_wait(self, words):
-        given, words = self.flags(b"wait", words, {b"-nowait": False, b"-i": True})
-        self.counted(b"wait", words, 0, 0)
+    def do_wait(self, words, name=b"wait"):
+        given, words = flags(name, words, {b"-nowait": False, b"-i": True})
+        counted(name, words, 0, 0)
         child = self.named(given.get(b"-i"))
         if child.is_waited_for:
             raise failed(b"spawn id %s already waited for" % child.id)
@@ -298,15 +312,17 @@ class Dialogue(Tools):
             return front + b"0 -1 CHILDKILLED unknown unknown"
         return front + b"-1 %d" % WAIT_CODES[answer.what if answer.kind == "bad" else b"other"]
 
+    do_exp_wait = partialmethod(do_wait, name=b"exp_wait")
+
     def option(self, name, words):
         """The child that a command is about, or what stands for later ones, and the word that is set, or None."""
-        given, words = self.flags(name, words, {b"-d": False, b"-i": True})
-        self.counted(name, words, 0, 1)
+        given, words = flags(name, words, {b"-d": False, b"-i": True})
+        counted(name, words, 0, 1)
         child = self.later if b"-d" in given else self.opened(given.get(b"-i"))
         return child, words[0] if words else None
 
-    def do_match_max(self, words):
-        child, size = self.option(b"match_max", words)
+    def do_match_max(self, words, name=b"match_max"):
+        child, size = self.option(name, words)
         if size is None:
             return b"%d" % child.size
         if not is_number(size) or not 1 <= int(size) <= LARGEST:
@@ -315,8 +331,10 @@ class Dialogue(Tools):
         child.kept = child.kept[-child.size :]
         return b""
 
-    def do_remove_nulls(self, words):
-        child, value = self.option(b"remove_nulls", words)
+    do_exp_match_max = partialmethod(do_match_max, name=b"exp_match_max")
+
+    def do_remove_nulls(self, words, name=b"remove_nulls"):
+        child, value = self.option(name, words)
         if value is None:
             return b"%d" % child.removes
         if value not in (b"0", b"1"):
@@ -324,8 +342,10 @@ class Dialogue(Tools):
         child.removes = value == b"1"
         return b""
 
-    def do_log_user(self, words):
-        self.counted(b"log_user", words, 1, 1)
+    do_exp_remove_nulls = partialmethod(do_remove_nulls, name=b"exp_remove_nulls")
+
+    def do_log_user(self, words, name=b"log_user"):
+        counted(name, words, 1, 1)
         if words[0] == b"-info":
             return b"%d" % self.shows
         if words[0] not in (b"0", b"1"):
@@ -333,30 +353,31 @@ class Dialogue(Tools):
         self.shows = words[0] == b"1"
         return b""
 
+    do_exp_log_user = partialmethod(do_log_user, name=b"exp_log_user")
+
     def do_exp_continue(self, words):
-        given, words = self.flags(b"exp_continue", words, {b"-continue_timer": False})
-        self.counted(b"exp_continue", words, 0, 0)
+        given, words = flags(b"exp_continue", words, {b"-continue_timer": False})
+        counted(b"exp_continue", words, 0, 0)
         raise Thrown(AGAIN_IN_TIME if given else AGAIN)
 
     def sleep(self, milliseconds):
         """Waits without taking what comes meanwhile."""
         if milliseconds > 0:
             deadline = FOREVER if milliseconds > 1000 * LONGEST else self.clock + milliseconds
-            self.wait([], deadline, ("item", (), deadline))
+            self.wait(list, deadline, ("item", (), deadline))
         return b""
 
     def do_sleep(self, words, name=b"sleep"):
-        self.counted(name, words, 1, 1)
+        counted(name, words, 1, 1)
         time = milliseconds(words[0])
         if time is None:
             raise failed(b"expected number but got", words[0])
         return self.sleep(time)
 
-    def do_exp_sleep(self, words):
-        return self.do_sleep(words, b"exp_sleep")
+    do_exp_sleep = partialmethod(do_sleep, name=b"exp_sleep")
 
     def do_after(self, words):
-        self.counted(b"after", words, 1, 1)
+        counted(b"after", words, 1, 1)
         if not words[0].isdigit():
             raise failed(b"expected number but got", words[0])
         return self.sleep(int(words[0]))
@@ -364,17 +385,16 @@ class Dialogue(Tools):
     # expect
 
     def do_expect(self, words):
-        try:
-            cases, ids, seconds = read_arguments(self.arguments(words))
-        except BadFlag as fault:
-            raise failed(b"bad expect flag", fault.args[0]) from None
-        except BadRegular as fault:
-            raise failed(b"bad regular expression", fault.args[0]) from None
-        children = self.taking_part(cases, ids)
+        cases, ids, seconds = self.patterns(words)
+        groups = self.groups(ids, not ids or any(case.group == 0 and case.kind != "timeout" for case in cases))
+        own = [(groups[case.group], case) for case in cases]
+        named = [id for group in groups for id in group if id != ANY]
         time = self.time(seconds)
         deadline = self.clock + time
         while True:
-            action = self.action(children, cases, deadline)
+            listed = self.standing["before"] + own + self.standing["after"]
+            children = {*named, *(id for ids, _ in self.standing["before"] + self.standing["after"] for id in ids if id != ANY)}
+            action = self.action(children, listed, deadline)
             try:
                 return self.evaluate(action)
             except Thrown as thrown:
@@ -382,15 +402,38 @@ class Dialogue(Tools):
                     raise
                 if thrown.code == AGAIN:
                     deadline = self.clock + time
-            for child, _ in children:
+            for child in named:
                 self.still_open(child)
 
-    def taking_part(self, cases, ids):
-        """In the order of the arguments, each child that takes part, and the group of cases that is given to it there."""
-        is_current = not ids or any(case.group == 0 and case.kind != "timeout" for case in cases)
-        named = [(None, 0)] if is_current else []
-        named += [(id, group) for group, id in enumerate(ids, 1)]
-        return [(self.opened(name), group) for name, group in named]
+    def do_expect_before(self, words):
+        return self.stand("before", words)
+
+    def do_expect_after(self, words):
+        return self.stand("after", words)
+
+    def stand(self, place, words):
+        """Puts cases behind those that stand before or after the own ones of each expect."""
+        cases, ids, _ = self.patterns(words)
+        groups = self.groups(ids, not ids or any(case.group == 0 for case in cases))
+        self.leave(place, [id for group in groups for id in group])
+        self.standing[place] += [(groups[case.group], case) for case in cases]
+        return b""
+
+    def leave(self, place, ids):
+        """Takes ids away from the cases that stand there. A case that has none then is gone."""
+        left = [([id for id in had if id not in ids], case) for had, case in self.standing[place]]
+        self.standing[place] = [(had, case) for had, case in left if had]
+
+    def patterns(self, words):
+        return read_arguments(self.arguments(words))
+
+    def groups(self, ids, is_current):
+        """The children that each group of cases is for, in the order of the arguments."""
+        groups = [[self.opened(None)] if is_current else []]
+        for word in ids:
+            names = elements(word) or [b""]
+            groups.append([name if name == ANY else self.opened(name) for name in names])
+        return groups
 
     def arguments(self, words):
         """The words of the list where there is one, else the words themselves."""
@@ -408,21 +451,19 @@ class Dialogue(Tools):
         seconds = 10 if seconds is None else number(seconds)
         return 1000 * seconds if 0 <= seconds <= LONGEST else FOREVER
 
-    def action(self, children, cases, deadline):
+    def action(self, children, listed, deadline):
         """Waits for what a case is about; its action."""
-        own = {}
-        for child, group in sorted(children, key=lambda side: side[0].number):
-            own.setdefault(child, set()).add(group)
-        own = {child: [case for case in cases if case.group in groups] for child, groups in own.items()}
+        children = sorted(children, key=lambda child: child.number)
+        own = {child: [case for ids, case in listed if child in ids or ANY in ids] for child in children}
         while True:
             for child in own:
                 case = self.met(child, own[child])
                 if case:
                     return case.action
-            child, queue = self.next_of(own)
-            came = self.wait(queue, deadline, ("item", tuple(child.number for child in own), deadline))
+            came = self.wait(lambda: self.next_of(children), deadline, ("item", tuple(child.number for child in own), deadline))
             if came is None:
-                return self.first(cases, "timeout")[1]
+                return self.first([case for _, case in listed], "timeout")[1]
+            child = next(child for child in own if child.number == came.child)
             if came.kind != "out":
                 return self.ended(child, came, own[child])
             self.received(child, came.what)
@@ -433,14 +474,14 @@ class Dialogue(Tools):
         self.transcript += output if self.shows else b""
 
     def next_of(self, children):
-        """Which child's item is next, and that child's items; none as long as an item that is before it may still come."""
-        there = [child for child in children if self.items[child.number]]
+        """The items of the child whose item is next; none as long as an item that is before it may still come."""
+        queues = [self.items[child.number] for child in children]
+        there = [queue for queue in queues if queue]
         if not there:
-            return None, []
-        next_one = min(there, key=lambda child: (self.items[child.number][0].moment, child.number))
-        queue = self.items[next_one.number]
-        is_settled = len(there) == len(children) or queue[0].moment < self.horizon
-        return next_one, queue if is_settled else []
+            return []
+        queue = min(there, key=lambda queue: (queue[0].moment, queue[0].child))
+        is_settled = len(there) == len(queues) or queue[0].moment < self.horizon
+        return queue if is_settled else []
 
     def met(self, child, cases):
         """The case that the kept bytes meet, which is then recorded; without one the last bytes are kept."""
@@ -508,6 +549,6 @@ class Dialogue(Tools):
         made = head.encode() + text + b"\n"
         if ending == "error":
             made += b"error %d\n" % len(fault) + fault + b"\n"
-        values = self.scopes[0].values if shows_variables else {}
+        values = self.scopes[0].texts() if shows_variables else {}
         lines = ("var %s %s\n" % (name.hex() or "-", values[name].hex() or "-") for name in sorted(values))
         return made + "".join(lines).encode()

@@ -1,6 +1,7 @@
 """Draws scripts, and what happens to their children while they run."""
 
 from dialogue import FOREVER, Dialogue
+from draw_values import Values
 from events import ANSWERS, Event
 
 CAUSES = [b"notfound", b"denied", b"broken", b"memory", b"other"]
@@ -61,13 +62,16 @@ CHANNELS = [
     b"flush $c",
     b"close $c",
 ]
-ENDS = [b"break", b"continue", b"{return r}", b"{return -code break}", b"{return -code return r}", b"{return -code error r}", b"{set n got}", b"{error no}", b"{exit 3}", b"{}"]
+ENDS = [b"break", b"continue", b"{return r}", b"{return -code break}", b"{return -code return r}", b"{return -code error r}", b"{set n got}"]
+ENDS += [b"{error no}", b"{exit 3}", b"{exp_exit 4}", b"{}"]
 
 # What a procedure begins with.
 FRONTS = [
     b"",
     b"global spawn_id a; ",
     b"global expect_out; ",
+    b"global t u n l A expect_out; ",
+    b"global t u n l A expect_out; ",
     b"set timeout 1; ",
     b"spawn p; ",
     b"upvar spawn_id spawn_id a b; ",
@@ -138,6 +142,12 @@ REFUSED = [
     b"expect null",
     b"expect -nocase",
     b"expect -timeout soon a",
+    b"expect --",
+    b"expect -i {} a",
+    b"expect -i {\"a} a",
+    b"expect_before -x",
+    b"expect_after -i exp9 a",
+    b"expect_after null",
     b"close -i exp9",
     b"wait -i p",
     b"interact",
@@ -156,7 +166,7 @@ def quoted(text):
 class Script:
     """Draws one script.
 
-    With `any_bytes` its children print bytes past ASCII, and it has no regular pattern.
+    With `any_bytes` its children print bytes past ASCII. `share` is the part of its commands that are commands on values.
     """
 
     def __init__(self, rng):
@@ -164,9 +174,15 @@ class Script:
         self.any_bytes = rng.random() < 0.2
         self.has_two = rng.random() < 0.5
         self.has_again = rng.random() < 0.2
+        self.share = rng.choice([0, 0, 0.3, 0.6, 0.8])
+        self.values = Values(rng)
 
     def chance(self, part):
         return self.rng.random() < part
+
+    def is_long(self):
+        """Whether a text is very long. Patterns of commands on values would take too much time over it."""
+        return not self.share and self.chance(0.03)
 
     def some(self, choices, least, most):
         return [self.rng.choice(choices) for _ in range(self.rng.randrange(least, most + 1))]
@@ -201,7 +217,9 @@ class Script:
             lines.append(b"foreach x {2 3 4 5 6 7 8 9 10 11 12 13 14 15 16} {spawn -noecho p}")
         if self.has_two:
             lines += [b"set a $spawn_id", self.rng.choice([b"spawn q", b"spawn -noecho q r", b"spawn -- q", b"spawn -tty q"])]
-        return b"\n".join([*lines, *self.commands(5, 12, 0)])
+        if self.share:
+            lines += self.values.front()
+        return b"\n".join([*lines, *self.commands(5, 12 + int(80 * self.share), 0)])
 
     def commands(self, least, most, depth):
         return [self.wrapped(self.command(depth)) for _ in range(self.rng.randrange(least, most + 1))]
@@ -211,14 +229,31 @@ class Script:
 
     def wrapped(self, command):
         """A command as it is, one whose value is shown, or one whose errors are caught."""
-        drawn = self.rng.random()
+        drawn = self.rng.random() * (1 + 2 * self.share)
         if drawn < 0.05:
             return b"puts <[" + command + b"]>"
         return command if drawn < 0.17 else b'puts "[catch {' + command + b'} m] $m"'
 
     def command(self, depth):
+        if self.chance(self.share):
+            return self.values.drawn(b"command", depth)
         makers, weights = zip(*self.MAKERS)
         return self.rng.choices(makers, weights)[0](self, depth)
+
+    def either(self, name):
+        """The name of a command, or the same one with `exp_` in front."""
+        return b"exp_" + name if self.chance(0.3) else name
+
+    def made(self, kind):
+        """A word that commands on values make, or none."""
+        return self.values.drawn(kind, 1) if self.chance(self.share / 3) else b""
+
+    def text(self, pieces, least, most):
+        """A word made of pieces, or by commands on values."""
+        return self.made(b"text") or self.written(b"".join(self.some(pieces, least, most)))
+
+    def seconds(self):
+        return self.made(b"number") or b"%d" % self.rng.choice(TIMES)
 
     def stty_init(self):
         words = self.some(MODES, 1, 3)
@@ -235,31 +270,41 @@ class Script:
         return b" -i " + self.rng.choice([b"$a", b"$a", b"exp1", b"exp2"] if self.has_two else [b"exp1"])
 
     def other_id(self):
-        """Before a pattern, a flag that names a child for it and those behind it, or none."""
-        return b"-i " + self.rng.choice([b"$a", b"$spawn_id", b"exp1", b"exp2"]) + b" " if self.chance(0.4) else b""
+        """Before a pattern, a flag that names children for it and those behind it, or none."""
+        if self.chance(0.6):
+            return b""
+        names = [b"$a", b"$spawn_id", b"exp1", b"exp2", b"any"]
+        if self.chance(0.7):
+            return b"-i " + self.rng.choice(names) + b" "
+        return b'-i "' + b" ".join(self.some(names, 0 if self.chance(0.1) else 1, 3)) + b'" '
 
     def send(self, _depth):
-        text = b"".join(self.some(TYPED, 0, 5))
-        if self.chance(0.03):
-            text = b"x" * 5000 + text
-        name = self.rng.choice([b"send", b"send", b"exp_send"])
+        text = b"x" * 5000 if self.is_long() else self.text(TYPED, 0, 5)
         pace = self.rng.choice([b" -s", b" -h"]) if len(text) < 40 and self.chance(0.15) else b""
-        return name + pace + self.id() + (b" -- " if self.chance(0.2) else b" ") + self.written(text)
+        return self.either(b"send") + pace + self.id() + (b" -- " if self.chance(0.2) else b" ") + text
 
     def expect(self, depth):
         front = self.id()
         if self.chance(0.1):
-            return b"expect" + front + b" " + self.written(b"".join(self.some(EXACT, 1, 3)))
+            return b"expect" + front + b" " + self.text(EXACT, 1, 3)
+        return self.expecting(b"expect", front, depth)
+
+    def standing(self, depth):
+        """Patterns for each later expect, or none of them any more."""
+        name = self.rng.choice([b"expect_before", b"expect_after", b"expect_after"])
+        return name if self.chance(0.1) else self.expecting(name, self.id(), depth)
+
+    def expecting(self, name, front, depth):
         if self.chance(0.3):
-            front += b" -timeout %d" % self.rng.choice(TIMES)
+            front += b" -timeout " + self.seconds()
         cases = [self.case(depth) for _ in range(self.rng.choice([0, 1, 2, 2, 3, 3, 4]))]
         if self.has_two and self.chance(0.4):
             cases = [self.other_id() + case for case in cases]
         if cases and self.chance(0.1):
             cases[-1] = self.front()
         if self.chance(0.3):
-            return b"expect {\n" + b"\n".join([front, *self.some([b"", b'# a "remark'], 0, 1), *cases]) + b"\n}"
-        return b" ".join([b"expect" + front, *cases])
+            return name + b" {\n" + b"\n".join([front, *self.some([b"", b'# a "remark'], 0, 1), *cases]) + b"\n}"
+        return b" ".join([name + front, *cases])
 
     def case(self, depth):
         case = self.front() + b" " + self.action(depth)
@@ -270,19 +315,18 @@ class Script:
         if self.chance(0.35):
             return self.rng.choice([b"eof", b"eof", b"timeout", b"timeout", b"default", b"full_buffer"])
         marks = [mark for mark, part in MARKS if self.chance(part)]
-        kinds = [self.exact, self.glob] if self.any_bytes else [self.exact, self.glob, self.regular]
-        return b" ".join([*marks, self.rng.choice(kinds)()])
+        return b" ".join([*marks, self.rng.choice([self.exact, self.glob, self.regular])()])
 
     def exact(self):
-        return self.rng.choice([b"-ex ", b"-exact "]) + self.written(b"".join(self.some(EXACT, 0, 2)))
+        return self.rng.choice([b"-ex ", b"-exact "]) + self.text(EXACT, 0, 2)
 
     def glob(self):
-        glob = self.bound(b"".join(self.some(GLOB, 0, 3)))
-        return self.rng.choice([b"-gl ", b"-glob ", b"", b""]) + self.written(glob)
+        kind = self.rng.choice([b"-gl ", b"-glob ", b"-- ", b"", b""])
+        return kind + (self.made(b"glob") or self.written(self.bound(b"".join(self.some(GLOB, 0, 3)))))
 
     def regular(self):
         pieces = self.some(REGULAR, 1, 3) + (self.some(MALFORMED, 1, 1) if self.chance(0.03) else [])
-        return self.rng.choice([b"-re ", b"-regexp "]) + self.written(self.bound(b"".join(pieces)))
+        return self.rng.choice([b"-re ", b"-regexp "]) + (self.made(b"regular") or self.written(self.bound(b"".join(pieces))))
 
     def bound(self, pattern):
         return (b"^" if self.chance(0.1) else b"") + pattern + (b"$" if self.chance(0.1) else b"")
@@ -293,6 +337,8 @@ class Script:
             return b"again" if self.has_again else b"exp_continue"
         if drawn < 0.3:
             return b"{exp_continue -continue_timer}" if drawn < 0.2 else b"{send a\\r; exp_continue -continue_timer}"
+        if drawn < 0.55 and self.chance(self.share):
+            return b"{" + self.wrapped(self.values.drawn(b"command", depth)) + b"}"
         if drawn < 0.55:
             return b"{puts " + self.value() + b"}"
         if drawn < 0.65:
@@ -310,13 +356,13 @@ class Script:
     def change(self, _depth):
         return self.rng.choice(
             [
-                b"set timeout %d" % self.rng.choice(TIMES),
-                b"match_max" + self.id() + b" %d" % self.rng.choice(SIZES),
+                b"set timeout " + self.seconds(),
+                self.either(b"match_max") + self.id() + b" %d" % self.rng.choice(SIZES),
                 b"match_max -d %d" % self.rng.choice(SIZES),
-                b"remove_nulls" + self.rng.choice([b" -d", self.id()]) + b" %d" % self.rng.randrange(2),
-                b"log_user %d" % self.rng.randrange(2),
+                self.either(b"remove_nulls") + self.rng.choice([b" -d", self.id()]) + b" %d" % self.rng.randrange(2),
+                self.either(b"log_user") + b" %d" % self.rng.randrange(2),
                 self.rng.choice([b"sleep 1", b"exp_sleep .25", b"sleep -1", b"after 40"]),
-                b"send_user " + self.written(b"".join(self.some(EXACT, 0, 2))),
+                self.either(b"send_user") + b" " + self.text(EXACT, 0, 2),
                 b"set a $spawn_id",
                 b"exp_pid" + self.id(),
                 self.rng.choice([b"set send_slow {2 .1}", b"set send_slow {3 0}", b"set send_human {.2 .1 1 .15 .3}", b"set send_slow {0 1}"]),
@@ -326,15 +372,16 @@ class Script:
         )
 
     def spawn(self, _depth):
+        name = self.either(b"spawn")
         if self.chance(0.3):
-            return b" ".join([b"spawn", *self.some(FLAGS, 1, 3), b"p"])
-        return self.rng.choice([b"spawn p", b"spawn -noecho p", b"spawn -- p {a b}", b"spawn nosuch -x"])
+            return b" ".join([name, *self.some(FLAGS, 1, 3), b"p"])
+        return name + self.rng.choice([b" p", b" -noecho p", b" -- p {a b}", b" nosuch -x"])
 
     def close(self, _depth):
-        return b"close" + self.id()
+        return self.either(b"close") + self.id()
 
     def wait(self, _depth):
-        return b"wait" + self.rng.choice([b"", b"", b" -nowait"]) + self.id()
+        return self.either(b"wait") + self.rng.choice([b"", b"", b" -nowait"]) + self.id()
 
     def tool(self, _depth):
         return self.rng.choice(TOOLS)
@@ -371,6 +418,7 @@ class Script:
     MAKERS = [
         (send, 9),
         (expect, 11),
+        (standing, 1),
         (look, 3),
         (change, 3),
         (spawn, 1),
@@ -386,31 +434,33 @@ class Script:
     ]
 
 
-class Children:
-    """Draws events that mostly fit what a script waits for."""
+class Drawing(Dialogue):
+    """A dialogue whose events are drawn as it waits for them: mostly ones that it has use for."""
 
-    def __init__(self, rng, source, any_bytes):
-        self.rng, self.source = rng, source
-        self.printed = [*PRINTED, b"\xff", b"\xe9"] if any_bytes else PRINTED
+    def __init__(self, rng, script, limit, bound):
+        super().__init__([], limit, bound)
+        self.rng, self.script, self.drawn, self.left = rng, script, [], rng.randrange(5, 50)
+        self.printed = [*PRINTED, b"\xff", b"\xc3\xa9"] if script.any_bytes else PRINTED
 
-    def events(self, limit, bound):
-        found = []
-        for _ in range(self.rng.randrange(5, 50)):
-            dialogue = Dialogue(found, limit, bound)
-            if dialogue.run(self.source)[0] != "waiting":
-                break
-            found += self.next(dialogue)
-        if self.rng.random() < 0.1:
-            found = found[: self.rng.randrange(len(found) + 1)]
-        return found
+    def events(self, source):
+        self.run(source)
+        return self.drawn[: self.rng.randrange(len(self.drawn) + 1)] if self.rng.random() < 0.1 else self.drawn
 
-    def next(self, dialogue):
-        """An event that a waiting script has use for, and now and then others before it."""
-        act, child, deadline = dialogue.awaited
+    def more(self):
+        if self.left == 0:
+            super().more()
+        self.left -= 1
+        for event in self.next():
+            self.drawn.append(event)
+            self.happens(event)
+
+    def next(self):
+        """An event that the script has use for, and now and then others before it."""
+        act, child, deadline = self.awaited
         if act == "item":
             # a script that sleeps awaits no child: what any of them does stays for later
             child = self.rng.choice(child or (1, 2))
-        moment = dialogue.horizon + self.rng.choice([-200, -1, 0, 0, 0, 0, 1, 1, 10, 200, 700])
+        moment = self.horizon + self.rng.choice([-200, -1, 0, 0, 0, 0, 1, 1, 10, 200, 700])
         if deadline != FOREVER and self.rng.random() < 0.25:
             moment = deadline + self.rng.randrange(2)
         moment = max(0, moment)
@@ -436,7 +486,7 @@ class Children:
 
     def what(self, kind):
         if kind == "out":
-            if self.rng.random() < 0.03:
+            if self.script.is_long():
                 return b"x" * self.rng.choice([1999, 2000, 2500, 4096])
             return b"".join(self.rng.choice(self.printed) for _ in range(self.rng.randrange(0, 6)))
         if kind == "exit":
@@ -448,5 +498,6 @@ def draw(rng):
     """A script, its events, a time limit in milliseconds or None, and a bound on steps."""
     script = Script(rng)
     source = script.source()
-    limit, bound = rng.choice([None, None, None, None, 2000, 3000]), rng.choice([9, 70, 70, 70, 70, 200])
-    return source, Children(rng, source, script.any_bytes).events(limit, bound), limit, bound
+    limit = rng.choice([None, None, None, None, 2000, 3000])
+    bound = rng.choice([70, 200, 400, 1000, 1000] if script.share else [9, 70, 70, 70, 70, 200])
+    return source, Drawing(rng, script, limit, bound).events(source), limit, bound

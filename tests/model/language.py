@@ -1,21 +1,17 @@
-"""Scripts of the language, as far as the model goes: variables, lists, `catch`, procedures and loops."""
+"""How scripts are evaluated, and the commands that evaluate scripts or return something about the language itself."""
 
-import re
+from functools import partialmethod
 
-from words import Malformed, Reader, Script, Variable, read_list, read_script, write_list
-
-ERROR, RETURN, BREAK, CONTINUE, AGAIN, AGAIN_IN_TIME = range(1, 7)
-
-NUMBER = re.compile(rb"0|-?[1-9][0-9]*")
-OPERATOR = re.compile(rb"\s*(<=|<|>|==|\+|-)")
-OPERATIONS = {
-    b"<=": lambda a, b: a <= b,
-    b"<": lambda a, b: a < b,
-    b">": lambda a, b: a > b,
-    b"==": lambda a, b: a == b,
-    b"+": lambda a, b: a + b,
-    b"-": lambda a, b: a - b,
-}
+from codes import BREAK, CONTINUE, ERROR, RETURN, Stopped, Thrown, astray, failed
+from expressions import evaluated
+from formats import Formats
+from lists import Lists
+from patterns import MODES, fits, fits_glob
+from searches import Searches
+from texts import Texts
+from values import bounded, concatenated, counted, elements, flags, is_number, last_of, listed, number, option_of, pairs, truth
+from variables import Scope, Variables
+from words import Malformed, Script, Variable, read_script, read_text
 
 # The codes that `return` takes.
 CODES = {b"ok": 0, b"error": ERROR, b"return": RETURN, b"break": BREAK, b"continue": CONTINUE}
@@ -24,81 +20,32 @@ CODES |= {b"%d" % code: code for code in CODES.values()}
 # How many scripts may be evaluated within one another.
 NESTED = 200
 
-# The other commands of the language.
-LEFT_OUT = b"unset append lrange for eval string info concat join lassign linsert lrepeat lreplace lreverse lsearch lset lsort split subst array format scan regexp regsub package exp_version expect_version exp_internal debug exp_debug strace exp_strace trap exp_trap exp_spawn exp_send_user exp_close exp_wait exp_match_max exp_remove_nulls exp_log_user exp_exit".split()
+# The commands that no procedure may replace.
+FIXED = (
+    b"append break catch close continue error eval exit exp_continue exp_send expect expr for foreach global if incr info lappend lindex list"
+    b" llength log_user lrange match_max proc puts remove_nulls return send send_user set spawn string unset wait while"
+).split()
 
-# The simulated commands that a procedure may replace.
-REDEFINABLE = b"sleep exp_sleep after send_error exp_send_error exp_pid upvar exec system exp_system source file pwd pid getpid exp_getpid open gets read eof flush clock timestamp exp_timestamp".split()
+# The least and the most words of each option of `info`.
+INFO_OPTIONS = {b"exists": (1, 1), b"procs": (0, 1), b"commands": (0, 1)}
 
-
-class NotSimulated(Exception):
-    """The model doesn't know this of the language."""
-
-
-class Stopped(Exception):
-    """The script ends here, whatever stands around the command."""
+VERSIONS = {b"Expect": b"5.45.4", b"Tcl": b"8.6"}
 
 
-class Thrown(Exception):
-    """A code that isn't 0, and its value. After `return` it carries the code of what ends there."""
-
-    def __init__(self, code, value=b"", carried=0):
-        super().__init__(code, value, carried)
-        self.code, self.value, self.carried = code, value, carried
-
-    def returned(self):
-        """The value behind a `return` that has ended a procedure or the script, or the code that it carries."""
-        if self.carried:
-            raise Thrown(self.carried, self.value)
-        return self.value
+def conflict(package, wanted):
+    have, need = VERSIONS[package], wanted[:200]
+    return failed(b'version conflict for package "%s": have %s, need %s' % (package, have, need))
 
 
-def failed(text, quoted=None):
-    """An error; `quoted` stands behind its text where it is given."""
-    return Thrown(ERROR, text if quoted is None else text + b' "%s"' % quoted[:200])
+def serves(version, wanted):
+    """Whether a version serves the one that is wanted, by the first two numbers of both."""
+    (first, second), (major, minor) = (map(number, (*text.split(b"."), b"0")[:2]) for text in (version, wanted))
+    return first == major and second >= minor
 
 
-def is_number(text):
-    return bool(NUMBER.fullmatch(text)) and -(2**63) <= int(text) < 2**63
+class Interpreter(Variables, Lists, Texts, Formats, Searches):
+    """Evaluates scripts. The method `do_NAME` is the command NAME."""
 
-
-def number(text):
-    if not is_number(text):
-        raise failed(b"expected number but got", text)
-    return int(text)
-
-
-def elements(text):
-    try:
-        return read_list(text)
-    except Malformed as fault:
-        raise failed(fault.args[0]) from None
-
-
-def array_of(name):
-    """The array of an element's name; another name is its own."""
-    return name.split(b"(")[0] if name.endswith(b")") else name
-
-
-class Scope:
-    """The variables of a procedure, and where a linked name leads: to a scope and a name there."""
-
-    def __init__(self):
-        self.values, self.links = {}, {}
-
-    def holds(self, name):
-        return any(array_of(other) == name for other in self.values)
-
-    def refuse(self, act, name, written):
-        """An array has no value of its own, and what has one has no elements."""
-        array = array_of(name)
-        if array != name and array in self.values:
-            raise Thrown(ERROR, b'can\'t %s "%s": variable isn\'t array' % (act, written[:200]))
-        if array == name and name not in self.values and self.holds(name):
-            raise Thrown(ERROR, b'can\'t %s "%s": variable is array' % (act, written[:200]))
-
-
-class Interpreter:
     def __init__(self, bound):
         self.bound, self.steps = bound, 0
         self.scopes, self.depth = [Scope()], 0
@@ -115,16 +62,8 @@ class Interpreter:
             code = thrown.carried if thrown.code == RETURN else thrown.code
             if code in (0, RETURN):
                 return "exit:0", b""
-            return "error", self.astray(Thrown(code, thrown.value)).value
+            return "error", astray(Thrown(code, thrown.value)).value
         return "exit:0", b""
-
-    def astray(self, thrown):
-        """What a code is where nothing takes it."""
-        if thrown.code in (BREAK, CONTINUE):
-            return failed(b'invoked "%s" outside of a loop' % {BREAK: b"break", CONTINUE: b"continue"}[thrown.code])
-        if thrown.code in (AGAIN, AGAIN_IN_TIME):
-            return failed(b"exp_continue outside of expect")
-        return thrown
 
     def evaluate(self, source):
         """The value of a script's last command."""
@@ -149,16 +88,18 @@ class Interpreter:
     def fill(self, words):
         filled = []
         for word in words:
-            value = b"".join(map(self.part, word.parts))
+            value = self.joined(word.parts)
             filled += elements(value) if word.expand else [value]
         return filled
+
+    def joined(self, parts):
+        return bounded(b"".join(map(self.part, parts)))
 
     def part(self, part):
         if isinstance(part, Script):
             return self.evaluate(part.source)
         if isinstance(part, Variable):
-            index = None if part.index is None else b"".join(map(self.part, part.index))
-            return self.get(part.name if index is None else b"%s(%s)" % (part.name, index))
+            return self.get(part.name if part.index is None else b"%s(%s)" % (part.name, self.joined(part.index)))
         return part.bytes
 
     def step(self):
@@ -176,100 +117,12 @@ class Interpreter:
             return self.call(name, words)
         if known:
             return known(words)
-        if name in LEFT_OUT:
-            raise NotSimulated(name)
         raise failed(b"invalid command name", name)
 
-    def counted(self, name, words, least, most):
-        if not least <= len(words) <= most:
-            raise failed(b"wrong # args for", name)
-
-    # variables
-
-    def place(self, name):
-        """The scope of a variable, and its name there."""
-        array, here = array_of(name), self.scopes[-1]
-        scope, home = here.links.get(array, (here, array))
-        return scope, home + name[len(array) :]
-
-    def value(self, name):
-        """The value of a variable, or None."""
-        scope, home = self.place(name)
-        scope.refuse(b"read", home, name)
-        return scope.values.get(home)
-
-    def get(self, name):
-        value = self.value(name)
-        if value is None:
-            raise Thrown(ERROR, b'can\'t read "%s": no such variable' % name[:200])
-        return value
-
-    def set(self, name, value):
-        scope, home = self.place(name)
-        scope.refuse(b"set", home, name)
-        scope.values[home] = value
-
-    def seen(self, name):
-        """What a command of Expect reads: the variable of this scope, else the global one, else None."""
-        value = self.value(name)
-        if value is not None:
-            return value
-        self.scopes[0].refuse(b"read", name, name)
-        return self.scopes[0].values.get(name)
-
-    def do_set(self, words):
-        if len(words) > 1:
-            self.set(*words)
-        return self.get(words[0])
-
-    def do_incr(self, words):
-        (name,) = words
-        value = self.value(name)
-        self.set(name, b"%d" % ((0 if value is None else number(value)) + 1))
-        return self.get(name)
-
-    def do_lappend(self, words):
-        name, *values = words
-        self.set(name, write_list(elements(self.value(name) or b"") + values))
-        return self.get(name)
-
-    def do_global(self, words):
-        if len(self.scopes) > 1:
-            self.scopes[-1].links.update((name, (self.scopes[0], name)) for name in words)
-        return b""
-
-    def do_upvar(self, words):
-        self.counted(b"upvar", words, 2, len(words))
-        level, *names = words if len(words) % 2 else [b"1", *words]
-        calls = len(self.scopes) - 1
-        out = calls if level == b"#0" else int(level) if is_number(level) else 0
-        if not 1 <= out <= calls:
-            raise failed(b"bad level", level)
-        for other, my in zip(names[::2], names[1::2]):
-            self.link(self.scopes[-1 - out], other, my)
-        return b""
-
-    def link(self, there, other, my):
-        for name in (my, other):
-            if array_of(name) != name:
-                raise failed(b"bad variable name", name)
-        if self.scopes[-1].holds(my):
-            raise Thrown(ERROR, b'variable "%s" already exists' % my[:200])
-        self.scopes[-1].links[my] = there.links.get(other, (there, other))
-
-    # control
-
-    def do_list(self, words):
-        return write_list(words)
-
-    def do_llength(self, words):
-        return b"%d" % len(elements(words[0]))
-
-    def do_lindex(self, words):
-        found, at = elements(words[0]), number(words[1])
-        return found[at] if 0 <= at < len(found) else b""
+    # codes
 
     def do_catch(self, words):
+        counted(b"catch", words, 1, 2)
         try:
             code, value = 0, self.evaluate(words[0])
         except Thrown as thrown:
@@ -279,6 +132,7 @@ class Interpreter:
         return b"%d" % code
 
     def do_error(self, words):
+        counted(b"error", words, 1, 3)
         raise Thrown(ERROR, words[0])
 
     def do_return(self, words):
@@ -293,35 +147,70 @@ class Interpreter:
             raise failed(b"bad option", code)
         raise Thrown(RETURN, *(rest or [b""]), CODES[code])
 
-    def do_break(self, _words):
+    def do_break(self, words):
+        counted(b"break", words, 0, 0)
         raise Thrown(BREAK)
 
-    def do_continue(self, _words):
+    def do_continue(self, words):
+        counted(b"continue", words, 0, 0)
         raise Thrown(CONTINUE)
 
-    def do_exit(self, words):
-        self.counted(b"exit", words, 0, 1)
+    def do_exit(self, words, name=b"exit"):
+        counted(name, words, 0, 1)
         (status,) = words or [b"0"]
         if not is_number(status) or not 0 <= int(status) <= 255:
             raise failed(b"bad exit status", status)
         raise Stopped("exit:%d" % int(status))
 
+    do_exp_exit = partialmethod(do_exit, name=b"exp_exit")
+
+    # choices
+
     def do_if(self, words):
-        condition, body, *rest = words
-        if self.is_true(condition):
-            return self.evaluate(body)
-        return self.evaluate(rest[-1]) if rest else b""
+        cases, otherwise = self.branches(words)
+        for condition, body in cases:
+            if self.is_true(condition):
+                return self.evaluate(body)
+        return self.evaluate(otherwise)
+
+    def branches(self, words):
+        """The conditions of `if` with their bodies, and the body after them."""
+        words, cases, is_next = list(words), [], True
+        while is_next:
+            condition = self.next_word(words)
+            if words[:1] == [b"then"]:
+                words.pop(0)
+            cases.append((condition, self.next_word(words)))
+            is_next = words[:1] == [b"elseif"]
+            if is_next:
+                words.pop(0)
+        if words[:1] == [b"else"]:
+            words.pop(0)
+            counted(b"if", words, 1)
+        counted(b"if", words, 0, 1)
+        return cases, (words or [b""])[0]
+
+    def next_word(self, words):
+        counted(b"if", words, 1)
+        return words.pop(0)
 
     def do_switch(self, words):
-        """`switch -- text {pattern body ..}`: the body of the first pattern that is equal to the text."""
-        _end_of_flags, text, cases = words
-        cases = elements(cases)
+        given, words = flags(b"switch", words, {**dict.fromkeys(MODES, False), b"--": False}, tail=2)
+        counted(b"switch", words, 2)
+        text, *cases = words
+        cases = elements(cases[0]) if len(cases) == 1 else cases
+        if not cases or len(cases) % 2 or cases[-1] == b"-":
+            raise failed(b"wrong # args for", b"switch")
+        mode = last_of(given, MODES) or b"-exact"
         for at in range(0, len(cases), 2):
-            if cases[at] == text or (cases[at] == b"default" and at == len(cases) - 2):
+            if cases[at] == b"default" and at == len(cases) - 2 or fits(mode, cases[at], text):
                 return self.evaluate(next(body for body in cases[at + 1 :: 2] if body != b"-"))
         return b""
 
+    # loops
+
     def do_while(self, words):
+        counted(b"while", words, 2, 2)
         condition, body = words
         while self.is_true(condition):
             self.step()
@@ -329,17 +218,38 @@ class Interpreter:
                 break
         return b""
 
-    def do_foreach(self, words):
-        *lists, body = words
-        pairs = [(elements(names), elements(values)) for names, values in zip(lists[::2], lists[1::2])]
-        for turn in range(max(-(-len(values) // len(names)) for names, values in pairs)):
+    def do_for(self, words):
+        counted(b"for", words, 4, 4)
+        start, condition, after, body = words
+        self.evaluate(start)
+        while self.is_true(condition):
             self.step()
-            for names, values in pairs:
+            if not self.turn(body):
+                break
+            self.evaluate(after)
+        return b""
+
+    def do_foreach(self, words):
+        counted(b"foreach", words, 3)
+        *lists, body = words
+        if len(lists) % 2:
+            raise failed(b"wrong # args for", b"foreach")
+        read = [self.named_values(*pair) for pair in pairs(lists)]
+        for turn in range(max(-(-len(values) // len(names)) for names, values in read)):
+            self.step()
+            for names, values in read:
                 for at, name in enumerate(names, turn * len(names)):
                     self.set(name, values[at] if at < len(values) else b"")
             if not self.turn(body):
                 break
         return b""
+
+    def named_values(self, names, values):
+        """The names and the values of a pair of lists of `foreach`."""
+        names = elements(names)
+        if not names:
+            raise failed(b"bad list")
+        return names, elements(values)
 
     def turn(self, body):
         """Evaluates a loop's body; whether the loop goes on."""
@@ -351,60 +261,102 @@ class Interpreter:
             return thrown.code == CONTINUE
         return True
 
+    # procedures
+
     def do_proc(self, words):
+        counted(b"proc", words, 3, 3)
         name, formals, body = words
-        if name not in REDEFINABLE and hasattr(self, "do_" + name.decode("latin-1")):
+        if name in FIXED:
             raise failed(b"can't redefine", name)
-        self.procedures[name] = elements(formals), body
+        formals = [elements(formal) for formal in elements(formals)]
+        if not all(1 <= len(formal) <= 2 for formal in formals):
+            raise failed(b"bad list")
+        self.procedures[name] = formals, body
         return b""
 
     def call(self, name, words):
         formals, body = self.procedures[name]
-        self.counted(name, words, len(formals), len(formals))
+        takes_rest = formals[-1:] and formals[-1][0] == b"args"
+        named = formals[:-1] if takes_rest else formals
+        least = max((at for at, formal in enumerate(named, 1) if len(formal) == 1), default=0)
+        counted(name, words, least, len(words) if takes_rest else len(named))
         self.scopes.append(Scope())
         try:
-            self.scopes[-1].values.update(zip(formals, words))
+            for at, formal in enumerate(named):
+                self.set(formal[0], words[at] if at < len(words) else formal[1])
+            if takes_rest:
+                self.set(b"args", listed(words[len(named) :]))
             return self.evaluate(body)
         except Thrown as thrown:
             if thrown.code == RETURN:
                 return thrown.returned()
-            raise self.astray(thrown) if thrown.code in (BREAK, CONTINUE) else thrown
+            raise astray(thrown) if thrown.code in (BREAK, CONTINUE) else thrown
         finally:
             self.scopes.pop()
 
-    # expressions
+    # evaluation
 
     def do_expr(self, words):
-        return self.expression(b" ".join(words))
+        counted(b"expr", words, 1)
+        return evaluated(bounded(b" ".join(words)), self.part)
 
     def is_true(self, condition):
-        return number(self.expression(condition)) != 0
+        return truth(evaluated(condition, self.part))
 
-    def expression(self, text):
-        """The value of an operand, or of two with an operator between them."""
-        reader = Reader(text)
-        left = self.operand(reader)
-        operator = OPERATOR.match(text, reader.at)
-        if operator is None:
-            return self.at_the_end(reader, left)
-        reader.at = operator.end()
-        right = self.operand(reader)
-        return self.at_the_end(reader, b"%d" % OPERATIONS[operator[1]](number(left), number(right)))
+    def do_eval(self, words):
+        counted(b"eval", words, 1)
+        return self.evaluate(concatenated(words))
 
-    def at_the_end(self, reader, value):
-        """The value, behind which nothing may stand."""
-        if reader.text[reader.at :].strip():
-            raise NotSimulated(reader.text)
-        return value
+    def do_subst(self, words):
+        given, words = flags(b"subst", words, {b"-nocommands": False}, tail=1)
+        counted(b"subst", words, 1, 1)
+        if not given:
+            raise failed(b"wrong # args for", b"subst")
+        try:
+            parts = read_text(words[0])
+        except Malformed as fault:
+            raise failed(fault.args[0]) from None
+        return self.joined(parts)
 
-    def operand(self, reader):
-        reader.blanks()
-        if reader.peek() == b"[":
-            return self.part(reader.bracket())
-        if reader.peek() == b"$":
-            return self.part(reader.variable())
-        literal = NUMBER.match(reader.text, reader.at)
-        if literal is None:
-            raise NotSimulated(reader.text)
-        reader.at = literal.end()
-        return literal[0]
+    # the language
+
+    def do_info(self, words):
+        option, words = option_of(b"info", words, INFO_OPTIONS)
+        counted(b"info", words, *INFO_OPTIONS[option])
+        if option == b"exists":
+            return b"%d" % self.exists(words[0])
+        names = set(self.procedures) if option == b"procs" else {*self.procedures, *self.names()}
+        glob = (*words, b"*")[0]
+        return listed(sorted(name for name in names if fits_glob(glob, name)))
+
+    def names(self):
+        """The names of all commands."""
+        return [name[3:].encode() for name in dir(self) if name.startswith("do_")]
+
+    def do_package(self, words):
+        _, words = option_of(b"package", words, (b"require",))
+        _, words = flags(b"package", words, {}, tail=1)
+        counted(b"package", words, 1, 2)
+        name, *wanted = words
+        if name not in VERSIONS:
+            raise failed(b"can't find package " + name[:200])
+        if wanted and not serves(VERSIONS[name], wanted[0]):
+            raise conflict(name, wanted[0])
+        return VERSIONS[name]
+
+    def do_exp_version(self, words, name=b"exp_version"):
+        given, words = flags(name, words, {b"-exit": False})
+        counted(name, words, 1 if given else 0, 1)
+        if not words:
+            return VERSIONS[b"Expect"]
+        if serves(VERSIONS[b"Expect"], words[0]):
+            return b""
+        raise Stopped("exit:1") if given else conflict(b"Expect", words[0])
+
+    do_expect_version = partialmethod(do_exp_version, name=b"expect_version")
+
+    def do_debug(self, _words):
+        """Nothing happens."""
+        return b""
+
+    do_exp_debug = do_exp_internal = do_strace = do_exp_strace = do_trap = do_exp_trap = do_debug

@@ -1,23 +1,25 @@
-"""What the arguments of `expect` say, and where their patterns are found."""
+"""What the arguments of `expect` say, where patterns are found, and which texts they fit."""
 
 import re
+from functools import lru_cache
 from typing import NamedTuple
+
+from codes import failed
+from regulars import find_regular, read_regular
 
 KEYWORDS = (b"eof", b"timeout", b"default", b"full_buffer")
 KINDS = {b"-gl": "glob", b"-ex": "exact", b"-re": "regular"}
-KINDS |= {b"-glob": "glob", b"-exact": "exact", b"-regexp": "regular"}
+KINDS |= {b"-glob": "glob", b"-exact": "exact", b"-regexp": "regular", b"--": "glob"}
 MARKS = (b"-nocase", b"-indices", b"-notransfer")
+
+# How `switch` and `lsearch` compare.
+MODES = (b"-exact", b"-glob", b"-regexp")
 
 ANY = None
 EVERY = frozenset(range(256))
 
-
-class BadFlag(Exception):
-    """The argument that is no flag here."""
-
-
-class BadRegular(Exception):
-    """The argument that is no regular pattern."""
+# A byte behind a backslash, a class, or a byte.
+GLOB_SIGN = re.compile(rb"(?s)\\.|\[[^\]]*\]|.")
 
 
 class Case(NamedTuple):
@@ -50,26 +52,17 @@ def read_arguments(words):
                 seconds = words.pop(0)
             elif front in KINDS and words:
                 kind, front = KINDS[front], words.pop(0)
-                if kind == "regular" and not is_regular(front):
-                    raise BadRegular(front)
+                if kind == "regular":
+                    read_regular(front)
             elif front.startswith(b"-") or front == b"null":
-                raise BadFlag(front)
+                raise failed(b"bad expect flag", front)
             else:
                 kind = front.decode() if front in KEYWORDS else "glob"
         if kind:
             cases.append(Case(kind, front, frozenset(marks), words.pop(0) if words else b"", len(ids)))
         elif front in MARKS:
-            raise BadFlag(front)
+            raise failed(b"bad expect flag", front)
     return cases, ids, seconds
-
-
-def is_regular(pattern):
-    """As Python's `re` says, but that an opening brace begins a count."""
-    try:
-        re.compile(pattern)
-    except re.error:
-        return False
-    return not re.search(rb"\{(?!\d+(,\d*)?\})", pattern)
 
 
 def find_exact(pattern, data, nocase):
@@ -77,18 +70,11 @@ def find_exact(pattern, data, nocase):
     return [(at, at + len(pattern))] if at >= 0 else []
 
 
-def find_regular(pattern, data, nocase):
-    """A regular pattern by Python's `re`, whose `$` would match before a last newline too."""
-    found = re.search((b"(?si)" if nocase else b"(?s)") + pattern.replace(b"$", rb"\Z"), data)
-    spans = map(found.span, range(found.re.groups + 1)) if found else []
-    return [span if span != (-1, -1) else None for span in spans]
-
-
 def find_glob(pattern, data, nocase):
     """The match that starts first, and is the longest from there."""
     at_start, elements, at_end = read_glob(pattern)
     if nocase:
-        elements = [element and with_both_cases(element) for element in elements]
+        elements = in_both_cases(elements)
     is_first = at_start or elements[:1] == [ANY]
     for start in range(1 if is_first else len(data) + 1):
         ends = glob_ends(elements, data, start)
@@ -111,27 +97,41 @@ def glob_ends(elements, data, start):
 
 
 def read_glob(pattern):
-    """Whether it is bound to the start, its elements (the bytes of each, or ANY), whether it is bound to the end."""
-    at_start, at_end, elements = pattern.startswith(b"^"), False, []
-    at = int(at_start)
-    while at < len(pattern):
-        byte, rest = pattern[at : at + 1], pattern[at + 1 :]
-        at += 1
-        if byte == b"$" and not rest:
-            at_end = True
-        elif byte == b"*":
-            elements.append(ANY)
-        elif byte == b"?":
-            elements.append(EVERY)
-        elif byte == b"[" and b"]" in rest:
-            elements.append(read_class(rest[: rest.index(b"]")]))
-            at += rest.index(b"]") + 1
-        elif byte == b"\\" and rest:
-            elements.append(frozenset(rest[:1]))
-            at += 1
-        else:
-            elements.append(frozenset(byte))
-    return at_start, elements, at_end
+    """Whether it is bound to the start, its elements, whether it is bound to the end."""
+    at_start = pattern.startswith(b"^")
+    signs = GLOB_SIGN.findall(pattern[at_start:])
+    at_end = signs[-1:] == [b"$"]
+    return at_start, list(map(element, signs[: len(signs) - at_end])), at_end
+
+
+def element(sign):
+    """The bytes that a sign of a glob stands for, or ANY."""
+    if sign in (b"*", b"?"):
+        return ANY if sign == b"*" else EVERY
+    if len(sign) > 1:
+        return read_class(sign[1:-1]) if sign.startswith(b"[") else frozenset(sign[1:])
+    return frozenset(sign)
+
+
+@lru_cache(maxsize=1000)
+def elements_of(glob, nocase):
+    """The elements of a glob in which `^` and `$` are ordinary."""
+    elements = list(map(element, GLOB_SIGN.findall(glob)))
+    return in_both_cases(elements) if nocase else elements
+
+
+def fits_glob(glob, text, nocase=False):
+    """Whether a glob fits the whole of a text."""
+    return len(text) in glob_ends(elements_of(glob, nocase), text, 0)
+
+
+def fits(mode, pattern, text, nocase=False):
+    """Whether a pattern fits a text, in one of the modes."""
+    if mode == b"-glob":
+        return fits_glob(pattern, text, nocase)
+    if mode == b"-regexp":
+        return bool(find_regular(pattern, text, nocase))
+    return text.lower() == pattern.lower() if nocase else text == pattern
 
 
 def read_class(members):
@@ -147,6 +147,5 @@ def read_class(members):
     return frozenset(found)
 
 
-def with_both_cases(members):
-    text = bytes(members)
-    return frozenset(text.lower() + text.upper())
+def in_both_cases(elements):
+    return [element and frozenset(bytes(element).lower() + bytes(element).upper()) for element in elements]

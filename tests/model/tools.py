@@ -3,11 +3,14 @@
 `Tools` is a part of `Dialogue`, which waits for answers and items.
 """
 
-from language import RETURN, Interpreter, Thrown, elements, failed
+from functools import partialmethod
+from math import inf as FOREVER
 
-FOREVER = float("inf")
+from codes import RETURN, Thrown, failed
+from language import Interpreter
+from values import LONGEST_VALUE, counted, elements, flags, option_of
+
 CHILDREN = 16
-LONGEST_VALUE = 1_048_576
 
 READER = b'test -e "$1" || exit 2; test -d "$1" && exit 21; test -r "$1" || exit 13; exec cat <"$1"'
 WRITER = b'exec 2>/dev/null; if test "$2" = a; then exec 3>>"$1"; else exec 3>"$1"; fi; echo; exec cat >&3'
@@ -73,7 +76,7 @@ class Tools(Interpreter):
             raise front_of(text, quoted, cause)
         return run
 
-    def do_tool(self, words, text=b"couldn't execute", quoted=None):
+    def ran(self, words, text=b"couldn't execute", quoted=None):
         """Runs a program to its end: the child, how it ended, and its output."""
         run = self.started(text, words[0] if quoted is None else quoted, words)
         self.request(run, "end")
@@ -92,9 +95,6 @@ class Tools(Interpreter):
             raise failed(b"read failed: " + came.what)
         return answer, output
 
-    def next_item(self, run):
-        return self.wait(self.items[run.number], FOREVER, ("item", (run.number,), FOREVER))
-
     def file_named(self, name):
         """A name of a file, with the home folder in place of its tilde."""
         if name != b"~" and not name.startswith(b"~/"):
@@ -105,41 +105,37 @@ class Tools(Interpreter):
     # programs
 
     def do_exec(self, words):
-        given, words = self.flags(b"exec", words, {b"-keepnewline": False, b"-ignorestderr": False, b"--": False})
-        self.counted(b"exec", words, 1, FOREVER)
-        _, answer, output = self.do_tool(program(words))
+        given, words = flags(b"exec", words, {b"-keepnewline": False, b"-ignorestderr": False, b"--": False})
+        counted(b"exec", words, 1)
+        _, answer, output = self.ran(program(words))
         if is_well(answer):
             return output if b"-keepnewline" in given else without_newline(output)
         output = without_newline(output)
         raise failed((output + b"\n" if output else b"") + ended_badly(answer))
 
     def do_system(self, words, name=b"system"):
-        self.counted(name, words, 1, FOREVER)
-        _, answer, output = self.do_tool([b"/bin/sh", b"-c", b" ".join(words)])
+        counted(name, words, 1)
+        _, answer, output = self.ran([b"/bin/sh", b"-c", b" ".join(words)])
         self.transcript += output
         if not is_well(answer):
             raise failed(ABNORMAL)
         return b""
 
-    def do_exp_system(self, words):
-        return self.do_system(words, b"exp_system")
+    do_exp_system = partialmethod(do_system, name=b"exp_system")
 
     def do_pwd(self, words):
-        self.counted(b"pwd", words, 0, 0)
+        counted(b"pwd", words, 0, 0)
         return self.line([b"sh", b"-c", b"pwd -P"])
 
     def do_pid(self, words, name=b"pid"):
-        self.counted(name, words, 0, 0)
+        counted(name, words, 0, 0)
         return self.line([b"sh", b"-c", b"echo $PPID"])
 
-    def do_getpid(self, words):
-        return self.do_pid(words, b"getpid")
-
-    def do_exp_getpid(self, words):
-        return self.do_pid(words, b"exp_getpid")
+    do_getpid = partialmethod(do_pid, name=b"getpid")
+    do_exp_getpid = partialmethod(do_pid, name=b"exp_getpid")
 
     def line(self, words):
-        _, answer, output = self.do_tool(words)
+        _, answer, output = self.ran(words)
         if not is_well(answer):
             raise front_of(b"couldn't execute", words[0], b"other")
         return without_newline(output)
@@ -147,11 +143,8 @@ class Tools(Interpreter):
     # times
 
     def do_clock(self, words):
-        self.counted(b"clock", words, 1, FOREVER)
-        option, *words = words
-        if option not in (b"seconds", b"milliseconds"):
-            raise failed(b"bad option", option)
-        self.counted(b"clock", words, 0, 0)
+        option, words = option_of(b"clock", words, (b"seconds", b"milliseconds"))
+        counted(b"clock", words, 0, 0)
         return self.time_of_day(1000 if option == b"seconds" else 1)
 
     def time_of_day(self, unit):
@@ -164,8 +157,8 @@ class Tools(Interpreter):
         return b"%d" % ((self.day + self.clock) // unit)
 
     def do_timestamp(self, words, name=b"timestamp"):
-        given, words = self.flags(name, words, {b"-format": True, b"-seconds": True, b"-gmt": False})
-        self.counted(name, words, 0, 0)
+        given, words = flags(name, words, {b"-format": True, b"-seconds": True, b"-gmt": False})
+        counted(name, words, 0, 0)
         seconds, form = given.get(b"-seconds"), given.get(b"-format")
         if seconds is not None and not seconds.isdigit():
             raise failed(b"expected number but got", seconds)
@@ -174,19 +167,18 @@ class Tools(Interpreter):
         day = [] if seconds is None else [b"-d", b"@" + seconds]
         return self.line([b"date", *([b"-u"] if b"-gmt" in given else []), *day, b"+" + form])
 
-    def do_exp_timestamp(self, words):
-        return self.do_timestamp(words, b"exp_timestamp")
+    do_exp_timestamp = partialmethod(do_timestamp, name=b"exp_timestamp")
 
     def read_file(self, text, name):
         """The child of a file that is read, and its bytes."""
         words = [b"sh", b"-c", READER, b"sh", self.file_named(name)]
-        run, answer, output = self.do_tool(words, text, name)
+        run, answer, output = self.ran(words, text, name)
         if not is_well(answer):
             raise front_of(text, name, unread(answer))
         return run, output
 
     def do_source(self, words):
-        self.counted(b"source", words, 1, 1)
+        counted(b"source", words, 1, 1)
         _, output = self.read_file(b"couldn't read file", words[0])
         try:
             return self.evaluate(output)
@@ -198,21 +190,18 @@ class Tools(Interpreter):
     # files
 
     def do_file(self, words):
-        self.counted(b"file", words, 1, FOREVER)
-        option, *words = words
         makers = {b"stat": (self.file_stat, 2, 2), b"delete": (self.file_delete, 1, FOREVER), b"copy": (self.file_copy, 2, 4)}
         for name, flag in TESTS.items():
             makers[name] = lambda words, flag=flag: self.file_test(flag, *words), 1, 1
         for name in (b"size", b"mtime"):
             makers[name] = lambda words, at=FIELDS.index(name): self.stated(*words)[at], 1, 1
-        if option not in makers:
-            raise failed(b"bad option", option)
+        option, words = option_of(b"file", words, makers)
         made, least, most = makers[option]
-        self.counted(b"file", words, least, most)
+        counted(b"file", words, least, most)
         return made(words)
 
     def file_test(self, flag, name):
-        _, answer, _ = self.do_tool([b"test", flag, self.file_named(name)])
+        _, answer, _ = self.ran([b"test", flag, self.file_named(name)])
         if answer.kind != "exit" or answer.what not in (b"0", b"1"):
             raise front_of(b"couldn't execute", b"test", b"other")
         return b"1" if answer.what == b"0" else b"0"
@@ -220,7 +209,7 @@ class Tools(Interpreter):
     def stated(self, name):
         """The fields of a file."""
         words = [b"stat", b"-L", b"-c", b"%X %Z %d %g %i %f %Y %h %s %u", b"--", self.file_named(name)]
-        _, answer, output = self.do_tool(words, b"could not read", name)
+        _, answer, output = self.ran(words, b"could not read", name)
         if not is_well(answer):
             raise front_of(b"could not read", name, b"notfound")
         fields = elements(output)
@@ -258,9 +247,9 @@ class Tools(Interpreter):
         return self.changed(b"cp", b"error copying", self.file_names(words), 2, 2)
 
     def changed(self, tool, text, names, least, most):
-        self.counted(b"file", names, least, most)
+        counted(b"file", names, least, most)
         words = [tool, b"-f", b"--", *map(self.file_named, names)]
-        _, answer, _ = self.do_tool(words, text, names[0])
+        _, answer, _ = self.ran(words, text, names[0])
         if not is_well(answer):
             raise front_of(text, names[0], b"other")
         return b""
@@ -268,7 +257,7 @@ class Tools(Interpreter):
     # channels
 
     def do_open(self, words):
-        self.counted(b"open", words, 1, 2)
+        counted(b"open", words, 1, 2)
         name, mode = words if len(words) == 2 else (*words, b"r")
         channel = self.opened_program(name[1:], mode) if name.startswith(b"|") else self.opened_file(name, mode)
         if channel.rest is not None:
@@ -281,7 +270,7 @@ class Tools(Interpreter):
         if mode != b"r":
             raise failed(b"bad option", mode)
         words = program(elements(text))
-        run, answer, output = self.do_tool(words)
+        run, answer, output = self.ran(words)
         return Channel(run, output, b"" if is_well(answer) else ended_badly(answer))
 
     def opened_file(self, name, mode):
@@ -305,7 +294,7 @@ class Tools(Interpreter):
         return self.channels[name]
 
     def do_gets(self, words):
-        self.counted(b"gets", words, 1, 2)
+        counted(b"gets", words, 1, 2)
         channel = self.channel(words[0], True)
         left = channel.rest
         line, newline, channel.rest = left.partition(b"\n")
@@ -316,7 +305,7 @@ class Tools(Interpreter):
         return b"%d" % len(line) if left else b"-1"
 
     def do_read(self, words):
-        self.counted(b"read", words, 1, 2)
+        counted(b"read", words, 1, 2)
         if len(words) == 2 and words[0] != b"-nonewline":
             return self.read_some(*words)
         channel = self.channel(words[-1], True)
@@ -332,20 +321,20 @@ class Tools(Interpreter):
         return text
 
     def do_eof(self, words):
-        self.counted(b"eof", words, 1, 1)
+        counted(b"eof", words, 1, 1)
         return b"%d" % self.channel(words[0], True).met
 
     def do_flush(self, words):
-        self.counted(b"flush", words, 1, 1)
+        counted(b"flush", words, 1, 1)
         if words[0] not in (b"stdout", b"stderr"):
             self.channel(words[0], False)
         return b""
 
     def do_puts(self, words):
-        self.counted(b"puts", words, 1, 3)
+        counted(b"puts", words, 1, 3)
         is_line = len(words) == 1 or words[0] != b"-nonewline"
         *channel, text = words if is_line else words[1:]
-        self.counted(b"puts", channel, 0, 1)
+        counted(b"puts", channel, 0, 1)
         self.put(channel[0] if channel else b"stdout", text + b"\n" if is_line else text)
         return b""
 

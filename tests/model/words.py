@@ -12,9 +12,15 @@ LETTERS = {b"a": b"\a", b"b": b"\b", b"f": b"\f", b"n": b"\n", b"r": b"\r", b"t"
 QUOTED_IN_LISTS = b'\t\n\v\f\r "{}[]$;\\'
 LETTERED = dict(zip(b"\t\n\v\f\r", b"tnvfr"))
 
+# How many brackets and indexes may stand within one another.
+NESTED = 200
+
 NAME = re.compile(rb"[A-Za-z0-9_]*")
+# What begins and ends nothing in a word, and in braces.
+ORDINARY = re.compile(rb"[A-Za-z0-9_.,:<>=+*/-]+")
+BRACED = re.compile(rb"[^\\{}]+")
 BACKSLASH = re.compile(
-    rb"(?s)\\(?:(?P<line>\n[ \t]*)|(?P<octal>[0-3]?[0-7]{1,2})|x(?P<hex>[0-9A-Fa-f]{1,2})|(?P<byte>.))"
+    rb"(?s)\\(?:(?P<line>\n[ \t]*)|(?P<octal>[0-3]?[0-7]{1,2})|x(?P<hex>[0-9A-Fa-f]{1,2})|u(?P<number>[0-9A-Fa-f]{1,4})|(?P<byte>.))"
 )
 
 
@@ -43,10 +49,10 @@ class Word(NamedTuple):
 
 
 class Reader:
-    """Reads a script's commands, one at a time; `inside` where it stands in a bracket."""
+    """Reads a script's commands, one at a time; `inside` where it stands in a bracket. Without `has_scripts` a bracket is an ordinary byte."""
 
-    def __init__(self, text, at=0, inside=False):
-        self.text, self.at, self.inside = text, at, inside
+    def __init__(self, text, at=0, inside=False, depth=0, has_scripts=True):
+        self.text, self.at, self.inside, self.depth, self.has_scripts = text, at, inside, depth, has_scripts
 
     def peek(self):
         return self.text[self.at : self.at + 1]
@@ -55,6 +61,12 @@ class Reader:
         taken = self.peek()
         self.at += len(taken)
         return taken
+
+    def run(self, pattern):
+        """Reads what a pattern matches here, or nothing."""
+        found = pattern.match(self.text, self.at)
+        self.at = found.end() if found else self.at
+        return found[0] if found else b""
 
     def is_over(self):
         return self.at == len(self.text) or self.inside and self.peek() == b"]"
@@ -125,6 +137,7 @@ class Reader:
     def braced(self):
         depth, made = 0, b""
         while True:
+            made += self.run(BRACED)
             self.closes(b"}", b"missing close-brace")
             byte = self.peek()
             if byte == b"\\":
@@ -140,9 +153,12 @@ class Reader:
         found, text = [], b""
         while not ends():
             part = None
-            if self.peek() == b"\\":
+            run = self.run(ORDINARY)
+            if run:
+                text += run
+            elif self.peek() == b"\\":
                 text += self.backslash()
-            elif self.peek() == b"[":
+            elif self.peek() == b"[" and self.has_scripts:
                 part = self.bracket()
             else:
                 part = self.variable() if self.peek() == b"$" else None
@@ -163,15 +179,24 @@ class Reader:
             return bytes([int(read["octal"], 8)])
         if read["hex"]:
             return bytes([int(read["hex"], 16)])
+        if read["number"]:
+            return encoded(int(read["number"], 16))
         return LETTERS.get(read["byte"], read["byte"])
 
+    def deepen(self):
+        if self.depth == NESTED:
+            raise Malformed(b"nesting too deep")
+        self.depth += 1
+
     def bracket(self):
-        inner = Reader(self.text, self.at + 1, inside=True)
+        self.deepen()
+        inner = Reader(self.text, self.at + 1, inside=True, depth=self.depth)
         for _ in iter(inner.command, None):
             pass
         inner.closes(b"]", b"missing close-bracket")
         source = self.text[self.at + 1 : inner.at]
         self.at = inner.at + 1
+        self.depth -= 1
         return Script(source)
 
     def variable(self):
@@ -186,13 +211,26 @@ class Reader:
         name = NAME.match(self.text, self.at + 1)
         if self.text.startswith(b"(", name.end()):
             self.at = name.end() + 1
+            self.deepen()
             index = self.parts(lambda: self.closes(b")", b"missing )"))
+            self.depth -= 1
             self.at += 1
             return Variable(name[0], index)
         if not name[0]:
             return None
         self.at = name.end()
         return Variable(name[0], None)
+
+
+def encoded(number):
+    """The character with this number in UTF-8."""
+    return chr(number).encode(errors="surrogatepass")
+
+
+def read_text(text):
+    """The parts of a text as of a word in quotes, in which quotes and brackets are ordinary bytes."""
+    reader = Reader(text, has_scripts=False)
+    return reader.parts(lambda: reader.at == len(text))
 
 
 @functools.lru_cache(maxsize=1000)

@@ -198,18 +198,9 @@ EXAMPLES = (
 )
 RUNS = (*RANCID, *CONMUX, *CONMAN, *EXAMPLES)
 
-# rivlogin finds no password, under both programs
-CONNECTING = [it for it in ALL_LOGINS if it != "rivlogin"]
 BY_CONMAN = ("cyclades-ssh", "cyclades-telnet", "hp-ilo", "hp-lo100", "ibm-bc", "ipmiconsole", "ipmitool", "ssh", "sun-elom", "sun-ilom")
 # what exprun doesn't have yet, and the runs that need it; most need more
 MISSING = {
-    "expect_after": (
-        *((f"rancid/{it}", "a login") for it in CONNECTING),
-        *((f"rancid/{it}", "a refused connection") for it in CONNECTING),
-        *(("rancid/clogin", it) for it in ("pages", "a file of commands, two routers", "an unknown host key", "a script")),
-        *(("rancid/clogin", it) for it in ("a wrong password", "a wrong privileged password")),
-        ("rancid/jlogin", "a wrong password"),
-    ),
     "fork, spawn -pty": (
         ("conman/examples/shell_cmd_n.exp", "a command"),
         ("conman/examples/wtf.exp", "a console"),
@@ -226,7 +217,6 @@ MISSING = {
     "spawn_id of the user": (("expect/expect_timed-read", "a line"),),
     "expect_user": (("conmux/helpers/autoboot-helper", "a restart"), ("conmux/helpers/tickle-helper", "a restart")),
     "stty": (("expect/expect_cryptdir", "a folder"), ("expect/expect_decryptdir", "a folder")),
-    "expect -- pattern": (("conmux/drivers/reboot-numaq", "a restart"), ("conmux/drivers/reboot-numaq", "no such system")),
     "exp_version -exit": (
         *(("expect/expect_ftp-rfc", it) for it in ("no such file", "usage")),
         *(("expect/expect_passmass", it) for it in ("a host", "usage")),
@@ -240,6 +230,7 @@ MISSING = {
     "int(), rand()": (("expect/expect_mkpasswd", "a password"), ("expect/expect_mkpasswd", "none for a user")),
     "namespace": (("conmux/drivers/x3270_glue.expect", "the library"),),
     "file dirname, namespace": (("conmux/drivers/zseries-console", "usage"),),
+    "the error of a closed spawn id": tuple((f"rancid/{it}", "a refused connection") for it in ("elogin", "htlogin", "mtlogin")),
     "causes of errors are words": (
         ("rancid/clogin", "no file of commands"),
         ("expect/expect_unbuffer", "a program that isn't there"),

@@ -49,7 +49,6 @@ expecting word =
     if bytes_eq word (codes "interact") || bytes_eq word (codes "exp_interact") then codes "keep expect for scripts that interact"
     else if bytes_eq word (codes "expect_user") || bytes_eq word (codes "expect_tty") then codes "set the answer at the top of the script"
     else if bytes_eq word (codes "expect_background") then codes "use several -i in one expect"
-    else if bytes_eq word (codes "expect_after") || bytes_eq word (codes "expect_before") then codes "repeat the patterns in each expect"
     else []
 
 abbrev pub starting : List ℕ → List ℕ

@@ -173,6 +173,24 @@ or_channel None word = channel_command word
 abbrev pub tool_or_channel : List ℕ → Option ExpectCommand
 tool_or_channel word = or_channel (tool_command word) word
 
+-- The command that a word names, if it sets standing patterns.
+abbrev pub standing_command : List ℕ → Option ExpectCommand
+standing_command word =
+    if bytes_eq word (codes "expect_before") then Some expect.ExpectBefore
+    else if bytes_eq word (codes "expect_after") then Some expect.ExpectAfter
+    else None
+
+-- The arguments of the command that a word names are patterns with actions.
+abbrev pub takes_patterns : List ℕ → Bool
+takes_patterns word = bytes_eq word (codes "expect") || is_some (standing_command word)
+
+abbrev pub or_tool : Option ExpectCommand → List ℕ → Option ExpectCommand
+or_tool (Some c) word = Some c
+or_tool None word = tool_or_channel word
+
+abbrev pub standing_or_tool : List ℕ → Option ExpectCommand
+standing_or_tool word = or_tool (standing_command word) word
+
 -- The command of Expect that a word names, if a procedure can have its name. Such a procedure is called instead.
 abbrev pub redefinable_expect : List ℕ → Option ExpectCommand
 redefinable_expect word =
@@ -180,7 +198,7 @@ redefinable_expect word =
     else if bytes_eq word (codes "after") then Some expect.After
     else if bytes_eq word (codes "send_error") || bytes_eq word (codes "exp_send_error") then Some expect.SendError
     else if bytes_eq word (codes "exp_pid") then Some expect.ExpPid
-    else tool_or_channel word
+    else standing_or_tool word
 
 abbrev pub or_redefinable_expect : Option ExpectCommand → List ℕ → Option ExpectCommand
 or_redefinable_expect (Some c) word = Some c

@@ -40,6 +40,7 @@ expect_word word =
     if bytes_eq word (codes "-i") || bytes_eq word (codes "-timeout") then Operand
     else if bytes_eq word (codes "-re") || bytes_eq word (codes "-ex") || bytes_eq word (codes "-gl") then Written
     else if bytes_eq word (codes "-regexp") || bytes_eq word (codes "-exact") || bytes_eq word (codes "-glob") then Written
+    else if bytes_eq word (codes "--") then Written
     else if bytes_eq word (codes "-nocase") || bytes_eq word (codes "-indices") || bytes_eq word (codes "-notransfer") then Pattern
     else if begins_with_minus word || bytes_eq word (codes "null") then texts
     else Action

@@ -148,6 +148,10 @@ expect_row expect.ExpContinue = flagged own.Timer false false (exactly 0)
 expect_row expect.ExpPid = flagged own.None true false (exactly 0)
 -- expect ?-opts pat1 body1 ...? ?-opts patn bodyn?
 expect_row expect.Expect = plain (at_least 0) Pattern
+-- expect_after ?expect_args?
+expect_row expect.ExpectAfter = plain (at_least 0) Pattern
+-- expect_before ?expect_args?
+expect_row expect.ExpectBefore = plain (at_least 0) Pattern
 -- file option name ?arg ...?
 expect_row expect.File = plain (at_least 1) Choice
 -- flush channelId

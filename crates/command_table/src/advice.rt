@@ -112,8 +112,6 @@ fn expecting(word: &[u8]) -> &'static [u8]
         b"set the answer at the top of the script"
     } else if is(word, b"expect_background") {
         b"use several -i in one expect"
-    } else if is(word, b"expect_after") || is(word, b"expect_before") {
-        b"repeat the patterns in each expect"
     } else {
         b""
     }

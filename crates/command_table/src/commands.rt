@@ -2,7 +2,7 @@
 
 ghost use Rattle.std.specs.Prelude.{◌≡◌};
 ghost use Rattle.std.specs.Str.{bytes_eq};
-ghost use Rattle.command_table.specs.Commands.{value_command, control_command, tcl_command, is_ignored, interpreter_value, redefinable_value, redefinable_control, redefinable_command, fixed_expect, prefixed_expect, tool_command, channel_command, tool_or_channel, redefinable_expect, expect_command, is_redefinable, language_command, command_of};
+ghost use Rattle.command_table.specs.Commands.{value_command, control_command, tcl_command, is_ignored, interpreter_value, redefinable_value, redefinable_control, redefinable_command, fixed_expect, prefixed_expect, tool_command, channel_command, tool_or_channel, standing_command, takes_patterns, standing_or_tool, redefinable_expect, expect_command, is_redefinable, language_command, command_of};
 
 /// A value command: it evaluates no script.
 #[derive(Clone, Copy, PartialEq, Eq)]
@@ -77,6 +77,8 @@ pub enum ExpectCommand {
     ExpContinue,
     ExpPid,
     Expect,
+    ExpectAfter,
+    ExpectBefore,
     File,
     Flush,
     Gets,
@@ -405,6 +407,26 @@ fn channel_command(word: &[u8]) -> Option<ExpectCommand>
     }
 }
 
+/// Returns the command that a word names, if it sets standing patterns.
+fn standing_command(word: &[u8]) -> Option<ExpectCommand>
+    ensures { result ≡ standing_command word.now }
+{
+    if is(word, b"expect_before") {
+        Some(ExpectCommand::ExpectBefore)
+    } else if is(word, b"expect_after") {
+        Some(ExpectCommand::ExpectAfter)
+    } else {
+        None
+    }
+}
+
+/// Returns whether a word names a command whose arguments are patterns with actions.
+pub fn takes_patterns(word: &[u8]) -> bool
+    ensures { result ≡ takes_patterns word.now }
+{
+    is(word, b"expect") || standing_command(word).is_some()
+}
+
 /// Returns the command that a word names, if it runs a program to its end or is about a channel.
 fn tool_or_channel(word: &[u8]) -> Option<ExpectCommand>
     ensures { result ≡ tool_or_channel word.now }
@@ -412,6 +434,17 @@ fn tool_or_channel(word: &[u8]) -> Option<ExpectCommand>
     match tool_command(word) {
         Some(command) => Some(command),
         None => channel_command(word),
+    }
+}
+
+/// Returns the command that a word names, if it sets standing patterns, runs a program to its end or
+/// is about a channel.
+fn standing_or_tool(word: &[u8]) -> Option<ExpectCommand>
+    ensures { result ≡ standing_or_tool word.now }
+{
+    match standing_command(word) {
+        Some(command) => Some(command),
+        None => tool_or_channel(word),
     }
 }
 
@@ -429,7 +462,7 @@ fn redefinable_expect(word: &[u8]) -> Option<ExpectCommand>
     } else if is(word, b"exp_pid") {
         Some(ExpectCommand::ExpPid)
     } else {
-        tool_or_channel(word)
+        standing_or_tool(word)
     }
 }
 

@@ -17,7 +17,7 @@ mod switches;
 pub use advice::advice_for;
 pub use commands::{
     Command, ExpectCommand, TclCommand, ValueCommand, command_of, expect_command, fixed_expect, is,
-    is_redefinable, redefinable_command, tcl_command,
+    is_redefinable, redefinable_command, takes_patterns, tcl_command,
 };
 pub use counts::{Count, fits};
 pub use flags::{Flags, Own, Role, begins_with_minus, flag_role};

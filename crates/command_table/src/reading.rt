@@ -123,6 +123,8 @@ fn expect_word(text: &[u8]) -> Stage
         Stage::Written
     } else if is(text, b"-regexp") || is(text, b"-exact") || is(text, b"-glob") {
         Stage::Written
+    } else if is(text, b"--") {
+        Stage::Written
     } else if is(text, b"-nocase") || is(text, b"-indices") || is(text, b"-notransfer") {
         Stage::Pattern
     } else if begins_with_minus(text) || is(text, b"null") {

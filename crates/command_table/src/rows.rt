@@ -139,6 +139,8 @@ pub fn expect_row(command: ExpectCommand) -> Row
         ExpectCommand::ExpContinue => flagged(Own::Timer, false, false, exactly(0)),
         ExpectCommand::ExpPid => flagged(Own::None, true, false, exactly(0)),
         ExpectCommand::Expect => plain(at_least(0), Pattern),
+        ExpectCommand::ExpectAfter => plain(at_least(0), Pattern),
+        ExpectCommand::ExpectBefore => plain(at_least(0), Pattern),
         ExpectCommand::File => plain(at_least(1), Choice),
         ExpectCommand::Flush => plain(exactly(1), texts()),
         ExpectCommand::Gets => plain(between(1, 2), Each(Text, Name, Text, Text)),

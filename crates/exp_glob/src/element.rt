@@ -36,6 +36,13 @@ impl Members {
     {
         self.bytes.as_slice()
     }
+
+    /// Returns a copy.
+    fn copied(&self, alloc: Global) -> Result<Members, AllocError>
+        ensures { IfOk result (λ m. m ≡ self.now) }
+    {
+        Members::from_slice(alloc, self.as_slice())
+    }
 }
 
 /// A part of a pattern that matches one byte.
@@ -49,6 +56,19 @@ pub enum Single {
     Class(Members),
 }
 
+impl Single {
+    /// Returns a copy.
+    fn copied(&self, alloc: Global) -> Result<Single, AllocError>
+        ensures { IfOk result (λ s. s ≡ self.now) }
+    {
+        match self {
+            Single::Any => Ok(Single::Any),
+            Single::Byte(byte) => Ok(Single::Byte(*byte)),
+            Single::Class(members) => Ok(Single::Class(members.copied(alloc)?)),
+        }
+    }
+}
+
 /// An element of a pattern.
 #[derive(Drop)]
 pub enum Element {
@@ -58,6 +78,19 @@ pub enum Element {
     One(Single),
     /// `$` at the end of the pattern: the end of the text.
     End,
+}
+
+impl Element {
+    /// Returns a copy.
+    fn copied(&self, alloc: Global) -> Result<Element, AllocError>
+        ensures { IfOk result (λ e. e ≡ self.now) }
+    {
+        match self {
+            Element::Star => Ok(Element::Star),
+            Element::One(single) => Ok(Element::One(single.copied(alloc)?)),
+            Element::End => Ok(Element::End),
+        }
+    }
 }
 
 /// A list of elements, in order. A contract sees a list.
@@ -109,5 +142,16 @@ impl Elements {
         ensures { result.now ≡ self.now }
     {
         self.list.as_slice()
+    }
+
+    /// Returns a copy.
+    pub(crate) fn copied(&self, alloc: Global) -> Result<Elements, AllocError>
+        ensures { IfOk result (λ es. es ≡ self.now) }
+    {
+        let mut made = Elements::with_room(alloc, self.list.len())?;
+        'elements: for element in &self.list {
+            made.push(element.copied(alloc)?)?;
+        }
+        Ok(made)
     }
 }

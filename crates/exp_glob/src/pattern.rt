@@ -55,6 +55,16 @@ impl Glob {
         }
     }
 
+    /// Returns a copy. Searches with this `nocase` are fast.
+    pub fn copied(&self, alloc: Global, nocase: bool) -> Result<Glob, AllocError>
+        ensures { IfOk result (λ g. g ≡ self.now) }
+    {
+        Ok(Glob {
+            anchored: self.anchored,
+            elements: self.elements.copied(alloc, nocase)?,
+        })
+    }
+
     /// Returns a bound: a match may start at each index below it.
     fn starts(&self, text: &[u8]) -> usize
         ensures anchored { self.now.anchored ≡ true → result ≡ 1 }

@@ -67,6 +67,13 @@ impl SearchElements {
         self.elements.as_slice()
     }
 
+    /// Returns a copy, with the literals of a search with or without case.
+    pub(crate) fn copied(&self, alloc: Global, nocase: bool) -> Result<SearchElements, AllocError>
+        ensures { IfOk result (λ p. p ≡ self.now) }
+    {
+        SearchElements::new(alloc, self.elements.copied(alloc)?, nocase)
+    }
+
     /// Returns the literals of a search.
     pub(crate) fn literals(&self, nocase: bool) -> &Literals
         ensures runs { AreLiterals nocase self.now result.now.runs.items }

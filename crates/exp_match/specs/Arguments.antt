@@ -53,7 +53,7 @@ plain_role word =
 abbrev pub way_role : List ℕ → Role
 way_role word =
     if bytes_eq word (codes "-ex") || bytes_eq word (codes "-exact") then role.Written way.Exact
-    else (if bytes_eq word (codes "-gl") || bytes_eq word (codes "-glob") then role.Written way.Glob
+    else (if bytes_eq word (codes "-gl") || bytes_eq word (codes "-glob") || bytes_eq word (codes "--") then role.Written way.Glob
     else (if bytes_eq word (codes "-re") || bytes_eq word (codes "-regexp") then role.Written way.Regular
     else plain_role word))
 
@@ -88,7 +88,7 @@ with_entry list m w action = record list {
   entries = list.entries ++ record { want = w; indices = m.indices; notransfer = m.notransfer; action = action; group = length list.ids } ∷ [];
 }
 
--- Opens a group for a spawn id.
+-- Opens a group for a list of spawn ids.
 abbrev pub with_id : PatternList → List ℕ → PatternList
 with_id list id = record list { ids = list.ids ++ id ∷ [] }
 

@@ -56,7 +56,7 @@ fn way_role(word: &[u8]) -> Role
 {
     if is(word, b"-ex") || is(word, b"-exact") {
         Role::Written(Way::Exact)
-    } else if is(word, b"-gl") || is(word, b"-glob") {
+    } else if is(word, b"-gl") || is(word, b"-glob") || is(word, b"--") {
         Role::Written(Way::Glob)
     } else if is(word, b"-re") || is(word, b"-regexp") {
         Role::Written(Way::Regular)
@@ -247,7 +247,7 @@ fn by_role(
     }
 }
 
-/// Appends a spawn id.
+/// Appends a list of spawn ids.
 fn with_id(alloc: Global, list: PatternList, word: &[u8]) -> Result<PatternList, PatternFault>
     ensures given { Gives result (Ok (with_id_of list word.now)) }
     ensures refused { IfErr result (λ f. f ≡ PatternFault.Memory) }

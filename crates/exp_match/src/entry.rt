@@ -1,6 +1,6 @@
 //! Patterns and keywords with their actions.
 
-ghost use Rattle.std.specs.Prelude.{◌≡◌, ◌++◌, ◌∷◌, [], OnOk, OnErr};
+ghost use Rattle.std.specs.Prelude.{◌≡◌, ◌++◌, ◌∷◌, [], IfOk, OnOk, OnErr};
 
 use crate::regular::Regular;
 use exp_glob::Glob;
@@ -44,6 +44,26 @@ pub enum Want {
     Keyword(Keyword),
 }
 
+impl Want {
+    /// Returns a copy. A regular pattern is not compiled again.
+    fn copied(&self, alloc: Global) -> Result<Want, AllocError>
+        ensures { IfOk result (λ w. w ≡ self.now) }
+    {
+        match self {
+            Want::Exact { text, nocase } => Ok(Want::Exact {
+                text: text.copied(alloc)?,
+                nocase: *nocase,
+            }),
+            Want::Glob { glob, nocase } => Ok(Want::Glob {
+                glob: glob.copied(alloc, *nocase)?,
+                nocase: *nocase,
+            }),
+            Want::Regular(regular) => Ok(Want::Regular(regular.shared()?)),
+            Want::Keyword(keyword) => Ok(Want::Keyword(*keyword)),
+        }
+    }
+}
+
 /// A pattern or keyword with its action.
 #[derive(Drop)]
 pub struct Entry {
@@ -57,6 +77,21 @@ pub struct Entry {
     pub action: Text,
     /// The number of `-i` flags before it: 0 before the first one.
     pub group: usize,
+}
+
+impl Entry {
+    /// Returns a copy in another group. A regular pattern is not compiled again.
+    pub fn copied(&self, alloc: Global, group: usize) -> Result<Entry, AllocError>
+        ensures { IfOk result (λ e. e ≡ record self.now { group = group }) }
+    {
+        Ok(Entry {
+            want: self.want.copied(alloc)?,
+            indices: self.indices,
+            notransfer: self.notransfer,
+            action: self.action.copied(alloc)?,
+            group,
+        })
+    }
 }
 
 /// A list of entries, in the order of the arguments. A contract sees a list.

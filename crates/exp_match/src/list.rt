@@ -10,7 +10,7 @@ use tcl_words::{Text, Texts};
 pub struct PatternList {
     /// The patterns and keywords, in order.
     pub entries: Entries,
-    /// The spawn id of each `-i`. That of group g is at index g - 1.
+    /// The list of spawn ids after each `-i`. That of group g is at index g - 1.
     pub ids: Texts,
     /// The argument of the last `-timeout`.
     pub timeout: Option<Text>,

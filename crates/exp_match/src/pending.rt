@@ -62,7 +62,7 @@ pub enum Pending {
     Front,
     /// A flag, a pattern or a keyword, but not the end, because this flag came last.
     More(usize),
-    /// The spawn id after this `-i`.
+    /// The list of spawn ids after this `-i`.
     Id(usize),
     /// The time after this `-timeout`.
     Timeout(usize),

@@ -1,7 +1,7 @@
 //! Queries a list of patterns without allocating.
 
-ghost use Rattle.std.specs.Prelude.{◌≡◌, ◌+◌, ◌<◌, ◌≤◌, Some, IfErr, IfSome, position, length, option_map};
-ghost use Rattle.std.specs.List.{slice_get};
+ghost use Rattle.std.specs.Prelude.{◌≡◌, ◌+◌, ◌<◌, ◌≤◌, ◌==◌, Some, IfErr, IfSome, position, length, option_map};
+ghost use Rattle.std.specs.List.{list_any, slice_get};
 ghost use Rattle.exp_match.specs.Choice.{waits_for_end as waits_for_end_of, waits_for_time as waits_for_time_of, waits_for_full as waits_for_full_of, waits_for_time_alone as waits_for_time_alone_of, first_in, serves as serves_of};
 ghost use Rattle.exp_match.specs.Arguments.{Gives, patterns_of};
 ghost use Rattle.exp_match.specs.Unbuilt.{IsOfOne};
@@ -147,5 +147,12 @@ impl PatternList {
             .as_slice()
             .iter()
             .any(|e| e.group == group && !waits_for_time_alone(&e.want))
+    }
+
+    /// Returns whether a group has an entry.
+    pub fn has_group(&self, group: usize) -> bool
+        ensures { result ≡ list_any (λ e. e.group == group) self.now.entries }
+    {
+        self.entries.as_slice().iter().any(|e| e.group == group)
     }
 }

@@ -14,7 +14,7 @@ use Rattle.expect_core.specs.declared.request.Act.{Act}
 use Rattle.expect_core.specs.declared.request.Request.{Request}
 use Rattle.expect_core.specs.declared.child.Child.{Child}
 use Rattle.expect_core.specs.declared.effect.Effect.{Effect}
-use Rattle.expect_core.specs.declared.effect.Effect.TheVariants.{Tell, Log, LogUser, Add, Store, Set, Ask, Receive, Reader, Writer, Move, Shut, Errors, Day}
+use Rattle.expect_core.specs.declared.effect.Effect.TheVariants.{Tell, Log, LogUser, Add, Store, Set, Ask, Receive, Reader, Writer, Move, Shut, Errors, Day, Before, After}
 use Rattle.expect_core.specs.declared.plan.Plan.{Plan}
 use Rattle.expect_core.specs.declared.phase.Phase.{Phase}
 use Rattle.expect_core.specs.declared.phase.Phase.TheVariants.{Idle, At}
@@ -101,6 +101,8 @@ module _ (j : ℕ) where
     does_spared at (Move n count met) st other k = record { lane = k.lane; child = k.child; asked = k.asked; there = k.there; bodies = k.bodies }
     does_spared at (Shut n) st other k = record { lane = k.lane; child = k.child; asked = k.asked; there = k.there; bodies = k.bodies }
     does_spared at (Day time) st other k = record { lane = k.lane; child = k.child; asked = k.asked; there = k.there; bodies = k.bodies }
+    does_spared at (Before ids more) st other k = record { lane = k.lane; child = k.child; asked = k.asked; there = k.there; bodies = k.bodies }
+    does_spared at (After ids more) st other k = record { lane = k.lane; child = k.child; asked = k.asked; there = k.there; bodies = k.bodies }
     does_spared (Some i) Errors st other k = record { lane = k.lane; child = k.child; asked = k.asked; there = k.there; bodies = k.bodies }
     does_spared (Some i) (Ask act) st other k = asked_spared i act st other k
     does_spared (Some i) (Receive piece) st other k = received_spared i piece st other k

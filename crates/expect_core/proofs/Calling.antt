@@ -16,9 +16,9 @@ use Rattle.expect_core.specs.declared.dialogue.Dialogue.{Dialogue}
 use Rattle.expect_core.specs.Heard.{IsWatched}
 use Rattle.expect_core.specs.Answered.{Outcome, idle, owning}
 use Rattle.expect_core.specs.Turns.{doing}
-use Rattle.expect_core.specs.Expecting.{expecting, behind}
+use Rattle.expect_core.specs.Expecting.{behind}
 use Rattle.expect_core.specs.Running.{run, turns, resuming}
-use Rattle.expect_core.specs.Calls.{is_named, named, filling, filled, began, outer, outcome}
+use Rattle.expect_core.specs.Calls.{is_named, named, worded, filling, filled, began, outer, outcome}
 use Rattle.expect_core.specs.Laws.{IsBegin}
 use Rattle.expect_core.proofs.Stepping.{MayCome, Sees, TurnOf, PhaseOf, Kept, After, at_of, run_keeps, resuming_keeps}
 
@@ -69,7 +69,7 @@ module _ (A : ℕ → Type 0) (B : ℕ → Plan → Type 0) where
   Opens (Begin [] vars) st = Unit {0}
   Opens (Begin (word ∷ args) vars) st = NamedOf (expect_command word) word args vars st.own
   Opens (Resume vars) st = PhaseOf A B st.phase
-  Opens (AfterWords words vars) st = SaidOf (expecting words vars st.own)
+  Opens (AfterWords words vars) st = SaidOf (worded words vars st.own)
   Opens (AfterBody c value vars) st = TurnOf A B (behind c value st.own.bodies (record st.own { bodies = outer st.own.bodies }))
   Opens (Knows word) st = PhaseOf A B st.phase
 
@@ -93,7 +93,7 @@ module _ (A : ℕ → Type 0) (B : ℕ → Plan → Type 0) (mine : (i : ℕ) (p
   outcome_keeps (Begin (word ∷ args) vars) st of held = began_keeps (expect_command word) word args vars st refl of held
   outcome_keeps (Resume vars) st of held = called (Resume vars) (resuming st.phase vars (idle st)) (resuming_keeps A B mine P k st.phase vars st of held)
   outcome_keeps (AfterWords words vars) st of held =
-      called (AfterWords words vars) (run turns (doing (expecting words vars st.own)) vars (idle st)) (run_keeps A B mine P k turns (doing (expecting words vars st.own)) vars st (doing_of A B (expecting words vars st.own) of) held)
+      called (AfterWords words vars) (run turns (doing (worded words vars st.own)) vars (idle st)) (run_keeps A B mine P k turns (doing (worded words vars st.own)) vars st (doing_of A B (worded words vars st.own) of) held)
   outcome_keeps (AfterBody c value vars) st of held =
       let o = record st.own { bodies = outer st.own.bodies } in
       called (AfterBody c value vars) (run turns (behind c value st.own.bodies o) vars (owning o (idle st))) (run_keeps A B mine P k turns (behind c value st.own.bodies o) vars (owning o st) of (k.pops (idle st) held))

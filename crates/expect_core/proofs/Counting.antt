@@ -1,5 +1,5 @@
 -- Arguments are counted behind the flags.
-use Rattle.std.proofs.Common.{◌≡◌, ℕ, ◌-◌, List, length, drop, Bool, false, Ok, Err, sym, ap, ◌∙◌}
+use Rattle.std.proofs.Common.{◌≡◌, ℕ, ◌-◌, List, length, drop, Bool, true, false, Ok, Err, sym, ap, ◌∙◌}
 use Rattle.std.proofs.lemmas.List.{length-drop}
 use Rattle.std.specs.Prelude.{if◌then◌else◌}
 use Rattle.command_table.specs.declared.commands.ExpectCommand.{ExpectCommand}
@@ -23,3 +23,12 @@ wrong_count c name text words f at row is read unfit told =
     ∙ ap (λ (n : ℕ). by_count name (drop at words) f (fits row.count n)) (length-drop at words)
     ∙ ap (by_count name (drop at words) f) unfit
     ∙ ap (λ (t : List ℕ). let r : Flagged = Err t in r) (sym told)
+
+-- with a right number, it has them
+pub right_count : (c : ExpectCommand) (name : List ℕ) (words : List (List ℕ)) (f : Flags) (at : ℕ) (row : Row) → row ≡ expect_row c
+    → flags_if row.flags name words ≡ Ok (f, drop at words) → fits row.count (length words - at) ≡ true → arguments c name words ≡ Ok (f, drop at words)
+right_count c name words f at row is read fit =
+    ap (λ (r : Row). flags_if r.flags name words >>= λ f. by_count name f.1 f.0 (fits r.count (length f.1))) (sym is)
+    ∙ ap (λ (r : Flagged). r >>= λ f. by_count name f.1 f.0 (fits row.count (length f.1))) read
+    ∙ ap (λ (n : ℕ). by_count name (drop at words) f (fits row.count n)) (length-drop at words)
+    ∙ ap (by_count name (drop at words) f) fit

@@ -36,9 +36,9 @@ use Rattle.expect_core.specs.Answered.{Outcome, idle, owning, failure, first_of}
 use Rattle.expect_core.specs.Effects.{Performed, performed}
 use Rattle.expect_core.specs.Turns.{at, doing}
 use Rattle.expect_core.specs.Sending.{typed, handing}
-use Rattle.expect_core.specs.Expecting.{expecting, behind, ended}
+use Rattle.expect_core.specs.Expecting.{behind, ended}
 use Rattle.expect_core.specs.Running.{To, step_of, answered, heard_as, concluded, on_come, awaited, waited_for, staged, turned, run, turns, resuming}
-use Rattle.expect_core.specs.Calls.{named, filling, filled, began, begun, outer, outcome, onward, resumed}
+use Rattle.expect_core.specs.Calls.{named, worded, filling, filled, began, begun, outer, outcome, onward, resumed}
 use Rattle.expect_core.proofs.Times.{past}
 use Rattle.expect_core.proofs.LaneFacts.{IsBeyond, within, IsInbox, of_answers, of_items, left_twice}
 use Rattle.expect_core.proofs.Growing.{IsLaterIn, More, as_more, more_items, more_answers, Fits, more_there}
@@ -225,7 +225,7 @@ module _ (e : Event) where
   pub outcome_onward : (call : Call) (st : Dialogue) → Good st → outcome call (offered e st) ≡ onward e (outcome call st)
   outcome_onward (Begin words vars) st g = begun_onward words vars st (record { clock = g.clock; lanes = g.lanes })
   outcome_onward (Resume vars) st g = resuming_onward st.phase vars st (record { clock = g.clock; lanes = g.lanes })
-  outcome_onward (AfterWords words vars) st g = run_onward turns (doing (expecting words vars st.own)) vars st (record { clock = g.clock; lanes = g.lanes })
+  outcome_onward (AfterWords words vars) st g = run_onward turns (doing (worded words vars st.own)) vars st (record { clock = g.clock; lanes = g.lanes })
   outcome_onward (AfterBody c value vars) st g =
       let o = record st.own { bodies = outer st.own.bodies } in run_onward turns (behind c value st.own.bodies o) vars (owning o st) (record { clock = g.clock; lanes = g.lanes })
   outcome_onward (Knows word) st g = refl

@@ -19,6 +19,8 @@ mod Lasting
 pub mod Pausing
 pub mod Keeping
 pub mod Siding
+pub mod Joining
+pub mod Opening
 pub mod Waits
 pub mod Echoes
 pub mod Moments

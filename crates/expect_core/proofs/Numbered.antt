@@ -4,7 +4,7 @@ use Rattle.std.proofs.lemmas.Bool.Decides.{nat_tests}
 use Rattle.std.proofs.lemmas.List.{length-append, length-set}
 use Rattle.std.proofs.lemmas.List.Elements.{All-nil, All-push, All-set, All-append, All-take, All-drop, All-head, All-tail}
 use Rattle.std.proofs.lemmas.List.Quantifiers.{position-Some}
-use Rattle.std.specs.Prelude.{nat_lt, position, take, drop, remove, codes, All, if◌then◌else◌}
+use Rattle.std.specs.Prelude.{nat_lt, position, take, drop, remove, codes, All, ⊤, if◌then◌else◌}
 use Rattle.std.specs.Str.{bytes_eq}
 use Rattle.exp_match.specs.declared.list.PatternList.{PatternList}
 use Rattle.exp_match.specs.Arguments.{patterns_of}
@@ -21,10 +21,11 @@ use Rattle.expect_core.specs.declared.request.Act.{Act}
 use Rattle.expect_core.specs.declared.body.Body.{Body}
 use Rattle.expect_core.specs.declared.body.Body.TheVariants.{Action, Source}
 use Rattle.expect_core.specs.declared.channels.Channel.{Channel}
+use Rattle.expect_core.specs.declared.plan.Plan.{Plan}
 use Rattle.expect_core.specs.declared.phase.Phase.{Phase}
 use Rattle.expect_core.specs.declared.phase.Phase.TheVariants.{Idle, At}
 use Rattle.expect_core.specs.declared.effect.Effect.{Effect}
-use Rattle.expect_core.specs.declared.effect.Effect.TheVariants.{Tell, Log, LogUser, Add, Store, Set, Ask, Receive, Reader, Writer, Move, Shut, Errors, Day}
+use Rattle.expect_core.specs.declared.effect.Effect.TheVariants.{Tell, Log, LogUser, Add, Store, Set, Ask, Receive, Reader, Writer, Move, Shut, Errors, Day, Before, After}
 use Rattle.expect_core.specs.declared.turn.Want.TheVariants.{Answer, Item, Output, End}
 use Rattle.expect_core.specs.declared.child.Child.{Child}
 use Rattle.expect_core.specs.declared.own.Own.{Own}
@@ -35,21 +36,23 @@ use Rattle.expect_core.specs.Opened.{channel_in, reading, writing, opened, with_
 use Rattle.expect_core.specs.Flags.{arguments}
 use Rattle.expect_core.specs.Ids.{has_id, id_of, or_no_such, spoken_to}
 use Rattle.expect_core.specs.Among.{IsAmong}
-use Rattle.expect_core.specs.Sides.{takes_current, spoken, spoken_by}
+use Rattle.expect_core.specs.Sides.{Served, takes_current, asked_by, children_of, still_open}
+use Rattle.expect_core.specs.Standing.{ids_with, own_ids}
 use Rattle.expect_core.specs.Expecting.{patterns_by}
 use Rattle.expect_core.specs.Texts.{id_at}
 use Rattle.expect_core.specs.Channels.{channel_named, written_to}
 use Rattle.expect_core.specs.Ends.{closed_child}
 use Rattle.expect_core.specs.Transcript.{put_of, complaint_of, complained_to, put_child}
-use Rattle.expect_core.specs.Answered.{Outcome}
+use Rattle.expect_core.specs.Answered.{Outcome, idle}
 use Rattle.expect_core.specs.Effects.{changed}
 use Rattle.expect_core.specs.Calls.{outer, outcome, fresh}
-use Rattle.expect_core.specs.Apart.{by_id, by_option, by_patterns, one, each, named_by, under_way, speaks_to, on_top}
+use Rattle.expect_core.specs.Apart.{by_id, by_option, by_patterns, one, each, named_by, named_in, under_way, speaks_to, back_to, on_top}
 use Rattle.expect_core.specs.Numbered.{IsPlace, NamesAChild, AreOfPlaces, HasPlace, HasPlaceIf, IsOfPlaces, OwnNumbered, Numbered}
 use Rattle.expect_core.proofs.Stepping.{PhaseOf, ChildOf, Kept}
 use Rattle.expect_core.proofs.Calling.{pick, outcome_keeps}
 use Rattle.expect_core.proofs.Speaking.{opens}
 use Rattle.expect_core.proofs.Steady.{AnyEnd}
+use Rattle.expect_core.proofs.Opening.{AreOpen, AsksOpen, asked_open, all_open, still_opens, open_within}
 
 abbrev pub NumberedAfter : Outcome → Type 0
 NumberedAfter (step, vars, st) = Numbered st
@@ -96,16 +99,19 @@ one_more : (is : List ℕ) (i : ℕ) → AreAll is → IsPlace i → AreAll (is 
 one_more [] k are at i among = elim among [ inl same ↦ subst IsPlace same at | inr none ↦ absurd none ]
 one_more (x ∷ is) k are at i among = elim among [ inl same ↦ are i (inl same) | inr more ↦ one_more is k (λ i among. are i (inr among)) at i more ]
 
-spoken_places : (is : List ℕ) (ids : List (List ℕ)) (vars : Variables) (o : Own) → OwnNumbered o → AreAll is → Gives AreAll (spoken is ids vars o)
-spoken_places is [] vars o k are = are
-spoken_places is (id ∷ ids) vars o k are =
-    along IsPlace AreAll (spoken_to (Some id) vars o) _ (spoken_place (Some id) vars o k) (λ i at. spoken_places (is ++ i ∷ []) ids vars o k (one_more is i are at))
+-- so does an open one
+open_places : (o : Own) (groups : List Served) → OwnNumbered o → AreOpen o groups → AreAll (children_of (ids_with groups o))
+open_places o groups k are i among =
+    let within = open_within i o.children (all_open groups o are i among) in
+    let few = k.few in
+    omega (arith, within, few)
 
-by_list : (list : PatternList) (vars : Variables) (o : Own) → OwnNumbered o → Gives AreAll (spoken_by list vars o)
-by_list list vars o k =
-    pick (Gives AreAll) (takes_current list) _ _
-    (along IsPlace AreAll (spoken_to None vars o) _ (spoken_place None vars o k) (λ i at. spoken_places (i ∷ []) list.ids vars o k (one_more [] i none_place at)))
-    (spoken_places [] list.ids vars o k none_place)
+asked_places : (list : PatternList) (o : Own) → OwnNumbered o → (r : Said (List Served)) → AsksOpen o r → Gives AreAll (r >>= λ groups. Ok (children_of (ids_with groups o)))
+asked_places list o k (Ok groups) are = open_places o groups k are
+asked_places list o k (Err text) are = tt
+
+by_list : (list : PatternList) (vars : Variables) (o : Own) → OwnNumbered o → Gives AreAll (asked_by (takes_current list) list vars o >>= λ groups. Ok (children_of (ids_with groups o)))
+by_list list vars o k = asked_places list o k (asked_by (takes_current list) list vars o) (asked_open (takes_current list) list vars o)
 
 id_place : (c : ExpectCommand) (word : List ℕ) (args : List (List ℕ)) (vars : Variables) (o : Own) → OwnNumbered o → AreAll (one (by_id c word args vars o))
 id_place c word args vars o k = one_place _ (past IsPlace (arguments c word args) _ (λ f. spoken_place f.0.id vars o k))
@@ -145,10 +151,17 @@ named_places (Some command.MatchMax) word args vars o k = option_place command.M
 named_places (Some command.RemoveNulls) word args vars o k = option_place command.RemoveNulls word args vars o k
 named_places _ word args vars o k = none_place
 
-on_top_places : (c : Code) (bodies : List Body) → AreOfPlaces bodies → AreAll (on_top c bodies)
-on_top_places code.Again (Action p ∷ bodies) are = are.0
-on_top_places code.AgainLater (Action p ∷ bodies) are = are.0
-on_top_places _ _ are = none_place
+back_by : (p : Plan) (o : Own) → OwnNumbered o → (r : Said ⊤) → still_open (children_of (own_ids p)) o ≡ r → Gives AreAll (r >>= λ all. Ok (children_of (ids_with (own_ids p) o)))
+back_by p o k (Ok all) e = open_places o (own_ids p) k (still_opens (children_of (own_ids p)) o all e)
+back_by p o k (Err text) e = tt
+
+back_places : (p : Plan) (o : Own) → OwnNumbered o → AreAll (each (back_to p o))
+back_places p o k = each_place (back_to p o) (back_by p o k (still_open (children_of (own_ids p)) o) refl)
+
+on_top_places : (c : Code) (bodies : List Body) (o : Own) → OwnNumbered o → AreAll (on_top c bodies o)
+on_top_places code.Again (Action p ∷ bodies) o k = back_places p o k
+on_top_places code.AgainLater (Action p ∷ bodies) o k = back_places p o k
+on_top_places _ _ o k = none_place
 
 among_places : (f : Phase) → IsOfPlaces f → AreAll (under_way f)
 among_places Idle at = none_place
@@ -223,6 +236,8 @@ does_numbered (Some i) Writer o a k = opened_numbered (writing i) o a k
 does_numbered at (Move n count met) o a k = record { few = k.few; placed = k.placed; opened = moved_places n count met o.channels k.opened; complains = k.complains; asked = k.asked }
 does_numbered at (Shut n) o a k = record { few = k.few; placed = k.placed; opened = removed_places n o.channels k.opened; complains = k.complains; asked = k.asked }
 does_numbered at (Day time) o a k = k
+does_numbered at (Before ids more) o a k = k
+does_numbered at (After ids more) o a k = k
 does_numbered (Some i) Errors o a k = record { few = k.few; placed = k.placed; opened = k.opened; complains = a; asked = k.asked }
 does_numbered (Some i) (Ask act) o a k = asked_numbered i act o a k
 does_numbered (Some i) (Receive piece) o a k = received_numbered i piece o k
@@ -243,13 +258,16 @@ numbered = record {
   times = λ d st le k. k;
 }
 
+worded_places : (words : List (List ℕ)) (vars : Variables) (o : Own) → OwnNumbered o → AreAll (named_in words vars o)
+worded_places [] vars o k = none_place
+worded_places (word ∷ args) vars o k = named_places (expect_command word) word args vars o k
+
 -- all that a call speaks to
 speaks_places : (call : Call) (st : Dialogue) → OwnNumbered st.own → IsOfPlaces st.phase → AreAll (speaks_to call st)
-speaks_places (Begin [] vars) st k at = none_place
-speaks_places (Begin (word ∷ args) vars) st k at = named_places (expect_command word) word args vars st.own k
+speaks_places (Begin words vars) st k at = worded_places words vars st.own k
 speaks_places (Resume vars) st k at = among_places st.phase at
-speaks_places (AfterWords words vars) st k at = patterns_place words vars st.own k
-speaks_places (AfterBody c value vars) st k at = on_top_places c st.own.bodies k.placed
+speaks_places (AfterWords words vars) st k at = worded_places words vars st.own k
+speaks_places (AfterBody c value vars) st k at = on_top_places c st.own.bodies (record st.own { bodies = outer st.own.bodies }) (numbered.pops (idle st) k)
 speaks_places (Knows word) st k at = none_place
 
 pub outcome_numbered : (call : Call) (st : Dialogue) → Numbered st → NumberedAfter (outcome call st)

@@ -17,7 +17,8 @@ use Rattle.command_table.specs.Flags.{begins_with_minus}
 use Rattle.expect_core.specs.declared.tool.Tool.{Tool}
 use Rattle.expect_core.specs.declared.tool.Stride.TheVariants as stride
 use Rattle.expect_core.specs.declared.channels.Channel.{Channel}
-use Rattle.expect_core.specs.declared.effect.Effect.TheVariants.{Shut}
+use Rattle.expect_core.specs.declared.effect.Effect.{Effect}
+use Rattle.expect_core.specs.declared.effect.Effect.TheVariants.{Shut, Before, After}
 use Rattle.expect_core.specs.Opened.{channel_of}
 use Rattle.expect_core.specs.Channels.{Read, channel_named, read_from, written_to, line_in, second, gets_by, count_of, reads_all, reads_some, reads_by, end_reply, ends_writing, is_standard, putting_to, putting}
 use Rattle.expect_core.specs.Tools.{run_of, starting}
@@ -44,7 +45,8 @@ use Rattle.expect_core.specs.Ids.{is_open, spoken_to, open_to, if_open}
 use Rattle.expect_core.specs.Owned.{child_of}
 use Rattle.expect_core.specs.Heard.{Watch, places_of, IsWatched, about, deadline_from}
 use Rattle.expect_core.specs.Among.{IsAmong}
-use Rattle.expect_core.specs.Sides.{takes_current, opened, asked_by, with_group, with_groups, sides_of, still_open, spoken, spoken_by}
+use Rattle.expect_core.specs.Sides.{Served, takes_current, asked_by, children_of, sides_of, still_open}
+use Rattle.expect_core.specs.Standing.{ids_with, planned, own_ids}
 use Rattle.expect_core.specs.Turns.{react, done}
 use Rattle.expect_core.specs.Texts.{too_many}
 use Rattle.expect_core.specs.Spawning.{order_of, ordering}
@@ -53,15 +55,16 @@ use Rattle.expect_core.specs.declared.spread.Pace.{Pace}
 use Rattle.expect_core.specs.Spread.{pace_if}
 use Rattle.expect_core.specs.Pauses.{nothing_until}
 use Rattle.expect_core.specs.Sleeping.{digits, signed, or_expected, until, sleeping_by}
-use Rattle.expect_core.specs.Expecting.{patterns_by, span_in, plan_at, plan_by, plan_of, expecting, again, behind}
+use Rattle.expect_core.specs.Expecting.{patterns_by, span_in, plan_at, plan_by, plan_of, expecting, standing_of, again, behind}
 use Rattle.expect_core.specs.Again.{continued}
 use Rattle.expect_core.specs.Ends.{closing_by, closed_child, wait_of}
 use Rattle.expect_core.specs.Transcript.{put_of, complain, complained_to, complaint_of, to_user, log_word}
 use Rattle.expect_core.specs.Options.{whose, option_of, size_of, sizing_at, removal_of, removing_at}
-use Rattle.expect_core.specs.Calls.{named, outer}
-use Rattle.expect_core.specs.Apart.{by_id, by_option, by_patterns, one as single, each, named_by, on_top, speaks_to}
+use Rattle.expect_core.specs.Calls.{named, named_by as deed_named, outer}
+use Rattle.expect_core.specs.Apart.{by_id, by_option, by_patterns, one as single, each, named_by, back_to, on_top, speaks_to}
 use Rattle.expect_core.proofs.Stepping.{Sees, TurnOf, PhaseOf}
 use Rattle.expect_core.proofs.Calling.{DeedOf, SaidOf, NamedOf, Opens, doing_of, pick}
+use Rattle.expect_core.proofs.Opening.{sides_among}
 
 -- what a command reads names the child that it speaks to
 
@@ -125,62 +128,17 @@ option_speaks c word args vars o s i e at =
 alone : (r : Said ℕ) (i : ℕ) → r ≡ Ok i → IsAmong i (single r)
 alone r i e = subst (λ (r : Said ℕ). IsAmong i (single r)) (sym e) (inl refl)
 
--- one that has to be open is known first
-if_opened : (b : Bool) (k : ℕ) (text : List ℕ) (f : ℕ → Said (List ℕ)) (all : List ℕ) → (let r : Said ℕ = (if b then Ok k else Err text) in (r >>= f) ≡ Ok all) → f k ≡ Ok all
-if_opened true k text f all e = e
-if_opened false k text f all e = absurd (cc)
-
-known_first : (r : Said ℕ) (o : Own) (f g : ℕ → Said (List ℕ)) (all : List ℕ) → ((i : ℕ) → f i ≡ Ok all → g i ≡ Ok all) → ((r >>= λ k. if_open k o) >>= f) ≡ Ok all → (r >>= g) ≡ Ok all
-known_first (Ok k) o f g all go e = go k (if_opened (is_open (child_of k o).standing) k _ f all e)
-known_first (Err text) o f g all go e = absurd (cc)
-
-opened_speak : (is : List ℕ) (ids : List (List ℕ)) (vars : Variables) (o : Own) (all : List ℕ) → opened is ids vars o ≡ Ok all → spoken is ids vars o ≡ Ok all
-opened_speak is [] vars o all e = e
-opened_speak is (id ∷ ids) vars o all e =
-    known_first (spoken_to (Some id) vars o) o (λ i. opened (is ++ i ∷ []) ids vars o) (λ i. spoken (is ++ i ∷ []) ids vars o) all
-    (λ i e. opened_speak (is ++ i ∷ []) ids vars o all e) e
-
-asked_speak : (ids : List (List ℕ)) (vars : Variables) (o : Own) (all : List ℕ) (b : Bool)
-    → (let r : Said (List ℕ) = (if b then (open_to None vars o >>= λ i. opened (i ∷ []) ids vars o) else opened [] ids vars o) in r ≡ Ok all)
-    → (let r : Said (List ℕ) = (if b then (spoken_to None vars o >>= λ i. spoken (i ∷ []) ids vars o) else spoken [] ids vars o) in r ≡ Ok all)
-asked_speak ids vars o all true e =
-    known_first (spoken_to None vars o) o (λ i. opened (i ∷ []) ids vars o) (λ i. spoken (i ∷ []) ids vars o) all (λ i e. opened_speak (i ∷ []) ids vars o all e) e
-asked_speak ids vars o all false e = opened_speak [] ids vars o all e
-
--- those that take part are those that are named
-group_by : (i g : ℕ) (w : Watch) (ws : List Watch) (j : ℕ) → (IsWatched j (with_group i g ws) → (i ≡ j) ⊎ IsWatched j ws) → (a b : Bool)
-    → IsWatched j (if a then w ∷ with_group i g ws else if b then (w.0, w.1 ++ g ∷ []) ∷ ws else (i, g ∷ []) ∷ w ∷ ws) → (i ≡ j) ⊎ IsWatched j (w ∷ ws)
-group_by i g w ws j among true b is =
-    elim is [ inl same ↦ inr (inl same) | inr more ↦ elim (among more) [ inl same ↦ inl same | inr more ↦ inr (inr more) ] ]
-group_by i g w ws j among false true is = inr is
-group_by i g w ws j among false false is = is
-
-group_among : (i g : ℕ) (ws : List Watch) (j : ℕ) → IsWatched j (with_group i g ws) → (i ≡ j) ⊎ IsWatched j ws
-group_among i g [] j is = elim is [ inl same ↦ inl same | inr none ↦ absurd none ]
-group_among i g (w ∷ ws) j is = group_by i g w ws j (group_among i g ws j) (nat_lt w.0 i) (w.0 == i) is
-
-groups_among : (g : ℕ) (is : List ℕ) (ws : List Watch) (j : ℕ) → IsWatched j (with_groups g is ws) → IsAmong j is ⊎ IsWatched j ws
-groups_among g [] ws j part = inr part
-groups_among g (i ∷ is) ws j part =
-    elim (groups_among (g + 1) is (with_group i g ws) j part) [
-      | inl among ↦ inl (inr among)
-      | inr more ↦ elim (group_among i g ws j more) [ inl same ↦ inl (inl same) | inr before ↦ inr before ]
-    ]
-
-sides_among : (list : PatternList) (is : List ℕ) (j : ℕ) → IsWatched j (sides_of list is) → IsAmong j is
-sides_among list is j part = elim (groups_among (if takes_current list then 0 else 1) is [] j part) [ inl among ↦ among | inr none ↦ absurd none ]
-
+-- those that take part are those that are named, and those of standing patterns
 module _ (vars : Variables) (o : Own) (p : Plan) (j : ℕ) (part : IsAmong j (about p)) where
-  by_asked : (list : PatternList) (r : Said (List ℕ)) → asked_by list vars o ≡ r → (r >>= λ is. span_in list.timeout vars >>= λ span. Ok (plan_at is list span o.clock)) ≡ Ok p → IsAmong j (each (spoken_by list vars o))
-  by_asked list (Ok is) asked e =
-      let same : places_of (sides_of list is) ≡ about p =
-      past (span_in list.timeout vars) (λ span. Ok (plan_at is list span o.clock)) p (λ span e. ap (λ (r : Said Plan). about (inside (plan_at is list span o.clock) r)) e) e in
-      let among : IsAmong j is = sides_among list is j (subst (IsAmong j) (sym same) part) in
-      subst (λ (r : Said (List ℕ)). IsAmong j (each r)) (sym (asked_speak list.ids vars o is (takes_current list) asked)) among
-  by_asked list (Err text) asked e = absurd (cc)
+  by_asked : (list : PatternList) (r : Said (List Served)) → (r >>= λ groups. span_in list.timeout vars >>= λ span. Ok (plan_at groups list span o)) ≡ Ok p → IsAmong j (each (r >>= λ groups. Ok (children_of (ids_with groups o))))
+  by_asked list (Ok groups) e =
+      let same : places_of (sides_of (ids_with groups o)) ≡ about p =
+      past (span_in list.timeout vars) (λ span. Ok (plan_at groups list span o)) p (λ span e. ap (λ (r : Said Plan). about (inside (plan_at groups list span o) r)) e) e in
+      sides_among (ids_with groups o) j (subst (IsAmong j) (sym same) part)
+  by_asked list (Err text) e = absurd (cc)
 
-  by_list : (r : Said PatternList) → (r >>= λ list. plan_by list vars o) ≡ Ok p → IsAmong j (each (r >>= λ list. spoken_by list vars o))
-  by_list (Ok list) e = by_asked list (asked_by list vars o) refl e
+  by_list : (r : Said PatternList) → (r >>= λ list. plan_by list vars o) ≡ Ok p → IsAmong j (each (r >>= λ list. asked_by (takes_current list) list vars o >>= λ groups. Ok (children_of (ids_with groups o))))
+  by_list (Ok list) e = by_asked list (asked_by (takes_current list) list vars o) e
   by_list (Err text) e = absurd (cc)
 
 plan_speaks : (args : List (List ℕ)) (vars : Variables) (o : Own) (p : Plan) → plan_of args vars o ≡ Ok p → (j : ℕ) → IsAmong j (about p) → IsAmong j (each (by_patterns args vars o))
@@ -277,6 +235,10 @@ module _ (A : ℕ → Type 0) (B : ℕ → Plan → Type 0) where
   expect_speaks : (args : List (List ℕ)) (vars : Variables) (o : Own) → ((i : ℕ) → IsAmong i (each (by_patterns args vars o)) → A i) → SaidOf A B (expecting args vars o)
   expect_speaks args vars o all = each_said (plan_of args vars o) _ (λ p e i part. all i (plan_speaks args vars o p e i part))
 
+  -- standing patterns are for no child yet
+  stand_speaks : {X : Type 0} (r : Said X) (f : X → List Effect) → SaidOf A B (r >>= λ x. Ok (Alone (f x) (done [])))
+  stand_speaks r f = each_said r _ (λ x e. tt)
+
   -- no child takes part in a wait for time
   time_speaks : (b : Bool) (last : Option ℕ) → SaidOf A B (Ok (if b then Alone [] (done []) else Expect (nothing_until last None)))
   time_speaks true last = tt
@@ -307,6 +269,8 @@ module _ (A : ℕ → Type 0) (B : ℕ → Plan → Type 0) where
   named_speaks command.Send word args vars o all new = each_said (send_of word args vars o) _ (λ s e. all s.0 (alone _ s.0 (send_speaks word args vars o s e)))
   named_speaks command.SendUser word args vars o all new = each_said (to_user word args) _ (λ text e. tt)
   named_speaks command.Expect word args vars o all new = expect_speaks args vars o all
+  named_speaks command.ExpectBefore word args vars o all new = stand_speaks (standing_of args vars o) (λ s. Before s.0 s.1 ∷ [])
+  named_speaks command.ExpectAfter word args vars o all new = stand_speaks (standing_of args vars o) (λ s. After s.0 s.1 ∷ [])
   named_speaks command.ExpContinue word args vars o all new = each_said (continued word args) _ (λ c e. tt)
   named_speaks command.Close word args vars o all new =
       each_said (arguments command.Close word args) _
@@ -342,10 +306,19 @@ module _ (A : ℕ → Type 0) (B : ℕ → Plan → Type 0) where
   begun_speaks None word args vars o all new = tt
   begun_speaks (Some n) word args vars o all new = named_speaks n word args vars o all new
 
-  again_speaks : (p : Plan) (deadline : Option ℕ) (o : Own) → Sees A B p → TurnOf A B (again p deadline o)
-  again_speaks p deadline o sees = doing_of A B _ (each_said (still_open p.order o) (λ all. Ok (Expect (record p { deadline = deadline }))) (λ all e. sees))
+  worded_speaks : (n : Option ExpectCommand) (word : List ℕ) (args : List (List ℕ)) (vars : Variables) (o : Own) → ((i : ℕ) → IsAmong i (named_by n word args vars o) → A i) → (nat_lt (length o.children) 16 ≡ true → A (length o.children)) → SaidOf A B (deed_named n word args vars o)
+  worded_speaks None word args vars o all new = tt
+  worded_speaks (Some n) word args vars o all new = named_speaks n word args vars o all new
 
-  behind_speaks : (c : Code) (value : List ℕ) (bodies : List Body) (o : Own) → ((i : ℕ) → IsAmong i (on_top c bodies) → A i) → TurnOf A B (behind c value bodies o)
+  again_speaks : (p : Plan) (deadline : Option ℕ) (o : Own) → ((i : ℕ) → IsAmong i (each (back_to p o)) → A i) → TurnOf A B (again p deadline o)
+  again_speaks p deadline o all =
+      doing_of A B _
+      (each_said (still_open (children_of (own_ids p)) o) (λ k. Ok (Expect (planned p.list (own_ids p) p.span deadline o)))
+      (λ k e i part. all i
+      (subst (λ (r : Said (List ℕ)). IsAmong i (each r)) (sym (behind_ok (still_open (children_of (own_ids p)) o) (λ k. Ok (children_of (ids_with (own_ids p) o))) k _ e refl))
+      (sides_among (ids_with (own_ids p) o) i part))))
+
+  behind_speaks : (c : Code) (value : List ℕ) (bodies : List Body) (o : Own) → ((i : ℕ) → IsAmong i (on_top c bodies o) → A i) → TurnOf A B (behind c value bodies o)
   behind_speaks c value [] o all = (tt, tt)
   behind_speaks c value (Source ∷ bodies) o all = (tt, tt)
   behind_speaks code.Again value (Action p ∷ bodies) o all = again_speaks p (deadline_from o.clock p.span) o all
@@ -362,6 +335,7 @@ module _ (A : ℕ → Type 0) (B : ℕ → Plan → Type 0) where
   opens (Begin [] vars) st all new under = tt
   opens (Begin (word ∷ args) vars) st all new under = begun_speaks (expect_command word) word args vars st.own all new
   opens (Resume vars) st all new under = under tt
-  opens (AfterWords words vars) st all new under = expect_speaks words vars st.own all
+  opens (AfterWords [] vars) st all new under = tt
+  opens (AfterWords (word ∷ args) vars) st all new under = worded_speaks (expect_command word) word args vars st.own all new
   opens (AfterBody c value vars) st all new under = behind_speaks c value st.own.bodies (record st.own { bodies = outer st.own.bodies }) all
   opens (Knows word) st all new under = under tt

@@ -15,6 +15,7 @@ use Rattle.tcl_host.specs.Calls.{Call, Begin, Resume, AfterWords, AfterBody, Kno
 use Rattle.expect_core.specs.declared.request.Request.{Request}
 use Rattle.expect_core.specs.declared.body.Body.{Body}
 use Rattle.expect_core.specs.declared.body.Body.TheVariants.{Action, Source}
+use Rattle.expect_core.specs.declared.plan.Plan.{Plan}
 use Rattle.expect_core.specs.declared.phase.Phase.{Phase}
 use Rattle.expect_core.specs.declared.phase.Phase.TheVariants.{Idle, At}
 use Rattle.expect_core.specs.declared.turn.Want.{Want}
@@ -28,11 +29,12 @@ use Rattle.expect_core.specs.Flags.{arguments}
 use Rattle.expect_core.specs.Ids.{spoken_to}
 use Rattle.expect_core.specs.Among.{IsAmong}
 use Rattle.expect_core.specs.Heard.{IsWatched, about}
-use Rattle.expect_core.specs.Sides.{spoken_by}
+use Rattle.expect_core.specs.Sides.{takes_current, asked_by, children_of, still_open}
+use Rattle.expect_core.specs.Standing.{ids_with, own_ids}
 use Rattle.expect_core.specs.Expecting.{patterns_by}
 use Rattle.expect_core.specs.Ends.{close_of}
 use Rattle.expect_core.specs.Transcript.{put_of, put_child, complaint_of, complained_to}
-use Rattle.expect_core.specs.Calls.{outcome, fresh}
+use Rattle.expect_core.specs.Calls.{outer, outcome, fresh}
 use Rattle.expect_core.specs.Laws.{behind_call}
 
 -- The requests to the child at a place.
@@ -55,8 +57,10 @@ by_id c word args vars o = arguments c word args >>= λ f. spoken_to f.0.id vars
 abbrev pub by_option : ExpectCommand → List ℕ → List (List ℕ) → Variables → Own → Said ℕ
 by_option c word args vars o = arguments c word args >>= λ f. if f.0.on then Err [] else spoken_to f.0.id vars o
 
+-- Its own children, and those of the standing patterns.
 abbrev pub by_patterns : List (List ℕ) → Variables → Own → Said (List ℕ)
-by_patterns args vars o = patterns_by args (patterns_of args) >>= λ list. spoken_by list vars o
+by_patterns args vars o =
+    patterns_by args (patterns_of args) >>= λ list. asked_by (takes_current list) list vars o >>= λ groups. Ok (children_of (ids_with groups o))
 
 abbrev pub one : Said ℕ → List ℕ
 one (Ok i) = i ∷ []
@@ -77,6 +81,10 @@ named_by (Some command.MatchMax) word args vars o = one (by_option command.Match
 named_by (Some command.RemoveNulls) word args vars o = one (by_option command.RemoveNulls word args vars o)
 named_by other word args vars o = []
 
+abbrev pub named_in : List (List ℕ) → Variables → Own → List ℕ
+named_in [] vars o = []
+named_in (word ∷ args) vars o = named_by (expect_command word) word args vars o
+
 -- The children that a waiting call is for. After the action for one child's end, its `expect` may go on with the
 -- others.
 
@@ -90,18 +98,21 @@ abbrev pub under_way : Phase → List ℕ
 under_way Idle = []
 under_way (At n w) = wanted_of w
 
--- After an action, `exp_continue` goes back to the children of its `expect`.
-abbrev pub on_top : Code → List Body → List ℕ
-on_top code.Again (Action p ∷ bodies) = about p
-on_top code.AgainLater (Action p ∷ bodies) = about p
-on_top c bodies = []
+-- After an action, `exp_continue` goes back to the children of its `expect`, and to those of the standing patterns.
+
+abbrev pub back_to : Plan → Own → Said (List ℕ)
+back_to p o = still_open (children_of (own_ids p)) o >>= λ all. Ok (children_of (ids_with (own_ids p) o))
+
+abbrev pub on_top : Code → List Body → Own → List ℕ
+on_top code.Again (Action p ∷ bodies) o = each (back_to p o)
+on_top code.AgainLater (Action p ∷ bodies) o = each (back_to p o)
+on_top c bodies o = []
 
 abbrev pub speaks_to : Call → Dialogue → List ℕ
-speaks_to (Begin [] vars) st = []
-speaks_to (Begin (word ∷ args) vars) st = named_by (expect_command word) word args vars st.own
+speaks_to (Begin words vars) st = named_in words vars st.own
 speaks_to (Resume vars) st = under_way st.phase
-speaks_to (AfterWords words vars) st = each (by_patterns words vars st.own)
-speaks_to (AfterBody c value vars) st = on_top c st.own.bodies
+speaks_to (AfterWords words vars) st = named_in words vars st.own
+speaks_to (AfterBody c value vars) st = on_top c st.own.bodies (record st.own { bodies = outer st.own.bodies })
 speaks_to (Knows word) st = []
 
 -- The child that an `expect` closes takes part in it.

@@ -1,5 +1,5 @@
 -- The outcome of each call of a dialogue.
-use Rattle.std.specs.Prelude.{◌≡◌, ℕ, List, [], ◌∷◌, Bool, true, false, IsTrue, is_some, Option, Some, None}
+use Rattle.std.specs.Prelude.{◌≡◌, ℕ, List, [], ◌∷◌, Bool, true, false, IsTrue, is_some, Option, Some, None, Err}
 use Rattle.child_events.specs.declared.event.Event.{Event}
 use Rattle.command_table.specs.declared.commands.ExpectCommand.{ExpectCommand}
 use Rattle.command_table.specs.declared.commands.ExpectCommand.TheVariants as command
@@ -23,7 +23,7 @@ use Rattle.expect_core.specs.Spawning.{spawning}
 use Rattle.expect_core.specs.Sending.{sending}
 use Rattle.expect_core.specs.Sleeping.{sleeping, waiting_after}
 use Rattle.expect_core.specs.Times.{clocking, stamping}
-use Rattle.expect_core.specs.Expecting.{listed, expecting, behind}
+use Rattle.expect_core.specs.Expecting.{listed, expecting, standing_before, standing_after, behind}
 use Rattle.expect_core.specs.Again.{continuing}
 use Rattle.expect_core.specs.Ends.{closing, waiting, numbering}
 use Rattle.expect_core.specs.Channels.{getting, reading_more, meeting_end, flushing}
@@ -47,6 +47,8 @@ named command.Send word args vars o = sending word args vars o
 named command.SendUser word args vars o = writing (to_user word args)
 named command.SendError word args vars o = sending_error word args o
 named command.Expect word args vars o = expecting args vars o
+named command.ExpectBefore word args vars o = standing_before args vars o
+named command.ExpectAfter word args vars o = standing_after args vars o
 named command.ExpContinue word args vars o = continuing word args
 named command.Close word args vars o = closing word args vars o
 named command.Wait word args vars o = waiting word args vars o
@@ -71,9 +73,12 @@ named command.After word args vars o = waiting_after word args o
 named command.Clock word args vars o = clocking word args o
 named command.Timestamp word args vars o = stamping word args o
 
--- If the only argument of `expect` is a list of all arguments, its words are filled first.
+-- If the only argument of `expect`, `expect_before` or `expect_after` is a list of all arguments, its words are filled
+-- first.
 abbrev pub filling : ExpectCommand → List (List ℕ) → Option (List ℕ)
 filling command.Expect args = listed args
+filling command.ExpectBefore args = listed args
+filling command.ExpectAfter args = listed args
 filling other args = None
 
 abbrev pub filled : Option (List ℕ) → Said Deed → Variables → Dialogue → Outcome
@@ -87,6 +92,16 @@ began (Some c) word args vars st = filled (filling c args) (named c word args va
 abbrev pub begun : List (List ℕ) → Variables → Dialogue → Outcome
 begun [] vars st = (Unknown, vars, st)
 begun (word ∷ args) vars st = began (expect_command word) word args vars st
+
+-- The command whose arguments were filled. Its own word comes first.
+
+abbrev pub named_by : Option ExpectCommand → List ℕ → List (List ℕ) → Variables → Own → Said Deed
+named_by None word args vars o = Err []
+named_by (Some c) word args vars o = named c word args vars o
+
+abbrev pub worded : List (List ℕ) → Variables → Own → Said Deed
+worded [] vars o = Err []
+worded (word ∷ args) vars o = named_by (expect_command word) word args vars o
 
 abbrev pub resumed : Variables → Dialogue → Outcome
 resumed vars st = resuming st.phase vars (idle st)
@@ -106,7 +121,7 @@ ended_body c value vars st =
 abbrev pub outcome : Call → Dialogue → Outcome
 outcome (Begin words vars) st = begun words vars (idle st)
 outcome (Resume vars) st = resumed vars st
-outcome (AfterWords words vars) st = run turns (doing (expecting words vars st.own)) vars (idle st)
+outcome (AfterWords words vars) st = run turns (doing (worded words vars st.own)) vars (idle st)
 outcome (AfterBody c value vars) st = ended_body c value vars (idle st)
 outcome (Knows word) st = (Fail [], record { globals = []; locals = [] }, st)
 
@@ -146,7 +161,7 @@ fresh settings = record {
   limit = settings.limit_ms;
   horizon = 0;
   lanes = no_lanes;
-  own = record { clock = 0; transcript = []; requests = []; children = []; log_user = true; host = settings.host; size = 2000; remove_nulls = true; channels = []; errors = None; day = None; bodies = [] };
+  own = record { clock = 0; transcript = []; requests = []; children = []; log_user = true; host = settings.host; size = 2000; remove_nulls = true; channels = []; errors = None; day = None; before = []; after = []; bodies = [] };
   phase = phase.Idle;
   lives = true;
 }

@@ -7,11 +7,12 @@ use Rattle.expect_core.specs.declared.child.Change.{Change}
 use Rattle.expect_core.specs.declared.child.Change.TheVariants.{Stand, Waited, Sent, Take, Size, Removal}
 use Rattle.expect_core.specs.declared.child.Child.{Child}
 use Rattle.expect_core.specs.declared.effect.Effect.{Effect}
-use Rattle.expect_core.specs.declared.effect.Effect.TheVariants.{Tell, Log, LogUser, Add, Store, Set, Ask, Receive, Reader, Writer, Move, Shut, Errors, Day, Alter}
+use Rattle.expect_core.specs.declared.effect.Effect.TheVariants.{Tell, Log, LogUser, Add, Store, Set, Ask, Receive, Reader, Writer, Move, Shut, Errors, Day, Before, After, Alter}
 use Rattle.expect_core.specs.declared.own.Own.{Own}
 use Rattle.expect_core.specs.Opened.{reading, writing, opened, moved, let_go}
 use Rattle.expect_core.specs.Owned.{child_as, child_of, with_child, told, logged, asked, received}
 use Rattle.expect_core.specs.Scoped.{Unset, set_all}
+use Rattle.expect_core.specs.Standing.{left_by}
 use Rattle.expect_core.specs.Texts.{id_at}
 
 abbrev pub altered : Change → Child → Child
@@ -61,6 +62,8 @@ changed at (Shut n) o = let_go n o
 changed (Some i) Errors o = record o { errors = Some i }
 changed None Errors o = o
 changed at (Day time) o = record o { day = Some (time, o.clock) }
+changed at (Before ids more) o = record o { before = left_by ids o.children o.before ++ more }
+changed at (After ids more) o = record o { after = left_by ids o.children o.after ++ more }
 changed (Some i) (Alter x) o = with_child i (altered x (child_of i o)) o
 changed None (Alter x) o = to_come x o
 

@@ -23,14 +23,15 @@ use Rattle.expect_core.specs.declared.child.Change.TheVariants.{Stand, Take}
 use Rattle.expect_core.specs.declared.plan.Span.{Span}
 use Rattle.expect_core.specs.declared.plan.Span.TheVariants.{Seconds}
 use Rattle.expect_core.specs.declared.plan.Plan.{Plan}
+use Rattle.expect_core.specs.declared.standing.StandingEntry.{StandingEntry}
 use Rattle.expect_core.specs.declared.body.Body.{Body}
 use Rattle.expect_core.specs.declared.body.Body.TheVariants.{Action, Source}
-use Rattle.expect_core.specs.declared.effect.Effect.TheVariants.{Ask, Alter, Store}
+use Rattle.expect_core.specs.declared.effect.Effect.TheVariants.{Ask, Alter, Store, Before, After}
 use Rattle.expect_core.specs.declared.turn.Reply.TheVariants.{Done, Fail}
 use Rattle.expect_core.specs.declared.turn.Purpose.TheVariants as purpose
 use Rattle.expect_core.specs.declared.turn.Next.TheVariants.{Await}
 use Rattle.expect_core.specs.declared.turn.Deed.{Deed}
-use Rattle.expect_core.specs.declared.turn.Deed.TheVariants.{Expect}
+use Rattle.expect_core.specs.declared.turn.Deed.TheVariants.{Alone, Expect}
 use Rattle.expect_core.specs.declared.turn.Want.TheVariants.{End}
 use Rattle.expect_core.specs.declared.turn.Stage.{Stage}
 use Rattle.expect_core.specs.declared.turn.Stage.TheVariants.{Act, Wait}
@@ -42,7 +43,8 @@ use Rattle.expect_core.specs.Scoped.{optional}
 use Rattle.expect_core.specs.declared.spread.Spread.{Spread}
 use Rattle.expect_core.specs.Spread.{sent_on}
 use Rattle.expect_core.specs.Heard.{span_of, deadline_from, groups_at}
-use Rattle.expect_core.specs.Sides.{asked_by, sides_of, still_open}
+use Rattle.expect_core.specs.Sides.{Served, takes_current, asked_by, children_of, still_open}
+use Rattle.expect_core.specs.Standing.{is_for_current, as_standing, all_ids, planned, own_ids}
 use Rattle.expect_core.specs.Turns.{react, done, turn, over, at, doing}
 
 -- The arguments.
@@ -78,12 +80,12 @@ abbrev pub span_in : Option (List ℕ) → Variables → Said Span
 span_in (Some text) vars = span_by text
 span_in None vars = optional (codes "timeout") vars >>= span_or_ten
 
-abbrev pub plan_at : List ℕ → PatternList → Span → ℕ → Plan
-plan_at is list span clock = record { sides = sides_of list is; order = is; list = list; span = span; deadline = deadline_from clock span; met = None; pending = None }
+abbrev pub plan_at : List Served → PatternList → Span → Own → Plan
+plan_at groups list span o = planned list groups span (deadline_from o.clock span) o
 
 abbrev pub plan_by : PatternList → Variables → Own → Said Plan
 plan_by list vars o =
-    asked_by list vars o >>= λ is. span_in list.timeout vars >>= λ span. Ok (plan_at is list span o.clock)
+    asked_by (takes_current list) list vars o >>= λ groups. span_in list.timeout vars >>= λ span. Ok (plan_at groups list span o)
 
 -- What an `expect` with these arguments waits for.
 abbrev pub plan_of : List (List ℕ) → Variables → Own → Said Plan
@@ -91,6 +93,22 @@ plan_of args vars o = patterns_by args (patterns_of args) >>= λ list. plan_by l
 
 abbrev pub expecting : List (List ℕ) → Variables → Own → Said Deed
 expecting args vars o = plan_of args vars o >>= λ p. Ok (Expect p)
+
+-- `expect_before` and `expect_after` have the same arguments. A timeout counts for nothing. The ids that are named leave
+-- the entries of the list, and then these entries are appended.
+
+-- The ids that are named, and the entries.
+abbrev pub standing_by : PatternList → Variables → Own → Said (Served × List StandingEntry)
+standing_by list vars o = asked_by (is_for_current list) list vars o >>= λ groups. Ok (all_ids groups, as_standing groups list.entries)
+
+abbrev pub standing_of : List (List ℕ) → Variables → Own → Said (Served × List StandingEntry)
+standing_of args vars o = patterns_by args (patterns_of args) >>= λ list. standing_by list vars o
+
+abbrev pub standing_before : List (List ℕ) → Variables → Own → Said Deed
+standing_before args vars o = standing_of args vars o >>= λ s. Ok (Alone (Before s.0 s.1 ∷ []) (done []))
+
+abbrev pub standing_after : List (List ℕ) → Variables → Own → Said Deed
+standing_after args vars o = standing_of args vars o >>= λ s. Ok (Alone (After s.0 s.1 ∷ []) (done []))
 
 -- The variables that are set.
 
@@ -198,9 +216,9 @@ abbrev pub ended : Plan → ℕ → Option Cause → Own → Turn
 ended p i None o = shut i (all_met p i (first_in waits_for_end (groups_at i p.sides) p.list.entries) o)
 ended p i (Some c) o = shut i (over (Fail (with_cause (codes "close failed") c)))
 
--- The `expect` goes on with this deadline, if all its children are still open.
+-- The `expect` goes on with this deadline, if all its own children are still open. It reads the standing patterns anew.
 abbrev pub again : Plan → Option ℕ → Own → Turn
-again p deadline o = doing (still_open p.order o >>= λ all. Ok (Expect (record p { deadline = deadline })))
+again p deadline o = doing (still_open (children_of (own_ids p)) o >>= λ all. Ok (Expect (planned p.list (own_ids p) p.span deadline o)))
 
 -- After an action, `exp_continue` goes back to the `expect`, with a new deadline or with the old one.
 abbrev pub behind : Code → List ℕ → List Body → Own → Turn

@@ -14,6 +14,7 @@ pub mod Hearing
 pub mod Quiet
 pub mod Sought
 pub mod Sides
+pub mod Standing
 pub mod Waits
 pub mod Answered
 pub mod Effects

@@ -6,4 +6,4 @@ use Rattle.expect_core.specs.declared.spread.Spread.{Spread}
 
 -- After this moment, what is pending is sent.
 abbrev pub nothing_until : Option ℕ → Option (ℕ × Spread) → Plan
-nothing_until last pending = record { sides = []; order = []; list = record { entries = []; ids = []; timeout = None }; span = Never; deadline = last; met = None; pending = pending }
+nothing_until last pending = record { sides = []; ids = []; list = record { entries = []; ids = []; timeout = None }; span = Never; deadline = last; met = None; pending = pending }

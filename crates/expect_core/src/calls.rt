@@ -6,8 +6,7 @@ ghost use Rattle.tcl_results.specs.Said.{Said};
 ghost use Rattle.tcl_results.specs.Says.{Says};
 ghost use Rattle.expect_core.specs.declared.turn.Deed.{Deed as DeedOf};
 ghost use Rattle.expect_core.specs.Answered.{idle};
-ghost use Rattle.expect_core.specs.Calls.{began, begun as begun_of, ended_body, filled, filling as filling_of, knows as knows_of, named, resumed};
-ghost use Rattle.expect_core.specs.Expecting.{expecting};
+ghost use Rattle.expect_core.specs.Calls.{began, begun as begun_of, ended_body, filled, filling as filling_of, knows as knows_of, named, named_by, resumed, worded};
 ghost use Rattle.expect_core.specs.Known.{KnowsIn};
 ghost use Rattle.expect_core.specs.Running.{run, turns};
 ghost use Rattle.expect_core.specs.Turns.{doing as doing_of};
@@ -16,7 +15,7 @@ use crate::again::exp_continue;
 use crate::day::{clock, timestamp};
 use crate::dialogue::Dialogue;
 use crate::ends::{close, exp_pid, wait};
-use crate::expect::expect;
+use crate::expect::{expect, expect_after, expect_before};
 use crate::known::Known;
 use crate::options::{match_max, remove_nulls};
 use crate::own::Own;
@@ -37,6 +36,7 @@ use tcl_host::HostStep;
 use tcl_results::{Code, Complaint, said};
 use tcl_subst::Vars;
 use tcl_values::Value;
+use tcl_words::Text;
 
 /// Returns whether a word names a command of Expect, and no procedure can have its name.
 pub(crate) fn knows(word: &[u8]) -> bool
@@ -63,6 +63,8 @@ fn deed(
         ExpectCommand::SendUser => send_user(alloc, word, args),
         ExpectCommand::SendError => send_error(alloc, word, args, own),
         ExpectCommand::Expect => expect(alloc, args, vars, own),
+        ExpectCommand::ExpectBefore => expect_before(alloc, args, vars, own),
+        ExpectCommand::ExpectAfter => expect_after(alloc, args, vars, own),
         ExpectCommand::ExpContinue => exp_continue(alloc, word, args),
         ExpectCommand::Close => close(alloc, word, args, vars, own),
         ExpectCommand::Wait => wait(alloc, word, args, vars, own),
@@ -89,8 +91,8 @@ fn deed(
     }
 }
 
-/// Returns the only argument of an `expect`, if it is a list of all arguments. Its words are filled
-/// before the command begins.
+/// Returns the only argument of an `expect`, `expect_before` or `expect_after`, if it is a list of
+/// all arguments. Its words are filled before the command begins.
 fn filling(
     alloc: Global,
     command: ExpectCommand,
@@ -100,7 +102,46 @@ fn filling(
 {
     match command {
         ExpectCommand::Expect => listed(alloc, args),
+        ExpectCommand::ExpectBefore => listed(alloc, args),
+        ExpectCommand::ExpectAfter => listed(alloc, args),
         _ => Ok(None),
+    }
+}
+
+/// Returns what the command does that a word names.
+fn deed_by(
+    alloc: Global,
+    command: Option<ExpectCommand>,
+    word: &[u8],
+    args: &[Value],
+    vars: &Vars,
+    own: &mut Own,
+) -> Result<Deed, Complaint>
+    ensures same { own.new ≡ own.old }
+    ensures said { Says result (named_by command word.now args.now vars.now own.old) }
+{
+    match command {
+        None => Err(Complaint::Said(Text::new(alloc))),
+        Some(command) => deed(alloc, command, word, args, vars, own),
+    }
+}
+
+/// Returns what a command does whose list of arguments was filled. Its own word comes first.
+fn filled_deed(
+    alloc: Global,
+    words: &[Value],
+    vars: &Vars,
+    own: &mut Own,
+) -> Result<Deed, Complaint>
+    ensures same { own.new ≡ own.old }
+    ensures said { Says result (worded words.now vars.now own.old) }
+{
+    match words {
+        [] => Err(Complaint::Said(Text::new(alloc))),
+        [word, args @ ..] => {
+            let word = word.as_slice();
+            deed_by(alloc, expect_command(word), word, args, vars, own)
+        }
     }
 }
 
@@ -187,18 +228,18 @@ impl Dialogue {
         self.go_on(alloc, vars, phase, known)
     }
 
-    /// Begins an `expect` whose list of arguments was filled.
-    pub(crate) fn expect_words(
+    /// Begins a command whose list of arguments was filled. Its own word comes first.
+    pub(crate) fn begin_filled(
         &mut self,
         vars: &mut Vars,
         words: &[Value],
     ) -> Result<Paused, AllocError>
-        ensures comes { IfOk result (λ p. run turns (doing_of (expecting words.now vars.old self.old.own)) vars.old (idle self.old) ≡ (p.step, vars.new, self.new)) }
+        ensures comes { IfOk result (λ p. run turns (doing_of (worded words.now vars.old self.old.own)) vars.old (idle self.old) ≡ (p.step, vars.new, self.new)) }
         ensures knows { IfOk result (λ p. KnowsIn p.known self.new) }
     {
         let alloc = self.alloc();
         self.set_phase(Phase::Idle);
-        let said = expect(alloc, words, vars, &mut self.own);
+        let said = filled_deed(alloc, words, vars, &mut self.own);
         self.doing(alloc, vars, said)
     }
 

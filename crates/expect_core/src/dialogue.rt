@@ -14,6 +14,7 @@ use crate::own::Own;
 use crate::phase::Phase;
 use crate::request::{Request, Requests};
 use crate::settings::Settings;
+use crate::standing::StandingList;
 use child_events::{Answer, Cause, Event, What};
 use std::alloc::{AllocError, Global};
 use std::mem;
@@ -70,6 +71,8 @@ impl Dialogue {
                 channels: Channels::new(alloc),
                 errors: None,
                 day: None,
+                before: StandingList::new(alloc),
+                after: StandingList::new(alloc),
                 bodies: Bodies::new(alloc),
             },
             phase: Phase::Idle,

@@ -1,6 +1,7 @@
 //! What a call changes.
 
 ghost use Rattle.std.specs.Prelude.{◌≡◌, ◌++◌, ◌∷◌, [], IfOk, OnOk};
+ghost use Rattle.expect_core.specs.Standing.{left_by};
 ghost use Rattle.expect_core.specs.Effects.{added, changed, performed, stored as stored_of, to_come};
 
 use crate::channels::Channel;
@@ -9,10 +10,13 @@ use crate::own::Own;
 use crate::place::Place;
 use crate::request::Act;
 use crate::scoped::{set_all, set_one};
+use crate::served::Served;
+use crate::standing::StandingList;
 use crate::stored::Stores;
 use crate::texts::id_at;
 use std::alloc::{AllocError, Global};
 use std::marker::Model;
+use std::mem;
 use tcl_subst::Vars;
 use tcl_values::Value;
 use tcl_words::Text;
@@ -51,6 +55,10 @@ pub enum Effect {
     Errors,
     /// Keeps the time of day, in milliseconds.
     Day(u64),
+    /// Appends entries to those of `expect_before`, after these ids left them.
+    Before(Served, StandingList),
+    /// Appends entries to those of `expect_after`, after these ids left them.
+    After(Served, StandingList),
     /// Changes the child. Without a child it changes the options of later children.
     Alter(Change),
 }
@@ -172,6 +180,34 @@ impl Own {
         }
     }
 
+    /// Appends entries to those of `expect_before`, after these ids left them.
+    fn stand_before(
+        &mut self,
+        alloc: Global,
+        ids: &Served,
+        more: StandingList,
+    ) -> Result<(), AllocError>
+        ensures { OnOk result (self.new ≡ record self.old { before = left_by ids.now self.old.children self.old.before ++ more }) }
+    {
+        let old = mem::replace(&mut self.before, StandingList::new(alloc));
+        self.before = old.left_by(alloc, ids, &self.children)?;
+        self.before.append(more)
+    }
+
+    /// Appends entries to those of `expect_after`, after these ids left them.
+    fn stand_after(
+        &mut self,
+        alloc: Global,
+        ids: &Served,
+        more: StandingList,
+    ) -> Result<(), AllocError>
+        ensures { OnOk result (self.new ≡ record self.old { after = left_by ids.now self.old.children self.old.after ++ more }) }
+    {
+        let old = mem::replace(&mut self.after, StandingList::new(alloc));
+        self.after = old.left_by(alloc, ids, &self.children)?;
+        self.after.append(more)
+    }
+
     /// Appends a request to a child, if there is one.
     fn ask_at(&mut self, at: &Option<Place>, act: Act) -> Result<(), AllocError>
         ensures { OnOk result (self.new ≡ changed at.now (Effect.Ask act) self.old) }
@@ -252,6 +288,8 @@ impl Own {
                 self.day = Some((time, self.clock));
                 Ok(())
             }
+            Effect::Before(ids, more) => self.stand_before(alloc, &ids, more),
+            Effect::After(ids, more) => self.stand_after(alloc, &ids, more),
             Effect::Alter(change) => self.alter_at(at, change),
         }
     }

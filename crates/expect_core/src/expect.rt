@@ -7,9 +7,10 @@ ghost use Rattle.expect_core.specs.declared.body.Body.{Body as BodyOf};
 ghost use Rattle.expect_core.specs.Calls.{outer};
 ghost use Rattle.expect_core.specs.Heard.{groups_at};
 ghost use Rattle.expect_core.specs.Owned.{bytes_of, child_of};
+ghost use Rattle.expect_core.specs.Sides.{children_of, still_open};
 ghost use Rattle.expect_core.specs.Spread.{sent_on};
 ghost use Rattle.expect_core.specs.Turns.{at as at_of, done as done_of, over as over_of};
-ghost use Rattle.expect_core.specs.Expecting.{again as again_of, all_met, before as before_of, behind as behind_of, ended as ended_of, ending as ending_of, end_of as end_told, entry_of, expecting, failing as failing_of, full as full_of, group_pairs as group_pairs_of, groups_from, late as late_of, late_by, matched as matched_of, meeting, met_pairs as met_pairs_of, places, shut as shut_of, text_pair};
+ghost use Rattle.expect_core.specs.Expecting.{again as again_of, all_met, before as before_of, behind as behind_of, ended as ended_of, ending as ending_of, end_of as end_told, entry_of, expecting, failing as failing_of, full as full_of, group_pairs as group_pairs_of, groups_from, late as late_of, late_by, matched as matched_of, meeting, met_pairs as met_pairs_of, places, shut as shut_of, standing_after, standing_before, text_pair};
 
 use crate::body::Body;
 use crate::child::{Change, Standing};
@@ -18,8 +19,9 @@ use crate::ids::all_open;
 use crate::own::{Own, deadline_from};
 use crate::place::Place;
 use crate::plan::{Met, Plan, PlanBox};
-use crate::planning::plan_of;
+use crate::planning::{plan_of, standing_of};
 use crate::request::Act;
+use crate::served::ServedGroups;
 use crate::spread::Spread;
 use crate::stored::{BUFFER, ID, Stores, end_name, start_name, string_name};
 use crate::texts::{decimal, with_cause};
@@ -224,6 +226,42 @@ pub(crate) fn expect(
     Ok(Deed::Expect(PlanBox::new(alloc, plan)?))
 }
 
+/// Returns what a command does that only has this effect.
+fn only(alloc: Global, effect: Effect) -> Result<Deed, AllocError>
+    ensures { IfOk result (λ d. d ≡ Deed.Alone (effect ∷ []) (done_of [])) }
+{
+    let effects = Effects::one(alloc, effect)?;
+    Ok(Deed::Alone(effects, done(Value::new(alloc))))
+}
+
+/// Returns what `expect_before` does with these arguments.
+pub(crate) fn expect_before(
+    alloc: Global,
+    args: &[Value],
+    vars: &Vars,
+    own: &mut Own,
+) -> Result<Deed, Complaint>
+    ensures same { own.new ≡ own.old }
+    ensures said { Says result (standing_before args.now vars.now own.old) }
+{
+    let (ids, entries) = standing_of(alloc, args, vars, own)?;
+    Ok(only(alloc, Effect::Before(ids, entries))?)
+}
+
+/// Returns what `expect_after` does with these arguments.
+pub(crate) fn expect_after(
+    alloc: Global,
+    args: &[Value],
+    vars: &Vars,
+    own: &mut Own,
+) -> Result<Deed, Complaint>
+    ensures same { own.new ≡ own.old }
+    ensures said { Says result (standing_after args.now vars.now own.old) }
+{
+    let (ids, entries) = standing_of(alloc, args, vars, own)?;
+    Ok(only(alloc, Effect::After(ids, entries))?)
+}
+
 /// Returns the turn that ends a call without a value.
 fn nothing(alloc: Global) -> Turn
     ensures { result ≡ over_of (done_of []) }
@@ -398,20 +436,29 @@ pub(crate) fn ended(
     }
 }
 
-/// Returns the turn that continues an `expect` with this deadline. It is an error if a child isn't
-/// open.
+/// Returns the error for the first of the children of these groups that isn't open, if there is one.
+fn groups_open(alloc: Global, groups: &ServedGroups, own: &Own) -> Result<(), Complaint>
+    ensures { Says result (still_open (children_of groups.now) own.now) }
+{
+    let children = groups.children(alloc)?;
+    all_open(alloc, &children, own)
+}
+
+/// Returns the turn that continues an `expect` with this deadline. It is an error if one of its own
+/// children isn't open. The standing patterns are read anew.
 fn again(
     alloc: Global,
-    mut plan: PlanBox,
+    plan: PlanBox,
     deadline: Option<u128>,
     own: &Own,
 ) -> Result<Turn, AllocError>
     ensures { IfOk result (λ t. t ≡ again_of plan deadline own.now) }
 {
-    match said(alloc, all_open(alloc, &plan.get().order, own))? {
+    let (list, groups, span) = plan.into_plan().into_own();
+    match said(alloc, groups_open(alloc, &groups, own))? {
         Ok(()) => {
-            plan.wait_until(deadline);
-            Ok(Turn::only(alloc, Stage::Look(plan)))
+            let plan = Plan::new(alloc, list, groups, span, deadline, own)?;
+            Ok(Turn::only(alloc, Stage::Look(PlanBox::new(alloc, plan)?)))
         }
         Err(text) => Ok(Turn::over(alloc, Reply::Fail(text))),
     }

@@ -129,7 +129,7 @@ impl Host for DialogueHost {
         if !self.dialogue.lives {
             return HostStep::Memory;
         }
-        let came = self.dialogue.expect_words(vars, words.as_slice());
+        let came = self.dialogue.begin_filled(vars, words.as_slice());
         settle(&mut self.dialogue, &mut self.known, came)
     }
 

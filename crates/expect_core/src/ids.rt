@@ -15,7 +15,7 @@ use tcl_subst::Vars;
 use tcl_values::Value;
 
 /// Returns the child with this spawn id, or an error.
-fn known(alloc: Global, id: &[u8], own: &Own) -> Result<Place, Complaint>
+pub(crate) fn known(alloc: Global, id: &[u8], own: &Own) -> Result<Place, Complaint>
     ensures { Says result (known_of id.now own.now) }
 {
     match own.children.find(id) {

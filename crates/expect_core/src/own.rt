@@ -11,6 +11,7 @@ use crate::kept::behind;
 use crate::place::Place;
 use crate::plan::Span;
 use crate::request::{Act, Request, Requests};
+use crate::standing::StandingList;
 use std::alloc::{AllocError, Global};
 use std::mem;
 use tcl_words::Text;
@@ -40,6 +41,10 @@ pub struct Own {
     pub errors: Option<Place>,
     /// A time of day, and the clock's moment when it was that. Both are in milliseconds.
     pub day: Option<(u64, u64)>,
+    /// The patterns of `expect_before`.
+    pub before: StandingList,
+    /// The patterns of `expect_after`.
+    pub after: StandingList,
     /// The scripts that commands evaluate, the innermost first.
     pub bodies: Bodies,
 }

@@ -2,11 +2,15 @@
 
 ghost use Rattle.std.specs.Prelude.{◌≡◌, ◌∷◌, [], ◌++◌, Some, None, MatchOption, IfOk, OnOk};
 ghost use Rattle.expect_core.specs.Heard.{groups_at};
-ghost use Rattle.expect_core.specs.Sides.{rank_of, with_group};
+ghost use Rattle.expect_core.specs.Sides.{rank_of, with_place, with_places, sides_of};
+ghost use Rattle.expect_core.specs.Standing.{own_ids as own_ids_of, planned as planned_by};
 
+use crate::own::Own;
 use crate::place::Place;
+use crate::served::ServedGroups;
 use crate::spread::Spread;
-use exp_match::PatternList;
+use crate::standing::push_own;
+use exp_match::{Entries, PatternList};
 use std::alloc::{AllocError, Global};
 use std::marker::Model;
 
@@ -34,13 +38,21 @@ impl Model for Groups {
 }
 
 impl Groups {
-    /// Creates a list of one group.
-    fn one(alloc: Global, group: usize) -> Result<Groups, AllocError>
-        ensures { IfOk result (λ g. g ≡ group ∷ []) }
+    /// Creates an empty list without allocating.
+    pub(crate) fn new(alloc: Global) -> Groups
+        ensures { result ≡ [] }
     {
-        let mut list = Vec::new(alloc);
-        list.push(group)?;
-        Ok(Groups { list })
+        Groups {
+            list: Vec::new(alloc),
+        }
+    }
+
+    /// Appends the number of a group.
+    pub(crate) fn push(&mut self, group: usize) -> Result<(), AllocError>
+        ensures { OnOk result (self.new ≡ self.old ++ group ∷ []) }
+    {
+        self.list.push(group)?;
+        Ok(())
     }
 
     /// Returns the numbers of the groups. The patterns before the first `-i` are group 0.
@@ -76,11 +88,50 @@ impl Places {
     }
 
     /// Appends a place.
-    pub(crate) fn push(&mut self, i: Place) -> Result<(), AllocError>
-        ensures { OnOk result (self.new ≡ self.old ++ i ∷ []) }
+    pub(crate) fn push(&mut self, place: Place) -> Result<(), AllocError>
+        ensures { OnOk result (self.new ≡ self.old ++ place ∷ []) }
     {
-        self.list.push(i)?;
+        self.list.push(place)?;
         Ok(())
+    }
+
+    /// Returns the number of places before this one, in a list in order.
+    fn rank(&self, i: Place) -> usize
+        ensures { result ≡ rank_of i self.now }
+    {
+        'places: for at in 0..self.list.len() {
+            if self.list[at].index() >= i.index() {
+                return at;
+            }
+        }
+        self.list.len()
+    }
+
+    /// Inserts a place in its order, unless it is there.
+    fn insert(&mut self, i: Place) -> Result<(), AllocError>
+        ensures { OnOk result (self.new ≡ with_place i self.old) }
+    {
+        let at = self.rank(i);
+        if at >= self.list.len() {
+            self.list.push(i)?;
+            return Ok(());
+        }
+        if self.list[at].index() == i.index() {
+            return Ok(());
+        }
+        self.list.insert(at, i)?;
+        Ok(())
+    }
+
+    /// Returns the places in order, each once.
+    fn in_order(&self, alloc: Global) -> Result<Places, AllocError>
+        ensures { IfOk result (λ p. p ≡ with_places self.now []) }
+    {
+        let mut ordered = Places::new(alloc);
+        'places: for i in &self.list {
+            ordered.insert(*i)?;
+        }
+        Ok(ordered)
     }
 }
 
@@ -128,34 +179,18 @@ impl Sides {
         &[]
     }
 
-    /// Returns the number of children at places before this one.
-    fn rank(&self, i: Place) -> usize
-        ensures { result ≡ rank_of i self.now }
+    /// Returns the children that groups of patterns name, in order of places, each with the groups
+    /// that serve it.
+    pub(crate) fn of(alloc: Global, groups: &ServedGroups) -> Result<Sides, AllocError>
+        ensures { IfOk result (λ t. t ≡ sides_of groups.now) }
     {
-        'sides: for at in 0..self.list.len() {
-            if self.list[at].0.index() >= i.index() {
-                return at;
-            }
+        let places = groups.children(alloc)?.in_order(alloc)?;
+        let mut sides = Sides::new(alloc);
+        'places: for i in &places.list {
+            let serving = groups.serving(alloc, *i)?;
+            sides.list.push((*i, serving))?;
         }
-        self.list.len()
-    }
-
-    /// Adds a group to the child at a place. The child is added if it doesn't take part yet.
-    pub(crate) fn add(&mut self, alloc: Global, i: Place, group: usize) -> Result<(), AllocError>
-        ensures { OnOk result (self.new ≡ with_group i group self.old) }
-    {
-        let at = self.rank(i);
-        if at >= self.list.len() {
-            self.list.push((i, Groups::one(alloc, group)?))?;
-            return Ok(());
-        }
-        if self.list[at].0.index() == i.index() {
-            let (_, groups) = &mut self.list[at];
-            groups.list.push(group)?;
-            return Ok(());
-        }
-        self.list.insert(at, (i, Groups::one(alloc, group)?))?;
-        Ok(())
+        Ok(sides)
     }
 }
 
@@ -173,9 +208,9 @@ pub struct Met {
 pub struct Plan {
     /// The children that take part.
     pub sides: Sides,
-    /// Their places in the order of the arguments.
-    pub order: Places,
-    /// Its patterns and keywords with their actions.
+    /// The spawn ids of each group: its own groups first, then those of standing patterns.
+    pub ids: ServedGroups,
+    /// Its own patterns and keywords between the standing ones, with their actions.
     pub list: PatternList,
     /// The timeout. It begins at the start, and again at each `exp_continue` without
     /// `-continue_timer`.
@@ -188,6 +223,64 @@ pub struct Plan {
     /// What is sent after the timeout, and the place of the child: the rest of a `send -s` or
     /// `send -h`.
     pub pending: Option<(Place, Spread)>,
+}
+
+impl Plan {
+    /// Returns its own list with the standing patterns, and the ids of its own groups.
+    pub(crate) fn into_own(self) -> (PatternList, ServedGroups, Span)
+        ensures { result ≡ (self.list, own_ids_of self, self.span) }
+    {
+        let Plan {
+            ids,
+            list,
+            span,
+            ..
+        } = self;
+        let mut groups = ids;
+        groups.truncate(list.groups());
+        (list, groups, span)
+    }
+
+    /// Creates what an `expect` waits for, given its own list and the ids of its own groups. The
+    /// standing patterns are copied.
+    pub(crate) fn new(
+        alloc: Global,
+        list: PatternList,
+        groups: ServedGroups,
+        span: Span,
+        deadline: Option<u128>,
+        own: &Own,
+    ) -> Result<Plan, AllocError>
+        ensures { IfOk result (λ p. p ≡ planned_by list groups span deadline own.now) }
+    {
+        let PatternList {
+            entries,
+            ids: words,
+            timeout,
+        } = list;
+        let mut groups = groups;
+        let count = groups.len();
+        let mut all = Entries::new(alloc);
+        own.before
+            .join(alloc, &own.children, &mut all, &mut groups)?;
+        push_own(&mut all, entries, count)?;
+        own.after.join(alloc, &own.children, &mut all, &mut groups)?;
+        let sides = Sides::of(alloc, &groups)?;
+        let list = PatternList {
+            entries: all,
+            ids: words,
+            timeout,
+        };
+        Ok(Plan {
+            sides,
+            ids: groups,
+            list,
+            span,
+            deadline,
+            met: None,
+            pending: None,
+        })
+    }
 }
 
 /// A `Plan` on the heap, so that a turn that holds one is cheap to move. A contract sees the plan.
@@ -235,10 +328,10 @@ impl PlanBox {
         self.plan.pending.take()
     }
 
-    /// Sets the deadline.
-    pub(crate) fn wait_until(&mut self, deadline: Option<u128>)
-        ensures { self.new ≡ record self.old { deadline = deadline } }
+    /// Moves the plan from the heap.
+    pub(crate) fn into_plan(self) -> Plan
+        ensures { result ≡ self }
     {
-        self.plan.deadline = deadline;
+        Box::into_inner(self.plan)
     }
 }

@@ -1,21 +1,24 @@
 //! The arguments of an `expect` (expect(1)).
 
-ghost use Rattle.std.specs.Prelude.{◌≡◌, ◌<◌, ◌+◌, ◌^◌, [], slice_index_or, if◌then◌else◌, IfOk};
+ghost use Rattle.std.specs.Prelude.{◌≡◌, [], slice_index_or, IfOk};
 ghost use Rattle.tcl_results.specs.Says.{Says};
 ghost use Rattle.exp_match.specs.Arguments.{patterns_of as patterns_meant};
-ghost use Rattle.expect_core.specs.Expecting.{is_list as is_list_of, listed as listed_of, patterns_by, span_by as span_by_of, span_or_ten as span_or_ten_of, span_in as span_meant, plan_at as plan_there, plan_by as plan_by_of, plan_of as plan_meant};
+ghost use Rattle.expect_core.specs.Expecting.{is_list as is_list_of, listed as listed_of, patterns_by, span_by as span_by_of, span_or_ten as span_or_ten_of, span_in as span_meant, plan_by as plan_by_of, plan_of as plan_meant, standing_by as standing_by_of, standing_of as standing_meant};
 ghost use Rattle.expect_core.specs.Heard.{span_of as span_told};
-ghost use Rattle.expect_core.specs.Sides.{takes_current as takes_current_of, opened as opened_of, asked_by as asked_meant, with_groups};
+ghost use Rattle.expect_core.specs.Sides.{takes_current as takes_current_of, id_named as id_meant, ids_named as ids_meant, some_named as some_meant, ids_in as ids_in_word, ids_in_each as ids_in_words, current_ids as current_meant, asked_by as asked_meant};
+ghost use Rattle.expect_core.specs.Standing.{is_for_current as is_for_current_of};
 
 use crate::bodies::Bodies;
-use crate::ids::open_to;
+use crate::ids::{if_open, known, open_to};
 use crate::own::{Own, deadline_from};
-use crate::plan::{Places, Plan, Sides, Span};
+use crate::plan::{Plan, Span};
 use crate::scoped::optional;
-use crate::texts::{bad_expect_flag, bad_regular};
+use crate::served::{Id, Served, ServedGroups};
+use crate::standing::StandingList;
+use crate::texts::{bad_expect_flag, bad_regular, no_such_id};
 use exp_match::{PatternFault, PatternList};
 use std::alloc::{AllocError, Global};
-use tcl_results::{Complaint, as_number};
+use tcl_results::{Complaint, as_number, list_of};
 use tcl_subst::Vars;
 use tcl_values::Value;
 use tcl_words::{Text, is_white};
@@ -85,56 +88,90 @@ fn takes_current(list: &PatternList) -> bool
     list.serves(0)
 }
 
-/// Appends the places of the children with these spawn ids. Each must be open.
-fn opened(
+/// Returns the id that a name means: `any`, or that of a child, which must be open.
+fn id_named(alloc: Global, name: &[u8], own: &Own) -> Result<Id, Complaint>
+    ensures { Says result (id_meant name.now own.now) }
+{
+    if name == b"any".as_slice() {
+        return Ok(Id::Any);
+    }
+    let i = if_open(alloc, known(alloc, name, own)?, own)?;
+    Ok(Id::One(i))
+}
+
+/// Appends the ids with these names, in their order.
+fn ids_named(alloc: Global, mut ids: Served, names: &[Text], own: &Own) -> Result<Served, Complaint>
+    ensures { Says result (ids_meant ids names.now own.now) }
+{
+    'names: for name in names {
+        let id = id_named(alloc, name.as_slice(), own)?;
+        ids.push(id)?;
+    }
+    Ok(ids)
+}
+
+/// Returns the ids with these names. There must be one.
+fn some_named(alloc: Global, names: &[Text], own: &Own) -> Result<Served, Complaint>
+    ensures { Says result (some_meant names.now own.now) }
+{
+    match names {
+        [] => Err(Complaint::Said(no_such_id(alloc, b"")?)),
+        [_, ..] => ids_named(alloc, Served::new(alloc), names, own),
+    }
+}
+
+/// Returns the ids of the list after an `-i`.
+fn ids_in(alloc: Global, word: &Text, own: &Own) -> Result<Served, Complaint>
+    ensures { Says result (ids_in_word word.now own.now) }
+{
+    let word = Value::from_slice(alloc, word.as_slice())?;
+    let names = list_of(alloc, &word)?.texts(alloc)?;
+    some_named(alloc, names.as_slice(), own)
+}
+
+/// Appends the ids after each `-i`.
+fn ids_in_each(
     alloc: Global,
-    mut places: Places,
-    ids: &[Text],
+    mut groups: ServedGroups,
+    words: &[Text],
+    own: &Own,
+) -> Result<ServedGroups, Complaint>
+    ensures { Says result (ids_in_words groups words.now own.now) }
+{
+    'words: for word in words {
+        let ids = ids_in(alloc, word, own)?;
+        groups.push(ids)?;
+    }
+    Ok(groups)
+}
+
+/// Returns the ids of group 0: the child of the variable `spawn_id`, if it takes part.
+fn current_ids(alloc: Global, takes: bool, vars: &Vars, own: &Own) -> Result<Served, Complaint>
+    ensures { Says result (current_meant takes vars.now own.now) }
+{
+    let mut ids = Served::new(alloc);
+    if !takes {
+        return Ok(ids);
+    }
+    let i = open_to(alloc, &None, vars, own)?;
+    ids.push(Id::One(i))?;
+    Ok(ids)
+}
+
+/// Returns the ids of each group, in the order of the arguments. `takes` says whether the child of
+/// the variable `spawn_id` takes part.
+fn asked_by(
+    alloc: Global,
+    takes: bool,
+    list: &PatternList,
     vars: &Vars,
     own: &Own,
-) -> Result<Places, Complaint>
-    ensures { Says result (opened_of places ids.now vars.now own.now) }
+) -> Result<ServedGroups, Complaint>
+    ensures { Says result (asked_meant takes list.now vars.now own.now) }
 {
-    'ids: for id in ids {
-        let id = Some(Value::from_slice(alloc, id.as_slice())?);
-        let i = open_to(alloc, &id, vars, own)?;
-        places.push(i)?;
-    }
-    Ok(places)
-}
-
-/// Returns the places of the children that take part, in the order of the arguments.
-fn asked_by(alloc: Global, list: &PatternList, vars: &Vars, own: &Own) -> Result<Places, Complaint>
-    ensures { Says result (asked_meant list.now vars.now own.now) }
-{
-    let mut places = Places::new(alloc);
-    if takes_current(list) {
-        let i = open_to(alloc, &None, vars, own)?;
-        places.push(i)?;
-        return opened(alloc, places, list.ids.as_slice(), vars, own);
-    }
-    opened(alloc, places, list.ids.as_slice(), vars, own)
-}
-
-/// Returns the group of the child at an index, in the order of the arguments. `first` says whether
-/// the first child has group 0, and not 1.
-fn group_at(first: bool, at: usize) -> usize
-    requires { at + 1 < 2 ^ 64 }
-    ensures { result ≡ (if first then at else at + 1) }
-{
-    if first { at } else { at + 1 }
-}
-
-/// Returns the children that take part, in order of places, each with its groups.
-fn grouped(alloc: Global, first: bool, places: &Places) -> Result<Sides, AllocError>
-    ensures { IfOk result (λ t. t ≡ with_groups (if first then 0 else 1) places.now []) }
-{
-    let mut sides = Sides::new(alloc);
-    'places: for at in 0..places.list.len() {
-        let group = group_at(first, at);
-        sides.add(alloc, places.list[at], group)?;
-    }
-    Ok(sides)
+    let ids = current_ids(alloc, takes, vars, own)?;
+    let groups = ServedGroups::one(alloc, ids)?;
+    ids_in_each(alloc, groups, list.ids.as_slice(), own)
 }
 
 /// Returns the timeout of a number of seconds. It never comes if the number is negative or above
@@ -176,34 +213,14 @@ fn span_in(alloc: Global, timeout: &Option<Text>, vars: &Vars) -> Result<Span, C
     }
 }
 
-/// Returns the wait of an `expect` for these patterns that begins at `clock`.
-fn plan_at(
-    alloc: Global,
-    order: Places,
-    list: PatternList,
-    span: Span,
-    clock: u64,
-) -> Result<Plan, AllocError>
-    ensures { IfOk result (λ p. p ≡ plan_there order list span clock) }
-{
-    Ok(Plan {
-        sides: grouped(alloc, takes_current(&list), &order)?,
-        order,
-        list,
-        span,
-        deadline: deadline_from(clock, span),
-        met: None,
-        pending: None,
-    })
-}
-
 /// Returns what an `expect` for these patterns waits for.
 fn plan_by(alloc: Global, list: PatternList, vars: &Vars, own: &Own) -> Result<Plan, Complaint>
     ensures { Says result (plan_by_of list vars.now own.now) }
 {
-    let order = asked_by(alloc, &list, vars, own)?;
+    let groups = asked_by(alloc, takes_current(&list), &list, vars, own)?;
     let span = span_in(alloc, &list.timeout, vars)?;
-    let plan = plan_at(alloc, order, list, span, own.clock)?;
+    let deadline = deadline_from(own.clock, span);
+    let plan = Plan::new(alloc, list, groups, span, deadline, own)?;
     Ok(plan)
 }
 
@@ -219,4 +236,43 @@ pub(crate) fn plan_of(
 {
     let list = patterns_of(alloc, &mut own.bodies, args)?;
     plan_by(alloc, list, vars, own)
+}
+
+/// Returns whether standing patterns are for the child of the variable `spawn_id`.
+fn is_for_current(list: &PatternList) -> bool
+    ensures { result ≡ is_for_current_of list.now }
+{
+    if list.ids.as_slice().is_empty() {
+        return true;
+    }
+    list.has_group(0)
+}
+
+/// Returns the ids that standing patterns name, and their entries.
+fn standing_by(
+    alloc: Global,
+    list: PatternList,
+    vars: &Vars,
+    own: &Own,
+) -> Result<(Served, StandingList), Complaint>
+    ensures { Says result (standing_by_of list vars.now own.now) }
+{
+    let groups = asked_by(alloc, is_for_current(&list), &list, vars, own)?;
+    let ids = groups.all_ids(alloc)?;
+    let entries = StandingList::of(alloc, &groups, list.entries)?;
+    Ok((ids, entries))
+}
+
+/// Returns the ids that the arguments of `expect_before` or `expect_after` name, and their entries.
+pub(crate) fn standing_of(
+    alloc: Global,
+    args: &[Value],
+    vars: &Vars,
+    own: &mut Own,
+) -> Result<(Served, StandingList), Complaint>
+    ensures same { own.new ≡ own.old }
+    ensures said { Says result (standing_meant args.now vars.now own.old) }
+{
+    let list = patterns_of(alloc, &mut own.bodies, args)?;
+    standing_by(alloc, list, vars, own)
 }

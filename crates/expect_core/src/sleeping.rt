@@ -10,7 +10,8 @@ use crate::effect::Effects;
 use crate::flags::{arguments, text};
 use crate::own::Own;
 use crate::place::Place;
-use crate::plan::{Places, Plan, PlanBox, Sides, Span};
+use crate::plan::{Plan, PlanBox, Sides, Span};
+use crate::served::ServedGroups;
 use crate::spread::Spread;
 use crate::turn::{Deed, done};
 use command_table::ExpectCommand;
@@ -169,7 +170,7 @@ pub(crate) fn nothing_until(
         alloc,
         Plan {
             sides: Sides::new(alloc),
-            order: Places::new(alloc),
+            ids: ServedGroups::new(alloc),
             list: PatternList {
                 entries: Entries::new(alloc),
                 ids: Texts::new(alloc),

@@ -24,6 +24,7 @@ way_is word w IsWay.ex = refl
 way_is word w IsWay.exact = refl
 way_is word w IsWay.gl = refl
 way_is word w IsWay.glob = refl
+way_is word w IsWay.dashes = refl
 way_is word w IsWay.re = refl
 way_is word w IsWay.regexp = refl
 
@@ -110,9 +111,10 @@ unknown_is word (IsUnknown.no_flag v e other) =
     let exact = no_name word (codes "-exact") other (IsFlag.written (codes "-exact") way.Exact IsWay.exact) in
     let g = no_name word (codes "-gl") other (IsFlag.written (codes "-gl") way.Glob IsWay.gl) in
     let glob = no_name word (codes "-glob") other (IsFlag.written (codes "-glob") way.Glob IsWay.glob) in
+    let s = no_name word (codes "--") other (IsFlag.written (codes "--") way.Glob IsWay.dashes) in
     let r = no_name word (codes "-re") other (IsFlag.written (codes "-re") way.Regular IsWay.re) in
     let regexp = no_name word (codes "-regexp") other (IsFlag.written (codes "-regexp") way.Regular IsWay.regexp) in
-    rw (c, i, n, d, t, x, exact, g, glob, r, regexp, sym (dash_is word) ∙ e) refl
+    rw (c, i, n, d, t, x, exact, g, glob, s, r, regexp, sym (dash_is word) ∙ e) refl
 unknown_is word IsUnknown.null = refl
 
 -- ---- From the function to the rules
@@ -171,7 +173,7 @@ never e = cc
 -- a word that is none of the flags
 no_flag_at_all : (word : List ℕ) → bytes_eq word (codes "-nocase") ≡ false → bytes_eq word (codes "-indices") ≡ false → bytes_eq word (codes "-notransfer") ≡ false
     → bytes_eq word (codes "-i") ≡ false → bytes_eq word (codes "-timeout") ≡ false → bytes_eq word (codes "-ex") || bytes_eq word (codes "-exact") ≡ false
-    → bytes_eq word (codes "-gl") || bytes_eq word (codes "-glob") ≡ false → bytes_eq word (codes "-re") || bytes_eq word (codes "-regexp") ≡ false → ¬ IsFlag word
+    → bytes_eq word (codes "-gl") || bytes_eq word (codes "-glob") || bytes_eq word (codes "--") ≡ false → bytes_eq word (codes "-re") || bytes_eq word (codes "-regexp") ≡ false → ¬ IsFlag word
 no_flag_at_all word c i n d t x g r (IsFlag.mark v before behind (IsMark.nocase f)) = never c
 no_flag_at_all word c i n d t x g r (IsFlag.mark v before behind (IsMark.indices f)) = never i
 no_flag_at_all word c i n d t x g r (IsFlag.mark v before behind (IsMark.notransfer f)) = never n
@@ -179,18 +181,20 @@ no_flag_at_all word c i n d t x g r (IsFlag.written v w IsWay.ex) = never x
 no_flag_at_all word c i n d t x g r (IsFlag.written v w IsWay.exact) = never x
 no_flag_at_all word c i n d t x g r (IsFlag.written v w IsWay.gl) = never g
 no_flag_at_all word c i n d t x g r (IsFlag.written v w IsWay.glob) = never g
+no_flag_at_all word c i n d t x g r (IsFlag.written v w IsWay.dashes) = never g
 no_flag_at_all word c i n d t x g r (IsFlag.written v w IsWay.re) = never r
 no_flag_at_all word c i n d t x g r (IsFlag.written v w IsWay.regexp) = never r
 no_flag_at_all word c i n d t x g r IsFlag.id = never d
 no_flag_at_all word c i n d t x g r IsFlag.timeout = never t
 
-of_way : (word : List ℕ) → (bytes_eq word (codes "-ex") || bytes_eq word (codes "-exact") ≡ false → bytes_eq word (codes "-gl") || bytes_eq word (codes "-glob") ≡ false
+of_way : (word : List ℕ) → (bytes_eq word (codes "-ex") || bytes_eq word (codes "-exact") ≡ false → bytes_eq word (codes "-gl") || bytes_eq word (codes "-glob") || bytes_eq word (codes "--") ≡ false
     → bytes_eq word (codes "-re") || bytes_eq word (codes "-regexp") ≡ false → ¬ IsFlag word) → RoleIs word (way_role word)
 of_way word other =
     cond_both (bytes_eq word (codes "-ex") || bytes_eq word (codes "-exact")) _ _ (RoleIs word)
     (λ z. RoleIs.written word way.Exact (either word (codes "-ex") (codes "-exact") (λ w. IsWay w way.Exact) IsWay.ex IsWay.exact z))
-    (λ x. cond_both (bytes_eq word (codes "-gl") || bytes_eq word (codes "-glob")) _ _ (RoleIs word)
-    (λ z. RoleIs.written word way.Glob (either word (codes "-gl") (codes "-glob") (λ w. IsWay w way.Glob) IsWay.gl IsWay.glob z))
+    (λ x. cond_both (bytes_eq word (codes "-gl") || bytes_eq word (codes "-glob") || bytes_eq word (codes "--")) _ _ (RoleIs word)
+    (λ z. RoleIs.written word way.Glob (⊎_elim (either word (codes "-gl") (codes "-glob") (λ w. IsWay w way.Glob) IsWay.gl IsWay.glob) (found word (codes "--") (λ w. IsWay w way.Glob) IsWay.dashes)
+    (or_cases (bytes_eq word (codes "-gl") || bytes_eq word (codes "-glob")) (bytes_eq word (codes "--")) z)))
     (λ g. cond_both (bytes_eq word (codes "-re") || bytes_eq word (codes "-regexp")) _ _ (RoleIs word)
     (λ z. RoleIs.written word way.Regular (either word (codes "-re") (codes "-regexp") (λ w. IsWay w way.Regular) IsWay.re IsWay.regexp z))
     (λ r. of_plain word (other x g r))))

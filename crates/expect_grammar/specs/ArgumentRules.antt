@@ -39,7 +39,7 @@ pub data IsKeyword : List ℕ → Keyword → Type 0 where
   -- The buffer is full.
   full_buffer : IsKeyword (codes "full_buffer") key.FullBuffer
 
--- A flag that tells how the next pattern is written, by either of its names.
+-- A flag that tells how the next pattern is written, by any of its names.
 pub data IsWay : List ℕ → Way → Type 0 where
   -- Exactly these bytes.
   ex : IsWay (codes "-ex") way.Exact
@@ -47,6 +47,7 @@ pub data IsWay : List ℕ → Way → Type 0 where
   -- A glob pattern.
   gl : IsWay (codes "-gl") way.Glob
   glob : IsWay (codes "-glob") way.Glob
+  dashes : IsWay (codes "--") way.Glob
   -- A regular expression.
   re : IsWay (codes "-re") way.Regular
   regexp : IsWay (codes "-regexp") way.Regular
@@ -57,7 +58,7 @@ pub data IsFlag : List ℕ → Type 0 where
   mark : (word : List ℕ) (before behind : Marks) → IsMark word before behind → IsFlag word
   -- A flag for the pattern in the next argument.
   written : (word : List ℕ) (w : Way) → IsWay word w → IsFlag word
-  -- The spawn id for the later patterns.
+  -- The spawn ids for the later patterns.
   id : IsFlag (codes "-i")
   -- The time limit of `expect`.
   timeout : IsFlag (codes "-timeout")
@@ -79,7 +80,7 @@ IsPlain word = (begins_with minus word ≡ false) × (word ≢ codes "null") × 
 pub data Pattern (nocase : Bool) : List (List ℕ) → Want → List (List ℕ) → Type 0 where
   -- After `-ex`, the next argument is the pattern, whatever it is. It matches exactly these bytes.
   exact : (flag word : List ℕ) (rest : List (List ℕ)) → IsWay flag way.Exact → Pattern nocase (flag ∷ word ∷ rest) (want.Exact word nocase) rest
-  -- After `-gl`, it is a glob pattern, whatever it is.
+  -- After `-gl` or `--`, it is a glob pattern, whatever it is.
   glob : (flag word : List ℕ) (rest : List (List ℕ)) → IsWay flag way.Glob → Pattern nocase (flag ∷ word ∷ rest) (want.Glob (glob_of word) nocase) rest
   -- After `-re`, it must be a regular expression.
   regular : (flag word : List ℕ) (rest : List (List ℕ)) → IsWay flag way.Regular → RePattern word
@@ -123,7 +124,7 @@ pub data Arguments : ℕ → Marks → List (List ℕ) → PatternList → Type 
   -- A flag for the next pattern. Another argument must follow.
   mark : (group : ℕ) (flags behind : Marks) (flag word : List ℕ) (rest : List (List ℕ)) (list : PatternList)
       → IsMark flag flags behind → Arguments group behind (word ∷ rest) list → Arguments group flags (flag ∷ word ∷ rest) list
-  -- `-i id`: the later patterns are for that spawn id, and belong to the next group.
+  -- `-i ids`: the later patterns are for those spawn ids, and belong to the next group.
   id : (group : ℕ) (flags : Marks) (id : List ℕ) (rest : List (List ℕ)) (list : PatternList)
       → Arguments (group + 1) flags rest list → Arguments group flags (codes "-i" ∷ id ∷ rest) (record list { ids = id ∷ list.ids })
   -- `-timeout time`: the last one counts, for all patterns.

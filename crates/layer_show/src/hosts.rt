@@ -283,10 +283,14 @@ impl SmallHost {
         }
     }
 
-    /// Takes the words of `ask`.
+    /// Takes the words of `ask`. That word comes first.
     fn on_words(&mut self, words: &Values) -> Step {
         self.calls = self.calls.saturating_add(1);
-        match words.as_slice() {
+        let words = match words.as_slice() {
+            [] => &[],
+            [_ask, words @ ..] => words,
+        };
+        match words {
             [name, script] if name.as_slice() == b"run".as_slice() => {
                 self.want(Purpose::Run, script)
             }

@@ -1,9 +1,10 @@
--- The arguments of `expect`.
+-- The arguments of `expect`, `expect_before` and `expect_after`.
 use Rattle.std.specs.Prelude.{ℕ, Bool, true, false, not, ◌==◌, ◌&&◌, List, [], ◌∷◌, ◌++◌, take, codes, slice_index_or, Option, Some, None, option_map, option_and_then, unwrap_or, Result, Ok, Err, if◌then◌else◌}
 use Rattle.exp_match.specs.declared.faults.PatternFault.{PatternFault}
 use Rattle.exp_match.specs.declared.faults.PatternFault.TheVariants as fault
 use Rattle.exp_match.specs.declared.list.PatternList.{PatternList}
 use Rattle.exp_match.specs.Arguments.{patterns_of}
+use Rattle.command_table.specs.Commands.{takes_patterns}
 use Rattle.tcl_words.specs.Bytes as ascii
 use Rattle.tcl_words.specs.Lists.{is_white}
 use Rattle.script_check.specs.declared.span.Span.{Span}
@@ -14,7 +15,6 @@ use Rattle.script_check.specs.declared.problem.Problem.TheVariants.{Malformed as
 use Rattle.script_check.specs.declared.readings.Reading.{Reading}
 use Rattle.script_check.specs.declared.readings.Reading.TheVariants.{Command, Malformed}
 use Rattle.script_check.specs.Stretches.{part, inside, begins_with}
-use Rattle.script_check.specs.Placed.{is_plainly}
 use Rattle.script_check.specs.Readings.{readings_in}
 
 -- The words, if all are literal.
@@ -50,10 +50,14 @@ is_list (b ∷ bs) = if b == ascii.newline then true else if is_white b then is_
 abbrev pub is_listing : Option (List ℕ) → Bool
 is_listing value = is_list (unwrap_or value [])
 
+-- The word names a command whose arguments are patterns with actions.
+abbrev pub names_patterns : Option (List ℕ) → Bool
+names_patterns value = takes_patterns (unwrap_or value [])
+
 abbrev pub list_of : List ℕ → List Placed → Option Span
 list_of source [] = None
 list_of source (name ∷ []) = None
-list_of source (name ∷ w ∷ []) = if is_plainly (codes "expect") name.value && is_listing w.value then Some (list_span source w) else None
+list_of source (name ∷ w ∷ []) = if names_patterns name.value && is_listing w.value then Some (list_span source w) else None
 list_of source (name ∷ w ∷ other ∷ more) = None
 
 -- The words of all commands, up to a malformed one, which becomes a finding.

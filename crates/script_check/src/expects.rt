@@ -1,8 +1,8 @@
-//! Checks the arguments of `expect`.
+//! Checks the arguments of `expect`, `expect_before` and `expect_after`.
 
 ghost use Rattle.std.specs.Prelude.{◌≡◌, ◌++◌, [], ◌∷◌, IfOk, OnOk, option_map, slice_index_or};
 ghost use Rattle.exp_match.specs.Arguments.{Gives, patterns_of};
-ghost use Rattle.script_check.specs.Expects.{plain_texts, by_patterns, expect_fault, is_braced, is_listing, list_of, gathered, spread_by};
+ghost use Rattle.script_check.specs.Expects.{plain_texts, by_patterns, expect_fault, is_braced, is_listing, names_patterns, list_of, gathered, spread_by};
 
 use crate::faults::Judged;
 use crate::placed::{Placed, Words};
@@ -10,6 +10,7 @@ use crate::problem::{Finding, Problem};
 use crate::readings::{Reading, readings_in};
 use crate::span::{Done, Span};
 use crate::stretch::{begins_with, inside, part};
+use command_table::takes_patterns;
 use exp_match::{PatternFault, PatternList};
 use std::alloc::{AllocError, Global};
 use tcl_values::Value;
@@ -103,7 +104,17 @@ pub(crate) fn is_braced(source: &[u8], word: &Placed) -> bool
     !word.expand && begins_with(b'{', part(source, word.span))
 }
 
-/// Returns the range of the list of all arguments, if the command is an `expect` with such an
+/// Returns whether a word names a command whose arguments are patterns with actions.
+fn names_patterns(word: &Placed) -> bool
+    ensures { result ≡ names_patterns word.now.value }
+{
+    match &word.value {
+        Some(name) => takes_patterns(name.as_slice()),
+        None => false,
+    }
+}
+
+/// Returns the range of the list of all arguments, if the command takes patterns and has such an
 /// argument. Only an argument in braces stands in the source as it is.
 fn list_of(source: &[u8], words: &[Placed]) -> Option<Span>
     ensures { result ≡ list_of source.now words.now }
@@ -111,7 +122,7 @@ fn list_of(source: &[u8], words: &[Placed]) -> Option<Span>
     let [name, word] = words else {
         return None;
     };
-    if !name.is(b"expect") || !is_listing(word) {
+    if !names_patterns(name) || !is_listing(word) {
         return None;
     }
     if is_braced(source, word) {

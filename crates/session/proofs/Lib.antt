@@ -1,3 +1,4 @@
+pub mod Beginning
 pub mod Spending
 pub mod Suspending
 pub mod Lefts

@@ -1,5 +1,5 @@
 -- No evaluation ends for want of memory, but behind a host's reply that says so; and no call of a dialogue comes to such a reply.
-use Rattle.std.proofs.Common.{◌≡◌, ◌≢◌, ℕ, zero, suc, ◌-◌, Bool, true, false, Option, Some, None, List, [], ◌∷◌, ◌++◌, Result, Ok as Fine, Err, ℤ, sym, subst}
+use Rattle.std.proofs.Common.{◌≡◌, ◌≢◌, ℕ, zero, suc, ◌-◌, Bool, true, false, Option, Some, None, List, [], ◌∷◌, ◌++◌, take, Result, Ok as Fine, Err, ℤ, sym, subst}
 use Rattle.std.specs.Prelude.{IsTrue, if◌then◌else◌}
 use Rattle.child_events.specs.declared.event.Event.{Event}
 use Rattle.tcl_words.specs.declared.faults.WordFault.{WordFault}
@@ -318,15 +318,15 @@ module _ (ev : Eval) (evaluates : SparedEval ev) where
   host_words-spared None words k st h = λ r s.
       replied-spared k (host_body ev k) (k Error) [] (step_of r) (record st { vars = vars_of r }) s h (host_body-spared k h) (h Error)
 
-  words_in-spared : (k : Next) → SparedNext k → SparedOn (words_in ev k)
-  words_in-spared k h t st =
-      words-spared ((all_words (commands t)).0) [] k (λ ws st. host_words ev ((all_words (commands t)).1) k ws st) st h
+  words_in-spared : (first : List (List ℕ)) (k : Next) → SparedNext k → SparedOn (words_in ev first k)
+  words_in-spared first k h t st =
+      words-spared ((all_words (commands t)).0) first k (λ ws st. host_words ev ((all_words (commands t)).1) k ws st) st h
       (λ ws st. host_words-spared ((all_words (commands t)).1) ws k st h)
 
   begin-spared : (words : List (List ℕ)) (k : Next) (st : State) → SparedNext k → SparedTree (begin ev words k st)
   begin-spared words k st h = λ r s.
-      replied-spared k (host_body ev k) (words_in ev k) (no_command words) (step_of r) (record st { vars = vars_of r }) s h
-      (host_body-spared k h) (words_in-spared k h)
+      replied-spared k (host_body ev k) (words_in ev (take 1 words) k) (no_command words) (step_of r) (record st { vars = vars_of r }) s h
+      (host_body-spared k h) (words_in-spared (take 1 words) k h)
 
   -- ---- commands of the language
 
@@ -432,7 +432,7 @@ end-spared AgainLater v st = tt
 pub tree_spared : (source : List ℕ) (settings : Settings) → SparedTree (tree_of source settings)
 unfolding tree_of
 tree_spared source settings =
-    eval-spared 200 source at_the_end (record { vars = first_variables settings.vars; procs = []; left = steps_of settings.steps; trail = [] }) end-spared
+    eval-spared 200 source at_the_end (record { vars = first_variables settings.host settings.vars; procs = []; left = steps_of settings.steps; trail = [] }) end-spared
 
 -- ---- with a dialogue
 

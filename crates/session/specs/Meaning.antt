@@ -17,7 +17,7 @@ steps_of n = if nat_lt n 1000000000000 then n else 1000000000000
 
 -- The tree of a source. At most 200 scripts are nested. It is unfoldable because it is slow to compute.
 unfoldable pub tree_of : List ℕ → Settings → Tree
-tree_of source settings = eval 200 source at_the_end (record { vars = first_variables settings.vars; procs = []; left = steps_of settings.steps; trail = [] })
+tree_of source settings = eval 200 source at_the_end (record { vars = first_variables settings.host settings.vars; procs = []; left = steps_of settings.steps; trail = [] })
 
 -- The meaning of a source, settings and the script's own events. The moment of each event is raised to the greatest one
 -- before it. Each call sees all events.

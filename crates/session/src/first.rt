@@ -1,7 +1,7 @@
 //! The initial variables of a script.
 
 ghost use Rattle.std.specs.Prelude.{◌≡◌, IfOk, OnOk};
-ghost use Rattle.session.specs.First.{first_variables as first_of, setting, as_array, with_variables};
+ghost use Rattle.session.specs.First.{first_variables as first_of, hosted, setting, as_array, with_variables};
 
 use std::alloc::{AllocError, Global};
 use tcl_subst::{SubstFault, Vars};
@@ -41,14 +41,29 @@ fn add_variables(alloc: Global, vars: &mut Vars, pairs: &[(Text, Text)]) -> Resu
     Ok(())
 }
 
+/// Sets the variable that stands for each spawn id, if the setting `host` is on.
+fn add_hosted(alloc: Global, vars: &mut Vars, host: bool) -> Result<(), AllocError>
+    ensures { OnOk result (vars.new ≡ hosted host vars.old) }
+{
+    if host {
+        set(vars, b"any_spawn_id", Value::from_slice(alloc, b"any")?)?;
+    }
+    Ok(())
+}
+
 /// Returns the initial variables of a script: `timeout` is 10, `env` is an array without elements,
-/// and then these are set, in order.
-pub(crate) fn first_variables(alloc: Global, pairs: &[(Text, Text)]) -> Result<Vars, AllocError>
-    ensures { IfOk result (λ v. v ≡ first_of pairs.now) }
+/// with `host` `any_spawn_id` is `any`, and then these are set, in order.
+pub(crate) fn first_variables(
+    alloc: Global,
+    host: bool,
+    pairs: &[(Text, Text)],
+) -> Result<Vars, AllocError>
+    ensures { IfOk result (λ v. v ≡ first_of host pairs.now) }
 {
     let mut vars = Vars::new(alloc);
     set(&mut vars, b"timeout", Value::from_slice(alloc, b"10")?)?;
     make_array(&mut vars, b"env")?;
+    add_hosted(alloc, &mut vars, host)?;
     add_variables(alloc, &mut vars, pairs)?;
     Ok(vars)
 }

@@ -279,7 +279,7 @@ impl Session {
         ensures handed { IfOk result (λ r. r.0.handed ≡ 0) }
         ensures seen { IfOk result (λ r. IsTrue r.0.lives → Sights W.sees (met_over source.now settings.now) watcher (met_from r.0) r.1) }
     {
-        let vars = first_variables(alloc, settings.vars.as_slice())?;
+        let vars = first_variables(alloc, settings.host, settings.vars.as_slice())?;
         let mut machine = Machine::new(alloc, source, vars)?;
         let mut dialogue = DialogueHost::new(alloc, settings)?;
         let bound = bounded(settings.steps);

@@ -1,6 +1,6 @@
 -- No evaluation has more steps left behind it than before it, and fewer behind the codes at which a host may ask for one more script. So the
 -- bounds on turns and on scripts of the host are never what ends them.
-use Rattle.std.proofs.Common.{◌≡◌, ℕ, zero, suc, ◌+◌, ◌<◌, ◌≤◌, Bool, true, false, Option, Some, None, List, [], ◌∷◌, Result, Ok as Fine, Err, ℤ, refl, ap, arith, if◌then◌else◌}
+use Rattle.std.proofs.Common.{◌≡◌, ℕ, zero, suc, ◌+◌, ◌<◌, ◌≤◌, Bool, true, false, Option, Some, None, List, [], ◌∷◌, take, Result, Ok as Fine, Err, ℤ, refl, ap, arith, if◌then◌else◌}
 use Rattle.std.proofs.Math.Path.{fun_ext}
 use Rattle.tcl_words.specs.declared.faults.WordFault.{WordFault}
 use Rattle.tcl_words.specs.Pieces.{Spelled}
@@ -397,17 +397,17 @@ module _ (ev : Eval) (bounded : IsBounded ev) where
       (λ t. host_body-agree t k k' (record st { vars = vars_of r }) h)
       (λ t. h Error t (record st { vars = vars_of r }) (omega arith))))
 
-  words_in-agree : (t : List ℕ) (k k' : Next) (st : State) → AgreeAll st.left k k' → words_in ev k t st ≡ words_in ev k' t st
-  words_in-agree t k k' st h =
-      words-agree ((all_words (commands t)).0) [] k k' (λ ws st. host_words ev ((all_words (commands t)).1) k ws st) (λ ws st. host_words ev ((all_words (commands t)).1) k' ws st) st (with_cost st.left k k' h)
+  words_in-agree : (first : List (List ℕ)) (t : List ℕ) (k k' : Next) (st : State) → AgreeAll st.left k k' → words_in ev first k t st ≡ words_in ev first k' t st
+  words_in-agree first t k k' st h =
+      words-agree ((all_words (commands t)).0) first k k' (λ ws st. host_words ev ((all_words (commands t)).1) k ws st) (λ ws st. host_words ev ((all_words (commands t)).1) k' ws st) st (with_cost st.left k k' h)
       (λ ws st' l. host_words-agree ((all_words (commands t)).1) ws k k' st' (fewer_all st'.left st.left k k' l h))
 
   begin-agree : (words : List (List ℕ)) (k k' : Next) (st : State) → AgreeAll st.left k k' → begin ev words k st ≡ begin ev words k' st
   begin-agree words k k' st h =
       ap (Ask (Begin words st.vars) st.left) (fun_ext (λ r.
-      replied-agree k k' (host_body ev k) (host_body ev k') (words_in ev k) (words_in ev k') (no_command words) (step_of r) (record st { vars = vars_of r }) h
+      replied-agree k k' (host_body ev k) (host_body ev k') (words_in ev (take 1 words) k) (words_in ev (take 1 words) k') (no_command words) (step_of r) (record st { vars = vars_of r }) h
       (λ t. host_body-agree t k k' (record st { vars = vars_of r }) h)
-      (λ t. words_in-agree t k k' (record st { vars = vars_of r }) h)))
+      (λ t. words_in-agree (take 1 words) t k k' (record st { vars = vars_of r }) h)))
 
   while-agree : (name : List ℕ) (args : List (List ℕ)) (k k' : Next) (st : State) → AgreeAll st.left k k' → while_command ev name args k st ≡ while_command ev name args k' st
   while-agree name [] k k' st h = h Error (wrong_args name) st (omega arith)

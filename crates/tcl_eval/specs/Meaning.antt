@@ -371,13 +371,13 @@ abbrev pub host_words : Eval → Option WordFault → Next → List (List ℕ) �
 host_words ev (Some f) k words st = k Error (word_fault f) st
 host_words ev None k words st = Ask (AfterWords words st.vars) st.left (on_reply k (host_body ev k) (k Error) [] st)
 
--- A text whose words the host asks for.
-abbrev pub words_in : Eval → Next → List ℕ → State → Tree
-words_in ev k text st =
-    fill_words ev ((all_words (commands text)).0) [] k (λ ws st. host_words ev ((all_words (commands text)).1) k ws st) st
+-- A text whose words the host asks for. They follow these first ones.
+abbrev pub words_in : Eval → List (List ℕ) → Next → List ℕ → State → Tree
+words_in ev first k text st =
+    fill_words ev ((all_words (commands text)).0) first k (λ ws st. host_words ev ((all_words (commands text)).1) k ws st) st
 
 abbrev pub begin : Eval → List (List ℕ) → Next → State → Tree
-begin ev words k st = Ask (Begin words st.vars) st.left (on_reply k (host_body ev k) (words_in ev k) (no_command words) st)
+begin ev words k st = Ask (Begin words st.vars) st.left (on_reply k (host_body ev k) (words_in ev (take 1 words) k) (no_command words) st)
 
 -- ---- Commands of the language
 

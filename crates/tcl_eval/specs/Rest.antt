@@ -1,5 +1,5 @@
 -- The rest of a machine's run.
-use Rattle.std.specs.Prelude.{◌≡◌, ℕ, Bool, true, false, Some, Result, IfOk, List, [], ◌∷◌, drop, if◌then◌else◌}
+use Rattle.std.specs.Prelude.{◌≡◌, ℕ, Bool, true, false, Some, Result, IfOk, List, [], ◌∷◌, take, drop, if◌then◌else◌}
 use Rattle.tcl_subst.specs.Recipes.{given}
 use Rattle.tcl_subst.specs.Rests.{rest}
 use Rattle.tcl_subst.specs.Variables.{Variables}
@@ -87,7 +87,7 @@ body_for ev (AfterBody c v bound) k = once_more c (next_body ev k bound) k
 
 -- What follows words that the host asks for.
 abbrev pub words_for : Eval → Call → Next → List ℕ → State → Tree
-words_for ev (Begin words) k = words_in ev k
+words_for ev (Begin words) k = words_in ev (take 1 words) k
 words_for ev (AfterWords words) k = k Error
 words_for ev (AfterBody c v bound) k = k Error
 

@@ -1,6 +1,6 @@
 //! Continues a machine by the host's replies.
 
-ghost use Rattle.std.specs.Prelude.{◌≡◌, ℕ, ◌+◌, ◌<◌, ◌*◌, [], IfOk, false, ◌≤◌};
+ghost use Rattle.std.specs.Prelude.{◌≡◌, ℕ, ◌+◌, ◌<◌, ◌*◌, [], IfOk, false, ◌≤◌, take};
 ghost use Rattle.tcl_eval.specs.Asked.{WaitsAt, GoesDown, IsAskingOnPause};
 ghost use Rattle.tcl_eval.specs.Rest.{body_for, words_for, unknown_for, frame_rest, rest_of, RestIs};
 ghost use Rattle.tcl_host.specs.Calls.{Stepped};
@@ -37,6 +37,17 @@ fn unknown_for(alloc: Global, call: &Call) -> Result<Value, AllocError>
     }
 }
 
+/// Returns the first of these words, if there is one.
+fn first_of(alloc: Global, words: &Values) -> Result<Values, AllocError>
+    ensures { IfOk result (λ v. v ≡ take 1 words.now) }
+{
+    let mut first = Values::new(alloc);
+    if let [word, ..] = words.as_slice() {
+        first.push(word.shared(alloc)?)?;
+    }
+    Ok(first)
+}
+
 impl Engine {
     /// Begins a script that the host asked for. `bound` is the number of further scripts that it
     /// may ask for.
@@ -51,15 +62,16 @@ impl Engine {
         Ok(Mode::Run { script, depth })
     }
 
-    /// Begins the substitution of the words of a text that the host asked for.
-    fn host_words(&mut self, text: Value, depth: u32) -> Result<Mode, AllocError>
-        ensures rest { RestIs self.old result self.new (λ k st. words_in (eval depth) k text st) }
+    /// Begins the substitution of the words of a text that the host asked for. They follow the first
+    /// of the command's words.
+    fn host_words(&mut self, words: &Values, text: Value, depth: u32) -> Result<Mode, AllocError>
+        ensures rest { RestIs self.old result self.new (λ k st. words_in (eval depth) (take 1 words.now) k text st) }
         ensures potential { IfOk result (λ mode. potential self.new mode ≤ 8 * self.old.left + bodies self.old.stack + 5) }
         ensures less { self.new.left ≤ self.old.left }
     {
         let script = self.read.script_of(self.alloc, &text)?;
+        let done = first_of(self.alloc, words)?;
         let (words, fault) = script.all_words(self.alloc)?;
-        let done = Values::new(self.alloc);
         let out = self.words_from(&words, 0, done, Then::List(fault), depth);
         let mode = self.settle_by(out)?;
         Ok(mode)
@@ -126,7 +138,7 @@ impl Engine {
         ensures less { self.new.left ≤ self.old.left }
     {
         match call {
-            Call::Begin(_) => self.host_words(text, depth),
+            Call::Begin(words) => self.host_words(words, text, depth),
             Call::AfterWords(_) => Ok(Mode::Give(Code::Error, text)),
             Call::AfterBody { .. } => Ok(Mode::Give(Code::Error, text)),
         }

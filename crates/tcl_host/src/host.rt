@@ -17,7 +17,8 @@ pub enum HostStep {
     Fail(Value),
     /// The evaluator must evaluate this script, and then call `after_body`.
     Body(Value),
-    /// The evaluator must substitute the words of this text, and then call `after_words`.
+    /// The evaluator must substitute the words of this text, and then call `after_words` with the
+    /// command's first word and these.
     Words(Value),
     /// There is no answer yet. The evaluator must call `resume` later.
     Wait,
@@ -54,7 +55,7 @@ pub trait Host {
     fn resume(&mut self, vars: &mut Vars) -> HostStep
         ensures { answers self.old (Call.Resume vars.old) (Reply.Stepped result vars.new) self.new };
 
-    /// Continues a command with the words that it asked for.
+    /// Continues a command with the words that it asked for. Its own first word precedes them.
     fn after_words(&mut self, vars: &mut Vars, words: &Values) -> HostStep
         ensures { answers self.old (Call.AfterWords words.now vars.old) (Reply.Stepped result vars.new) self.new };
 

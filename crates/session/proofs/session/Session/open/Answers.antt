@@ -30,9 +30,9 @@ returns-clause-left g c = λ h later.
     ∙ ap (λ (n : ℕ). play bound (engine_rest machine.engine n machine.mode) (extended later d)) c.new-meter.ensures.left
     ∙ ap (λ (t : Tree). play bound t (extended later d)) (c.in_ok-machine.ensures bound)
     ∙ ap (λ (vars : Variables). play bound (eval 200 source at_the_end (record { vars = vars; procs = []; left = bound; trail = [] })) (extended later d)) c.in_ok-vars.ensures
-    ∙ ap (λ (pairs : List (List ℕ × List ℕ)). play bound (eval 200 source at_the_end (record { vars = first_variables pairs; procs = []; left = bound; trail = [] })) (extended later d)) c.as_slice.ensures
-    ∙ ap (λ (x : Dialogue). play bound (eval 200 source at_the_end (record { vars = first_variables c.args.settings.now.vars; procs = []; left = bound; trail = [] })) (extended later x)) c.in_ok-dialogue.ensures
-    ∙ ap (λ (n : ℕ). play n (eval 200 source at_the_end (record { vars = first_variables c.args.settings.now.vars; procs = []; left = n; trail = [] })) (extended later (fresh c.args.settings.now))) c.bounded-bound.ensures
+    ∙ ap (λ (pairs : List (List ℕ × List ℕ)). play bound (eval 200 source at_the_end (record { vars = first_variables c.args.settings.now.host pairs; procs = []; left = bound; trail = [] })) (extended later d)) c.as_slice.ensures
+    ∙ ap (λ (x : Dialogue). play bound (eval 200 source at_the_end (record { vars = first_variables c.args.settings.now.host c.args.settings.now.vars; procs = []; left = bound; trail = [] })) (extended later x)) c.in_ok-dialogue.ensures
+    ∙ ap (λ (n : ℕ). play n (eval 200 source at_the_end (record { vars = first_variables c.args.settings.now.host c.args.settings.now.vars; procs = []; left = n; trail = [] })) (extended later (fresh c.args.settings.now))) c.bounded-bound.ensures
     )
 
 pub returns-clause-seen : goal.returns-clause-seen
@@ -50,9 +50,9 @@ returns-clause-seen g c = λ h.
           ap (λ (n : ℕ). meets (engine_rest machine.engine n machine.mode) (extended later d)) c.new-meter.ensures.left
           ∙ ap (λ (t : Tree). meets t (extended later d)) (c.in_ok-machine.ensures bound)
           ∙ ap (λ (vars : Variables). meets (eval 200 source at_the_end (record { vars = vars; procs = []; left = bound; trail = [] })) (extended later d)) c.in_ok-vars.ensures
-          ∙ ap (λ (pairs : List (List ℕ × List ℕ)). meets (eval 200 source at_the_end (record { vars = first_variables pairs; procs = []; left = bound; trail = [] })) (extended later d)) c.as_slice.ensures
-          ∙ ap (λ (x : Dialogue). meets (eval 200 source at_the_end (record { vars = first_variables c.args.settings.now.vars; procs = []; left = bound; trail = [] })) (extended later x)) c.in_ok-dialogue.ensures
-          ∙ ap (λ (n : ℕ). meets (eval 200 source at_the_end (record { vars = first_variables c.args.settings.now.vars; procs = []; left = n; trail = [] })) (extended later (fresh c.args.settings.now))) c.bounded-bound.ensures
+          ∙ ap (λ (pairs : List (List ℕ × List ℕ)). meets (eval 200 source at_the_end (record { vars = first_variables c.args.settings.now.host pairs; procs = []; left = bound; trail = [] })) (extended later d)) c.as_slice.ensures
+          ∙ ap (λ (x : Dialogue). meets (eval 200 source at_the_end (record { vars = first_variables c.args.settings.now.host c.args.settings.now.vars; procs = []; left = bound; trail = [] })) (extended later x)) c.in_ok-dialogue.ensures
+          ∙ ap (λ (n : ℕ). meets (eval 200 source at_the_end (record { vars = first_variables c.args.settings.now.host c.args.settings.now.vars; procs = []; left = n; trail = [] })) (extended later (fresh c.args.settings.now))) c.bounded-bound.ensures
           )
           ∙ saw.each later;
       seen = saw.seen;
