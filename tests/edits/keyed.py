@@ -1,4 +1,4 @@
-"""Two small crates that aren't proved: what of a change in them voids the key of the edit of `outer`, and what doesn't."""
+"""Two small crates that aren't proved: what of a change in them changes which sum of the edit of `outer`, and what doesn't."""
 
 CRATES = {
     "crates.txt": "low:\nhigh: low\n",
@@ -151,13 +151,19 @@ SRC, LOW, MEANT, SIZES = "crates/high/src/lib.rt", "crates/low/src/lib.rt", "cra
 LEMMAS, ANSWERS = "crates/high/proofs/Lemmas.antt", "crates/high/proofs/outer/Answers.antt"
 EDIT = "crates/high/edits/least_twice.edit"
 
-# What voids the key: what it is, the file, the old text and the new one.
-VOIDS = [
+# What changes an edit's own sum: what it is, the file, the old text and the new one.
+OWN = [
     ("its own contract", SRC, "result ≡ meant size", "result ≡ meant (size)"),
     ("its own body", SRC, "helper(size.number()) +", "helper(size.number() / 1) +"),
     ("its attribute", SRC, "#[tactic(auto, using", "#[tactic(auto, tests, using"),
     ("an answer", ANSWERS, "returns c = parts", "returns c = (parts)"),
     ("an import of an answer", ANSWERS, "Lemmas.{parts}", "Others.{parts}"),
+    ("where a name comes from", SRC, "use low::{MOST, Size, least};", "use low::{MOST, Size};\nuse low::other::least;"),
+    ("the edit", EDIT, "+ least() + least() -", "+ least() * 2 -"),
+]
+
+# What changes the sum of what that rests on, alone.
+RESTS = [
     ("a lemma of an answer", LEMMAS, "parts n = n", "parts n = (n)"),
     ("a lemma of its attribute", LEMMAS, "sums n = n", "sums n = (n)"),
     ("an import of a lemma's file", LEMMAS, "{refl}", "{refl as parts}"),
@@ -177,14 +183,12 @@ VOIDS = [
     ("a constant of a constant", LOW, "FULL: u8 = 9", "FULL: u8 = 8"),
     ("a body that constants are computed with", LOW, "fn least() -> u8 {\n    1", "fn least() -> u8 {\n    2"),
     ("an attribute at the root", SRC, "#![tactic(auto)]", "#![tactic(auto, tests)]"),
-    ("where a name comes from", SRC, "use low::{MOST, Size, least};", "use low::{MOST, Size};\nuse low::other::least;"),
     ("a macro", LOW, "/// The most.", "macro_rules! at {\n    () => {};\n}\n\n/// The most."),
-    ("the edit", EDIT, "+ least() + least() -", "+ least() * 2 -"),
     ("the crates below", "crates.txt", "high: low", "high:"),
     ("a crate of the kit below", "crates.txt", "high: low", "high: low hex"),
 ]
 
-# What doesn't.
+# What changes neither.
 KEEPS = [
     ("a comment above it", SRC, "/// The outer one.", "/// Outer."),
     ("a comment within it", SRC, '    // in it "http://a"\n', ""),

@@ -1,40 +1,31 @@
-"""The key of an edit: a sum of what its refusal depends on, as far as names tell.
+"""The key of an edit: sums of what its refusal depends on, as far as names tell.
 
-A refusal depends on the edited text of the functions concerned and their proof files, on what is stated of the functions that
-they call, on types and definitions, on the kit's logic, and on how this runner judges. It doesn't depend on comments, nor on other
-functions' bodies and proofs: in a round these are holes. What counts of the rest is found by name, so a key that stays
-the same is no proof that the refusal does. That is why the gate tries a part of the edits again in spite of their keys.
+A refusal depends on the edited text of the functions concerned and their proof files, and on what these rest on: what is stated of
+the functions that they call, types and definitions. It doesn't depend on comments, nor on other functions' bodies and proofs: in a
+round these are holes. What counts of the rest is found by name, so a key that stays the same is no proof that the refusal does.
+That is why the gate tries a part of the edits again in spite of their keys.
 """
 
 import hashlib
 import pathlib
+from typing import NamedTuple
 
 from copies import above, folder_of
-from crates import RT
 from edits import BadEdit, change_of, edited, read_edit
 from functions import all_functions
 from naming import ANTT_COMMENT, CODE_COMMENT, RUST_COMMENT, Named, cited, header_of, imports_of, used, without_comments, words_of
 
-HERE = pathlib.Path(__file__).resolve().parent
-# The files of this runner that decide what counts as a refusal.
-DECIDING = ("checks", "copies", "edits", "functions", "keys", "naming", "rounds", "searches", "trying", "verdicts")
+
+class Key(NamedTuple):
+    """The sums of an edit's own texts, with those of its functions and their proofs, and of what these rest on."""
+
+    own: str
+    rests: str
 
 
 def sum_of(*parts):
-    """A sum of texts, as it stands in the ledger."""
+    """A sum of texts."""
     return hashlib.sha256(repr(parts).encode()).hexdigest()[:24]
-
-
-def logic():
-    """The logic of the kit, which several kits may have: the sum that stands behind its name."""
-    name = pathlib.Path(RT.KIT, "KIT-ID").read_text(encoding="utf-8")
-    return name.partition(" logic ")[2] or name
-
-
-def judged_by():
-    """The logic of the kit, and the texts of this runner that decide."""
-    texts = [(HERE / f"{it}.py").read_bytes() for it in DECIDING]
-    return sum_of(logic(), texts)
 
 
 def to_the_end(start, below):
@@ -50,11 +41,10 @@ def to_the_end(start, below):
 class Keys:
     """The keys of the edits of a crate. Named has what other crates define, by folder, so that each is read once."""
 
-    def __init__(self, crate, named=None, judges=None):
+    def __init__(self, crate, named=None):
         named = {} if named is None else named
         self.crate, self.own = crate, named.setdefault(crate.folder, None) or Named(crate.folder)
         named[crate.folder] = self.own
-        self.judges = judges or judged_by()
         self.all = list(self.own.definitions)
         for below in crate.below():
             if not named.get(below.folder):
@@ -152,4 +142,14 @@ class Keys:
         except (BadEdit, ValueError, AttributeError, TypeError):
             return None
         found = self.reached(words, refs) | self.everywhere
-        return sum_of(self.judges, self.crate.name, name, lines, texts, self.said, sorted({self.sums[it] for it in found}))
+        own = sum_of(self.crate.name, name, lines, texts)
+        return Key(own, sum_of(self.said, sorted({self.sums[it] for it in found})))
+
+
+def keys_of(crates):
+    """The keys of all edits of some crates, by crate and name."""
+    named, found = {}, {}
+    for crate in crates:
+        keys = Keys(crate, named)
+        found[crate.name] = {it.stem: keys.of(it.stem) for it in pathlib.Path(crate.folder).glob("edits/*.edit")}
+    return found
